@@ -1,0 +1,9 @@
+pub mod Values
+pub mod Laws
+pub mod UnaryLaws
+pub mod Ranges
+pub mod Library
+pub mod Lanes
+pub mod LaneLaws
+pub mod Masks
+pub mod MaskLaws

@@ -1,0 +1,135 @@
+-- Moments of old words, through the edits of the two rings.
+use Rattle.std.proofs.Common.{◌≡◌, ℕ, zero, suc, ◌+◌, ◌-◌, ◌*◌, ◌<◌, ◌≤◌, List, [], ◌∷◌, length, take, drop, set, get_or, slice_get, Some, refl, ap, ◌∙◌, map, All, arith, add-one}
+use Rattle.std.proofs.lemmas.List.{take-take, drop-take, length-set, set-set, set-get_or}
+use Rattle.std.proofs.lemmas.List.Elements.{All-head, All-tail, All-cons, All-drop}
+use Rattle.std.proofs.Math.Nat.{mul-le-mul_right}
+use Rattle.circular_buffer.specs.Buffer.{last_item}
+use Rattle.undo_log.specs.declared.timeline.Undone.{Undone}
+use Rattle.undo_log.specs.declared.changes.Change.{Change}
+use Rattle.undo_log.specs.declared.events.Mark.{Mark}
+use Rattle.undo_log.specs.History.{Moment, moment, History}
+use Rattle.undo_log.specs.Deltas.{left_of}
+use Rattle.undo_log.specs.DeltaRings.{moments, taken_back, total}
+
+abbrev pub event_of : Mark → Undone
+event_of m = m.event
+
+abbrev pub count_of : Mark → ℕ
+count_of m = m.count
+
+abbrev pub change : ℕ → ℕ → Change
+change i old = record { index = i; old = old }
+
+abbrev pub mark : Undone → ℕ → Mark
+mark e n = record { event = e; count = n }
+
+pub length-moments : (ms : List Mark) (cs : List Change) (ws : List ℕ) → length (moments ms cs ws) ≡ length ms
+length-moments [] cs ws = refl
+length-moments (m ∷ ms) cs ws = ap suc (length-moments ms (drop m.count cs) (taken_back (take m.count cs) ws))
+
+pub map-moments : (ms : List Mark) (cs : List Change) (ws : List ℕ) → map (λ (m : Moment). m.event) (moments ms cs ws) ≡ map event_of ms
+map-moments [] cs ws = refl
+map-moments (m ∷ ms) cs ws = ap (λ es. m.event ∷ es) (map-moments ms (drop m.count cs) (taken_back (take m.count cs) ws))
+
+pub length-taken_back : (cs : List Change) (ws : List ℕ) → length (taken_back cs ws) ≡ length ws
+length-taken_back [] ws = refl
+length-taken_back (c ∷ cs) ws = length-taken_back cs (set ws c.index c.old) ∙ length-set ws c.index c.old
+
+-- a word is set
+pub moments_set : (i v old : ℕ) (m : Mark) (ms : List Mark) (cs : List Change) (ws : List ℕ) → old ≡ get_or ws i 0 → Some m ≡ slice_get ms 0 → moments (mark m.event (m.count + 1) ∷ drop 1 ms) (change i old ∷ cs) (set ws i v) ≡ moments ms cs ws
+moments_set i v old m [] cs ws o e = cc
+moments_set i v old m (x ∷ ms) cs ws o e =
+    let same : x ≡ m = cc in
+    let back : set (set ws i v) i (get_or ws i 0) ≡ ws = set-set ws i v (get_or ws i 0) ∙ set-get_or ws i 0 in
+    rw (same, add-one, o) (ap (λ w. moment m.event (taken_back (take m.count cs) w) ∷ moments ms (drop m.count cs) (taken_back (take m.count cs) w)) back)
+
+-- one more change is taken back
+pub taken_back_more : (c : Change) (n k : ℕ) (cs : List Change) (ws : List ℕ) → Some c ≡ slice_get cs 0 → k < n → taken_back (take (n - (k + 1)) (drop 1 cs)) (set ws c.index c.old) ≡ taken_back (take (n - k) cs) ws
+taken_back_more c n k [] ws e h = cc
+taken_back_more c n k (x ∷ cs) ws e h =
+    let same : x ≡ c = cc in
+    let next : n - k ≡ suc (n - (k + 1)) = omega arith in
+    rw (same, next)
+
+-- the newest event is taken back
+pub moments_back : (m : Mark) (ms : List Mark) (cs : List Change) (ws : List ℕ) → Some m ≡ slice_get ms 0 → moments ms cs ws ≡ moment m.event (taken_back (take m.count cs) ws) ∷ moments (drop 1 ms) (drop m.count cs) (taken_back (take m.count cs) ws)
+moments_back m [] cs ws e = cc
+moments_back m (x ∷ ms) cs ws e = let same : x ≡ m = cc in rw same
+
+-- the oldest events go
+pub moments_forget : (k : ℕ) (ms : List Mark) (cs : List Change) (ws : List ℕ) → moments (take k ms) (take (total (take k ms)) cs) ws ≡ take k (moments ms cs ws)
+moments_forget zero ms cs ws = refl
+moments_forget (suc k) [] cs ws = refl
+moments_forget (suc k) (m ∷ ms) cs ws =
+    let t = total (take k ms) in
+    rw (take-take m.count (m.count + t) cs (omega arith), drop-take m.count t cs)
+    (ap (λ rest. moment m.event (taken_back (take m.count cs) ws) ∷ rest) (moments_forget k ms (drop m.count cs) (taken_back (take m.count cs) ws)))
+
+-- the changes of the oldest event
+total_at : (m : Mark) (n : ℕ) (ms : List Mark) → length ms ≡ suc n → Some m ≡ slice_get ms n → total ms ≡ total (take n ms) + m.count
+total_at m n [] h e = cc
+total_at m zero (x ∷ []) h e = let same : x ≡ m = cc in rw same (omega arith)
+total_at m zero (x ∷ y ∷ ms) h e = absurd (omega arith)
+total_at m (suc n) (x ∷ ms) h e = omega (arith, total_at m n ms (omega arith) e)
+
+pub total_last : (m : Mark) (ms : List Mark) → Some m ≡ last_item ms → total ms ≡ total (take (length ms - 1) ms) + m.count
+total_last m [] e = cc
+total_last m (x ∷ ms) e = total_at m (length (x ∷ ms) - 1) (x ∷ ms) (omega arith) e
+
+-- each event has at most so many changes
+pub total_le : (cells : ℕ) (ms : List Mark) → All (λ m. m.count ≤ cells) ms → total ms ≤ length ms * cells
+total_le cells [] h = omega arith
+total_le cells (m ∷ ms) h =
+    let first : m.count ≤ cells = All-head (λ m. m.count ≤ cells) m ms h in
+    let rest : total ms ≤ length ms * cells = total_le cells ms (All-tail (λ m. m.count ≤ cells) m ms h) in
+    omega arith
+
+-- there is room for one more
+pub total_lt : (cells limit : ℕ) (m : Mark) (ms : List Mark) → Some m ≡ slice_get ms 0 → All (λ m. m.count ≤ cells) ms → length ms ≤ limit → m.count < cells → total ms < limit * cells
+total_lt cells limit m [] e h l k = cc
+total_lt cells limit m (x ∷ ms) e h l k =
+    let same : x ≡ m = cc in
+    let at : x.count ≡ m.count = ap count_of same in
+    let rest : total ms ≤ length ms * cells = total_le cells ms (All-tail (λ m. m.count ≤ cells) x ms h) in
+    let all : suc (length ms) * cells ≤ limit * cells = mul-le-mul_right cells l in
+    omega arith
+
+pub left_head : (cells : ℕ) (m : Mark) (ms : List Mark) → Some m ≡ slice_get ms 0 → 0 < left_of cells (map count_of ms) → m.count < cells
+left_head cells m [] e h = cc
+left_head cells m (x ∷ ms) e h =
+    let same : x ≡ m = cc in
+    let at : x.count ≡ m.count = ap count_of same in
+    omega arith
+
+pub some_first : {X : Type 0} (x : X) (xs : List X) → Some x ≡ slice_get xs 0 → 0 < length xs
+some_first x [] e = cc
+some_first x (y ∷ xs) e = omega arith
+
+abbrev pub seen : List ℕ → ℕ → ℕ → List Moment → History
+seen words limit room past = record { words = words; past = past; limit = limit; room = room }
+
+-- the invariant, by its parts
+pub small_set : (cells : ℕ) (m : Mark) (ms : List Mark) → All (λ m. m.count ≤ cells) ms → m.count < cells → All (λ m. m.count ≤ cells) (mark m.event (m.count + 1) ∷ drop 1 ms)
+small_set cells m ms h l = All-cons (λ m. m.count ≤ cells) (mark m.event (m.count + 1)) (drop 1 ms) (omega arith) (All-drop (λ m. m.count ≤ cells) 1 ms h)
+
+pub total_set : (m : Mark) (ms : List Mark) → Some m ≡ slice_get ms 0 → total (mark m.event (m.count + 1) ∷ drop 1 ms) ≡ suc (total ms)
+total_set m [] e = cc
+total_set m (x ∷ ms) e =
+    let same : x ≡ m = cc in
+    let at : x.count ≡ m.count = ap count_of same in
+    omega arith
+
+pub length_set : (m : Mark) (ms : List Mark) → Some m ≡ slice_get ms 0 → length (mark m.event (m.count + 1) ∷ drop 1 ms) ≡ length ms
+length_set m [] e = cc
+length_set m (x ∷ ms) e = refl
+
+-- a mark past the limit
+pub take_short : {X : Type 0} (x : X) (n m : ℕ) (xs : List X) → n ≤ m + 1 → take n (x ∷ take m xs) ≡ take n (x ∷ xs)
+take_short x zero m xs h = refl
+take_short x (suc n) m xs h = rw (take-take n m xs (omega arith))
+
+pub total_fits : (cells limit : ℕ) (ms : List Mark) → All (λ m. m.count ≤ cells) ms → length ms ≤ limit → total ms ≤ limit * cells
+total_fits cells limit ms h l =
+    let few : total ms ≤ length ms * cells = total_le cells ms h in
+    let more : length ms * cells ≤ limit * cells = mul-le-mul_right cells l in
+    omega arith

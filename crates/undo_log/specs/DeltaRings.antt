@@ -1,0 +1,33 @@
+-- What the fields of a DeltaRing mean.
+use Rattle.std.specs.Prelude.{◌≡◌, ℕ, ◌+◌, ◌*◌, ◌≤◌, ◌<◌, List, [], ◌∷◌, length, map, All, take, drop, slice_set}
+use Rattle.undo_log.specs.declared.changes.Change.{Change}
+use Rattle.undo_log.specs.declared.events.Mark.{Mark}
+use Rattle.undo_log.specs.declared.delta_ring.DeltaRing.TheInside.{Inside}
+use Rattle.undo_log.specs.History.{Moment, moment}
+use Rattle.undo_log.specs.Deltas.{Deltas, deltas}
+
+-- the words as they were before these changes, of which the newest comes first
+abbrev pub taken_back : List Change → List ℕ → List ℕ
+taken_back [] words = words
+taken_back (c ∷ cs) words = taken_back cs (slice_set words c.index c.old)
+
+-- each event with the words before it
+abbrev pub moments : List Mark → List Change → List ℕ → List Moment
+moments [] changes words = []
+moments (m ∷ ms) changes words = moment m.event (taken_back (take m.count changes) words) ∷ moments ms (drop m.count changes) (taken_back (take m.count changes) words)
+
+-- how many changes all events have
+abbrev pub total : List Mark → ℕ
+total [] = 0
+total (m ∷ ms) = m.count + total ms
+
+abbrev pub deltas_seen : Inside → Deltas
+deltas_seen a = deltas (record { words = a.words.items; past = moments a.marks.items a.changes.items a.words.items; limit = a.limit; room = a.cells }) (map (λ m. m.count) a.marks.items)
+
+-- The rings have room for as many events and old words as may be kept, and each kept event has all its old words.
+pub record AreDeltas (a : Inside) : Type 0 where
+  pub some : (1 ≤ a.limit) × (a.limit ≤ 65536) × (a.cells ≤ 65536)
+  pub marks : (a.limit ≤ a.marks.capacity) × (length a.marks.items ≤ a.limit)
+  pub changes : (a.limit * a.cells ≤ a.changes.capacity) × (length a.changes.items ≡ total a.marks.items)
+  pub small : All (λ m. m.count ≤ a.cells) a.marks.items
+  pub in_range : All (λ c. c.index < length a.words.items) a.changes.items

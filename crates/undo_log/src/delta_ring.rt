@@ -1,0 +1,193 @@
+//! The compact form of a record: one list of words, and the old words of the kept events.
+ghost use Rattle.std.specs.Prelude.{◌≡◌, ◌+◌, ◌-◌, ◌^◌, ◌<◌, ◌≤◌, [], ◌∷◌, take, drop, length, All, slice_index, IfOk, OnOk, OnErr, IsOk};
+ghost use Rattle.circular_buffer.specs.Buffer.{buffer};
+
+use crate::changes::{Change, write_back};
+use crate::events::{Mark, steps_among_marks};
+use crate::timeline::{Back, NoHistory, Timeline, Undone};
+use circular_buffer::HeapCircularBuffer;
+use std::alloc::{AllocError, Global};
+use std::marker::Model;
+
+/// A record that keeps, for each `set` since the oldest kept event was opened, the word as it was before. Taking an event back writes just its words.
+#[derive(Drop)]
+pub struct DeltaRing {
+    words: Vec<u64>,
+    /// The newest comes first, here and in `marks`.
+    changes: HeapCircularBuffer<Change>,
+    marks: HeapCircularBuffer<Mark>,
+    limit: usize,
+    cells: usize,
+}
+
+impl Model for DeltaRing {
+    ghost use Rattle.undo_log.specs.Deltas.{Deltas};
+
+    ghost Value = { Deltas };
+
+    ghost use Rattle.undo_log.specs.DeltaRings.{deltas_seen, AreDeltas};
+
+    ghost view = { deltas_seen };
+
+    ghost invariant = { AreDeltas };
+}
+
+impl DeltaRing {
+    ghost use Rattle.undo_log.specs.declared.timeline.Undone.{Undone};
+    ghost use Rattle.undo_log.specs.History.{new_history, marked, limited};
+    ghost use Rattle.undo_log.specs.Deltas.{deltas};
+
+    /// A record of this many words, all 0, that keeps nothing. `limit` is the most events that are kept, and `cells` the most words that may be set after one mark.
+    pub fn new(alloc: Global, words: usize, limit: usize, cells: usize) -> Result<Self, AllocError>
+        requires limit { (1 ≤ limit) × (limit ≤ 65536) }
+        requires cells { cells ≤ 65536 }
+        ensures { IfOk result (λ r. r ≡ deltas (new_history words limit cells) []) }
+    {
+        let changes = HeapCircularBuffer::with_capacity(alloc, limit * cells)?;
+        let marks = HeapCircularBuffer::with_capacity(alloc, limit)?;
+        let words = vec![in alloc; 0; words]?;
+        Ok(DeltaRing {
+            words,
+            changes,
+            marks,
+            limit,
+            cells,
+        })
+    }
+
+    /// Forgets the oldest event, and the old words of that event alone.
+    fn forget_oldest(&mut self)
+        ensures history { self.new.history ≡ record self.old.history { past = take (length self.old.history.past - 1) self.old.history.past } }
+        ensures counts { self.new.counts ≡ take (length self.old.history.past - 1) self.old.counts }
+    {
+        let Some(oldest) = self.marks.pop_back() else {
+            return;
+        };
+        let rest = self.changes.len() - oldest.count;
+        self.changes.truncate_back(rest);
+    }
+
+    /// Makes room for a mark: with `limit` events kept, the oldest goes.
+    fn make_room(&mut self)
+        ensures room { length self.new.history.past < self.new.history.limit }
+        ensures marked { (event : Undone) → marked event self.new.history ≡ marked event self.old.history }
+        ensures counts { take self.new.history.limit (0 ∷ self.new.counts) ≡ take self.old.history.limit (0 ∷ self.old.counts) }
+        ensures words { (self.new.history.limit ≡ self.old.history.limit) × (self.new.history.room ≡ self.old.history.room) }
+    {
+        if self.marks.len() < self.limit {
+            return;
+        }
+        self.forget_oldest();
+    }
+
+    /// Lowers the limit. Past it the oldest events go.
+    fn shrink(&mut self, smaller: usize)
+        requires { (1 ≤ smaller) × (smaller ≤ self.old.history.limit) }
+        ensures history { self.new.history ≡ limited smaller self.old.history }
+        ensures counts { self.new.counts ≡ take smaller self.old.counts }
+    {
+        while self.marks.len() > smaller {
+            self.forget_oldest();
+        }
+        self.limit = smaller;
+    }
+
+    /// Raises the limit. All memory is taken first.
+    fn grow(&mut self, larger: usize) -> Result<(), AllocError>
+        requires { (self.old.history.limit ≤ larger) × (larger ≤ 65536) }
+        ensures ok { OnOk result (self.new ≡ deltas (limited larger self.old.history) (take larger self.old.counts)) }
+        ensures err { OnErr result (self.new ≡ self.old) }
+    {
+        self.changes.resize(larger * self.cells)?;
+        self.marks.resize(larger)?;
+        self.limit = larger;
+        Ok(())
+    }
+}
+
+impl Timeline for DeltaRing {
+    ghost use Rattle.undo_log.specs.History.{with_word, marked, limited, TakenBack};
+    ghost use Rattle.undo_log.specs.Deltas.{deltas, left_of, one_more};
+
+    ghost history = { λ r. r.history };
+
+    ghost left = { λ r. left_of r.history.room r.counts };
+
+    fn word(&self, index: usize) -> u64 {
+        self.words[index]
+    }
+
+    fn set(&mut self, index: usize, value: u64)
+        requires in_range { index < length self.old.history.words }
+        requires room { 0 < length self.old.history.past → 0 < left_of self.old.history.room self.old.counts }
+        ensures history { self.new.history ≡ with_word index value self.old.history }
+        ensures left { left_of self.old.history.room self.old.counts ≤ left_of self.new.history.room self.new.counts + 1 }
+        ensures counts { self.new.counts ≡ one_more self.old.counts }
+    {
+        let old = self.words[index];
+        self.words[index] = value;
+        let Some(mark) = self.marks.pop_front() else {
+            return;
+        };
+        let _ = self.changes.push_front(Change { index, old });
+        let _ = self.marks.push_front(Mark {
+            event: mark.event,
+            count: mark.count + 1,
+        });
+    }
+
+    fn mark(&mut self, event: Undone)
+        ensures history { self.new.history ≡ marked event self.old.history }
+        ensures left { left_of self.new.history.room self.new.counts ≡ self.old.history.room }
+        ensures counts { self.new.counts ≡ take self.old.history.limit (0 ∷ self.old.counts) }
+    {
+        self.make_room();
+        let _ = self.marks.push_front(Mark { event, count: 0 });
+    }
+
+    fn back(&mut self) -> Result<Back, NoHistory>
+        ensures answer { TakenBack self.old.history result self.new.history }
+        ensures counts { IfOk result (λ back. self.old.counts ≡ back.written ∷ self.new.counts) }
+        ensures written { IfOk result (λ back. back.written ≤ self.old.history.room) }
+        ensures unchanged { OnErr result (self.new ≡ self.old) }
+    {
+        let Some(mark) = self.marks.pop_front() else {
+            return Err(NoHistory);
+        };
+        let written = write_back(self.words.as_mut_slice(), &mut self.changes, mark.count);
+        Ok(Back {
+            event: mark.event,
+            written,
+        })
+    }
+
+    fn kept(&self) -> usize {
+        self.marks.len()
+    }
+
+    fn kept_steps(&self) -> usize {
+        steps_among_marks(&self.marks)
+    }
+
+    fn limit(&self) -> usize {
+        self.limit
+    }
+
+    fn set_limit(&mut self, limit: usize) -> Result<(), AllocError>
+        requires { (1 ≤ limit) × (limit ≤ 65536) }
+        ensures ok { OnOk result (self.new ≡ deltas (limited limit self.old.history) (take limit self.old.counts)) }
+        ensures err { OnErr result (self.new ≡ self.old) }
+        ensures left { left_of self.new.history.room self.new.counts ≡ left_of self.old.history.room self.old.counts }
+        ensures smaller { limit ≤ self.old.history.limit → IsOk result }
+    {
+        if limit <= self.limit {
+            self.shrink(limit);
+            return Ok(());
+        }
+        self.grow(limit)
+    }
+
+    fn room(&self) -> usize {
+        self.cells
+    }
+}

@@ -1,0 +1,15 @@
+//! A record of old words: the words now, and for each kept event the words before it.
+#![tactic(auto)]
+
+mod changes;
+mod delta_ring;
+mod events;
+mod snapshot_ring;
+mod timeline;
+
+pub use delta_ring::DeltaRing;
+pub use snapshot_ring::SnapshotRing;
+pub use timeline::{Back, NoHistory, Timeline, Undone};
+
+#[cfg(test)]
+mod tests;

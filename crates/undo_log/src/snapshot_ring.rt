@@ -1,0 +1,138 @@
+//! The plain form of a record: a whole list of words for each kept event.
+ghost use Rattle.std.specs.Prelude.{◌≡◌, ◌^◌, ◌<◌, ◌≤◌, [], length, replicate, IfOk, OnOk, OnErr};
+ghost use Rattle.undo_log.specs.History.{new_history, limited, TakenBack};
+
+use crate::events::steps_among;
+use crate::timeline::{Back, NoHistory, Timeline, Undone};
+use circular_buffer::HeapCircularBuffer;
+use std::alloc::{AllocError, Global};
+use std::marker::Model;
+use std::mem;
+
+/// A record that keeps a copy of all words for each event. It has `limit + 1` lists of words at least, whose memory is taken by `new`, and by `set_limit` to a larger limit.
+#[derive(Drop)]
+pub struct SnapshotRing {
+    words: Vec<u64>,
+    /// In front the words before the kept events, from the newest to the oldest. The others are spare.
+    lists: HeapCircularBuffer<Vec<u64>>,
+    events: HeapCircularBuffer<Undone>,
+    limit: usize,
+}
+
+impl Model for SnapshotRing {
+    ghost use Rattle.undo_log.specs.History.{History};
+
+    ghost Value = { History };
+
+    ghost use Rattle.undo_log.specs.Snapshots.{snapshots_seen, AreSnapshots};
+
+    ghost view = { snapshots_seen };
+
+    ghost invariant = { AreSnapshots };
+}
+
+impl SnapshotRing {
+    /// A record of this many words, all 0, that keeps nothing. `limit` is the most events that are kept.
+    pub fn new(alloc: Global, words: usize, limit: usize) -> Result<Self, AllocError>
+        requires { (1 ≤ limit) × (limit ≤ 65536) }
+        ensures { IfOk result (λ r. r ≡ new_history words limit usize.MAX) }
+    {
+        let mut lists = HeapCircularBuffer::with_capacity(alloc, limit)?;
+        for _ in 0..limit {
+            let _ = lists.push_back(vec![in alloc; 0; words]?);
+        }
+        let events = HeapCircularBuffer::with_capacity(alloc, limit)?;
+        let words = vec![in alloc; 0; words]?;
+        Ok(SnapshotRing {
+            words,
+            lists,
+            events,
+            limit,
+        })
+    }
+
+    /// Raises the limit. All memory is taken first.
+    fn grow(&mut self, larger: usize) -> Result<(), AllocError>
+        requires { (self.old.limit ≤ larger) × (larger ≤ 65536) }
+        ensures ok { OnOk result (self.new ≡ limited larger self.old) }
+        ensures err { OnErr result (self.new ≡ self.old) }
+    {
+        self.events.resize(larger)?;
+        self.lists.resize(larger.max(self.lists.len()))?;
+        while self.lists.len() < larger {
+            let list = self.words.clone()?;
+            let _ = self.lists.push_back(list);
+        }
+        self.limit = larger;
+        Ok(())
+    }
+}
+
+impl Timeline for SnapshotRing {
+    ghost history = { λ r. r };
+
+    ghost left = { λ r. r.room };
+
+    fn word(&self, index: usize) -> u64 {
+        self.words[index]
+    }
+
+    fn set(&mut self, index: usize, value: u64) {
+        self.words[index] = value;
+    }
+
+    fn mark(&mut self, event: Undone) {
+        let Some(mut list) = self.lists.pop_back() else {
+            return;
+        };
+        list.as_mut_slice().copy_from_slice(self.words.as_slice());
+        let _ = self.lists.push_front(list);
+        self.events.truncate_back(self.limit - 1);
+        let _ = self.events.push_front(event);
+    }
+
+    fn back(&mut self) -> Result<Back, NoHistory>
+        ensures answer { TakenBack self.old result self.new }
+        ensures words { IfOk result (λ back. back.written ≡ length self.old.words) }
+        ensures written { IfOk result (λ back. back.written ≤ self.old.room) }
+        ensures left { OnErr result (self.new.room ≡ self.old.room) }
+    {
+        let Some(event) = self.events.pop_front() else {
+            return Err(NoHistory);
+        };
+        let Some(mut list) = self.lists.pop_front() else {
+            return Err(NoHistory);
+        };
+        mem::swap(&mut self.words, &mut list);
+        let written = list.len();
+        let _ = self.lists.push_back(list);
+        Ok(Back { event, written })
+    }
+
+    fn kept(&self) -> usize {
+        self.events.len()
+    }
+
+    fn kept_steps(&self) -> usize {
+        steps_among(&self.events)
+    }
+
+    fn limit(&self) -> usize {
+        self.limit
+    }
+
+    fn set_limit(&mut self, limit: usize) -> Result<(), AllocError> {
+        if limit <= self.limit {
+            self.events.truncate_back(limit);
+            self.limit = limit;
+            return Ok(());
+        }
+        self.grow(limit)
+    }
+
+    fn room(&self) -> usize {
+        // Reading a field tells the proof what the record's fields mean.
+        let _limit = self.limit;
+        usize::MAX
+    }
+}
