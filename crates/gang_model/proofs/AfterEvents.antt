@@ -1,0 +1,10 @@
+-- The state after events is a fold over them, the oldest first.
+use Rattle.std.proofs.Common.{◌≡◌, refl, ap, List, [], ◌∷◌, ◌++◌}
+use Rattle.gang_model.specs.Tree.{Program}
+use Rattle.gang_model.specs.State.{State}
+use Rattle.gang_model.specs.Events.{Event, happen, after}
+
+-- events after others happen in the state after those
+pub after-append : (p : Program) (first : State) (newer older : List Event) → after p first (newer ++ older) ≡ after p (after p first older) newer
+after-append p first [] older = refl
+after-append p first (event ∷ newer) older = ap (happen p event) (after-append p first newer older)

@@ -1,0 +1,18 @@
+//! The tokens of a source.
+#![tactic(auto)]
+
+mod fault;
+mod letters;
+mod marks;
+mod numbers;
+mod pieces;
+mod places;
+mod source;
+#[cfg(test)]
+mod tests;
+mod token;
+
+pub use fault::SourceFault;
+pub use places::source_end;
+pub use source::tokens;
+pub use token::{Kind, Number, Token};
