@@ -1,0 +1,201 @@
+//! The time of each operation, repeated on its own results.
+use gang_types::{BinaryOp, IntType, Mask, UnaryOp};
+use lane_kernels_test::plain;
+use std::io;
+use std::rt::Clock;
+use std::time::Instant;
+
+const LANES: usize = 8;
+
+const REPEATS: u64 = 200_000;
+
+type Lanes = [u64; LANES];
+
+const START: Lanes = [1, 2, 3, 5, 8, 13, 21, 34];
+
+// What a step works on, and writes its words to.
+#[derive(Clone, Copy, Debug, Drop)]
+struct Operands {
+    a: Lanes,
+    b: Lanes,
+}
+
+// The words after the step is made again and again, each time on other words.
+fn repeated<F: Fn(&mut Operands)>(step: &F) -> Lanes
+    requires { F.IsAlwaysCallable step.now }
+{
+    let mut operands = Operands {
+        a: START,
+        b: [7, 3, 1, 9, 2, 4, 6, 5],
+    };
+    for count in 0..REPEATS {
+        operands.a = lane_kernels::xor(IntType::Uint64, operands.a, [count; LANES]);
+        step(&mut operands);
+    }
+    operands.a
+}
+
+// The time of one lane in picoseconds, and the words at the end.
+fn timed<R: Clock, F: Fn(&mut Operands)>(rt: &R, step: &F) -> io::Result<(u64, Lanes)>
+    requires { F.IsAlwaysCallable step.now }
+{
+    let before = Instant::now(rt)?;
+    let words = repeated(step);
+    let nanos = before.elapsed(rt)?.as_nanos();
+    let picos = nanos.saturating_mul(1000) / (REPEATS as u128 * LANES as u128);
+    Ok((picos.min(1 << 50) as u64, words))
+}
+
+fn row<R: Clock + Print, K: Fn(&mut Operands), P: Fn(&mut Operands)>(
+    rt: &R,
+    name: &str,
+    kernel: &K,
+    plain: &P,
+) -> io::Result<()>
+    requires kernel { K.IsAlwaysCallable kernel.now }
+    requires plain { P.IsAlwaysCallable plain.now }
+{
+    let (fast, words) = timed(rt, kernel)?;
+    let (slow, same) = timed(rt, plain)?;
+    let hundredths = slow.saturating_mul(100) / fast.max(1);
+    let verdict = if words == same {
+        ""
+    } else {
+        " DIFFERENT RESULTS"
+    };
+    println!(rt;
+        "{name:<14} {fast:>7} ps {slow:>7} ps  x {}.{:02}{verdict}",
+        hundredths / 100,
+        hundredths % 100
+    )
+}
+
+pub fn measure_all<R: Clock + Print>(rt: &R, ty: IntType) -> io::Result<()> {
+    println!(rt; "{:<14} {:>10} {:>10}", "operation", "vectors", "loop")?;
+    measure_arithmetic(rt, ty)?;
+    measure_shifts(rt, ty)?;
+    measure_comparisons(rt, ty)?;
+    measure_calls(rt, ty)
+}
+
+fn measure_arithmetic<R: Clock + Print>(rt: &R, ty: IntType) -> io::Result<()> {
+    row(
+        rt,
+        "add",
+        &|x| x.a = lane_kernels::add(ty, x.a, x.b),
+        &|x| x.a = plain::binary(BinaryOp::Add, ty, x.a, x.b),
+    )?;
+    row(
+        rt,
+        "sub",
+        &|x| x.a = lane_kernels::sub(ty, x.a, x.b),
+        &|x| x.a = plain::binary(BinaryOp::Sub, ty, x.a, x.b),
+    )?;
+    row(
+        rt,
+        "mul",
+        &|x| x.a = lane_kernels::mul(ty, x.a, x.b),
+        &|x| x.a = plain::binary(BinaryOp::Mul, ty, x.a, x.b),
+    )?;
+    row(
+        rt,
+        "negate",
+        &|x| x.a = lane_kernels::negate(ty, x.a),
+        &|x| x.a = plain::unary(UnaryOp::Negate, ty, x.a),
+    )
+}
+
+fn measure_shifts<R: Clock + Print>(rt: &R, ty: IntType) -> io::Result<()> {
+    row(
+        rt,
+        "xor",
+        &|x| x.a = lane_kernels::xor(ty, x.a, x.b),
+        &|x| x.a = plain::binary(BinaryOp::Xor, ty, x.a, x.b),
+    )?;
+    row(
+        rt,
+        "complement",
+        &|x| x.a = lane_kernels::complement(ty, x.a),
+        &|x| x.a = plain::unary(UnaryOp::Complement, ty, x.a),
+    )?;
+    row(
+        rt,
+        "shl",
+        &|x| x.a = lane_kernels::shl(ty, x.a, x.b),
+        &|x| x.a = plain::binary(BinaryOp::Shl, ty, x.a, x.b),
+    )?;
+    row(
+        rt,
+        "shr",
+        &|x| x.a = lane_kernels::shr(ty, x.a, x.b),
+        &|x| x.a = plain::binary(BinaryOp::Shr, ty, x.a, x.b),
+    )
+}
+
+fn measure_comparisons<R: Clock + Print>(rt: &R, ty: IntType) -> io::Result<()> {
+    row(
+        rt,
+        "less",
+        &|x| x.a = lane_kernels::less(ty, x.a, x.b),
+        &|x| x.a = plain::binary(BinaryOp::Less, ty, x.a, x.b),
+    )?;
+    row(
+        rt,
+        "less_equal",
+        &|x| x.a = lane_kernels::less_equal(ty, x.a, x.b),
+        &|x| x.a = plain::binary(BinaryOp::LessEqual, ty, x.a, x.b),
+    )?;
+    row(
+        rt,
+        "equal",
+        &|x| x.a = lane_kernels::equal(ty, x.a, x.b),
+        &|x| x.a = plain::binary(BinaryOp::Equal, ty, x.a, x.b),
+    )?;
+    row(
+        rt,
+        "select",
+        &|x| x.a = lane_kernels::select(x.a, x.b, START),
+        &|x| x.a = plain::select(x.a, x.b, START),
+    )?;
+    row(
+        rt,
+        "convert",
+        &|x| x.a = lane_kernels::convert(ty, IntType::Uint8, x.a),
+        &|x| x.a = plain::convert(ty, IntType::Uint8, x.a),
+    )
+}
+
+fn measure_calls<R: Clock + Print>(rt: &R, ty: IntType) -> io::Result<()> {
+    row(
+        rt,
+        "min",
+        &|x| x.a = lane_kernels::min(ty, x.a, x.b),
+        &|x| x.a = plain::min(ty, x.a, x.b),
+    )?;
+    row(
+        rt,
+        "clamp",
+        &|x| x.a = lane_kernels::clamp(ty, x.a, x.b, START),
+        &|x| x.a = plain::clamp(ty, x.a, x.b, START),
+    )?;
+    row(
+        rt,
+        "abs",
+        &|x| x.a = lane_kernels::abs(ty, x.a),
+        &|x| x.a = plain::abs(ty, x.a),
+    )?;
+    row(
+        rt,
+        "popcnt",
+        &|x| x.a = lane_kernels::popcnt(ty, x.a),
+        &|x| x.a = plain::popcnt(ty, x.a),
+    )?;
+    row(
+        rt,
+        "divide",
+        &|x| x.a = lane_kernels::divide(ty, Mask::all::<LANES>(), x.a, x.b).unwrap_or(START),
+        &|x| x.a = plain::divide(BinaryOp::Div, ty, Mask::all::<LANES>(), x.a, x.b).unwrap_or(
+            START,
+        ),
+    )
+}

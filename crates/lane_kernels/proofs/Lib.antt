@@ -1,0 +1,3 @@
+pub mod VectorLanes
+pub mod Scalars
+pub mod ZeroDivisors
