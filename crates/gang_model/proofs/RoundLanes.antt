@@ -1,8 +1,9 @@
 -- Each round of a foreach form has as many lanes as the gang.
-use Rattle.std.proofs.Common.{◌≡◌, refl, ap, ◌∙◌, ℕ, zero, suc, Bool, List, [], ◌∷◌, ◌++◌, length}
+use Rattle.std.proofs.Common.{◌≡◌, refl, ap, ◌∙◌, ℕ, zero, suc, List, [], ◌∷◌, ◌++◌, length}
 use Rattle.std.specs.Prelude.{IfOk, map, flat_map, is_some, ℤ}
 use Rattle.std.proofs.lemmas.List.{length-map}
-use Rattle.gang_types.specs.Lanes.{Lanes, lanes_where, lanes_from}
+use Rattle.gang_types.specs.Lanes.{Lanes}
+use Rattle.gang_types.specs.LaneLaws.{length-lanes_from, length-lanes_where}
 use Rattle.gang_model.specs.Lanes.{at, members}
 use Rattle.gang_model.specs.Tree.{Dimension, RoundsOf, Rows, Tiles, EachLane, EachValue}
 use Rattle.gang_model.specs.State.{State}
@@ -76,13 +77,6 @@ tiles_filled size (bounds ∷ next ∷ third ∷ rest) =
     (range bounds.0 bounds.1)
 
 -- ---- rounds
-
-pub length-lanes_from : (k n : ℕ) (test : ℕ → Bool) → length (lanes_from k n test) ≡ n
-length-lanes_from k zero test = refl
-length-lanes_from k (suc n) test = ap suc (length-lanes_from (suc k) n test)
-
-pub length-lanes_where : (lanes : Lanes) (test : ℕ → Bool) → length (lanes_where lanes test) ≡ length lanes
-length-lanes_where lanes test = length-lanes_from 0 (length lanes) _
 
 -- a round has so many lanes
 abbrev pub IsRoundOf : ℕ → Turn → Type 0

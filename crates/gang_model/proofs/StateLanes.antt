@@ -1,5 +1,5 @@
 -- Each set of lanes in a state has a place for each lane of the gang, from the start and after each event.
-use Rattle.std.proofs.Common.{◌≡◌, refl, subst, ap, ◌∙◌, ℕ, suc, Bool, true, false, List, [], ◌∷◌, ◌++◌, length, Option, Some, None}
+use Rattle.std.proofs.Common.{◌≡◌, subst, ◌∙◌, ℕ, suc, Bool, true, false, List, [], ◌∷◌, ◌++◌, length, Option, Some, None}
 use Rattle.std.specs.Prelude.{Result, Ok, Err, not, ◌==◌, IfOk, map, replicate, slice_get, if◌then◌else◌}
 use Rattle.gang_types.specs.declared.types.Rate.{Rate}
 use Rattle.gang_types.specs.declared.types.IntType.{IntType}
@@ -7,7 +7,7 @@ use Rattle.gang_types.specs.declared.types.IntType.TheVariants as t
 use Rattle.gang_types.specs.declared.places.VarId.{VarId}
 use Rattle.gang_types.specs.declared.places.VarId.TheVariants.{File, Local}
 use Rattle.gang_types.specs.declared.faults.FaultName.TheVariants.{CallDepth}
-use Rattle.gang_types.specs.Lanes.{Lanes, no_lane, lanes_where, without, lowest}
+use Rattle.gang_types.specs.Lanes.{Lanes, no_lane, lanes_where, lowest}
 use Rattle.gang_model.specs.Lanes.{Fault, ◌>>=◌, each, at, try_each, holds, members}
 use Rattle.gang_model.specs.Tree.{StepNumber, ResultFor, Nothing, Declares, Assigns, Returns, Stmt, Empty, Then, Declare, Assign, Change, If, BodyFirst, Break, Continue, Return, Switch, Segment, ForEach, Call, Check, PackedStore, PackedLoad, Function, Program}
 use Rattle.gang_model.specs.State.{Store, Doing, Run, LoopTest, LoopUpdate, Round, RoundEnd, SwitchEnd, Task, Frame, State, with_words_in, with_first, on_top}
@@ -18,12 +18,8 @@ use Rattle.gang_model.specs.Step.{task, opened_before, opened, opened_task, sett
 use Rattle.gang_model.specs.Events.{Event, Step, Poke, Poked, WholeOf, LaneOf, ElementAt, Given, started, start, with_rows, initial_memory, poked, gone, happen, after}
 use Rattle.std.proofs.lemmas.List.{length-replicate}
 use Rattle.gang_model.proofs.LaneWords.{if_ok_after, if_ok_bind}
-use Rattle.gang_model.proofs.RoundLanes.{Every, IsRoundOf, length-rounds, length-lanes_where}
-
-length-without : (lanes out : Lanes) → length (without lanes out) ≡ length lanes
-length-without [] out = refl
-length-without (b ∷ lanes) [] = refl
-length-without (b ∷ lanes) (c ∷ out) = ap suc (length-without lanes out)
+use Rattle.gang_types.specs.LaneLaws.{length-without, length-lanes_where}
+use Rattle.gang_model.proofs.RoundLanes.{Every, IsRoundOf, length-rounds}
 
 -- each task has so many lanes
 abbrev pub TasksSized : ℕ → List Task → Type 0

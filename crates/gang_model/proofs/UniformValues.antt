@@ -1,9 +1,10 @@
 -- A uniform expression has equal values in all lanes that evaluate it.
-use Rattle.std.proofs.Common.{◌≡◌, refl, sym, ap, ◌∙◌, subst, ℕ, zero, suc, ◌+◌, ◌<◌, Bool, true, false, List, [], ◌∷◌, length, arith}
+use Rattle.std.proofs.Common.{◌≡◌, refl, sym, ap, ◌∙◌, subst, ℕ, zero, suc, ◌+◌, Bool, true, false, List, [], ◌∷◌, arith}
 use Rattle.std.specs.Prelude.{Result, Ok, Err, IfOk, MatchResult, not, ◌&&◌, ◌||◌, ◌==◌, if◌then◌else◌}
 use Rattle.gang_types.specs.declared.faults.FaultName.{FaultName}
 use Rattle.gang_types.specs.Values.{unary_of, binary_result, converted}
-use Rattle.gang_types.specs.Lanes.{Lanes, has, lanes_from, lanes_where}
+use Rattle.gang_types.specs.Lanes.{Lanes, has, lanes_where}
+use Rattle.gang_types.specs.LaneLaws.{has-lanes_where}
 use Rattle.gang_model.specs.Lanes.{Fault, words_from, each, tried_from, try_each, at, holds, truth_word}
 use Rattle.gang_model.specs.Library.{lane_value, of_one, of_two}
 use Rattle.gang_model.specs.Tree.{Expr, Number, ProgramCount, LaneMask, Read, Element, Unary, Binary, Convert, And, Or, Choice, Reduce, OfOne, OfTwo, Extract, Select}
@@ -24,24 +25,9 @@ at-words_from m (b ∷ lanes) f (suc k) h = at-words_from (suc m) lanes f k h �
 pub at-each : (lanes : Lanes) (f : ℕ → ℕ) (k : ℕ) → has lanes k ≡ true → at (each lanes f) k ≡ f k
 at-each lanes f k h = at-words_from 0 lanes f k h ∙ ap f (omega arith)
 
-has_below : (lanes : Lanes) (k : ℕ) → has lanes k ≡ true → k < length lanes
-has_below [] k h = absurd (none_true h)
-has_below (b ∷ lanes) zero h = omega arith
-has_below (b ∷ lanes) (suc k) h = omega (arith, has_below lanes k h)
-
-nothing_below_zero : (k : ℕ) → k < 0 → ⊥
-nothing_below_zero k h = omega (arith, h)
-
-has_from : (m n k : ℕ) (test : ℕ → Bool) → k < n → has (lanes_from m n test) k ≡ test (m + k)
-has_from m zero k test h = absurd (nothing_below_zero k h)
-has_from m (suc n) zero test h = ap test (omega arith)
-has_from m (suc n) (suc k) test h = has_from (suc m) n k test (omega (arith, h)) ∙ ap test (past m k)
-
 -- a lane of the set that passes the test is among those that pass it
 pub has_where : (lanes : Lanes) (test : ℕ → Bool) (k : ℕ) → has lanes k ≡ true → test k ≡ true → has (lanes_where lanes test) k ≡ true
-has_where lanes test k h t =
-    has_from 0 (length lanes) k _ (has_below lanes k h)
-    ∙ subst (λ n. (has lanes n && test n) ≡ true) (omega arith) (subst (λ b. (b && test k) ≡ true) (sym h) t)
+has_where lanes test k h t = has-lanes_where lanes test k ∙ subst (λ b. (b && test k) ≡ true) (sym h) t
 
 -- ---- equal values
 

@@ -2,12 +2,10 @@
 -- (ISPC User's Guide, "Functions" and "Packed load and store operations"; what is refused, and where, is a choice of this
 -- project). `check` decides `call_of`.
 use Rattle.std.specs.Prelude.{Bool, true, not, ◌&&◌, ◌||◌, List, [], ◌∷◌, find, Option, Some, None, is_some, if◌then◌else◌}
-use Rattle.gang_types.specs.declared.types.IntType.{IntType}
 use Rattle.gang_types.specs.declared.types.IntType.TheVariants as t
 use Rattle.gang_types.specs.declared.types.Rate.{Rate}
 use Rattle.gang_types.specs.declared.types.Rate.TheVariants.{Uniform}
 use Rattle.gang_types.specs.declared.places.Place.{Place}
-use Rattle.gang_model.specs.declared.forms.Spec.{Spec}
 use Rattle.gang_model.specs.declared.refusals.RefusalNumber.TheVariants.{S7, S8, S9}
 use Rattle.gang_model.specs.declared.refusals.SourceRefusal.{SourceRefusal}
 use Rattle.gang_model.specs.Tree.{ResultFor, StepNumber, Stmt, Call, Check, PackedStore, PackedLoad}
@@ -30,6 +28,7 @@ pub record Called : Type 0 where
   pub stmt : Stmt
   pub result : ResultType
 
+-- a statement with the result that it gives
 abbrev pub called : Stmt → ResultType → Called
 called s result = record { stmt = s; result = result }
 
@@ -60,6 +59,7 @@ library_statement p PackedLoads (View q n from ∷ Reference r v ∷ []) result_
     if takes_elements v n then unless (stored_to r v) (packed (PackedLoad step n.variable.id from (var_of v.variable) result_for)) else refused S9 p
 library_statement p call given result_for step = refused S9 p
 
+-- a call of the library, else of a user's function
 abbrev pub call_of_kind : Option StatementCall → Context → Place → Name → List Passing → ResultFor → StepNumber → Judged Called
 call_of_kind None context p name given result_for step = user_call context p name given result_for step
 call_of_kind (Some call) context p name given result_for step = library_statement p call given result_for step

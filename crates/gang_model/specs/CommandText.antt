@@ -157,13 +157,15 @@ words_behind [] words = Some words
 words_behind (first ∷ command) [] = None
 words_behind (first ∷ command) (word ∷ words) = if same_text first word then words_behind command words else None
 
+-- a form's command where a line has the command's words, else another one
+abbrev pub command_or : Option (List Word) → Form → Option Command → Option Command
+command_or (Some rest) form other = command_in form rest
+command_or None form other = other
+
 -- the command that words spell by a table: that of the one entry whose words they begin with
 abbrev pub command_by : List Entry → List Word → Option Command
 command_by [] words = None
-command_by (entry ∷ entries) words = elim (words_behind entry.0 words) [
-  | Some rest ↦ command_in entry.1 rest
-  | None ↦ command_by entries words
-]
+command_by (entry ∷ entries) words = command_or (words_behind entry.0 words) entry.1 (command_by entries words)
 
 -- whether a line begins with a blank
 abbrev pub begins_blank : List ℕ → Bool

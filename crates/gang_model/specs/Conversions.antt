@@ -20,13 +20,16 @@ pub record Typed : Type 0 where
   pub type : IntType
   pub rate : Rate
 
+-- an expression with this type and rate
 abbrev pub typed : Expr → IntType → Rate → Typed
 typed e type rate = record { expr = e; type = type; rate = rate }
 
+-- whether both are true or both are false
 abbrev pub same_bool : Bool → Bool → Bool
 same_bool true b = b
 same_bool false b = not b
 
+-- whether two types are one: width and sign name a type
 abbrev pub same_type : IntType → IntType → Bool
 same_type a b = (width a == width b) && same_bool (is_signed a) (is_signed b)
 
@@ -38,10 +41,12 @@ joined a b = if nat_lt (width a) (width b) then b else (if nat_lt (width b) (wid
 abbrev pub promoted : IntType → IntType
 promoted type = if is_bool type then t.Int32 else type
 
+-- whether there is a value for each lane
 abbrev pub is_varying : Rate → Bool
 is_varying Uniform = false
 is_varying Varying = true
 
+-- whether two rates are one
 abbrev pub same_rate : Rate → Rate → Bool
 same_rate a b = same_bool (is_varying a) (is_varying b)
 
@@ -58,6 +63,7 @@ may_become from to = not (is_varying from) || is_varying to
 abbrev pub as_type : IntType → Typed → Expr
 as_type type e = if same_type e.type type then e.expr else Convert e.type type e.expr
 
+-- the expression, converted to bool
 abbrev pub as_bool : Typed → Expr
 as_bool e = as_type t.Bool e
 
@@ -103,6 +109,7 @@ operated operation a b =
     let type = operation_type operation a.type b.type in
     typed (Binary operation type (as_type type a) (right_operand operation type b)) (given_type operation type) (joined_rate a.rate b.rate)
 
+-- two operands with what stands between them; `&&` and `||` work in bool
 abbrev pub infixed : Infix → Typed → Typed → Typed
 infixed (Op operation) a b = operated operation a b
 infixed AndAlso a b = typed (And (as_bool a) (as_bool b)) t.Bool (joined_rate a.rate b.rate)

@@ -10,7 +10,7 @@ use Rattle.gang_model.specs.Lanes.{Fault}
 use Rattle.gang_model.specs.Names.{same_text, named}
 use Rattle.gang_model.specs.Tree.{Variable, Program}
 use Rattle.gang_model.specs.State.{View, State, view_of, words_in, words_of}
-use Rattle.gang_model.specs.Step.{Goes, Fails, Over, step}
+use Rattle.gang_model.specs.Step.{Stepped, Goes, Fails, Over, step}
 use Rattle.gang_model.specs.Positions.{line_now, scope_now}
 use Rattle.gang_model.specs.Events.{Event, Step, Poke, Poked, WholeOf, LaneOf, ElementAt, after}
 
@@ -74,6 +74,7 @@ pub record Reply : Type 0 where
   pub answer : Answer
   pub next : Debugger
 
+-- a reply
 abbrev pub reply : Answer → Debugger → Reply
 reply answer d = record { answer = answer; next = d }
 
@@ -193,62 +194,73 @@ abbrev pub first_stop : (Stop → Bool) → List (ℕ × Stop) → Option ℕ
 first_stop test [] = None
 first_stop test (entry ∷ stops) = if test entry.1 then Some entry.0 else first_stop test stops
 
--- what ends a command after a move, if anything does, in this order: the goal, a breakpoint, a watch, that no move is left
-abbrev pub halt : Program → Option Goal → (old new : State) → List (ℕ × Stop) → (no_move : Bool) → (last : Answer) → Option Answer
-halt p None old new stops no_move last = Some Here
-halt p (Some goal) old new stops no_move last = elim (first_stop (on_line (line_now p new)) stops) [
-  | Some n ↦ Some (AtBreakpoint n)
-  | None ↦ elim (first_stop (differs old new) stops) [
-    | Some n ↦ Some (AtWatch n)
-    | None ↦ if no_move then Some last else None
-  ]
-]
+-- whether a command ends after a move, or goes on to a goal
+pub data AfterMove : Type 0 where
+  Ends : Answer → AfterMove
+  GoesOn : Goal → AfterMove
 
--- forward moves, at most so many; a fault comes at the attempt to move
+-- what ends a command after a move, in this order: the goal, a breakpoint, a watch, that no move is left
+abbrev pub ends_or_goes_on : Option Goal → (breakpoint watch : Option ℕ) → (no_move : Bool) → (last : Answer) → AfterMove
+ends_or_goes_on None breakpoint watch no_move last = Ends Here
+ends_or_goes_on (Some goal) (Some n) watch no_move last = Ends (AtBreakpoint n)
+ends_or_goes_on (Some goal) None (Some n) no_move last = Ends (AtWatch n)
+ends_or_goes_on (Some goal) None None true last = Ends last
+ends_or_goes_on (Some goal) None None false last = GoesOn goal
+
+-- what a command does after a move from an old state to a new one
+abbrev pub after_move : Program → Goal → (old new : State) → List (ℕ × Stop) → (no_move : Bool) → (last : Answer) → AfterMove
+after_move p goal old new stops no_move last =
+    ends_or_goes_on (towards goal (depth new)) (first_stop (on_line (line_now p new)) stops) (first_stop (differs old new) stops) no_move last
+
+-- the reply at the end, else that of what comes next
+abbrev pub or_next : AfterMove → Debugger → (Goal → Reply) → Reply
+or_next (Ends answer) d next = reply answer d
+or_next (GoesOn goal) d next = next goal
+
+-- an attempt to move forward: a fault ends the command before the move
+abbrev pub attempted : Setting → Goal → Debugger → Stepped → (Goal → Reply) → Reply
+attempted s goal d Over next = reply Here d
+attempted s goal d (Fails fault) next = reply (AtFault fault) d
+attempted s goal d (Goes new) next = or_next (after_move s.program goal (now s d) new d.stops (has_ended new) Here) (moved Step d) next
+
+-- forward moves, at most so many
 abbrev pub forward : ℕ → Setting → Goal → Debugger → Reply
 forward zero s goal d = reply StepLimit d
-forward (suc n) s goal d = elim (step s.program (now s d)) [
-  | Over ↦ reply Here d
-  | Fails fault ↦ reply (AtFault fault) d
-  | Goes new ↦ elim (halt s.program (towards goal (depth new)) (now s d) new d.stops (has_ended new) Here) [
-    | Some answer ↦ reply answer (moved Step d)
-    | None ↦ elim (towards goal (depth new)) [
-      | None ↦ reply Here (moved Step d)
-      | Some next ↦ forward n s next (moved Step d)
-    ]
-  ]
-]
+forward (suc n) s goal d = attempted s goal d (step s.program (now s d)) (λ next. forward n s next (moved Step d))
 
 -- backward moves, at most so many
 abbrev pub backward : ℕ → Setting → Goal → Debugger → Reply
 backward zero s goal d = reply HistoryEnd d
 backward (suc n) s goal d =
-    let back : Debugger = stepped_back d in
-    elim (halt s.program (towards goal (depth (now s back))) (now s d) (now s back) d.stops (kept_steps back == 0) HistoryEnd) [
-      | Some answer ↦ reply answer back
-      | None ↦ elim (towards goal (depth (now s back))) [
-        | None ↦ reply Here back
-        | Some next ↦ backward n s next back
-      ]
-    ]
+    or_next (after_move s.program goal (now s d) (now s (stepped_back d)) d.stops (kept_steps (stepped_back d) == 0) HistoryEnd)
+    (stepped_back d) (λ next. backward n s next (stepped_back d))
 
 -- ---- commands
 
--- a forward command: C4, C6 where it needs a frame below
-abbrev pub do_forward : Setting → (needs_depth : Bool) → Goal → Debugger → Reply
-do_forward s needs_depth goal d =
-    elim (has_ended (now s d)) [
-      | true ↦ refused Ended d
-      | false ↦ elim (needs_depth && (depth (now s d) == 1)) [ true ↦ refused Outermost d | false ↦ forward s.limit s goal d ]
-    ]
+-- a command, unless it is refused
+abbrev pub unless_refused : Option Refusal → Debugger → (Debugger → Reply) → Reply
+unless_refused (Some r) d go = refused r d
+unless_refused None d go = go d
 
--- a backward command: C3, C6 where it needs a frame below
+-- C6 where a frame below is needed and there is none
+abbrev pub outermost_refusal : (needs_depth : Bool) → State → Option Refusal
+outermost_refusal needs_depth state = if needs_depth && (depth state == 1) then Some Outermost else None
+
+-- C4 where the program has ended, else C6
+abbrev pub forward_refusal : (needs_depth : Bool) → State → Option Refusal
+forward_refusal needs_depth state = if has_ended state then Some Ended else outermost_refusal needs_depth state
+
+-- a forward command: C4, C6
+abbrev pub do_forward : Setting → (needs_depth : Bool) → Goal → Debugger → Reply
+do_forward s needs_depth goal d = unless_refused (forward_refusal needs_depth (now s d)) d (forward s.limit s goal)
+
+-- C3 where no step is kept, else C6
+abbrev pub backward_refusal : (steps : ℕ) → (needs_depth : Bool) → State → Option Refusal
+backward_refusal steps needs_depth state = if steps == 0 then Some NoHistory else outermost_refusal needs_depth state
+
+-- a backward command: C3, C6
 abbrev pub do_backward : Setting → (needs_depth : Bool) → Goal → Debugger → Reply
-do_backward s needs_depth goal d =
-    elim (kept_steps d == 0) [
-      | true ↦ refused NoHistory d
-      | false ↦ elim (needs_depth && (depth (now s d) == 1)) [ true ↦ refused Outermost d | false ↦ backward d.kept s goal d ]
-    ]
+do_backward s needs_depth goal d = unless_refused (backward_refusal (kept_steps d) needs_depth (now s d)) d (backward d.kept s goal)
 
 -- what is said of the last event when it is taken back
 abbrev pub undone : List Event → Answer
@@ -271,7 +283,7 @@ bad_part whole_array (Some k) is_array rate words = if nat_lt k words then None 
 abbrev pub with_target : Setting → Debugger → (whole_array : Bool) → Target → Option Variable → (Variable → Reply) → Reply
 with_target s d whole_array target None go = refused NoSuchName d
 with_target s d whole_array target (Some v) go =
-    elim (bad_part whole_array target.at v.is_array v.rate (length (shown_words (now s d) v))) [ Some r ↦ refused r d | None ↦ go v ]
+    unless_refused (bad_part whole_array target.at v.is_array v.rate (length (shown_words (now s d) v))) d (λ d. go v)
 
 -- shows a target or a whole array: C2, C8
 abbrev pub do_print : Setting → Target → Debugger → Reply
@@ -320,12 +332,14 @@ add_stop stop answer d =
     if nat_le 64 (length d.stops) || nat_lt 10000000 d.next then refused TableFull d
     else reply (answer d.next) (record d { stops = d.stops ++ (d.next, stop) ∷ []; next = suc d.next })
 
+-- a breakpoint on a line, C7 where there is none
+abbrev pub break_on : Option ℕ → Debugger → Reply
+break_on None d = refused NoLine d
+break_on (Some l) d = add_stop (Line l) (λ n. BreaksAt n l) d
+
 -- a breakpoint on the first line from this one on that has a step: C7, C11
 abbrev pub do_break : Setting → ℕ → Debugger → Reply
-do_break s line d = elim (least_from line (step_lines s.program)) [
-  | None ↦ refused NoLine d
-  | Some l ↦ add_stop (Line l) (λ n. BreaksAt n l) d
-]
+do_break s line d = break_on (least_from line (step_lines s.program)) d
 
 -- a watch on a file-scope scalar, lane or element: C2, C8, C11
 abbrev pub do_watch : Setting → Target → Debugger → Reply

@@ -82,9 +82,14 @@ abbrev pub entry_words : List Row → ℕ
 entry_words [] = 0
 entry_words (row ∷ rows) = (if row.variable.is_array && row.variable.is_parameter then length row.words else 0) + entry_words rows
 
--- the most values of a row: the length of a file-scope array; of an entry array what is left of 2 ^ 20 words
+-- a length, or what is left of 2 ^ 20 words
+abbrev pub length_or_left : Option ℕ → (words : ℕ) → ℕ
+length_or_left (Some len) words = len
+length_or_left None words = 2 ^ 20 - words
+
+-- the most values of an array's row: the length of a file-scope array; of an entry array what the rows before leave
 abbrev pub most_values : Receiver → List Row → ℕ
-most_values receiver rows = elim receiver.most [ Some len ↦ len | None ↦ 2 ^ 20 - entry_words rows ]
+most_values receiver rows = length_or_left receiver.most (entry_words rows)
 
 -- the row of a receiver and its values: I1 where a scalar has not one value, I4, I3
 abbrev pub row_with : ℕ → Receiver → List Row → List ℤ → Result Row InputRefusal
@@ -126,22 +131,26 @@ abbrev pub complete : List Variable → List Row → Result (List Row) InputRefu
 complete [] rows = Ok rows
 complete (v ∷ parameters) rows = if is_some (find (is_row_of v.name) rows) then complete parameters rows else Err (Missing v.name)
 
+-- a row is put behind the others, and then comes what is next
+abbrev pub and_row : List Row → Result Row InputRefusal → (List Row → Result (List Row) InputRefusal) → Result (List Row) InputRefusal
+and_row rows (Ok row) next = next (rows ++ row ∷ [])
+and_row rows (Err refusal) next = Err refusal
+
+-- the rows after a line of this number, unless it is skipped or refused
+abbrev pub after_line : (is_skipped : Bool) → List Receiver → ℕ → List Row → List ℕ → (List Row → Result (List Row) InputRefusal) → Result (List Row) InputRefusal
+after_line true receivers n rows line next = next rows
+after_line false receivers n rows line next = and_row rows (row_of receivers n rows (words_of_line is_equals line)) next
+
 -- the rows so far with those of the lines from this number on, or the first refusal
 abbrev pub rows_from : List Receiver → List Variable → ℕ → List Row → List (List ℕ) → Result (List Row) InputRefusal
 rows_from receivers parameters n rows [] = complete parameters rows
 rows_from receivers parameters n rows (line ∷ lines) =
-    elim (is_skipped line) [
-      | true ↦ rows_from receivers parameters (suc n) rows lines
-      | false ↦ elim (row_of receivers n rows (words_of_line is_equals line)) [
-        | Ok row ↦ rows_from receivers parameters (suc n) (rows ++ row ∷ []) lines
-        | Err refusal ↦ Err refusal
-      ]
-    ]
+    after_line (is_skipped line) receivers n rows line (λ rows. rows_from receivers parameters (suc n) rows lines)
+
+-- the rows of an input's lines for a function
+abbrev pub rows_for : Program → Option Function → List (List ℕ) → Result (List Row) InputRefusal
+rows_for p f lines = rows_from (receivers p f) (parameters_of f) 1 [] lines
 
 -- the rows of an input text, in order, or its first refusal: I4 for more than 4,194,304 bytes, the lines in order, then I2
 abbrev pub rows_of : Program → (entry : ℕ) → List ℕ → Result (List Row) InputRefusal
-rows_of p entry bytes =
-    elim (nat_lt 4194304 (length bytes)) [
-      | true ↦ Err (TooLarge None)
-      | false ↦ rows_from (receivers p (slice_get p.functions entry)) (parameters_of (slice_get p.functions entry)) 1 [] (lines_of bytes)
-    ]
+rows_of p entry bytes = if nat_lt 4194304 (length bytes) then Err (TooLarge None) else rows_for p (slice_get p.functions entry) (lines_of bytes)

@@ -1,20 +1,19 @@
 -- The forms of the language that the program accepts today; the definitions have the whole language
 -- (a choice of this project: forms are let through in the order in which their running code is proved).
-use Rattle.std.specs.Prelude.{◌≡◌, ℕ, ◌^◌, Bool, true, false, not, ◌&&◌, ◌||◌, nat_lt, List, [], ◌∷◌, length, ◌==◌, Option, Some, None, codes, is_none, is_some}
+use Rattle.std.specs.Prelude.{◌≡◌, ◌^◌, Bool, true, false, not, ◌&&◌, ◌||◌, nat_lt, List, [], ◌∷◌, length, ◌==◌, Option, Some, None, codes, is_none, is_some}
 use Rattle.std.specs.List.{list_all}
 use Rattle.gang_types.specs.declared.types.IntType.{IntType}
 use Rattle.gang_types.specs.declared.types.IntType.TheVariants as t
-use Rattle.gang_types.specs.declared.types.Rate.{Rate}
 use Rattle.gang_types.specs.declared.operators.BinaryOp.{BinaryOp}
 use Rattle.gang_types.specs.declared.operators.BinaryOp.TheVariants as op
 use Rattle.gang_model.specs.declared.forms.Infix.{Infix}
-use Rattle.gang_model.specs.declared.forms.Infix.TheVariants.{Op, AndAlso, OrElse}
+use Rattle.gang_model.specs.declared.forms.Infix.TheVariants.{Op}
 use Rattle.gang_model.specs.declared.forms.Spec.{Spec}
 use Rattle.gang_model.specs.declared.forms.GlobalForm.{GlobalForm}
-use Rattle.gang_model.specs.declared.forms.GlobalForm.TheVariants.{Plain, Array, Initial}
+use Rattle.gang_model.specs.declared.forms.GlobalForm.TheVariants.{Array}
 use Rattle.gang_model.specs.Names.{same_text}
 use Rattle.gang_model.specs.LibraryTable.{is_library_name, statement_call}
-use Rattle.gang_model.specs.Parsed.{Name, ParsedExpr, ParsedNumber, ParsedBool, ParsedName, ParsedIndex, ParsedCall, ParsedParen, ParsedUnary, ParsedCast, ParsedBinary, ParsedChoice, ParsedArgs, ParsedEnd, ParsedValue, ParsedPart, ParsedPartFrom, ParsedDim, ParsedTarget, ParsedStmt, ParsedEmpty, ParsedBlock, ParsedDeclare, ParsedAssign, ParsedChange, ParsedIncrement, ParsedDoCall, ParsedBreak, ParsedContinue, ParsedReturn, ParsedIf, ParsedIfElse, ParsedWhile, ParsedDo, ParsedFor, ParsedSwitch, ParsedForEach, ParsedForEachActive, ParsedForEachUnique, ParsedStmts, ParsedLast, ParsedNext, ParsedSegments, ParsedNoMore, ParsedSegment, ParsedParam, ParsedFunction, ParsedGlobal, ParsedItem, ParsedFunctionItem, ParsedGlobalItem, ParsedSource}
+use Rattle.gang_model.specs.Parsed.{Name, ParsedExpr, ParsedNumber, ParsedBool, ParsedName, ParsedIndex, ParsedCall, ParsedParen, ParsedUnary, ParsedCast, ParsedBinary, ParsedChoice, ParsedArgs, ParsedEnd, ParsedValue, ParsedPart, ParsedPartFrom, ParsedDim, ParsedTarget, ParsedStmt, ParsedEmpty, ParsedBlock, ParsedDeclare, ParsedAssign, ParsedChange, ParsedIncrement, ParsedDoCall, ParsedBreak, ParsedContinue, ParsedReturn, ParsedIf, ParsedIfElse, ParsedWhile, ParsedDo, ParsedFor, ParsedSwitch, ParsedForEach, ParsedForEachActive, ParsedForEachUnique, ParsedStmts, ParsedLast, ParsedNext, ParsedSegments, ParsedNoMore, ParsedSegment, ParsedParam, ParsedFunction, ParsedItem, ParsedFunctionItem, ParsedGlobalItem, ParsedSource}
 
 -- which groups of forms are let through, beside one exported function of declarations `int x = e;`, assignments `x = e;`
 -- and `x += e;`, with numbers below 2 ^ 31 without suffix, names, `programIndex`, parentheses, `+` and `*`
@@ -37,6 +36,7 @@ pub record Forms : Type 0 where
 abbrev pub today : Forms
 today = record { scalars = false; control = false; calls = false; arrays = false; rounds = false; library = false; switches = false }
 
+-- `+` and `*`
 abbrev pub is_plain_operation : Infix → Bool
 is_plain_operation (Op op.Add) = true
 is_plain_operation (Op op.Mul) = true
@@ -61,16 +61,19 @@ abbrev mutual
   known_expr (ParsedBinary op a b) forms = (forms.scalars || is_plain_operation op) && (known_expr a forms && known_expr b forms)
   known_expr (ParsedChoice c a b) forms = forms.scalars && (known_expr c forms && (known_expr a forms && known_expr b forms))
 
+  -- whether arguments have forms that are let through alone
   pub known_args : ParsedArgs → Forms → Bool
   known_args ParsedEnd forms = true
   known_args (ParsedValue e args) forms = known_expr e forms && known_args args forms
   known_args (ParsedPart p name args) forms = forms.arrays && known_args args forms
   known_args (ParsedPartFrom p name e args) forms = forms.arrays && (known_expr e forms && known_args args forms)
 
+-- the same of an expression, if there is one
 abbrev pub known_some : Option ParsedExpr → Forms → Bool
 known_some None forms = true
 known_some (Some e) forms = known_expr e forms
 
+-- the same of a target
 abbrev pub known_target : ParsedTarget → Forms → Bool
 known_target target forms = is_none target.index || (forms.arrays && known_some target.index forms)
 
@@ -79,18 +82,22 @@ abbrev pub is_plain_type : Option IntType → Bool
 is_plain_type (Some t.Int32) = true
 is_plain_type type = false
 
+-- the spec `int`
 abbrev pub is_plain_spec : Spec → Bool
 is_plain_spec spec = is_plain_type spec.value_type && (is_none spec.rate && not spec.is_constant)
 
+-- `+`
 abbrev pub is_sum : BinaryOp → Bool
 is_sum op.Add = true
 is_sum op = false
 
+-- whether the bounds have forms that are let through alone
 abbrev pub known_dims : List ParsedDim → Forms → Bool
 known_dims [] forms = true
 known_dims (d ∷ dims) forms = known_expr d.low forms && (known_expr d.high forms && known_dims dims forms)
 
 abbrev mutual
+  -- whether a statement has forms that are let through alone
   pub known_stmt : ParsedStmt → Forms → Bool
   known_stmt ParsedEmpty forms = forms.scalars
   known_stmt (ParsedBlock ss) forms = forms.scalars && known_stmts ss forms
@@ -113,10 +120,12 @@ abbrev mutual
   known_stmt (ParsedForEachActive p at name body) forms = forms.rounds && known_stmt body forms
   known_stmt (ParsedForEachUnique p at name e body) forms = forms.rounds && (known_expr e forms && known_stmt body forms)
 
+  -- the same of a list of statements
   pub known_stmts : ParsedStmts → Forms → Bool
   known_stmts ParsedLast forms = true
   known_stmts (ParsedNext s ss) forms = known_stmt s forms && known_stmts ss forms
 
+  -- the same of the segments of a switch
   pub known_segments : ParsedSegments → Forms → Bool
   known_segments ParsedNoMore forms = true
   known_segments (ParsedSegment p label ss rest) forms = known_stmts ss forms && known_segments rest forms
@@ -130,13 +139,16 @@ known_params params is_exported forms =
 abbrev pub is_plain_entry : Spec → Bool
 is_plain_entry spec = (spec.is_exported && is_none spec.value_type) && (is_none spec.rate && (not spec.is_static && not spec.is_inline))
 
+-- the same of a function
 abbrev pub known_function : ParsedFunction → Forms → Bool
 known_function f forms = (forms.scalars || is_plain_entry f.spec) && (known_params f.params f.spec.is_exported forms && known_stmts f.body forms)
 
+-- the same of what follows a file-scope variable's name
 abbrev pub known_form : GlobalForm → Forms → Bool
 known_form (Array n) forms = forms.arrays
 known_form form forms = forms.scalars
 
+-- the same of a definition
 abbrev pub known_item : Forms → ParsedItem → Bool
 known_item forms (ParsedFunctionItem f) = known_function f forms
 known_item forms (ParsedGlobalItem g) = known_form g.form forms

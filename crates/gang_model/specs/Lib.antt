@@ -12,12 +12,10 @@ pub mod Names
 pub mod Lanes
 pub mod Library
 pub mod Judged
-pub mod JudgedLaws
 pub mod Conversions
 pub mod LibraryTable
 pub mod Signatures
 pub mod Scope
-pub mod ScopeLaws
 pub mod Typing
 pub mod Overloads
 pub mod TypeFaults
@@ -26,11 +24,6 @@ pub mod Statements
 pub mod Resolved
 pub mod NameFaults
 pub mod SourceRefusals
-pub mod RefusalLaws
-pub mod TypingLaws
-pub mod NumberLaws
-pub mod StandingLaws
-pub mod VariableLaws
 pub mod Limits
 pub mod Entry
 pub mod Known
@@ -51,3 +44,7 @@ pub mod LanePure
 pub mod Run
 pub mod RunningOrder
 pub mod UniformExprs
+pub mod SeparateInstances
+pub mod Bindings
+pub mod WellScoped
+pub mod WellPlaced

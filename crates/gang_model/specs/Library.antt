@@ -1,11 +1,12 @@
 -- The library's functions: each is a sum, a least value, a list or a map over the lanes that call it
 -- (ISPC User's Guide, "The ISPC Standard Library"; the types of the results are a choice of this project).
-use Rattle.std.specs.Prelude.{ℕ, zero, suc, ◌+◌, ◌^◌, ◌%◌, ◌/◌, Bool, true, false, not, ◌==◌, nat_lt, List, [], ◌∷◌, length, take, ℤ, pos, negsuc, ◌+ℤ◌, int_lt, unsigned_abs, bit_and, bit_or, Result, Ok, Err, if◌then◌else◌}
+use Rattle.std.specs.Prelude.{ℕ, suc, ◌+◌, ◌^◌, Bool, true, false, not, ◌==◌, nat_lt, List, [], ◌∷◌, length, take, ℤ, pos, negsuc, ◌+ℤ◌, int_lt, bit_and, bit_or, Result, Ok, Err, if◌then◌else◌}
 use Rattle.gang_types.specs.declared.types.IntType.{IntType}
 use Rattle.gang_types.specs.declared.types.IntType.TheVariants as t
 use Rattle.gang_types.specs.declared.faults.FaultName.{FaultName}
 use Rattle.gang_types.specs.declared.faults.FaultName.TheVariants.{LaneIndex}
-use Rattle.gang_types.specs.Values.{width, value_of, wrapped, residue}
+use Rattle.gang_types.specs.Values.{value_of, wrapped, residue}
+use Rattle.gang_types.specs.Library.{lesser, larger, absolute, bit_count}
 use Rattle.gang_types.specs.Lanes.{Lanes}
 use Rattle.gang_model.specs.Lanes.{at, members, truth_word}
 use Rattle.gang_model.specs.Tree.{Reduction, AnyLane, AllLanes, NoLane, ReduceAdd, ReduceMin, ReduceMax, ReduceEqual, PopCountLanes, PackMask, ScanOf, ScanAdd, ScanAnd, ScanOr, OneCall, Absolute, PopCount, TwoCall, Lesser, Larger}
@@ -91,20 +92,15 @@ before_lane k lanes xs = active (take k lanes) xs
 abbrev pub rank : Lanes → ℕ → ℕ
 rank lanes k = length (members (take k lanes))
 
--- how many of the lowest k bits are set
-abbrev pub set_bits : ℕ → ℕ → ℕ
-set_bits zero n = 0
-set_bits (suc k) n = n % 2 + set_bits k (n / 2)
-
 -- a function of one value
 abbrev pub of_one : OneCall → IntType → ℕ → ℕ
-of_one Absolute ty x = wrapped ty (pos (unsigned_abs (value_of ty x)))
-of_one PopCount ty x = set_bits (width ty) x
+of_one Absolute ty x = absolute ty x
+of_one PopCount ty x = bit_count ty x
 
 -- a function of two values
 abbrev pub of_two : TwoCall → IntType → ℕ → ℕ → ℕ
-of_two Lesser ty x y = if int_lt (value_of ty y) (value_of ty x) then y else x
-of_two Larger ty x y = if int_lt (value_of ty x) (value_of ty y) then y else x
+of_two Lesser ty x y = lesser ty x y
+of_two Larger ty x y = larger ty x y
 
 -- the value of a lane that an index names; a fault where there is no such lane
 abbrev pub lane_value : List ℕ → ℕ → Result ℕ FaultName

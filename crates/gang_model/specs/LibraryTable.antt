@@ -1,6 +1,6 @@
 -- The library's names, what each asks for and what it gives, as one table
 -- (ISPC User's Guide, "The ISPC Standard Library"; the types of results are a choice of this project).
-use Rattle.std.specs.Prelude.{ℕ, Bool, ◌&&◌, ◌==◌, List, [], ◌∷◌, map, length, find, Option, Some, None, codes, if◌then◌else◌}
+use Rattle.std.specs.Prelude.{ℕ, Bool, ◌&&◌, ◌==◌, List, [], ◌∷◌, map, length, Option, Some, None, codes, if◌then◌else◌}
 use Rattle.std.specs.List.{list_any}
 use Rattle.gang_types.specs.declared.types.IntType.{IntType}
 use Rattle.gang_types.specs.declared.types.IntType.TheVariants as t
@@ -40,21 +40,46 @@ pub data LibraryCall : Type 0 where
   Clamps : LibraryCall
   Selects : LibraryCall
 
--- a call with its name and the rates that its arguments may have: a varying argument takes a uniform value too
-pub record LibraryRow : Type 0 where
-  pub name : Name
-  pub asks : List Rate
-  pub call : LibraryCall
+-- every library call that gives a value and stands in expressions, with its name; one name may stand for several calls, that
+-- differ in the number of their arguments
+abbrev pub library_table : List (Name × LibraryCall)
+library_table =
+    (codes "any", (ReducesTruths AnyLane))
+    ∷ (codes "all", (ReducesTruths AllLanes))
+    ∷ (codes "none", (ReducesTruths NoLane))
+    ∷ (codes "reduce_add", (ReducesNumbers ReduceAdd))
+    ∷ (codes "reduce_min", (ReducesNumbers ReduceMin))
+    ∷ (codes "reduce_max", (ReducesNumbers ReduceMax))
+    ∷ (codes "reduce_equal", ComparesLanes)
+    ∷ (codes "broadcast", Broadcasts)
+    ∷ (codes "extract", Extracts)
+    ∷ (codes "insert", Inserts)
+    ∷ (codes "rotate", Rotates)
+    ∷ (codes "shift", Shifts)
+    ∷ (codes "shuffle", Shuffles)
+    ∷ (codes "shuffle", ShufflesTwo)
+    ∷ (codes "exclusive_scan_add", (Scans ScanAdd))
+    ∷ (codes "exclusive_scan_and", (Scans ScanAnd))
+    ∷ (codes "exclusive_scan_or", (Scans ScanOr))
+    ∷ (codes "min", (ComparesTwo Lesser))
+    ∷ (codes "max", (ComparesTwo Larger))
+    ∷ (codes "clamp", Clamps)
+    ∷ (codes "abs", TakesMagnitude)
+    ∷ (codes "select", Selects)
+    ∷ (codes "popcnt", CountsOnes)
+    ∷ (codes "lanemask", GivesLanes)
+    ∷ (codes "packmask", (ReducesTruths PackMask))
+    ∷ []
 
-abbrev pub row : Name → List Rate → LibraryCall → LibraryRow
-row name asks call = record { name = name; asks = asks; call = call }
-
+-- one value of each lane
 abbrev pub one : List Rate
 one = Varying ∷ []
 
+-- two values of each lane
 abbrev pub two : List Rate
 two = Varying ∷ Varying ∷ []
 
+-- three values of each lane
 abbrev pub three : List Rate
 three = Varying ∷ Varying ∷ Varying ∷ []
 
@@ -62,35 +87,25 @@ three = Varying ∷ Varying ∷ Varying ∷ []
 abbrev pub one_and_uniform : List Rate
 one_and_uniform = Varying ∷ Uniform ∷ []
 
--- every library call that gives a value and stands in expressions
-abbrev pub library_table : List LibraryRow
-library_table =
-    row (codes "any") one (ReducesTruths AnyLane)
-    ∷ row (codes "all") one (ReducesTruths AllLanes)
-    ∷ row (codes "none") one (ReducesTruths NoLane)
-    ∷ row (codes "reduce_add") one (ReducesNumbers ReduceAdd)
-    ∷ row (codes "reduce_min") one (ReducesNumbers ReduceMin)
-    ∷ row (codes "reduce_max") one (ReducesNumbers ReduceMax)
-    ∷ row (codes "reduce_equal") one ComparesLanes
-    ∷ row (codes "broadcast") one_and_uniform Broadcasts
-    ∷ row (codes "extract") one_and_uniform Extracts
-    ∷ row (codes "insert") (Varying ∷ Uniform ∷ Uniform ∷ []) Inserts
-    ∷ row (codes "rotate") one_and_uniform Rotates
-    ∷ row (codes "shift") one_and_uniform Shifts
-    ∷ row (codes "shuffle") two Shuffles
-    ∷ row (codes "shuffle") three ShufflesTwo
-    ∷ row (codes "exclusive_scan_add") one (Scans ScanAdd)
-    ∷ row (codes "exclusive_scan_and") one (Scans ScanAnd)
-    ∷ row (codes "exclusive_scan_or") one (Scans ScanOr)
-    ∷ row (codes "min") two (ComparesTwo Lesser)
-    ∷ row (codes "max") two (ComparesTwo Larger)
-    ∷ row (codes "clamp") three Clamps
-    ∷ row (codes "abs") one TakesMagnitude
-    ∷ row (codes "select") three Selects
-    ∷ row (codes "popcnt") one CountsOnes
-    ∷ row (codes "lanemask") [] GivesLanes
-    ∷ row (codes "packmask") one (ReducesTruths PackMask)
-    ∷ []
+-- the rates that the arguments of a call may have: where a varying one may stand a uniform one may too
+abbrev pub asked_by : LibraryCall → List Rate
+asked_by GivesLanes = []
+asked_by (ReducesTruths f) = one
+asked_by (ReducesNumbers f) = one
+asked_by ComparesLanes = one
+asked_by (Scans f) = one
+asked_by CountsOnes = one
+asked_by TakesMagnitude = one
+asked_by (ComparesTwo f) = two
+asked_by Broadcasts = one_and_uniform
+asked_by Extracts = one_and_uniform
+asked_by Inserts = Varying ∷ Uniform ∷ Uniform ∷ []
+asked_by Rotates = one_and_uniform
+asked_by Shifts = one_and_uniform
+asked_by Shuffles = two
+asked_by ShufflesTwo = three
+asked_by Clamps = three
+asked_by Selects = three
 
 -- the library's calls that are statements, or stand whole after `=` or `return`
 pub data StatementCall : Type 0 where
@@ -98,6 +113,7 @@ pub data StatementCall : Type 0 where
   PackedStores : StatementCall
   PackedLoads : StatementCall
 
+-- every one of these calls with its name
 abbrev pub statement_call_table : List (Name × StatementCall)
 statement_call_table =
     (codes "assert", Asserts)
@@ -105,17 +121,25 @@ statement_call_table =
     ∷ (codes "packed_load_active", PackedLoads)
     ∷ []
 
+-- whether a name is one of some
 abbrev pub is_among : Name → List Name → Bool
 is_among name names = list_any (same_text name) names
 
 -- whether a name is that of a library call that stands in expressions
 abbrev pub is_library_name : Name → Bool
-is_library_name name = is_among name (map (λ r. r.name) library_table)
+is_library_name name = is_among name (map (λ entry. entry.0) library_table)
+
+-- the first call of this name and so many arguments in a table
+abbrev pub library_call_of : Name → ℕ → List (Name × LibraryCall) → Option LibraryCall
+library_call_of name n [] = None
+library_call_of name n (entry ∷ entries) =
+    if same_text entry.0 name && (length (asked_by entry.1) == n) then Some entry.1 else library_call_of name n entries
 
 -- the library call with this name and so many arguments
-abbrev pub library_row : Name → ℕ → Option LibraryRow
-library_row name n = find (λ r. same_text r.name name && (length r.asks == n)) library_table
+abbrev pub library_call : Name → ℕ → Option LibraryCall
+library_call name n = library_call_of name n library_table
 
+-- the first call of this name in a table
 abbrev pub statement_call_of : Name → List (Name × StatementCall) → Option StatementCall
 statement_call_of name [] = None
 statement_call_of name (entry ∷ entries) = if same_text entry.0 name then Some entry.1 else statement_call_of name entries

@@ -2,7 +2,6 @@
 -- (a choice of this project). The refusal is the first in the order of the source.
 use Rattle.std.specs.Prelude.{ℕ, ◌+◌, ◌^◌, nat_lt, List, [], ◌∷◌, ◌++◌, map, Option, Some, None, slice_get}
 use Rattle.gang_types.specs.declared.places.Place.{Place}
-use Rattle.gang_model.specs.declared.forms.GlobalForm.{GlobalForm}
 use Rattle.gang_model.specs.declared.refusals.RefusalNumber.TheVariants.{S13}
 use Rattle.gang_model.specs.declared.refusals.SourceRefusal.{SourceRefusal}
 use Rattle.gang_model.specs.Parsed.{ParsedStmt, ParsedBlock, ParsedDeclare, ParsedIf, ParsedIfElse, ParsedWhile, ParsedDo, ParsedFor, ParsedSwitch, ParsedForEach, ParsedForEachActive, ParsedForEachUnique, ParsedStmts, ParsedLast, ParsedNext, ParsedSegments, ParsedNoMore, ParsedSegment, ParsedFunction, ParsedItem, ParsedFunctionItem, ParsedGlobalItem, ParsedSource}
@@ -33,10 +32,12 @@ abbrev mutual
   declared_in (ParsedForEachUnique p at name e body) = at ∷ declared_in body
   declared_in s = []
 
+  -- the same of a list of statements
   pub declared_in_all : ParsedStmts → List Place
   declared_in_all ParsedLast = []
   declared_in_all (ParsedNext s ss) = declared_in s ++ declared_in_all ss
 
+  -- the same of the segments of a switch
   pub declared_in_segments : ParsedSegments → List Place
   declared_in_segments ParsedNoMore = []
   declared_in_segments (ParsedSegment p label ss rest) = declared_in_all ss ++ declared_in_segments rest
@@ -58,6 +59,7 @@ limits_passed words (ParsedFunctionItem f ∷ items) = past_limit (slice_get (va
 limits_passed words (ParsedGlobalItem g ∷ items) =
     fault_if (nat_lt most_array_words (words + length_of g.form)) S13 g.at ++ limits_passed (words + length_of g.form) items
 
+-- the first of some faults, if there are any
 abbrev pub first_fault : List SourceRefusal → Option SourceRefusal
 first_fault [] = None
 first_fault (fault ∷ others) = Some fault

@@ -1,7 +1,7 @@
 -- The faults of names and of where statements and calls stand: S5 UnknownName, S6 Duplicate, S11 BadControl, S12 NestedCall
 -- (ISPC User's Guide, "Control flow", for `break`, `continue`, `return` and `foreach`; which calls stand in expressions, and
 -- the places of faults, are a choice of this project). `resolve` answers the least of `name_faults`.
-use Rattle.std.specs.Prelude.{ℕ, Bool, true, false, not, ◌&&◌, ◌||◌, ◌==◌, List, [], ◌∷◌, ◌++◌, map, Option, Some, None, is_some, if◌then◌else◌}
+use Rattle.std.specs.Prelude.{Bool, true, false, not, ◌&&◌, ◌||◌, ◌==◌, List, [], ◌∷◌, ◌++◌, map, Option, Some, None, is_some, if◌then◌else◌}
 use Rattle.std.specs.List.{list_any, flat_map}
 use Rattle.gang_types.specs.declared.places.Place.{Place}
 use Rattle.gang_model.specs.declared.forms.Label.{Label}
@@ -99,9 +99,11 @@ statement_names p name args functions environment =
 abbrev pub twice : Site → Place → Name → List SourceRefusal
 twice site p name = fault_if (is_among name site.here || is_built_in name) S6 p
 
+-- in a loop
 abbrev pub in_loop : Allowed → Allowed
 in_loop may = record may { breaks = true; continues = true }
 
+-- in a switch
 abbrev pub in_switch : Allowed → Allowed
 in_switch may = record may { breaks = true }
 
@@ -156,6 +158,7 @@ abbrev mutual
   stmt_names (ParsedForEachUnique p at name e body) may site =
       twice (enclosed site) at name ++ (names_in e may.functions site.environment ++ stmt_names body (in_round may) (in_rounds name site))
 
+  -- a list of statements, each after the ones before it
   pub stmts_names : ParsedStmts → Allowed → Site → List SourceRefusal
   stmts_names ParsedLast may site = []
   stmts_names (ParsedNext s ss) may site = stmt_names s may site ++ stmts_names ss may (after s site)
@@ -168,16 +171,21 @@ abbrev mutual
 
 -- ---- the whole source
 
+-- S6 at a parameter with the name of one before it
 abbrev pub params_twice : List ParsedParam → Site → List SourceRefusal
 params_twice [] site = []
 params_twice (p ∷ params) site = twice site p.at p.name ++ params_twice params (with_name p.name site)
+
+-- what may stand in a function of a source with functions of these names, outside loops and foreach forms
+abbrev pub in_function : List Name → Allowed
+in_function functions = record { functions = functions; breaks = false; continues = false; returns = true; domains = true }
 
 -- a function: S6 at a name of the library's, and the faults in its parameters and its body
 abbrev pub function_names : List Name → Environment → ParsedFunction → List SourceRefusal
 function_names functions environment f =
     fault_if (is_library_name f.name || is_some (statement_call f.name)) S6 f.at
     ++ (params_twice f.params (function_site environment [])
-    ++ stmts_names f.body (record { functions = functions; breaks = false; continues = false; returns = true; domains = true }) (function_site environment f.params))
+    ++ stmts_names f.body (in_function functions) (function_site environment f.params))
 
 -- the file-scope variables, after those of these names
 abbrev pub globals_twice : List ParsedGlobal → List Name → List SourceRefusal

@@ -48,6 +48,7 @@ cost (Scalar p e) param = value_cost e param param.spec.value_type
 cost (View p n from) param = if (param.is_array && same_elements n param) && (param.spec.is_constant || not n.variable.is_constant) then Some 0 else None
 cost (Reference p n) param = None
 
+-- one more cost before others, if all are there
 abbrev pub one_more : Option ℕ → Option (List ℕ) → Option (List ℕ)
 one_more None more = None
 one_more (Some price) None = None
@@ -66,6 +67,7 @@ pub record Candidate : Type 0 where
   pub function : ParsedFunction
   pub prices : List ℕ
 
+-- one more possible function before others, if its costs are there
 abbrev pub candidate : ℕ → ParsedFunction → Option (List ℕ) → List Candidate → List Candidate
 candidate k f None others = others
 candidate k f (Some prices) others = record { number = k; function = f; prices = prices } ∷ others
@@ -90,6 +92,7 @@ beats c other = (c.number == other.number) || (nat_lt (sum c.prices) (sum other.
 abbrev pub best_of : List Candidate → Option Candidate
 best_of possible = find (λ c. list_all (beats c) possible) possible
 
+-- the winner, or S10 at a call that has none
 abbrev pub best_or_tie : Place → Option Candidate → Judged Candidate
 best_or_tie p None = refused S10 p
 best_or_tie p (Some c) = Sound c

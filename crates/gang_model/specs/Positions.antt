@@ -1,6 +1,6 @@
 -- Where a program stands: the step that comes next, its place in the source and what is in scope there
 -- (GDB manual, "Examining the Stack"; what is in scope at a step is a choice of this project).
-use Rattle.std.specs.Prelude.{ℕ, ◌-◌, List, [], ◌∷◌, length, Option, Some, None, slice_get}
+use Rattle.std.specs.Prelude.{ℕ, ◌-◌, ◌==◌, if◌then◌else◌, List, [], ◌∷◌, length, Option, Some, None, slice_get}
 use Rattle.gang_types.specs.declared.places.Spot.{Spot}
 use Rattle.gang_types.specs.Lanes.{Lanes}
 use Rattle.gang_model.specs.Tree.{StepNumber, Stmt, Empty, Then, Declare, Assign, Change, If, Loop, BodyFirst, Break, Continue, Return, Switch, Segment, ForEach, Call, Check, PackedStore, PackedLoad, Variable, Standing, Function, Program}
@@ -86,6 +86,7 @@ abbrev pub standing_of : Program → Option Spot → Option Standing
 standing_of p None = None
 standing_of p (Some spot) = standing_at p spot
 
+-- how the program stands in the source where it stands now
 abbrev pub standing_now : Program → State → Option Standing
 standing_now p state = standing_of p (spot_now p state)
 
@@ -106,3 +107,24 @@ line_now p state = line_of (standing_now p state)
 -- what is in scope where the program stands, nothing once it has ended
 abbrev pub scope_now : Program → State → List Variable
 scope_now p state = scope_of (standing_now p state)
+
+-- the lanes that the top frame shows
+abbrev pub top_lanes : List Frame → Lanes
+top_lanes [] = []
+top_lanes (frame ∷ frames) = frame_lanes frame
+
+-- the lanes of the step that comes next, none of a program that has ended
+abbrev pub lanes_now : State → Lanes
+lanes_now state = top_lanes state.frames
+
+-- the step of a function that made a call
+abbrev pub call_spot : (function : ℕ) → Option StepNumber → Option Spot
+call_spot function None = None
+call_spot function (Some number) = Some (spot_in function number)
+
+-- where the call stands that made the frame at this depth, the entry's frame being at depth 1 and made by none
+abbrev pub call_at : (depth : ℕ) → List Frame → Option Spot
+call_at depth [] = None
+call_at depth (frame ∷ []) = None
+call_at depth (frame ∷ below ∷ frames) =
+    if length (frame ∷ below ∷ frames) == depth then call_spot below.function frame.call else call_at depth (below ∷ frames)

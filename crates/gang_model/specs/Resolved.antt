@@ -21,7 +21,6 @@ use Rattle.gang_model.specs.Judged.{Judged, Sound, faults_of, sound_part, unless
 use Rattle.gang_model.specs.Conversions.{literal_type}
 use Rattle.gang_model.specs.Typing.{Entry, Scope, declared, truth_value}
 use Rattle.gang_model.specs.Signatures.{declared_type, ResultType, result_of}
-use Rattle.gang_model.specs.Calls.{Context}
 use Rattle.gang_model.specs.Statements.{Made, statements}
 use Rattle.gang_model.specs.TypeFaults.{is_array_form, signature_faults, global_faults}
 
@@ -39,10 +38,12 @@ first_word type (Initial (Number is_negative n is_unsigned is_long)) =
 first_word type (Initial (Truth b)) = converted t.Bool type (truth_value b)
 first_word type form = 0
 
+-- how many elements a file-scope variable has, none unless it is an array
 abbrev pub length_of : GlobalForm → ℕ
 length_of (Array n) = n
 length_of form = 0
 
+-- the k-th file-scope variable, as its declaration says
 abbrev pub global_entry : ℕ → ParsedGlobal → Entry
 global_entry k g = declared g.name (File k) g.spec (is_array_form g.form) false
 
@@ -51,6 +52,7 @@ abbrev pub global_entries : ℕ → List ParsedGlobal → Scope
 global_entries k [] = []
 global_entries k (g ∷ globals) = global_entry k g ∷ global_entries (suc k) globals
 
+-- the k-th file-scope variable in the typed tree
 abbrev pub global_of : ℕ → ParsedGlobal → Global
 global_of k g = record { variable = (global_entry k g).variable; word = first_word (declared_type g.spec.value_type) g.form; len = length_of g.form }
 
@@ -86,14 +88,17 @@ local_at variables (Local k) = slice_index_or variables k no_variable
 abbrev pub standing_with : List Variable → NameStanding → Standing
 standing_with variables s = record { place = s.place; scope = map (λ b. local_at variables b.id) s.names }
 
+-- a result's type; int32 stands for `void`
 abbrev pub type_or_int32 : ResultType → IntType
 type_or_int32 None = t.Int32
 type_or_int32 (Some r) = r.0
 
+-- a result's rate; uniform stands for `void`
 abbrev pub rate_or_uniform : ResultType → Rate
 rate_or_uniform None = Uniform
 rate_or_uniform (Some r) = r.1
 
+-- a function in the typed tree
 abbrev pub function_made : Environment → ParsedFunction → Made → Function
 function_made environment f body = record {
   name = f.name;
@@ -111,6 +116,7 @@ judged_function source f = do
       (param_entries 0 f.params (global_entries 0 (globals_in source))) (length f.params) 0)
   Sound (function_made (file_scope source) f parts.1)
 
+-- functions, each judged by itself
 abbrev pub judged_functions : ParsedSource → List ParsedFunction → Judged (List Function)
 judged_functions source [] = Sound []
 judged_functions source (f ∷ functions) = do

@@ -14,6 +14,7 @@ pub record Binding : Type 0 where
   pub name : Name
   pub id : VarId
 
+-- a name with its variable
 abbrev pub bound : Name → VarId → Binding
 bound name id = record { name = name; id = id }
 
@@ -30,6 +31,7 @@ declaration (b ∷ environment) name = if same_text b.name name then Some b.id e
 abbrev pub is_built_in : Name → Bool
 is_built_in name = same_text name (codes "programIndex") || same_text name (codes "programCount")
 
+-- whether a variable is a function's, and not the file's
 abbrev pub is_local : VarId → Bool
 is_local (File k) = false
 is_local (Local k) = true
@@ -83,10 +85,12 @@ abbrev mutual
   locals_in (ParsedForEachUnique p at name e body) = 1 + locals_in body
   locals_in s = 0
 
+  -- how many variables a list of statements declares
   pub locals_in_all : ParsedStmts → ℕ
   locals_in_all ParsedLast = 0
   locals_in_all (ParsedNext s ss) = locals_in s + locals_in_all ss
 
+  -- how many variables the segments of a switch declare
   pub locals_in_segments : ParsedSegments → ℕ
   locals_in_segments ParsedNoMore = 0
   locals_in_segments (ParsedSegment p label ss rest) = locals_in_all ss + locals_in_segments rest
@@ -107,6 +111,7 @@ pub record NameStanding : Type 0 where
   pub place : Place
   pub names : List Binding
 
+-- a step at this place, where this is in scope
 abbrev pub standing : Place → Site → NameStanding
 standing place site = record { place = place; names = listed site.environment }
 
@@ -152,10 +157,12 @@ abbrev mutual
   standings_in (ParsedForEachActive p at name body) site = standing p site ∷ (standings_in body (in_rounds name site) ++ standing p site ∷ [])
   standings_in (ParsedForEachUnique p at name e body) site = standing p site ∷ (standings_in body (in_rounds name site) ++ standing p site ∷ [])
 
+  -- the steps of a list of statements
   pub standings_in_all : ParsedStmts → Site → List NameStanding
   standings_in_all ParsedLast site = []
   standings_in_all (ParsedNext s ss) site = standings_in s site ++ standings_in_all ss (after s site)
 
+  -- the steps of the segments of a switch
   pub standings_in_segments : ParsedSegments → Site → List NameStanding
   standings_in_segments ParsedNoMore site = []
   standings_in_segments (ParsedSegment p label ss rest) site = standings_in_all ss site ++ standings_in_segments rest (after_all ss site)
@@ -176,10 +183,12 @@ abbrev mutual
   has_return (ParsedForEachUnique p at name e body) = has_return body
   has_return s = false
 
+  -- whether one of the statements holds a `return`
   pub one_returns : ParsedStmts → Bool
   one_returns ParsedLast = false
   one_returns (ParsedNext s ss) = has_return s || one_returns ss
 
+  -- whether one of the segments holds a `return`
   pub some_segment_returns : ParsedSegments → Bool
   some_segment_returns ParsedNoMore = false
   some_segment_returns (ParsedSegment p label ss rest) = one_returns ss || some_segment_returns rest
@@ -189,6 +198,7 @@ abbrev pub before_return : ParsedStmts → ParsedStmts
 before_return ParsedLast = ParsedLast
 before_return (ParsedNext s ss) = if has_return s then ParsedLast else ParsedNext s (before_return ss)
 
+-- after parameters, each declared in the same scope
 abbrev pub with_params : List ParsedParam → Site → Site
 with_params [] site = site
 with_params (p ∷ params) site = with_params params (with_name p.name site)
@@ -198,6 +208,7 @@ abbrev pub file_bindings : ℕ → List ParsedGlobal → Environment
 file_bindings k [] = []
 file_bindings k (g ∷ globals) = bound g.name (File k) ∷ file_bindings (suc k) globals
 
+-- what is in scope everywhere: the variables of the file
 abbrev pub file_scope : ParsedSource → Environment
 file_scope source = file_bindings 0 (globals_in source)
 
@@ -217,6 +228,7 @@ abbrev pub standings_at : ParsedSource → Option ParsedFunction → List NameSt
 standings_at source None = []
 standings_at source (Some f) = standings_of (file_scope source) f
 
+-- the names that a standing lists, if there is one
 abbrev pub names_at : Option NameStanding → List Binding
 names_at None = []
 names_at (Some s) = s.names

@@ -1,6 +1,6 @@
 -- What a spec declares, and when two functions have the same parameters (a choice of this project: two functions of one name
 -- differ in the types or rates of their parameters).
-use Rattle.std.specs.Prelude.{Bool, true, false, not, ◌&&◌, List, [], ◌∷◌, Option, Some, None, is_none}
+use Rattle.std.specs.Prelude.{Bool, true, false, ◌&&◌, List, [], ◌∷◌, Option, Some, None, is_none}
 use Rattle.gang_types.specs.declared.types.IntType.{IntType}
 use Rattle.gang_types.specs.declared.types.IntType.TheVariants as t
 use Rattle.gang_types.specs.declared.types.Rate.{Rate}
@@ -24,10 +24,12 @@ declared_rate (Some rate) = rate
 abbrev pub ResultType : Type 0
 ResultType = Option (IntType × Rate)
 
+-- a result of this rate, if it has a type
 abbrev pub result_with : Option IntType → Rate → ResultType
 result_with None rate = None
 result_with (Some type) rate = Some (type, rate)
 
+-- the result of a function with this spec
 abbrev pub result_of : Spec → ResultType
 result_of spec = result_with spec.value_type (declared_rate spec.rate)
 
@@ -40,6 +42,7 @@ abbrev pub same_param : ParsedParam → ParsedParam → Bool
 same_param p q = same_declared_type p.spec.value_type q.spec.value_type
     && (same_rate (declared_rate p.spec.rate) (declared_rate q.spec.rate) && same_bool p.is_array q.is_array)
 
+-- whether two lists of parameters are the same, one by one
 abbrev pub same_params : List ParsedParam → List ParsedParam → Bool
 same_params [] [] = true
 same_params [] (q ∷ others) = false

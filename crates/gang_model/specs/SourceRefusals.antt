@@ -20,6 +20,7 @@ abbrev pub first_refusal : Option SourceRefusal → Option SourceRefusal → Opt
 first_refusal (Some refusal) later = Some refusal
 first_refusal None later = later
 
+-- the refusal of a source by its names, else by its types
 abbrev pub refusal_of : ParsedSource → Option SourceRefusal
 refusal_of source = first_refusal (names_refusal source) (types_refusal source)
 

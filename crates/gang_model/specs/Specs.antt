@@ -92,23 +92,24 @@ type_from _ _ = None
 abbrev pub type_of : List Mark → Option (Option IntType)
 type_of ws = type_from (has mark.Unsigned ws) (type_words ws)
 
--- the words' meaning, in whatever order they stand
+-- where there is at most one rate, and just one type
+abbrev pub spec_with : (is_exported is_static is_inline is_constant : Bool) → Option (Option Rate) → Option (Option IntType) → Option Spec
+spec_with e s i c (Some r) (Some t) = Some (record {
+  is_exported = e;
+  is_static = s;
+  is_inline = i;
+  is_constant = c;
+  rate = r;
+  value_type = t;
+})
+spec_with e s i c _ _ = None
+
+-- what the words mean, in whatever order they stand
 unfoldable pub spec_of : List Mark → Option Spec
 spec_of ws =
     if are_spec_words ws
-    then with_parts (rate_of ws) (type_of ws)
+    then spec_with (has mark.Export ws) (has mark.Static ws) (has mark.Inline ws) (has mark.Const ws) (rate_of ws) (type_of ws)
     else None
-  where
-    with_parts : Option (Option Rate) → Option (Option IntType) → Option Spec
-    with_parts (Some r) (Some t) = Some (record {
-      is_exported = has mark.Export ws;
-      is_static = has mark.Static ws;
-      is_inline = has mark.Inline ws;
-      is_constant = has mark.Const ws;
-      rate = r;
-      value_type = t;
-    })
-    with_parts _ _ = None
 
 -- a cast has a rate and a type only
 abbrev pub cast_part : Spec → Option (Option Rate × Option IntType)

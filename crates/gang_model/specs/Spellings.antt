@@ -81,12 +81,14 @@ digits_number test base (byte ∷ bytes) = if all_are test (byte ∷ bytes) then
 abbrev pub decimal_number : Word → Option ℕ
 decimal_number word = digits_number is_digit 10 word
 
--- `0x` and hexadecimal digits as a number, or decimal digits
+-- hexadecimal digits where they stand behind `0x`, else decimal digits, as a number
+abbrev pub hexadecimal_or : (behind_prefix : Option Word) → Word → Option ℕ
+hexadecimal_or (Some digits) word = digits_number is_hexadecimal 16 digits
+hexadecimal_or None word = decimal_number word
+
+-- `0x` and hexadecimal digits, or decimal digits, as a number
 abbrev pub number_of_word : Word → Option ℕ
-number_of_word word = elim (behind (codes "0x") word) [
-  | Some digits ↦ digits_number is_hexadecimal 16 digits
-  | None ↦ decimal_number word
-]
+number_of_word word = hexadecimal_or (behind (codes "0x") word) word
 
 -- the number, where there is one and it lies from the least to the most
 abbrev pub in_range : (least most : ℕ) → Option ℕ → Option ℕ
@@ -103,12 +105,14 @@ abbrev pub negative : Option ℕ → Option ℤ
 negative None = None
 negative (Some n) = Some (neg_ℤ (pos n))
 
--- `true` as 1, `false` as 0, a minus and what may follow one, or a number
+-- a number behind a minus, if there is one, else a number without
+abbrev pub signed_or : (signed unsigned : Word → Option ℕ) → (behind_minus : Option Word) → Word → Option ℤ
+signed_or signed unsigned (Some digits) word = negative (signed digits)
+signed_or signed unsigned None word = positive (unsigned word)
+
+-- `true` as 1, `false` as 0, a minus and what may follow one, or a number without
 abbrev pub value_of_word : (signed unsigned : Word → Option ℕ) → Word → Option ℤ
 value_of_word signed unsigned word =
     if same_text word (codes "true") then Some (pos 1)
     else (if same_text word (codes "false") then Some (pos 0)
-    else elim (behind (codes "-") word) [
-      | Some digits ↦ negative (signed digits)
-      | None ↦ positive (unsigned word)
-    ])
+    else signed_or signed unsigned (behind (codes "-") word) word)

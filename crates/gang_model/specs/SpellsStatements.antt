@@ -139,6 +139,10 @@ SpellsDim d dim ts rest = (a b c f : List Lexeme)
 abbrev pub max_dims : ℕ
 max_dims = 3
 
+-- one to three, with commas between them
+abbrev pub SpellsDims : List ParsedDim → (nestings : ℕ) → List Lexeme → List Lexeme → Type 0
+SpellsDims dims d ts rest = SpellsList (SpellsDim d) dims ts rest × (length dims ≤ max_dims)
+
 abbrev pub foreach_word : (is_tiled : Bool) → Mark
 foreach_word true = mark.ForeachTiled
 foreach_word false = mark.Foreach
@@ -190,7 +194,7 @@ abbrev mutual
   SpellsStmt (ParsedSwitch at e segments) d ts rest = ⊥
   SpellsStmt (ParsedForEach at is_tiled dims x) d ts rest = (a b : List Lexeme)
       × TakesAt (marked (foreach_word is_tiled)) at ts a
-      × InParens d (λ inner. SpellsList (SpellsDim inner) dims) a b × (length dims ≤ max_dims)
+      × InParens d (SpellsDims dims) a b
       × OpensBody x d (λ inner. SpellsStmt x inner b rest)
   SpellsStmt (ParsedForEachActive at name_at name x) d ts rest = (a b : List Lexeme)
       × TakesAt (marked mark.ForeachActive) at ts a × InParens d (λ inner. TakesAt (named name) name_at) a b

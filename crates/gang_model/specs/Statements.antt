@@ -13,7 +13,7 @@ use Rattle.gang_types.specs.Values.{is_bool, value_in, wrapped}
 use Rattle.gang_model.specs.declared.forms.Label.{Label}
 use Rattle.gang_model.specs.declared.refusals.RefusalNumber.TheVariants.{S7, S8}
 use Rattle.gang_model.specs.Tree.{Var, Expr, Number, Target, Scalar as ToScalar, ElementOf, Nothing, Declares, Assigns, Returns, Dimension, Rows, Tiles, EachLane, EachValue, StepNumber, Stmt, Empty, Then, Declare, Assign, Change, If, Loop, BodyFirst, Break, Continue, Return, Switch, Segment, ForEach, Variable}
-use Rattle.gang_model.specs.Parsed.{Name, ParsedExpr, ParsedDim, ParsedStmt, ParsedEmpty, ParsedBlock, ParsedDeclare, ParsedAssign, ParsedChange, ParsedIncrement, ParsedDoCall, ParsedBreak, ParsedContinue, ParsedReturn, ParsedIf, ParsedIfElse, ParsedWhile, ParsedDo, ParsedFor, ParsedSwitch, ParsedForEach, ParsedForEachActive, ParsedForEachUnique, ParsedStmts, ParsedLast, ParsedNext, ParsedSegments, ParsedNoMore, ParsedSegment}
+use Rattle.gang_model.specs.Parsed.{Name, ParsedExpr, ParsedDim, ParsedTarget, ParsedStmt, ParsedEmpty, ParsedBlock, ParsedDeclare, ParsedAssign, ParsedChange, ParsedIncrement, ParsedDoCall, ParsedBreak, ParsedContinue, ParsedReturn, ParsedIf, ParsedIfElse, ParsedWhile, ParsedDo, ParsedFor, ParsedSwitch, ParsedForEach, ParsedForEachActive, ParsedForEachUnique, ParsedStmts, ParsedLast, ParsedNext, ParsedSegments, ParsedNoMore, ParsedSegment}
 use Rattle.gang_model.specs.Numbering.{steps_in, steps_in_all}
 use Rattle.gang_model.specs.Scope.{locals_in, locals_in_all}
 use Rattle.gang_model.specs.Judged.{Judged, Sound, Faulty, unless, both, ◌>>=◌, fault_if, refused}
@@ -41,6 +41,7 @@ pub record Aimed : Type 0 where
   pub type : IntType
   pub rate : Rate
 
+-- a target with this type and rate
 abbrev pub aimed : Target → IntType → Rate → Aimed
 aimed target type rate = record { target = target; type = type; rate = rate }
 
@@ -56,11 +57,17 @@ assigned p has_index None = refused S8 p
 assigned p true (Some n) = unless (fault_if (n.variable.is_constant || (not n.variable.is_array || n.is_void)) S8 p) n
 assigned p false (Some n) = unless (fault_if (n.variable.is_constant || has_no_value n) S8 p) n
 
+-- a variable that is assigned
+abbrev pub scalar_target : Scope → Place → Name → Judged Var
+scalar_target scope p name = do
+  n ← assigned p false (entry_of scope name)
+  Sound (var_of n.variable)
+
 -- a target: its name and its index are judged each by itself
 abbrev pub target_of : Scope → Place → Name → Option ParsedExpr → Judged Aimed
 target_of scope p name None = do
-  n ← assigned p false (entry_of scope name)
-  Sound (aimed (ToScalar (var_of n.variable)) n.variable.type n.variable.rate)
+  v ← scalar_target scope p name
+  Sound (aimed (ToScalar v) v.type v.rate)
 target_of scope p name (Some e) = do
   parts ← both (assigned p true (entry_of scope name)) (target_index scope e)
   Sound (aimed (ElementOf parts.0.variable.id parts.1.rate parts.1.expr) parts.0.variable.type parts.1.rate)
@@ -70,31 +77,41 @@ abbrev pub rate_of : Judged Aimed → Rate
 rate_of (Sound a) = a.rate
 rate_of (Faulty first others) = Varying
 
+-- the type that a value for this target gets
 abbrev pub assigned_type : Judged Aimed → IntType
 assigned_type (Sound a) = a.type
 assigned_type (Faulty first others) = t.Int32
 
--- the variable that a call's result is assigned to; an element takes none
-abbrev pub scalar_in : Target → IntType → Var
-scalar_in (ToScalar v) type = v
-scalar_in (ElementOf array rate index) type = record { id = array; type = type; rate = rate }
-
-abbrev pub variable_of : Judged Aimed → Var
-variable_of (Sound a) = scalar_in a.target a.type
-variable_of (Faulty first others) = record { id = Local 0; type = t.Int32; rate = Varying }
-
--- what is assigned to a target: a call's result, or a value; the target and the right side are judged each by itself
-abbrev pub assigned_value : Option WholeCall → Context → Scope → Judged Aimed → ParsedExpr → StepNumber → Judged Stmt
-assigned_value (Some call) context scope target e step = do
-  parts ← both target (right_call context scope (first_of e) call (rate_of target) (Assigns (variable_of target)) step)
-  Sound parts.1
-assigned_value None context scope target e step = do
+-- a value that is assigned: the target and the value are judged each by itself
+abbrev pub assigned_value : Scope → Judged Aimed → ParsedExpr → StepNumber → Judged Stmt
+assigned_value scope target e step = do
   parts ← both target (given_value e scope (assigned_type target) (rate_of target))
   Sound (Assign step parts.0.target parts.1)
 
+-- the variable that a call's result is given to; one of any rate, where it has a fault
+abbrev pub variable_of : Judged Var → Var
+variable_of (Sound v) = v
+variable_of (Faulty first others) = record { id = Local 0; type = t.Int32; rate = Varying }
+
+-- a call's result that is assigned to a variable; p is the right side's first token
+abbrev pub assigned_call : Context → Scope → Judged Var → Place → WholeCall → StepNumber → Judged Stmt
+assigned_call context scope v p call step = do
+  parts ← both v (right_call context scope p call (variable_of v).rate (Assigns (variable_of v)) step)
+  Sound parts.1
+
+-- a call stands whole on the right side of a variable, and not of an element
+abbrev pub call_for : (index : Option ParsedExpr) → Option WholeCall → Option WholeCall
+call_for None call = call
+call_for (Some index) call = None
+
+-- a call's result or a value that is assigned
+abbrev pub assigned_by : Option WholeCall → Context → Scope → ParsedTarget → ParsedExpr → StepNumber → Judged Stmt
+assigned_by (Some call) context scope target e step = assigned_call context scope (scalar_target scope target.at target.name) (first_of e) call step
+assigned_by None context scope target e step = assigned_value scope (target_of scope target.at target.name target.index) e step
+
 -- `target = e`
-abbrev pub assignment : Context → Scope → Judged Aimed → ParsedExpr → StepNumber → Judged Stmt
-assignment context scope target e step = assigned_value (whole_call context.functions e) context scope target e step
+abbrev pub assignment : Context → Scope → ParsedTarget → ParsedExpr → StepNumber → Judged Stmt
+assignment context scope target e step = assigned_by (call_for target.index (whole_call context.functions e)) context scope target e step
 
 -- a right operand of `op=`: S7 at a varying one, where the target is uniform
 abbrev pub operand_for : Rate → ParsedExpr → Scope → Judged Typed
@@ -122,6 +139,7 @@ returned_value None context scope e r step = do
   x ← given_value e scope r.0 r.1
   Sound (Return step (Some x))
 
+-- what is returned with a value
 abbrev pub returned : Context → Scope → ParsedExpr → IntType × Rate → StepNumber → Judged Stmt
 returned context scope e r step = returned_value (whole_call context.functions e) context scope e r step
 
@@ -132,6 +150,7 @@ value_return context scope e None step = do
   refused S8 (first_of e)
 value_return context scope e (Some r) step = returned context scope e r step
 
+-- `return`, with or without a value
 abbrev pub returning : Context → Scope → Place → Option ParsedExpr → StepNumber → Judged Stmt
 returning context scope p None step = empty_return p context.result step
 returning context scope p (Some e) step = value_return context scope e context.result step
@@ -174,6 +193,7 @@ pub record Made : Type 0 where
   pub stmt : Stmt
   pub variables : List Variable
 
+-- a statement with the variables declared in it
 abbrev pub made : Stmt → List Variable → Made
 made s variables = record { stmt = s; variables = variables }
 
@@ -204,9 +224,9 @@ abbrev mutual
   statement (ParsedDeclare p spec at name e) context scope k step = do
     let n = declared name (Local k) spec false false
     parts ← both (unless (variable_faults at spec) n) (declaration context scope (var_of n.variable) e step)
-    Sound (made parts.1 (parts.0.variable ∷ []))
+    Sound (made parts.1 (n.variable ∷ []))
   statement (ParsedAssign p target e) context scope k step = do
-    s ← assignment context scope (target_of scope target.at target.name target.index) e step
+    s ← assignment context scope target e step
     alone s
   statement (ParsedChange p target op e) context scope k step = do
     let a = target_of scope target.at target.name target.index
@@ -261,6 +281,7 @@ abbrev mutual
     inner ← statement body context (n ∷ scope) (suc k) (step + 1)
     Sound (made (ForEach step (EachValue (var_of n.variable) x.expr) inner.stmt) (n.variable ∷ inner.variables))
 
+  -- a list of statements, each in scope of what the ones before it declare
   pub statements : ParsedStmts → Context → Scope → (k : ℕ) → StepNumber → Judged Made
   statements ParsedLast context scope k step = alone Empty
   statements (ParsedNext s ss) context scope k step = do

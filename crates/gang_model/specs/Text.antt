@@ -9,7 +9,7 @@ use Rattle.gang_types.specs.declared.places.Place.{Place}
 use Rattle.gang_types.specs.declared.places.Spot.{Spot}
 use Rattle.gang_types.specs.Values.{value_of}
 use Rattle.gang_types.specs.Lanes.{Lanes}
-use Rattle.gang_model.specs.Tree.{Variable, Standing, Function, Program}
+use Rattle.gang_model.specs.Tree.{StepNumber, Variable, Standing, Function, Program}
 use Rattle.gang_model.specs.State.{Frame, State}
 use Rattle.gang_model.specs.Positions.{frame_spot, frame_lanes, spot_in, standing_at, scope_now}
 use Rattle.gang_model.specs.Debugger.{Target, Stop, Line, Watch, Debugger, Refusal, BadCommand, NoSuchName, NoHistory, Ended, Outermost, NoLine, OutOfRange, Constant, NoSuchNumber, TableFull, Answer, Here, AtBreakpoint, AtWatch, AtFault, HistoryEnd, StepLimit, UndoneStep, UndonePoke, Shows, BreaksAt, Watches, Deleted, ListsStops, ListsLocals, ListsFrames, Silent, KeepsHistory, Refused, Setting, now, target_words}
@@ -50,13 +50,15 @@ frames_text p (frame ∷ frames) = place_text p (frame_spot p frame) (length (fr
 abbrev pub where_text : Program → State → Bytes
 where_text p state = frames_text p state.frames
 
+-- the place of the call that a frame made, with its depth and the lanes of the call
+abbrev pub call_line : Program → Option StepNumber → (function depth : ℕ) → Lanes → Bytes
+call_line p None function deep lanes = []
+call_line p (Some number) function deep lanes = line (place_text p (spot_in function number) deep lanes)
+
 -- a line for each frame below one, with the place and the lanes of the call that it made
 abbrev pub outer_lines : Program → Frame → List Frame → Bytes
 outer_lines p inner [] = []
-outer_lines p inner (frame ∷ frames) = elim inner.call [
-  | None ↦ []
-  | Some number ↦ line (place_text p (spot_in frame.function number) (length (frame ∷ frames)) inner.lanes) ++ outer_lines p frame frames
-]
+outer_lines p inner (frame ∷ frames) = call_line p inner.call frame.function (length (frame ∷ frames)) inner.lanes ++ outer_lines p frame frames
 
 -- a line for each frame, the top one first, or `ended`
 abbrev pub frame_lines : Program → List Frame → Bytes
@@ -68,9 +70,14 @@ abbrev pub word_text : IntType → ℕ → Bytes
 word_text t.Bool word = if word == 0 then codes "false" else codes "true"
 word_text ty word = signed_decimal (value_of ty word)
 
+-- [K] of a lane or an element
+abbrev pub index_text : Option ℕ → Bytes
+index_text None = []
+index_text (Some k) = codes "[" ++ decimal k ++ codes "]"
+
 -- NAME or NAME[K]
 abbrev pub target_text : Target → Bytes
-target_text target = target.name ++ elim target.at [ None ↦ [] | Some k ↦ codes "[" ++ decimal k ++ codes "]" ]
+target_text target = target.name ++ index_text target.at
 
 -- a target, ` =`, and a blank and the value for each lane or element
 abbrev pub shown_line : State → Target → Variable → Bytes

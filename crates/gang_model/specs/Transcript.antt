@@ -15,6 +15,16 @@ lines_after begun (byte ∷ bytes) = if byte == 10 then begun ∷ lines_after []
 abbrev pub lines_of : Bytes → List Bytes
 lines_of bytes = lines_after [] bytes
 
+-- the lines of a text that end in LF, behind one that has begun
+abbrev pub complete_lines_after : Bytes → Bytes → List Bytes
+complete_lines_after begun [] = []
+complete_lines_after begun (byte ∷ bytes) =
+    if byte == 10 then begun ∷ complete_lines_after [] bytes else complete_lines_after (begun ++ byte ∷ []) bytes
+
+-- the lines of a text that end in LF: those that have an answer where reading fails after the text
+abbrev pub complete_lines : Bytes → List Bytes
+complete_lines bytes = complete_lines_after [] bytes
+
 -- the reply to a line that spells this command, or none
 abbrev pub replied : Setting → Option Command → Debugger → Reply
 replied s None d = refused BadCommand d
@@ -25,13 +35,16 @@ abbrev pub is_quit : Option Command → Bool
 is_quit (Some DoQuit) = true
 is_quit command = false
 
+-- a reply's text and what follows it, nothing at `quit`
+abbrev pub text_and_rest : Setting → (is_quit : Bool) → Reply → (Debugger → Bytes) → Bytes
+text_and_rest s true reply rest = []
+text_and_rest s false reply rest = text s reply.answer reply.next ++ rest reply.next
+
 -- the texts of the answers to the lines, up to the first `quit`
 abbrev pub transcript_from : Setting → List Bytes → Debugger → Bytes
 transcript_from s [] d = []
 transcript_from s (line ∷ lines) d =
-    let command : Option Command = command_of line in
-    let reply : Reply = replied s command d in
-    elim (is_quit command) [ true ↦ [] | false ↦ text s reply.answer reply.next ++ transcript_from s lines reply.next ]
+    text_and_rest s (is_quit (command_of line)) (replied s (command_of line) d) (λ d. transcript_from s lines d)
 
 -- whether one of the lines spells `quit`
 abbrev pub has_quit : List Bytes → Bool

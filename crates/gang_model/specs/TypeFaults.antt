@@ -34,12 +34,15 @@ param_faults is_exported p = fault_if ((p.is_array || is_exported) && is_varying
 abbrev pub result_rate_faults : ParsedFunction → List SourceRefusal
 result_rate_faults f = fault_if (f.spec.is_exported && (is_some f.spec.value_type && is_varying_spec f.spec)) S7 f.at
 
+-- the faults of a function's result and parameters
 abbrev pub signature_faults : ParsedFunction → List SourceRefusal
 signature_faults f = result_rate_faults f ++ flat_map (param_faults f.spec.is_exported) f.params
 
+-- whether a file-scope variable is an array
 abbrev pub is_array_form : GlobalForm → Bool
 is_array_form (Array n) = true
 is_array_form form = false
 
+-- the faults of a file-scope variable
 abbrev pub global_faults : ParsedGlobal → List SourceRefusal
 global_faults g = array_faults g.at g.spec (is_array_form g.form) ++ variable_faults g.at g.spec

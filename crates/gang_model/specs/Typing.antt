@@ -19,7 +19,7 @@ use Rattle.gang_model.specs.Parsed.{Name, ParsedExpr, ParsedNumber, ParsedBool, 
 use Rattle.gang_model.specs.Judged.{Judged, Sound, Faulty, unless, both, ◌>>=◌, fault_if, refused}
 use Rattle.gang_model.specs.Conversions.{Typed, typed, is_varying, may_become, as_type, literal_type, infixed, prefixed, chosen_by}
 use Rattle.gang_model.specs.Signatures.{declared_type, declared_rate}
-use Rattle.gang_model.specs.LibraryTable.{LibraryRow, library_row, library_value}
+use Rattle.gang_model.specs.LibraryTable.{LibraryCall, asked_by, library_call, library_value}
 
 -- ---- names
 
@@ -56,6 +56,7 @@ abbrev pub built_in : Name → Option (Expr × Rate)
 built_in name = if same_text name (codes "programIndex") then Some (ProgramIndex, Varying)
     else (if same_text name (codes "programCount") then Some (ProgramCount, Uniform) else None)
 
+-- a scalar variable as it stands in expressions
 abbrev pub var_of : Variable → Var
 var_of v = record { id = v.id; type = v.type; rate = v.rate }
 
@@ -94,10 +95,12 @@ abbrev pub array_of : Option Entry → Option Entry
 array_of None = None
 array_of (Some n) = if n.variable.is_array then Some n else None
 
+-- whether an array or a `void` variable is named
 abbrev pub names_no_value : Option Entry → Bool
 names_no_value None = false
 names_no_value (Some n) = has_no_value n
 
+-- the value of a built-in name, else S5
 abbrev pub built_in_value : Place → Option (Expr × Rate) → Judged Typed
 built_in_value p None = refused S5 p
 built_in_value p (Some b) = Sound (typed b.0 t.Int32 b.1)
@@ -112,23 +115,24 @@ abbrev pub element_faults : Place → (index : ParsedExpr) → Typed → Option 
 element_faults p index i None = fault_if true S8 p
 element_faults p index i (Some n) = fault_if (not n.variable.is_array || n.is_void) S8 p ++ fault_if (is_bool i.type) S8 (first_of index)
 
+-- an element of an array
 abbrev pub element : Typed → Option Entry → Typed
 element i None = i
 element i (Some n) = typed (Element n.variable.id i.expr) n.variable.type i.rate
 
--- a cast to `void` is S8, a varying operand cast to uniform S7, both at its `(`
+-- the rate of a cast expression: the cast's, else the operand's
+abbrev pub cast_rate : Option Rate → Rate → Rate
+cast_rate None rate = rate
+cast_rate (Some asked) rate = asked
+
+-- S8 at the `(` of a cast to `void`, S7 there at one of a varying operand to uniform
+abbrev pub cast_faults : Place → Option IntType → (from to : Rate) → List SourceRefusal
+cast_faults p type from to = fault_if (is_none type) S8 p ++ fault_if (not (may_become from to)) S7 p
+
+-- a cast
 abbrev pub cast_to : Place → Option Rate → Option IntType → Typed → Judged Typed
 cast_to p rate type e =
-    unless (fault_if (is_none type) S8 p ++ fault_if (not (may_become e.rate (cast_rate rate))) S7 p)
-    (typed (as_type (declared_type type) e) (declared_type type) (kept_rate rate))
-  where
-    cast_rate : Option Rate → Rate
-    cast_rate None = Varying
-    cast_rate (Some r) = r
-
-    kept_rate : Option Rate → Rate
-    kept_rate None = e.rate
-    kept_rate (Some r) = r
+    unless (cast_faults p type e.rate (cast_rate rate e.rate)) (typed (as_type (declared_type type) e) (declared_type type) (cast_rate rate e.rate))
 
 -- ---- arguments
 
@@ -143,10 +147,12 @@ abbrev pub built_in_entry : Name → Option (Expr × Rate) → Option Entry
 built_in_entry name None = None
 built_in_entry name (Some b) = Some (index_entry name (Local 0) t.Int32 b.1)
 
+-- what a name declares, else what is built in
 abbrev pub or_built_in : Name → Option Entry → Option Entry
 or_built_in name None = built_in_entry name (built_in name)
 or_built_in name (Some n) = Some n
 
+-- `&x` as an argument, S5 if there is no x
 abbrev pub referred : Place → Option Entry → Judged Passing
 referred p None = refused S5 p
 referred p (Some n) = Sound (Reference p n)
@@ -166,11 +172,13 @@ abbrev pub viewed : Place → Option Entry → Judged Entry
 viewed p None = refused S8 p
 viewed p (Some n) = unless (fault_if (not n.variable.is_array) S8 p) n
 
+-- an array from an index on as an argument, at its name
 abbrev pub view_from : Place → Entry × Typed → Passing
 view_from p view = View p view.0 (Some view.1.expr)
 
 -- ---- library calls
 
+-- one more value before others
 abbrev pub one_value : Place × Typed → Option (List (Place × Typed)) → Option (List (Place × Typed))
 one_value v None = None
 one_value v (Some values) = Some (v ∷ values)
@@ -188,27 +196,31 @@ rate_faults [] values = []
 rate_faults (asked ∷ asks) [] = []
 rate_faults (asked ∷ asks) (v ∷ values) = fault_if (not (may_become v.1.rate asked)) S7 v.0 ++ rate_faults asks values
 
+-- the values without their places
 abbrev pub second_parts : List (Place × Typed) → List Typed
 second_parts [] = []
 second_parts (v ∷ values) = v.1 ∷ second_parts values
 
+-- a value, or S9 at a call that has none
 abbrev pub typed_or_refused : Place → Option Typed → Judged Typed
 typed_or_refused p None = refused S9 p
 typed_or_refused p (Some e) = Sound e
 
-abbrev pub row_value : Place → Option LibraryRow → List (Place × Typed) → Judged Typed
-row_value p None values = refused S9 p
-row_value p (Some r) values = do
-  _ ← unless (rate_faults r.asks values) values
-  typed_or_refused p (library_value r.call (second_parts values))
+-- the value of a library call with these values as arguments
+abbrev pub call_value : Place → Option LibraryCall → List (Place × Typed) → Judged Typed
+call_value p None values = refused S9 p
+call_value p (Some call) values = do
+  _ ← unless (rate_faults (asked_by call) values) values
+  typed_or_refused p (library_value call (second_parts values))
 
 -- a library call: S9 at its name if the number of arguments is wrong or one of them is no value
-abbrev pub library_call : Place → Name → Option (List (Place × Typed)) → Judged Typed
-library_call p name None = refused S9 p
-library_call p name (Some values) = row_value p (library_row name (length values)) values
+abbrev pub called_value : Place → Name → Option (List (Place × Typed)) → Judged Typed
+called_value p name None = refused S9 p
+called_value p name (Some values) = call_value p (library_call name (length values)) values
 
 -- ---- expressions
 
+-- the word of a truth value
 abbrev pub truth_value : Bool → ℕ
 truth_value true = 1
 truth_value false = 0
@@ -224,7 +236,7 @@ abbrev mutual
     unless (element_faults p e i (entry_of scope name)) (element i (entry_of scope name))
   expression (ParsedCall p name args) scope = do
     given ← arguments args scope
-    library_call p name (all_values given)
+    called_value p name (all_values given)
   expression (ParsedParen p e) scope = if names_no_value (named_entry e scope) then refused S8 p else expression e scope
   expression (ParsedUnary p op e) scope = do
     a ← expression e scope

@@ -1,14 +1,14 @@
 -- What follows for a source without refusal: it has no fault at all, and stands for a typed tree.
-use Rattle.std.proofs.Common.{Bool, true≢false, List, [], ◌∷◌, ◌≡◌, refl, ap}
+use Rattle.std.proofs.Common.{true≢false, List, [], ◌∷◌, ◌≡◌, refl, ap}
 use Rattle.std.specs.Prelude.{is_some, Option, Some, None}
 use Rattle.gang_model.specs.declared.refusals.SourceRefusal.{SourceRefusal}
 use Rattle.gang_model.specs.Tree.{Program}
 use Rattle.gang_model.specs.Parsed.{ParsedSource}
-use Rattle.gang_model.specs.Judged.{Judged, Sound, sound_part, faults_of, least_fault}
-use Rattle.gang_model.specs.JudgedLaws.{sound_without_faults}
+use Rattle.gang_model.specs.Judged.{sound_part, least_fault}
+use Rattle.gang_model.proofs.JudgedLaws.{sound_without_faults}
 use Rattle.gang_model.specs.NameFaults.{name_faults}
 use Rattle.gang_model.specs.Resolved.{judged_program, program_of, type_faults}
-use Rattle.gang_model.specs.SourceRefusals.{names_refusal, types_refusal, first_refusal, refusal_of, IsAccepted}
+use Rattle.gang_model.specs.SourceRefusals.{names_refusal, types_refusal, first_refusal, IsAccepted}
 
 -- no least fault means no fault
 no_fault : (faults : List SourceRefusal) → least_fault faults ≡ None → faults ≡ []

@@ -1,14 +1,14 @@
 -- What follows for the scopes of typing: they have the declarations that `Scope` finds, in the same order, so that a name in
 -- the typed tree stands for the variable of its innermost declaration.
-use Rattle.std.proofs.Common.{ℕ, zero, suc, ◌+◌, Bool, true, false, List, [], ◌∷◌, ◌≡◌, refl, sym, ◌∙◌, ap, arith, length}
-use Rattle.std.specs.Prelude.{map, Option, Some, None, if◌then◌else◌}
+use Rattle.std.proofs.Common.{ℕ, suc, ◌+◌, Bool, true, false, List, [], ◌∷◌, ◌≡◌, refl, ◌∙◌, ap, arith, length}
+use Rattle.std.specs.Prelude.{Option, Some, None, if◌then◌else◌}
 use Rattle.gang_types.specs.declared.types.IntType.TheVariants as t
 use Rattle.gang_types.specs.declared.types.Rate.TheVariants.{Varying}
 use Rattle.gang_types.specs.declared.places.VarId.{VarId}
 use Rattle.gang_types.specs.declared.places.VarId.TheVariants.{File, Local}
 use Rattle.gang_model.specs.Names.{same_text}
 use Rattle.gang_model.specs.Parsed.{Name, ParsedDim, ParsedStmt, ParsedEmpty, ParsedBlock, ParsedDeclare, ParsedAssign, ParsedChange, ParsedIncrement, ParsedDoCall, ParsedBreak, ParsedContinue, ParsedReturn, ParsedIf, ParsedIfElse, ParsedWhile, ParsedDo, ParsedFor, ParsedSwitch, ParsedForEach, ParsedForEachActive, ParsedForEachUnique, ParsedParam, ParsedGlobal}
-use Rattle.gang_model.specs.Scope.{Binding, bound, Environment, declaration, Site, with_name, with_dims, with_params, file_bindings, after, locals_in}
+use Rattle.gang_model.specs.Scope.{bound, Environment, declaration, Site, with_name, with_dims, with_params, file_bindings, after, locals_in}
 use Rattle.gang_model.specs.Typing.{Entry, Scope, entry_of, declared, index_entry}
 use Rattle.gang_model.specs.Statements.{scope_after, index_entries}
 use Rattle.gang_model.specs.Resolved.{global_entries, param_entries}

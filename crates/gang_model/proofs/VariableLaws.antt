@@ -5,20 +5,22 @@ use Rattle.std.specs.Prelude.{is_some, map, Option, Some, None, slice_get, slice
 use Rattle.gang_types.specs.declared.places.VarId.{VarId}
 use Rattle.gang_types.specs.declared.places.VarId.TheVariants.{File, Local}
 use Rattle.gang_model.specs.Tree.{Variable, Standing, Function, Program}
-use Rattle.gang_model.specs.Parsed.{Name, ParsedDim, ParsedStmt, ParsedEmpty, ParsedBlock, ParsedDeclare, ParsedAssign, ParsedChange, ParsedIncrement, ParsedDoCall, ParsedBreak, ParsedContinue, ParsedReturn, ParsedIf, ParsedIfElse, ParsedWhile, ParsedDo, ParsedFor, ParsedSwitch, ParsedForEach, ParsedForEachActive, ParsedForEachUnique, ParsedStmts, ParsedLast, ParsedNext, ParsedSegments, ParsedNoMore, ParsedSegment, ParsedParam, ParsedFunction, ParsedGlobal, ParsedSource, functions_in, globals_in}
-use Rattle.gang_model.specs.Judged.{Judged, Sound, Faulty, sound_part, unless, both, ◌>>=◌}
-use Rattle.gang_model.specs.JudgedLaws.{OnSound, on_any, on_pair}
+use Rattle.gang_model.specs.Parsed.{ParsedDim, ParsedStmt, ParsedEmpty, ParsedBlock, ParsedDeclare, ParsedAssign, ParsedChange, ParsedIncrement, ParsedDoCall, ParsedBreak, ParsedContinue, ParsedReturn, ParsedIf, ParsedIfElse, ParsedWhile, ParsedDo, ParsedFor, ParsedSwitch, ParsedForEach, ParsedForEachActive, ParsedForEachUnique, ParsedStmts, ParsedLast, ParsedNext, ParsedSegments, ParsedNoMore, ParsedSegment, ParsedParam, ParsedFunction, ParsedGlobal, ParsedSource, functions_in, globals_in}
+use Rattle.gang_model.specs.Judged.{Judged, Sound, Faulty, sound_part, unless}
+use Rattle.gang_model.proofs.JudgedLaws.{OnSound, on_any, on_pair}
 use Rattle.gang_model.specs.Step.{steps_of}
+use Rattle.gang_model.specs.RunningOrder.{IsNumbered, IsNumberedProgram}
 use Rattle.gang_model.specs.Numbering.{steps_in_all}
-use Rattle.gang_model.specs.Scope.{Binding, bound, is_local, Environment, Site, with_name, with_params, locals_in, locals_in_all, locals_in_segments, after, after_all, NameStanding, standing, standings_in_all, has_return, before_return, function_site, standings_of, file_bindings, file_scope}
-use Rattle.gang_model.specs.ScopeLaws.{after-next}
-use Rattle.gang_model.specs.NumberLaws.{Numbered, two_parts, bindings_in, bindings_in_all, bindings_in_segments, dim_bindings, variable_bindings, variable_bindings-append, Faithful, statements_faithful}
-use Rattle.gang_model.specs.StandingLaws.{Each, each_join, each_left, each_right, Placed, Found, AllFound, after_placed, after_all_placed, moved_all, found_listed, standings_found_all}
+use Rattle.gang_model.specs.Bindings.{dim_bindings, bindings_in, bindings_in_all, bindings_in_segments, variable_bindings, param_bindings, function_bindings}
+use Rattle.gang_model.specs.Scope.{Binding, bound, is_local, Site, with_name, with_params, locals_in, locals_in_all, locals_in_segments, after, after_all, NameStanding, standing, standings_in_all, has_return, before_return, function_site, standings_of, file_bindings, file_scope}
+use Rattle.gang_model.proofs.ScopeLaws.{after-next}
+use Rattle.gang_model.proofs.NumberLaws.{two_parts, Faithful, statements_faithful}
+use Rattle.gang_model.proofs.StandingLaws.{Each, each_join, each_left, each_right, Placed, Found, AllFound, after_placed, moved_all, found_listed, standings_found_all}
 use Rattle.gang_model.specs.Signatures.{result_of}
 use Rattle.gang_model.specs.Calls.{Context}
 use Rattle.gang_model.specs.TypeFaults.{signature_faults}
-use Rattle.gang_model.specs.Statements.{Made, statements}
-use Rattle.gang_model.specs.Resolved.{local_at, no_variable, standing_with, param_variables, param_entries, global_entries, function_made, judged_globals, judged_function, judged_functions, judged_program, program_of}
+use Rattle.gang_model.specs.Statements.{statements}
+use Rattle.gang_model.specs.Resolved.{local_at, no_variable, standing_with, param_variables, param_entries, global_entries, judged_globals, judged_function, judged_functions, judged_program, program_of}
 
 -- ---- numbers
 
@@ -67,9 +69,9 @@ mutual
   bindings_numbers (ParsedFor at start e update body) k =
       let k' = k + locals_in start in
       let later = numbers_join (locals_in update) (locals_in body) k' (bindings_in update k') (bindings_in body (k' + locals_in update))
-        (bindings_numbers update k') (bindings_numbers body (k' + locals_in update)) in
+      (bindings_numbers update k') (bindings_numbers body (k' + locals_in update)) in
       let all = numbers_join (locals_in start) (locals_in update + locals_in body) k (bindings_in start k) (bindings_in update k' ++ bindings_in body (k' + locals_in update))
-        (bindings_numbers start k) later in
+      (bindings_numbers start k) later in
       (omega (arith, all.0), all.1)
   bindings_numbers (ParsedSwitch at e segments) k = bindings_numbers_segments segments k
   bindings_numbers (ParsedForEach at is_tiled dims body) k =
@@ -90,19 +92,11 @@ mutual
 
 -- ---- a function's variables
 
-abbrev pub param_bindings : ℕ → List ParsedParam → List Binding
-param_bindings k [] = []
-param_bindings k (p ∷ params) = bound p.name (Local k) ∷ param_bindings (suc k) params
-
--- the declarations of a function, by their numbers: its parameters, then what its body declares
-abbrev pub function_bindings : ParsedFunction → List Binding
-function_bindings f = param_bindings 0 f.params ++ bindings_in_all f.body (length f.params)
-
 params_numbers : (params : List ParsedParam) (k : ℕ) → Numbers (length params) k (param_bindings k params)
 params_numbers [] k = (refl, tt)
 params_numbers (p ∷ params) k = (ap suc (params_numbers params (suc k)).0, (refl, (params_numbers params (suc k)).1))
 
-function_numbers : (f : ParsedFunction) → Consecutive 0 (function_bindings f)
+pub function_numbers : (f : ParsedFunction) → Consecutive 0 (function_bindings f)
 function_numbers f =
     consecutive_join 0 (length f.params) (param_bindings 0 f.params) (bindings_in_all f.body (length f.params)) (params_numbers f.params 0).0 (params_numbers f.params 0).1
     (subst (λ m. Consecutive m (bindings_in_all f.body (length f.params))) (omega arith) (bindings_numbers_all f.body (length f.params)).1)
@@ -113,11 +107,12 @@ number_in (Local k) = k
 
 -- declarations with the numbers from k on have their places in a table in which they stand from k on
 consecutive_placed : (table : List Binding) (k : ℕ) (bindings : List Binding) → Consecutive k bindings
-  → ((i : ℕ) (b : Binding) → slice_get bindings i ≡ Some b → slice_get table (k + i) ≡ Some b) → Each (Placed table) bindings
+    → ((i : ℕ) (b : Binding) → slice_get bindings i ≡ Some b → slice_get table (k + i) ≡ Some b) → Each (Placed table) bindings
 consecutive_placed table k [] p at = tt
-consecutive_placed table k (b ∷ bindings) p at =
-    (λ j e. let same : k ≡ j = ap number_in (sym p.0 ∙ e) in subst (λ n. slice_get table n ≡ Some b) (omega (arith, same)) (at 0 b refl),
-    consecutive_placed table (suc k) bindings p.1 (λ i c h. subst (λ n. slice_get table n ≡ Some c) (omega arith) (at (suc i) c h)))
+consecutive_placed table k (b ∷ bindings) p at = (
+  λ j e. let same : k ≡ j = ap number_in (sym p.0 ∙ e) in subst (λ n. slice_get table n ≡ Some b) (omega (arith, same)) (at 0 b refl),
+  consecutive_placed table (suc k) bindings p.1 (λ i c h. subst (λ n. slice_get table n ≡ Some c) (omega arith) (at (suc i) c h)),
+)
 
 -- a function's declarations have their places in the list of them
 function_placed : (f : ParsedFunction) → Each (Placed (function_bindings f)) (function_bindings f)
@@ -130,7 +125,7 @@ file_placed table k [] = tt
 file_placed table k (g ∷ globals) = (λ j e. absurd (true≢false (sym (ap is_local e))), file_placed table (suc k) globals)
 
 params_placed : (table : List Binding) (params : List ParsedParam) (site : Site) → Each (Placed table) (param_bindings site.next params) → Each (Placed table) site.environment
-  → Each (Placed table) (with_params params site).environment
+    → Each (Placed table) (with_params params site).environment
 params_placed table [] site p q = q
 params_placed table (d ∷ params) site p q = params_placed table params (with_name d.name site) p.1 (p.0, q)
 
@@ -146,21 +141,21 @@ site_placed source f =
     (file_placed (function_bindings f) 0 (globals_in source))
 
 body_placed : (source : ParsedSource) (f : ParsedFunction)
-  → Each (Placed (function_bindings f)) (bindings_in_all f.body (function_site (file_scope source) f.params).next)
+    → Each (Placed (function_bindings f)) (bindings_in_all f.body (function_site (file_scope source) f.params).next)
 body_placed source f =
     let start : Site = record { environment = file_scope source; here = []; next = 0 } in
     moved_all (function_bindings f) f.body (length f.params) (with_params f.params start).next (omega (arith, with_params-next f.params start))
     (each_right (Placed (function_bindings f)) (param_bindings 0 f.params) (bindings_in_all f.body (length f.params)) (function_placed f))
 
 before_or : (table : List Binding) (returns : Bool) (s : ParsedStmt) (ss : ParsedStmts) (site : Site) → Each (Placed table) site.environment
-  → Each (Placed table) (after_all (before_return ss) (after s site)).environment
-  → Each (Placed table) (after_all (if returns then ParsedLast else ParsedNext s (before_return ss)) site).environment
+    → Each (Placed table) (after_all (before_return ss) (after s site)).environment
+    → Each (Placed table) (after_all (if returns then ParsedLast else ParsedNext s (before_return ss)) site).environment
 before_or table true s ss site q r = q
 before_or table false s ss site q r = r
 
 -- what stands after the statements before the first `return` has its place
 before_placed : (table : List Binding) (ss : ParsedStmts) (site : Site) → Each (Placed table) (bindings_in_all ss site.next) → Each (Placed table) site.environment
-  → Each (Placed table) (after_all (before_return ss) site).environment
+    → Each (Placed table) (after_all (before_return ss) site).environment
 before_placed table ParsedLast site p q = q
 before_placed table (ParsedNext s ss) site p q =
     let left = each_left (Placed table) (bindings_in s site.next) (bindings_in_all ss (site.next + locals_in s)) p in
@@ -179,7 +174,7 @@ steps_found source f =
 
 -- ---- the typed tree
 
-params_bound : (k : ℕ) (params : List ParsedParam) → variable_bindings (param_variables k params) ≡ param_bindings k params
+pub params_bound : (k : ℕ) (params : List ParsedParam) → variable_bindings (param_variables k params) ≡ param_bindings k params
 params_bound k [] = refl
 params_bound k (p ∷ params) = ap (λ bs. bound p.name (Local k) ∷ bs) (params_bound (suc k) params)
 
@@ -192,19 +187,19 @@ some_same x y e = ap (unwrap_or_of x) e
 
 -- the variable with a number is the one that is declared with it
 variable_found : (variables : List Variable) (k : ℕ) (b : Binding) (d : Variable) → slice_get (variable_bindings variables) k ≡ Some b
-  → bound (slice_index_or variables k d).name (slice_index_or variables k d).id ≡ b
+    → bound (slice_index_or variables k d).name (slice_index_or variables k d).id ≡ b
 variable_found [] k b d e = absurd (true≢false (sym (ap is_some e)))
 variable_found (v ∷ variables) zero b d e = some_same (bound v.name v.id) b e
 variable_found (v ∷ variables) (suc k) b d e = variable_found variables k b d e
 
 local_found : (variables : List Variable) (table : List Binding) (b : Binding) → variable_bindings variables ≡ table → Found table b
-  → bound (local_at variables b.id).name (local_at variables b.id).id ≡ b
+    → bound (local_at variables b.id).name (local_at variables b.id).id ≡ b
 local_found variables table b e f =
     let there : slice_get (variable_bindings variables) f.0 ≡ Some b = ap (λ bs. slice_get bs f.0) e ∙ f.2 in
     ap (λ id. bound (local_at variables id).name (local_at variables id).id) f.1 ∙ variable_found variables f.0 b no_variable there
 
 scope_bound : (variables : List Variable) (table names : List Binding) → variable_bindings variables ≡ table → Each (Found table) names
-  → variable_bindings (map (λ b. local_at variables b.id) names) ≡ names
+    → variable_bindings (map (λ b. local_at variables b.id) names) ≡ names
 scope_bound variables table [] e p = refl
 scope_bound variables table (b ∷ names) e p =
     ap (λ c. c ∷ variable_bindings (map (λ x. local_at variables x.id) names)) (local_found variables table b e p.0)
@@ -216,7 +211,7 @@ names_of_standings [] = []
 names_of_standings (s ∷ standings) = record { place = s.place; names = variable_bindings s.scope } ∷ names_of_standings standings
 
 standings_bound : (variables : List Variable) (table : List Binding) (standings : List NameStanding) → variable_bindings variables ≡ table
-  → Each (AllFound table) standings → names_of_standings (map (standing_with variables) standings) ≡ standings
+    → Each (AllFound table) standings → names_of_standings (map (standing_with variables) standings) ≡ standings
 standings_bound variables table [] e p = refl
 standings_bound variables table (s ∷ standings) e p =
     ap (λ names. record { place = s.place; names = names } ∷ names_of_standings (map (standing_with variables) standings)) (scope_bound variables table s.names e p.0)
@@ -226,7 +221,7 @@ standings_bound variables table (s ∷ standings) e p =
 -- and names are those of the tree as written
 abbrev pub FunctionRight : ParsedSource → ParsedFunction → Function → Type 0
 FunctionRight source f g =
-    (steps_of g.body ≡ steps_in_all f.body) × Numbered g.body 0 × (names_of_standings g.standings ≡ standings_of (file_scope source) f)
+    (steps_of g.body ≡ steps_in_all f.body) × IsNumbered 0 g.body × (names_of_standings g.standings ≡ standings_of (file_scope source) f)
 
 pub function_right : (source : ParsedSource) (f : ParsedFunction) → OnSound (judged_function source f) (FunctionRight source f)
 function_right source f =
@@ -237,9 +232,13 @@ function_right source f =
     (Faithful (steps_in_all f.body) 0 (bindings_in_all f.body (length f.params))) (FunctionRight source f)
     (on_any signature)
     (statements_faithful f.body context scope (length f.params) 0)
-    (λ g m _ h. (h.0, h.1, standings_bound (param_variables 0 f.params ++ m.variables) (function_bindings f) (standings_of (file_scope source) f)
-      (two_parts (param_variables 0 f.params) m.variables (param_bindings 0 f.params) (bindings_in_all f.body (length f.params)) (params_bound 0 f.params) h.2)
-      (steps_found source f)))
+    (λ g m _ h. (
+      h.0,
+      h.1,
+      standings_bound (param_variables 0 f.params ++ m.variables) (function_bindings f) (standings_of (file_scope source) f)
+          (two_parts (param_variables 0 f.params) m.variables (param_bindings 0 f.params) (bindings_in_all f.body (length f.params)) (params_bound 0 f.params) h.2)
+          (steps_found source f),
+    ))
 
 -- the functions of the typed tree, each for its own in the tree as written
 abbrev pub FunctionsRight : ParsedSource → List ParsedFunction → List Function → Type 0
@@ -263,7 +262,7 @@ program_right source =
     on_pair (judged_globals 0 (globals_in source)) (judged_functions source (functions_in source)) _ (λ g. Unit {0}) (FunctionsRight source (functions_in source)) (ProgramRight source)
     (on_any (judged_globals 0 (globals_in source))) (functions_right source (functions_in source)) (λ g typed _ right. right)
 
-on_some : {A : Type 0} (j : Judged A) (P : A → Type 0) (a : A) → OnSound j P → sound_part j ≡ Some a → P a
+pub on_some : {A : Type 0} (j : Judged A) (P : A → Type 0) (a : A) → OnSound j P → sound_part j ≡ Some a → P a
 on_some (Sound b) P a p e = subst P (some_same b a e) p
 on_some (Faulty first others) P a p e = absurd (true≢false (sym (ap is_some e)))
 
@@ -271,3 +270,15 @@ on_some (Faulty first others) P a p e = absurd (true≢false (sym (ap is_some e)
 -- names in scope of the tree as written
 pub program_of-right : (source : ParsedSource) (p : Program) → program_of source ≡ Some p → ProgramRight source p
 program_of-right source p e = on_some (judged_program source) (ProgramRight source) p (program_right source) e
+
+numbered_from : (source : ParsedSource) (functions : List ParsedFunction) (typed : List Function) → FunctionsRight source functions typed
+    → (n : ℕ) (g : Function) → slice_get typed n ≡ Some g → IsNumbered 0 g.body
+numbered_from source [] [] right n g e = absurd (true≢false (sym (ap is_some e)))
+numbered_from source [] (h ∷ typed) right n g e = absurd right
+numbered_from source (f ∷ functions) [] right n g e = absurd right
+numbered_from source (f ∷ functions) (h ∷ typed) right zero g e = subst (λ x. IsNumbered 0 x.body) (some_same h g e) right.0.1
+numbered_from source (f ∷ functions) (h ∷ typed) right (suc n) g e = numbered_from source functions typed right.1 n g e
+
+-- the steps of the typed tree are numbered in the order in which they run
+pub program_of-numbered : (source : ParsedSource) (p : Program) → program_of source ≡ Some p → IsNumberedProgram p
+program_of-numbered source p e = numbered_from source (functions_in source) p.functions (program_of-right source p e)

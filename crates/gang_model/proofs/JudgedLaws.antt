@@ -1,12 +1,12 @@
 -- What follows from the definitions of `Judged`: the least of two lists of faults is the lesser of their least faults, so that
 -- a check may keep the least fault alone.
-use Rattle.std.proofs.Common.{ℕ, Bool, true≢false, append-nil, true, false, not, ◌&&◌, ◌||◌, ◌==◌, List, [], ◌∷◌, ◌++◌, ◌≡◌, refl, sym, ◌∙◌, ap, arith}
+use Rattle.std.proofs.Common.{ℕ, Bool, true≢false, append-nil, true, false, ◌&&◌, ◌||◌, ◌==◌, List, [], ◌∷◌, ◌++◌, ◌≡◌, refl, sym, ◌∙◌, ap, arith, not}
 use Rattle.std.proofs.lemmas.Bool.Decides.{nat_tests}
 use Rattle.std.specs.Prelude.{nat_lt, is_some, Option, Some, None, Result, Ok, Err, if◌then◌else◌}
-use Rattle.gang_types.specs.declared.places.Place.{Place}
 use Rattle.gang_model.specs.declared.refusals.RefusalNumber.{RefusalNumber}
+use Rattle.gang_types.specs.declared.places.Place.{Place}
 use Rattle.gang_model.specs.declared.refusals.SourceRefusal.{SourceRefusal}
-use Rattle.gang_model.specs.Judged.{Judged, Sound, Faulty, faults_of, sound_part, unless, both, ◌>>=◌, or_own, rank, is_less, lesser, least_of, least_fault, answer_of}
+use Rattle.gang_model.specs.Judged.{Judged, Sound, Faulty, faults_of, unless, both, ◌>>=◌, or_own, rank, is_less, lesser, least_of, least_fault, answer_of, fault_if}
 
 -- the order on a line, a column and a number
 abbrev below : (l c n l' c' n' : ℕ) → Bool
@@ -152,12 +152,12 @@ on_any (Sound a) = tt
 on_any (Faulty first others) = tt
 
 pub on_then : {A B : Type 0} (j : Judged A) (next : A → Judged B) (P : A → Type 0) (Q : B → Type 0)
-  → OnSound j P → ((a : A) → P a → OnSound (next a) Q) → OnSound (j >>= next) Q
+    → OnSound j P → ((a : A) → P a → OnSound (next a) Q) → OnSound (j >>= next) Q
 on_then (Sound a) next P Q p q = q a p
 on_then (Faulty first others) next P Q p q = tt
 
 pub on_both : {A B : Type 0} (a : Judged A) (b : Judged B) (P : A → Type 0) (Q : B → Type 0)
-  → OnSound a P → OnSound b Q → OnSound (both a b) (λ parts. P parts.0 × Q parts.1)
+    → OnSound a P → OnSound b Q → OnSound (both a b) (λ parts. P parts.0 × Q parts.1)
 on_both (Sound a) (Sound b) P Q p q = (p, q)
 on_both (Sound a) (Faulty first others) P Q p q = tt
 on_both (Faulty first others) (Sound b) P Q p q = tt
@@ -169,7 +169,7 @@ on_unless (first ∷ others) a P p = tt
 
 -- two parts judged together, and what follows from both
 pub on_pair : {A B C : Type 0} (a : Judged A) (b : Judged B) (next : A × B → Judged C) (P : A → Type 0) (Q : B → Type 0) (R : C → Type 0)
-  → OnSound a P → OnSound b Q → ((x : A) (y : B) → P x → Q y → OnSound (next (x, y)) R) → OnSound (both a b >>= next) R
+    → OnSound a P → OnSound b Q → ((x : A) (y : B) → P x → Q y → OnSound (next (x, y)) R) → OnSound (both a b >>= next) R
 on_pair (Sound a) (Sound b) next P Q R p q r = r a b p q
 on_pair (Sound a) (Faulty first others) next P Q R p q r = tt
 on_pair (Faulty first others) (Sound b) next P Q R p q r = tt
@@ -178,3 +178,38 @@ on_pair (Faulty first others) (Faulty second more) next P Q R p q r = tt
 pub on_if : {A : Type 0} (b : Bool) (j k : Judged A) (P : A → Type 0) → OnSound j P → OnSound k P → OnSound (if b then j else k) P
 on_if true j k P p q = p
 on_if false j k P p q = q
+
+-- ---- what holds of a part without some fault
+
+pub on_fault_if : {A : Type 0} (b : Bool) (number : RefusalNumber) (p : Place) (a : A) (P : A → Type 0) → (b ≡ false → P a) → OnSound (unless (fault_if b number p) a) P
+on_fault_if true number p a P h = tt
+on_fault_if false number p a P h = h refl
+
+-- the first of several faults
+pub on_first : {A : Type 0} (b : Bool) (number : RefusalNumber) (p : Place) (more : List SourceRefusal) (a : A) (P : A → Type 0) → (b ≡ false → P a)
+    → OnSound (unless (fault_if b number p ++ more) a) P
+on_first true number p more a P h = tt
+on_first false number p more a P h = on_unless more a P (h refl)
+
+-- the last of several faults, where something is not allowed
+pub on_allowed : {A : Type 0} (faults : List SourceRefusal) (b : Bool) (number : RefusalNumber) (p : Place) (a : A) (P : A → Type 0) → (b ≡ true → P a)
+    → OnSound (unless (faults ++ fault_if (not b) number p) a) P
+on_allowed [] true number p a P h = h refl
+on_allowed [] false number p a P h = tt
+on_allowed (f ∷ faults) b number p a P h = tt
+
+pub or_false : (a b : Bool) → (a || b) ≡ false → (a ≡ false) × (b ≡ false)
+or_false true b e = absurd (true≢false e)
+or_false false b e = (refl, e)
+
+pub not_false : (a : Bool) → not a ≡ false → a ≡ true
+not_false true e = refl
+not_false false e = absurd (true≢false e)
+
+pub and_true : (a b : Bool) → (a && b) ≡ true → (a ≡ true) × (b ≡ true)
+and_true true b e = (refl, e)
+and_true false b e = absurd (true≢false (sym e))
+
+pub not_true : (a : Bool) → not a ≡ true → a ≡ false
+not_true true e = absurd (true≢false (sym e))
+not_true false e = refl

@@ -1,52 +1,33 @@
 -- What follows for the typed form of a statement: its steps have the numbers of the order in which they run, and it declares
 -- the variables that the statement declares.
-use Rattle.std.proofs.Common.{subst, ℕ, zero, suc, ◌+◌, Bool, true, false, List, [], ◌∷◌, ◌++◌, ◌≡◌, refl, sym, ◌∙◌, ap, arith, length}
-use Rattle.std.specs.Prelude.{map, Option, Some, None, if◌then◌else◌}
+use Rattle.std.proofs.Common.{subst, ℕ, suc, ◌+◌, false, List, [], ◌∷◌, ◌++◌, ◌≡◌, refl, ◌∙◌, ap, arith, length}
+use Rattle.std.specs.Prelude.{Option, Some, None}
 use Rattle.gang_types.specs.declared.types.IntType.{IntType}
 use Rattle.gang_types.specs.declared.types.IntType.TheVariants as t
 use Rattle.gang_types.specs.declared.types.Rate.{Rate}
 use Rattle.gang_types.specs.declared.types.Rate.TheVariants.{Uniform, Varying}
 use Rattle.gang_types.specs.declared.places.Place.{Place}
 use Rattle.gang_types.specs.declared.places.VarId.TheVariants.{Local}
-use Rattle.gang_model.specs.Tree.{Var, Expr, ResultFor, Nothing, Assigns, Returns, StepNumber, Stmt, Empty, Then, Declare, Assign, Change, If, Loop, BodyFirst, Break, Continue, Return, Switch, Segment, ForEach, Call, Check, PackedStore, PackedLoad, Variable}
+use Rattle.gang_model.specs.Tree.{Var, ResultFor, Nothing, Assigns, Returns, StepNumber, Stmt, Variable}
 use Rattle.gang_model.specs.Step.{steps_of}
-use Rattle.gang_model.specs.Parsed.{Name, ParsedExpr, ParsedArgs, ParsedDim, ParsedStmt, ParsedEmpty, ParsedBlock, ParsedDeclare, ParsedAssign, ParsedChange, ParsedIncrement, ParsedDoCall, ParsedBreak, ParsedContinue, ParsedReturn, ParsedIf, ParsedIfElse, ParsedWhile, ParsedDo, ParsedFor, ParsedSwitch, ParsedForEach, ParsedForEachActive, ParsedForEachUnique, ParsedStmts, ParsedLast, ParsedNext, ParsedSegments, ParsedNoMore, ParsedSegment}
+use Rattle.gang_model.specs.RunningOrder.{IsNumbered}
+use Rattle.gang_model.specs.Parsed.{Name, ParsedExpr, ParsedArgs, ParsedDim, ParsedTarget, ParsedStmt, ParsedEmpty, ParsedBlock, ParsedDeclare, ParsedAssign, ParsedChange, ParsedIncrement, ParsedDoCall, ParsedBreak, ParsedContinue, ParsedReturn, ParsedIf, ParsedIfElse, ParsedWhile, ParsedDo, ParsedFor, ParsedSwitch, ParsedForEach, ParsedForEachActive, ParsedForEachUnique, ParsedStmts, ParsedLast, ParsedNext, ParsedSegments, ParsedNoMore, ParsedSegment}
 use Rattle.gang_model.specs.Numbering.{steps_in, steps_in_all, steps_in_segments}
+use Rattle.gang_model.specs.Bindings.{dim_bindings, bindings_in, bindings_in_all, bindings_in_segments, variable_bindings}
 use Rattle.gang_model.specs.Scope.{Binding, bound, locals_in, locals_in_all}
-use Rattle.gang_model.specs.Judged.{Judged, Sound, Faulty, unless, both, ◌>>=◌, fault_if, refused}
-use Rattle.gang_model.specs.JudgedLaws.{OnSound, on_any, on_then, on_both, on_unless, on_pair, on_if}
+use Rattle.gang_model.specs.Judged.{unless, both}
+use Rattle.gang_model.proofs.JudgedLaws.{OnSound, on_any, on_then, on_both, on_unless, on_pair, on_if}
 use Rattle.gang_model.specs.LibraryTable.{StatementCall, Asserts, PackedStores, PackedLoads, statement_call}
 use Rattle.gang_model.specs.Signatures.{ResultType}
-use Rattle.gang_model.specs.Typing.{Entry, Scope, Passing, Scalar, View, Reference, arguments, expression, given_value, first_of, var_of, declared, index_entry}
-use Rattle.gang_model.specs.Overloads.{Candidate, candidates, overload}
-use Rattle.gang_model.specs.Calls.{Context, whole_call, Called, called, packed, user_call, stored_to, takes_elements, library_statement, call_of_kind, call_of, WholeCall, right_call, result_faults}
-use Rattle.gang_model.specs.Statements.{Aimed, first_value, declaration, rate_of, assigned_type, variable_of, assigned_value, target_of, operand_for, changed, number_one, empty_return, returned_value, returned, value_return, returning, test_of, dimensions, selector, label_word, Made, made, index_entries, index_variables, scope_after, statement, statements, segments_of}
+use Rattle.gang_model.specs.Typing.{Scope, Passing, Scalar, View, Reference, arguments, expression, given_value, first_of, var_of, declared, index_entry}
+use Rattle.gang_model.specs.Overloads.{candidates, overload}
+use Rattle.gang_model.specs.Calls.{Context, whole_call, Called, stored_to, takes_elements, library_statement, call_of_kind, call_of, WholeCall, right_call, result_faults}
+use Rattle.gang_model.specs.Statements.{first_value, declaration, operand_for, empty_return, returned_value, returned, value_return, returning, test_of, dimensions, selector, label_word, Made, made, index_entries, index_variables, scope_after, statement, statements, segments_of, assigned_by, assigned_type, rate_of, target_of, variable_of, call_for, scalar_target}
 use Rattle.gang_model.specs.TypeFaults.{variable_faults}
-
--- a statement's steps have the numbers from n on, in the order in which they run
-abbrev pub Numbered : Stmt → StepNumber → Type 0
-Numbered Empty n = Unit {0}
-Numbered (Then first rest) n = Numbered first n × Numbered rest (n + steps_of first)
-Numbered (Declare number v e) n = number ≡ n
-Numbered (Assign number target e) n = number ≡ n
-Numbered (Change number target type op in_type e) n = number ≡ n
-Numbered (If number e first other) n = (number ≡ n) × Numbered first (n + 1) × Numbered other (n + 1 + steps_of first)
-Numbered (Loop number e update body) n = (number ≡ n + steps_of body + steps_of update) × Numbered body n × Numbered update (n + steps_of body)
-Numbered (BodyFirst number e body) n = (number ≡ n + steps_of body) × Numbered body n
-Numbered (Break number) n = number ≡ n
-Numbered (Continue number) n = number ≡ n
-Numbered (Return number e) n = number ≡ n
-Numbered (Switch number e segments) n = (number ≡ n) × Numbered segments (n + 1)
-Numbered (Segment label body rest) n = Numbered body n × Numbered rest (n + steps_of body)
-Numbered (ForEach number form body) n = (number ≡ n) × Numbered body (n + 1)
-Numbered (Call number function args result_for) n = number ≡ n
-Numbered (Check number e) n = number ≡ n
-Numbered (PackedStore number array from e result_for) n = number ≡ n
-Numbered (PackedLoad number array from v result_for) n = number ≡ n
 
 -- one step with this number
 abbrev pub OneStep : StepNumber → Stmt → Type 0
-OneStep n s = (steps_of s ≡ 1) × Numbered s n
+OneStep n s = (steps_of s ≡ 1) × IsNumbered n s
 
 -- ---- calls are one step
 
@@ -54,7 +35,7 @@ abbrev OneCall : StepNumber → Called → Type 0
 OneCall n c = OneStep n c.stmt
 
 library_one : (p : Place) (call : StatementCall) (given : List Passing) (result_for : ResultFor) (n : StepNumber)
-  → OnSound (library_statement p call given result_for n) (OneCall n)
+    → OnSound (library_statement p call given result_for n) (OneCall n)
 library_one p Asserts [] result_for n = tt
 library_one p Asserts (Scalar q e ∷ []) result_for n = (refl, refl)
 library_one p Asserts (Scalar q e ∷ a ∷ given) result_for n = tt
@@ -79,18 +60,18 @@ library_one p PackedLoads (View q v from ∷ Reference r w ∷ []) result_for n 
 library_one p PackedLoads (View q v from ∷ Reference r w ∷ a ∷ given) result_for n = tt
 
 call_one : (kind : Option StatementCall) (context : Context) (p : Place) (name : Name) (given : List Passing) (result_for : ResultFor) (n : StepNumber)
-  → OnSound (call_of_kind kind context p name given result_for n) (OneCall n)
+    → OnSound (call_of_kind kind context p name given result_for n) (OneCall n)
 call_one None context p name given result_for n =
     on_then (overload p (candidates 0 context.functions name given)) _ (λ c. Unit {0}) (OneCall n) (on_any (overload p (candidates 0 context.functions name given))) (λ c _. (refl, refl))
 call_one (Some call) context p name given result_for n = library_one p call given result_for n
 
 call_of_one : (context : Context) (scope : Scope) (p : Place) (name : Name) (args : ParsedArgs) (result_for : ResultFor) (n : StepNumber)
-  → OnSound (call_of context scope p name args result_for n) (OneCall n)
+    → OnSound (call_of context scope p name args result_for n) (OneCall n)
 call_of_one context scope p name args result_for n =
     on_then (arguments args scope) _ (λ given. Unit {0}) (OneCall n) (on_any (arguments args scope)) (λ given _. call_one (statement_call name) context p name given result_for n)
 
 right_one : (context : Context) (scope : Scope) (p : Place) (call : WholeCall) (rate : Rate) (result_for : ResultFor) (n : StepNumber)
-  → OnSound (right_call context scope p call rate result_for n) (OneStep n)
+    → OnSound (right_call context scope p call rate result_for n) (OneStep n)
 right_one context scope p call rate result_for n =
     on_then (call_of context scope call.at call.name call.args result_for n) _ (OneCall n) (OneStep n) (call_of_one context scope call.at call.name call.args result_for n)
     (λ c one. on_unless (result_faults p c.result rate) c.stmt (OneStep n) one)
@@ -106,17 +87,19 @@ declaration_one : (context : Context) (scope : Scope) (v : Var) (e : Option Pars
 declaration_one context scope v None n = (refl, refl)
 declaration_one context scope v (Some e) n = first_one (whole_call context.functions e) context scope v e n
 
-assigned_one : (call : Option WholeCall) (context : Context) (scope : Scope) (target : Judged Aimed) (e : ParsedExpr) (n : StepNumber)
-  → OnSound (assigned_value call context scope target e n) (OneStep n)
+assigned_one : (call : Option WholeCall) (context : Context) (scope : Scope) (target : ParsedTarget) (e : ParsedExpr) (n : StepNumber)
+    → OnSound (assigned_by call context scope target e n) (OneStep n)
 assigned_one (Some call) context scope target e n =
-    let right = right_call context scope (first_of e) call (rate_of target) (Assigns (variable_of target)) n in
-    on_pair target right _ (λ a. Unit {0}) (OneStep n) (OneStep n) (on_any target) (right_one context scope (first_of e) call (rate_of target) (Assigns (variable_of target)) n) (λ a s _ one. one)
+    let v = scalar_target scope target.at target.name in
+    on_pair v (right_call context scope (first_of e) call (variable_of v).rate (Assigns (variable_of v)) n) _ (λ a. Unit {0}) (OneStep n) (OneStep n) (on_any v)
+    (right_one context scope (first_of e) call (variable_of v).rate (Assigns (variable_of v)) n) (λ a s _ one. one)
 assigned_one None context scope target e n =
-    let given = given_value e scope (assigned_type target) (rate_of target) in
-    on_pair target given _ (λ a. Unit {0}) (λ x. Unit {0}) (OneStep n) (on_any target) (on_any given) (λ a x _ _. (refl, refl))
+    let aim = target_of scope target.at target.name target.index in
+    let given = given_value e scope (assigned_type aim) (rate_of aim) in
+    on_pair aim given _ (λ a. Unit {0}) (λ x. Unit {0}) (OneStep n) (on_any aim) (on_any given) (λ a x _ _. (refl, refl))
 
 returned_one : (call : Option WholeCall) (context : Context) (scope : Scope) (e : ParsedExpr) (r : IntType × Rate) (n : StepNumber)
-  → OnSound (returned_value call context scope e r n) (OneStep n)
+    → OnSound (returned_value call context scope e r n) (OneStep n)
 returned_one (Some call) context scope e r n = right_one context scope (first_of e) call r.1 Returns n
 returned_one None context scope e r n =
     on_then (given_value e scope r.0 r.1) _ (λ x. Unit {0}) (OneStep n) (on_any (given_value e scope r.0 r.1)) (λ x _. (refl, refl))
@@ -136,39 +119,6 @@ returning_one context scope p (Some e) n = value_return_one context scope e cont
 
 -- ---- statements
 
-abbrev pub dim_bindings : ℕ → List ParsedDim → List Binding
-dim_bindings k [] = []
-dim_bindings k (d ∷ dims) = bound d.name (Local k) ∷ dim_bindings (suc k) dims
-
-abbrev mutual
-  -- the variables that a statement declares, in the order of the source, numbered from k on
-  pub bindings_in : ParsedStmt → ℕ → List Binding
-  bindings_in (ParsedBlock ss) k = bindings_in_all ss k
-  bindings_in (ParsedDeclare p spec at name e) k = bound name (Local k) ∷ []
-  bindings_in (ParsedIf p e a) k = bindings_in a k
-  bindings_in (ParsedIfElse p e a b) k = bindings_in a k ++ bindings_in b (k + locals_in a)
-  bindings_in (ParsedWhile p e body) k = bindings_in body k
-  bindings_in (ParsedDo body p e) k = bindings_in body k
-  bindings_in (ParsedFor p start e update body) k =
-      bindings_in start k ++ (bindings_in update (k + locals_in start) ++ bindings_in body (k + locals_in start + locals_in update))
-  bindings_in (ParsedSwitch p e segments) k = bindings_in_segments segments k
-  bindings_in (ParsedForEach p is_tiled dims body) k = dim_bindings k dims ++ bindings_in body (k + length dims)
-  bindings_in (ParsedForEachActive p at name body) k = bound name (Local k) ∷ bindings_in body (suc k)
-  bindings_in (ParsedForEachUnique p at name e body) k = bound name (Local k) ∷ bindings_in body (suc k)
-  bindings_in s k = []
-
-  pub bindings_in_all : ParsedStmts → ℕ → List Binding
-  bindings_in_all ParsedLast k = []
-  bindings_in_all (ParsedNext s ss) k = bindings_in s k ++ bindings_in_all ss (k + locals_in s)
-
-  pub bindings_in_segments : ParsedSegments → ℕ → List Binding
-  bindings_in_segments ParsedNoMore k = []
-  bindings_in_segments (ParsedSegment p label ss rest) k = bindings_in_all ss k ++ bindings_in_segments rest (k + locals_in_all ss)
-
-abbrev pub variable_bindings : List Variable → List Binding
-variable_bindings [] = []
-variable_bindings (v ∷ variables) = bound v.name v.id ∷ variable_bindings variables
-
 pub variable_bindings-append : (xs ys : List Variable) → variable_bindings (xs ++ ys) ≡ variable_bindings xs ++ variable_bindings ys
 variable_bindings-append [] ys = refl
 variable_bindings-append (x ∷ xs) ys = ap (λ bs. bound x.name x.id ∷ bs) (variable_bindings-append xs ys)
@@ -183,33 +133,29 @@ index_bindings k (d ∷ dims) = ap (λ xs. bound d.name (Local k) ∷ xs) (index
 
 -- a typed form has so many steps, numbered from n on, and declares these variables
 abbrev pub Faithful : (steps : ℕ) → (n : StepNumber) → List Binding → Made → Type 0
-Faithful steps n bindings m = (steps_of m.stmt ≡ steps) × Numbered m.stmt n × (variable_bindings m.variables ≡ bindings)
+Faithful steps n bindings m = (steps_of m.stmt ≡ steps) × IsNumbered n m.stmt × (variable_bindings m.variables ≡ bindings)
 
 -- a statement of one step that declares nothing
 one_alone : (s : Stmt) (n : StepNumber) → OneStep n s → Faithful 1 n [] (made s [])
 one_alone s n one = (one.0, one.1, refl)
 
-at_number : (s : Stmt) (m n : StepNumber) → m ≡ n → Numbered s m → Numbered s n
-at_number s m n e h = subst (Numbered s) e h
+at_number : (s : Stmt) (m n : StepNumber) → m ≡ n → IsNumbered m s → IsNumbered n s
+at_number s m n e h = subst (λ k. IsNumbered k s) e h
 
 mutual
   -- a statement's typed form is faithful to it
   pub statement_faithful : (s : ParsedStmt) (context : Context) (scope : Scope) (k : ℕ) (n : StepNumber)
-    → OnSound (statement s context scope k n) (Faithful (steps_in s) n (bindings_in s k))
+      → OnSound (statement s context scope k n) (Faithful (steps_in s) n (bindings_in s k))
   statement_faithful ParsedEmpty context scope k n = (refl, tt, refl)
   statement_faithful (ParsedBlock ss) context scope k n = statements_faithful ss context scope k n
   statement_faithful (ParsedDeclare p spec at name e) context scope k n =
       let v = declared name (Local k) spec false false in
       let sound = unless (variable_faults at spec) v in
-      on_pair sound (declaration context scope (var_of v.variable) e n) _ (λ w. bound w.variable.name w.variable.id ≡ bound name (Local k)) (OneStep n)
-      (Faithful 1 n (bound name (Local k) ∷ []))
-      (on_unless (variable_faults at spec) v (λ w. bound w.variable.name w.variable.id ≡ bound name (Local k)) refl)
-      (declaration_one context scope (var_of v.variable) e n)
-      (λ w s named one. (one.0, one.1, ap (λ b. b ∷ []) named))
+      on_pair sound (declaration context scope (var_of v.variable) e n) _ (λ w. Unit {0}) (OneStep n) (Faithful 1 n (bound name (Local k) ∷ []))
+      (on_any sound) (declaration_one context scope (var_of v.variable) e n) (λ w s _ one. (one.0, one.1, refl))
   statement_faithful (ParsedAssign p target e) context scope k n =
-      let aimed_at = target_of scope target.at target.name target.index in
-      on_then (assigned_value (whole_call context.functions e) context scope aimed_at e n) _ (OneStep n) (Faithful 1 n [])
-      (assigned_one (whole_call context.functions e) context scope aimed_at e n) (λ s one. one_alone s n one)
+      let call = call_for target.index (whole_call context.functions e) in
+      on_then (assigned_by call context scope target e n) _ (OneStep n) (Faithful 1 n []) (assigned_one call context scope target e n) (λ s one. one_alone s n one)
   statement_faithful (ParsedChange p target op e) context scope k n =
       let aimed_at = target_of scope target.at target.name target.index in
       let operand = operand_for (rate_of aimed_at) e scope in
@@ -236,10 +182,12 @@ mutual
       (Faithful (1 + steps_in a + steps_in b) n (bindings_in a k ++ bindings_in b (k + locals_in a)))
       (on_any (test_of scope (Some e)))
       (on_both first other (Faithful (steps_in a) (n + 1) (bindings_in a k)) (Faithful (steps_in b) (n + 1 + steps_in a) (bindings_in b (k + locals_in a)))
-        (statement_faithful a context scope k (n + 1)) (statement_faithful b context scope (k + locals_in a) (n + 1 + steps_in a)))
-      (λ c ms _ h. (omega (arith, h.0.0, h.1.0),
+      (statement_faithful a context scope k (n + 1)) (statement_faithful b context scope (k + locals_in a) (n + 1 + steps_in a)))
+      (λ c ms _ h. (
+        omega (arith, h.0.0, h.1.0),
         (refl, h.0.1, at_number ms.1.stmt (n + 1 + steps_in a) (n + 1 + steps_of ms.0.stmt) (omega (arith, h.0.0)) h.1.1),
-        two_parts ms.0.variables ms.1.variables (bindings_in a k) (bindings_in b (k + locals_in a)) h.0.2 h.1.2))
+        two_parts ms.0.variables ms.1.variables (bindings_in a k) (bindings_in b (k + locals_in a)) h.0.2 h.1.2,
+      ))
   statement_faithful (ParsedWhile p e body) context scope k n =
       let inner = statement body context scope k n in
       on_pair (test_of scope (Some e)) inner _ (λ x. Unit {0}) (Faithful (steps_in body) n (bindings_in body k)) (Faithful (steps_in body + 1) n (bindings_in body k))
@@ -265,25 +213,35 @@ mutual
       (Faithful (steps_in start + steps_in body + steps_in update + 1) n (bindings_in start k ++ (bindings_in update k' ++ bindings_in body (k' + locals_in update))))
       (on_both before (test_of inside e) OfStart (λ x. Unit {0}) (statement_faithful start context scope k n) (on_any (test_of inside e)))
       (on_both updating inner OfUpdate OfBody (statement_faithful update context inside k' u) (statement_faithful body context inside (k' + locals_in update) b))
-      (λ x y h l.
-        (omega (arith, h.0.0, l.0.0, l.1.0),
-        (h.0.1, (omega (arith, h.0.0, l.0.0, l.1.0), at_number y.1.stmt b (n + steps_of x.0.stmt) (omega (arith, h.0.0)) l.1.1,
-          at_number y.0.stmt u (n + steps_of x.0.stmt + steps_of y.1.stmt) (omega (arith, h.0.0, l.1.0)) l.0.1)),
+      (λ x y h l. (
+        omega (arith, h.0.0, l.0.0, l.1.0),
+        (
+          h.0.1,
+          (
+            omega (arith, h.0.0, l.0.0, l.1.0),
+            at_number y.1.stmt b (n + steps_of x.0.stmt) (omega (arith, h.0.0)) l.1.1,
+            at_number y.0.stmt u (n + steps_of x.0.stmt + steps_of y.1.stmt) (omega (arith, h.0.0, l.1.0)) l.0.1,
+          ),
+        ),
         two_parts x.0.variables (y.0.variables ++ y.1.variables) (bindings_in start k) (bindings_in update k' ++ bindings_in body (k' + locals_in update)) h.0.2
-          (two_parts y.0.variables y.1.variables (bindings_in update k') (bindings_in body (k' + locals_in update)) l.0.2 l.1.2)))
+            (two_parts y.0.variables y.1.variables (bindings_in update k') (bindings_in body (k' + locals_in update)) l.0.2 l.1.2),
+      ))
   statement_faithful (ParsedSwitch p e segments) context scope k n =
       on_then (selector scope e) _ (λ x. Unit {0}) (Faithful (1 + steps_in_segments segments) n (bindings_in_segments segments k)) (on_any (selector scope e))
       (λ x _. on_then (segments_of segments x.type context scope k (n + 1)) _ (Faithful (steps_in_segments segments) (n + 1) (bindings_in_segments segments k))
-        (Faithful (1 + steps_in_segments segments) n (bindings_in_segments segments k)) (segments_faithful segments x.type context scope k (n + 1))
-        (λ m h. (omega (arith, h.0), (refl, h.1), h.2)))
+      (Faithful (1 + steps_in_segments segments) n (bindings_in_segments segments k)) (segments_faithful segments x.type context scope k (n + 1))
+      (λ m h. (omega (arith, h.0), (refl, h.1), h.2)))
   statement_faithful (ParsedForEach p is_tiled dims body) context scope k n =
       let ds = dimensions scope k dims in
       let inner = statement body context (index_entries k dims scope) (k + length dims) (n + 1) in
       on_pair ds inner _ (λ x. Unit {0}) (Faithful (steps_in body) (n + 1) (bindings_in body (k + length dims)))
       (Faithful (steps_in body + 2) n (dim_bindings k dims ++ bindings_in body (k + length dims)))
       (on_any ds) (statement_faithful body context (index_entries k dims scope) (k + length dims) (n + 1))
-      (λ d m _ h. (omega (arith, h.0), (refl, h.1),
-        two_parts (index_variables k dims) m.variables (dim_bindings k dims) (bindings_in body (k + length dims)) (index_bindings k dims) h.2))
+      (λ d m _ h. (
+        omega (arith, h.0),
+        (refl, h.1),
+        two_parts (index_variables k dims) m.variables (dim_bindings k dims) (bindings_in body (k + length dims)) (index_bindings k dims) h.2,
+      ))
   statement_faithful (ParsedForEachActive p at name body) context scope k n =
       let v = index_entry name (Local k) t.Int64 Uniform in
       on_then (statement body context (v ∷ scope) (suc k) (n + 1)) _ (Faithful (steps_in body) (n + 1) (bindings_in body (suc k)))
@@ -292,23 +250,26 @@ mutual
   statement_faithful (ParsedForEachUnique p at name e body) context scope k n =
       on_then (expression e scope) _ (λ x. Unit {0}) (Faithful (steps_in body + 2) n (bound name (Local k) ∷ bindings_in body (suc k))) (on_any (expression e scope))
       (λ x _. on_then (statement body context (index_entry name (Local k) x.type Uniform ∷ scope) (suc k) (n + 1)) _ (Faithful (steps_in body) (n + 1) (bindings_in body (suc k)))
-        (Faithful (steps_in body + 2) n (bound name (Local k) ∷ bindings_in body (suc k)))
-        (statement_faithful body context (index_entry name (Local k) x.type Uniform ∷ scope) (suc k) (n + 1))
-        (λ m h. (omega (arith, h.0), (refl, h.1), ap (λ bs. bound name (Local k) ∷ bs) h.2)))
+      (Faithful (steps_in body + 2) n (bound name (Local k) ∷ bindings_in body (suc k)))
+      (statement_faithful body context (index_entry name (Local k) x.type Uniform ∷ scope) (suc k) (n + 1))
+      (λ m h. (omega (arith, h.0), (refl, h.1), ap (λ bs. bound name (Local k) ∷ bs) h.2)))
 
   pub statements_faithful : (ss : ParsedStmts) (context : Context) (scope : Scope) (k : ℕ) (n : StepNumber)
-    → OnSound (statements ss context scope k n) (Faithful (steps_in_all ss) n (bindings_in_all ss k))
+      → OnSound (statements ss context scope k n) (Faithful (steps_in_all ss) n (bindings_in_all ss k))
   statements_faithful ParsedLast context scope k n = (refl, tt, refl)
   statements_faithful (ParsedNext s ss) context scope k n =
       let later = statements ss context (scope_after s scope k) (k + locals_in s) (n + steps_in s) in
       on_pair (statement s context scope k n) later _ (Faithful (steps_in s) n (bindings_in s k)) (Faithful (steps_in_all ss) (n + steps_in s) (bindings_in_all ss (k + locals_in s)))
       (Faithful (steps_in s + steps_in_all ss) n (bindings_in s k ++ bindings_in_all ss (k + locals_in s)))
       (statement_faithful s context scope k n) (statements_faithful ss context (scope_after s scope k) (k + locals_in s) (n + steps_in s))
-      (λ a b h l. (omega (arith, h.0, l.0), (h.1, at_number b.stmt (n + steps_in s) (n + steps_of a.stmt) (omega (arith, h.0)) l.1),
-        two_parts a.variables b.variables (bindings_in s k) (bindings_in_all ss (k + locals_in s)) h.2 l.2))
+      (λ a b h l. (
+        omega (arith, h.0, l.0),
+        (h.1, at_number b.stmt (n + steps_in s) (n + steps_of a.stmt) (omega (arith, h.0)) l.1),
+        two_parts a.variables b.variables (bindings_in s k) (bindings_in_all ss (k + locals_in s)) h.2 l.2,
+      ))
 
   pub segments_faithful : (segments : ParsedSegments) (type : IntType) (context : Context) (scope : Scope) (k : ℕ) (n : StepNumber)
-    → OnSound (segments_of segments type context scope k n) (Faithful (steps_in_segments segments) n (bindings_in_segments segments k))
+      → OnSound (segments_of segments type context scope k n) (Faithful (steps_in_segments segments) n (bindings_in_segments segments k))
   segments_faithful ParsedNoMore type context scope k n = (refl, tt, refl)
   segments_faithful (ParsedSegment p label ss rest) type context scope k n =
       let first = statements ss context scope k n in
@@ -319,5 +280,8 @@ mutual
       (Faithful (steps_in_all ss + steps_in_segments rest) n (bindings_in_all ss k ++ bindings_in_segments rest (k + locals_in_all ss)))
       (on_any (label_word p type label))
       (on_both first later OfFirst OfRest (statements_faithful ss context scope k n) (segments_faithful rest type context scope (k + locals_in_all ss) (n + steps_in_all ss)))
-      (λ w x _ h. (omega (arith, h.0.0, h.1.0), (h.0.1, at_number x.1.stmt (n + steps_in_all ss) (n + steps_of x.0.stmt) (omega (arith, h.0.0)) h.1.1),
-        two_parts x.0.variables x.1.variables (bindings_in_all ss k) (bindings_in_segments rest (k + locals_in_all ss)) h.0.2 h.1.2))
+      (λ w x _ h. (
+        omega (arith, h.0.0, h.1.0),
+        (h.0.1, at_number x.1.stmt (n + steps_in_all ss) (n + steps_of x.0.stmt) (omega (arith, h.0.0)) h.1.1),
+        two_parts x.0.variables x.1.variables (bindings_in_all ss k) (bindings_in_segments rest (k + locals_in_all ss)) h.0.2 h.1.2,
+      ))

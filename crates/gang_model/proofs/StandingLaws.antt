@@ -1,16 +1,14 @@
 -- What follows for the scopes of steps: each name that the debugger lists at a step of a sound function has, in the typed tree,
 -- the variable that declares it.
-use Rattle.std.proofs.Common.{ℕ, zero, suc, ◌+◌, Bool, true, false, cond, List, [], ◌∷◌, ◌++◌, ◌≡◌, refl, sym, ◌∙◌, ap, subst, arith, length, length-append}
-use Rattle.std.specs.Prelude.{map, filter, not, Option, Some, None, slice_get, slice_index_or, if◌then◌else◌}
+use Rattle.std.proofs.Common.{ℕ, ◌+◌, Bool, true, false, cond, List, [], ◌∷◌, ◌++◌, ◌≡◌, refl, sym, ap, subst, arith, length}
+use Rattle.std.specs.Prelude.{filter, not, Some, slice_get}
 use Rattle.gang_types.specs.declared.places.VarId.{VarId}
 use Rattle.gang_types.specs.declared.places.VarId.TheVariants.{File, Local}
 use Rattle.gang_model.specs.Names.{same_text}
-use Rattle.gang_model.specs.Tree.{Variable, Standing}
-use Rattle.gang_model.specs.Parsed.{Name, ParsedDim, ParsedStmt, ParsedEmpty, ParsedBlock, ParsedDeclare, ParsedAssign, ParsedChange, ParsedIncrement, ParsedDoCall, ParsedBreak, ParsedContinue, ParsedReturn, ParsedIf, ParsedIfElse, ParsedWhile, ParsedDo, ParsedFor, ParsedSwitch, ParsedForEach, ParsedForEachActive, ParsedForEachUnique, ParsedStmts, ParsedLast, ParsedNext, ParsedSegments, ParsedNoMore, ParsedSegment, ParsedParam, ParsedFunction, ParsedGlobal}
-use Rattle.gang_model.specs.Scope.{Binding, bound, Environment, is_local, unhidden, listed, Site, with_name, enclosed, past, with_dims, with_params, locals_in, locals_in_all, locals_in_segments, after, after_all, at_test, in_for, in_rounds, in_domain, NameStanding, standing, standings_in, standings_in_all, standings_in_segments, has_return, before_return, function_site, standings_of, file_bindings}
-use Rattle.gang_model.specs.ScopeLaws.{after-next, after_all-next}
-use Rattle.gang_model.specs.NumberLaws.{bindings_in, bindings_in_all, bindings_in_segments, dim_bindings, variable_bindings}
-use Rattle.gang_model.specs.Resolved.{local_at, no_variable, standing_with, param_variables}
+use Rattle.gang_model.specs.Parsed.{Name, ParsedDim, ParsedStmt, ParsedEmpty, ParsedBlock, ParsedDeclare, ParsedAssign, ParsedChange, ParsedIncrement, ParsedDoCall, ParsedBreak, ParsedContinue, ParsedReturn, ParsedIf, ParsedIfElse, ParsedWhile, ParsedDo, ParsedFor, ParsedSwitch, ParsedForEach, ParsedForEachActive, ParsedForEachUnique, ParsedStmts, ParsedLast, ParsedNext, ParsedSegments, ParsedNoMore, ParsedSegment}
+use Rattle.gang_model.specs.Bindings.{dim_bindings, bindings_in, bindings_in_all, bindings_in_segments}
+use Rattle.gang_model.specs.Scope.{Binding, bound, Environment, is_local, unhidden, listed, Site, with_name, enclosed, past, with_dims, locals_in, locals_in_all, after, after_all, at_test, in_for, in_rounds, in_domain, NameStanding, standing, standings_in, standings_in_all, standings_in_segments}
+use Rattle.gang_model.proofs.ScopeLaws.{after-next, after_all-next}
 
 -- what holds of each element
 abbrev pub Each : {A : Type 0} → (A → Type 0) → List A → Type 0
@@ -48,7 +46,7 @@ Found table b = (k : ℕ) × (b.id ≡ Local k) × (slice_get table k ≡ Some b
 -- ---- what is listed
 
 found_one : (table : List Binding) (b : Binding) (id : VarId) (rest : List Binding) → b.id ≡ id → Placed table b → Each (Found table) rest
-  → Each (Found table) (cond (is_local id) (b ∷ rest) rest)
+    → Each (Found table) (cond (is_local id) (b ∷ rest) rest)
 found_one table b (File k) rest e p q = q
 found_one table b (Local k) rest e p q = ((k, e, p k e), q)
 
@@ -73,11 +71,11 @@ AllFound table s = Each (Found table) s.names
 
 -- a declaration at its number
 placed_at : (table : List Binding) (name : Name) (site : Site) → Each (Placed table) (bound name (Local site.next) ∷ []) → Each (Placed table) site.environment
-  → Each (Placed table) (with_name name site).environment
+    → Each (Placed table) (with_name name site).environment
 placed_at table name site p q = (p.0, q)
 
 pub after_placed : (table : List Binding) (s : ParsedStmt) (site : Site) → Each (Placed table) (bindings_in s site.next) → Each (Placed table) site.environment
-  → Each (Placed table) (after s site).environment
+    → Each (Placed table) (after s site).environment
 after_placed table ParsedEmpty site p q = q
 after_placed table (ParsedBlock ss) site p q = q
 after_placed table (ParsedDeclare at spec place name e) site p q = (p.0, q)
@@ -99,7 +97,7 @@ after_placed table (ParsedForEachActive at place name body) site p q = q
 after_placed table (ParsedForEachUnique at place name e body) site p q = q
 
 dims_placed : (table : List Binding) (dims : List ParsedDim) (site : Site) → Each (Placed table) (dim_bindings site.next dims) → Each (Placed table) site.environment
-  → Each (Placed table) (with_dims dims site).environment
+    → Each (Placed table) (with_dims dims site).environment
 dims_placed table [] site p q = q
 dims_placed table (d ∷ dims) site p q = dims_placed table dims (with_name d.name site) p.1 (p.0, q)
 
@@ -118,7 +116,7 @@ one_found : (table : List Binding) (site : Site) → Each (Placed table) site.en
 one_found table site q = found_listed table site.environment q
 
 pub after_all_placed : (table : List Binding) (ss : ParsedStmts) (site : Site) → Each (Placed table) (bindings_in_all ss site.next) → Each (Placed table) site.environment
-  → Each (Placed table) (after_all ss site).environment
+    → Each (Placed table) (after_all ss site).environment
 after_all_placed table ParsedLast site p q = q
 after_all_placed table (ParsedNext s ss) site p q =
     after_all_placed table ss (after s site)
@@ -128,7 +126,7 @@ after_all_placed table (ParsedNext s ss) site p q =
 mutual
   -- at each step of a statement what is listed has its place
   pub standings_found : (table : List Binding) (s : ParsedStmt) (site : Site) → Each (Placed table) (bindings_in s site.next) → Each (Placed table) site.environment
-    → Each (AllFound table) (standings_in s site)
+      → Each (AllFound table) (standings_in s site)
   standings_found table ParsedEmpty site p q = tt
   standings_found table (ParsedBlock ss) site p q = standings_found_all table ss (enclosed site) p q
   standings_found table (ParsedDeclare at spec place name e) site p q = (one_found table site q, tt)
@@ -142,9 +140,11 @@ mutual
   standings_found table (ParsedIf at e a) site p q = (one_found table site q, standings_found table a (enclosed site) p q)
   standings_found table (ParsedIfElse at e a b) site p q =
       let left = each_left (Placed table) (bindings_in a site.next) (bindings_in b (site.next + locals_in a)) p in
-      let right = each_right (Placed table) (bindings_in a site.next) (bindings_in b (site.next + locals_in a)) p in
-      (one_found table site q, each_join (AllFound table) (standings_in a (enclosed site)) (standings_in b (enclosed (past (locals_in a) site)))
-        (standings_found table a (enclosed site) left q) (standings_found table b (enclosed (past (locals_in a) site)) right q))
+      let right = each_right (Placed table) (bindings_in a site.next) (bindings_in b (site.next + locals_in a)) p in (
+        one_found table site q,
+        each_join (AllFound table) (standings_in a (enclosed site)) (standings_in b (enclosed (past (locals_in a) site)))
+            (standings_found table a (enclosed site) left q) (standings_found table b (enclosed (past (locals_in a) site)) right q),
+      )
   standings_found table (ParsedWhile at e body) site p q =
       each_join (AllFound table) (standings_in body (enclosed site)) (standing at site ∷ []) (standings_found table body (enclosed site) p q) (one_found table site q, tt)
   standings_found table (ParsedDo body at e) site p q =
@@ -165,25 +165,29 @@ mutual
       each_join (AllFound table) (standings_in start (enclosed site)) (standings_in body (in_for start update site) ++ (standings_in update inside ++ last))
       (standings_found table start (enclosed site) left q)
       (each_join (AllFound table) (standings_in body (in_for start update site)) (standings_in update inside ++ last)
-        (standings_found table body (in_for start update site) rounds q')
-        (each_join (AllFound table) (standings_in update inside) last (standings_found table update inside updates q') (one_found table inside q', tt)))
+      (standings_found table body (in_for start update site) rounds q')
+      (each_join (AllFound table) (standings_in update inside) last (standings_found table update inside updates q') (one_found table inside q', tt)))
   standings_found table (ParsedSwitch at e segments) site p q = (one_found table site q, standings_found_segments table segments (enclosed site) p q)
   standings_found table (ParsedForEach at is_tiled dims body) site p q =
       let left = each_left (Placed table) (dim_bindings site.next dims) (bindings_in body (site.next + length dims)) p in
       let right = each_right (Placed table) (dim_bindings site.next dims) (bindings_in body (site.next + length dims)) p in
       let inner = standings_found table body (in_domain dims site)
-        (moved table body (site.next + length dims) (with_dims dims (enclosed site)).next (sym (with_dims-next dims (enclosed site))) right)
-        (dims_placed table dims (enclosed site) left q) in
+      (moved table body (site.next + length dims) (with_dims dims (enclosed site)).next (sym (with_dims-next dims (enclosed site))) right)
+      (dims_placed table dims (enclosed site) left q) in
       (one_found table site q, each_join (AllFound table) (standings_in body (in_domain dims site)) (standing at site ∷ []) inner (one_found table site q, tt))
-  standings_found table (ParsedForEachActive at place name body) site p q =
-      (one_found table site q, each_join (AllFound table) (standings_in body (in_rounds name site)) (standing at site ∷ [])
-        (standings_found table body (in_rounds name site) p.1 (p.0, q)) (one_found table site q, tt))
-  standings_found table (ParsedForEachUnique at place name e body) site p q =
-      (one_found table site q, each_join (AllFound table) (standings_in body (in_rounds name site)) (standing at site ∷ [])
-        (standings_found table body (in_rounds name site) p.1 (p.0, q)) (one_found table site q, tt))
+  standings_found table (ParsedForEachActive at place name body) site p q = (
+    one_found table site q,
+    each_join (AllFound table) (standings_in body (in_rounds name site)) (standing at site ∷ [])
+        (standings_found table body (in_rounds name site) p.1 (p.0, q)) (one_found table site q, tt),
+  )
+  standings_found table (ParsedForEachUnique at place name e body) site p q = (
+    one_found table site q,
+    each_join (AllFound table) (standings_in body (in_rounds name site)) (standing at site ∷ [])
+        (standings_found table body (in_rounds name site) p.1 (p.0, q)) (one_found table site q, tt),
+  )
 
   pub standings_found_all : (table : List Binding) (ss : ParsedStmts) (site : Site) → Each (Placed table) (bindings_in_all ss site.next) → Each (Placed table) site.environment
-    → Each (AllFound table) (standings_in_all ss site)
+      → Each (AllFound table) (standings_in_all ss site)
   standings_found_all table ParsedLast site p q = tt
   standings_found_all table (ParsedNext s ss) site p q =
       let left = each_left (Placed table) (bindings_in s site.next) (bindings_in_all ss (site.next + locals_in s)) p in
@@ -192,7 +196,7 @@ mutual
       (standings_found_all table ss (after s site) (moved_all table ss (site.next + locals_in s) (after s site).next (sym (after-next s site)) right) (after_placed table s site left q))
 
   pub standings_found_segments : (table : List Binding) (segments : ParsedSegments) (site : Site) → Each (Placed table) (bindings_in_segments segments site.next)
-    → Each (Placed table) site.environment → Each (AllFound table) (standings_in_segments segments site)
+      → Each (Placed table) site.environment → Each (AllFound table) (standings_in_segments segments site)
   standings_found_segments table ParsedNoMore site p q = tt
   standings_found_segments table (ParsedSegment at label ss rest) site p q =
       let k = site.next + locals_in_all ss in
