@@ -1,20 +1,20 @@
 -- In the typed tree of an accepted source each control statement stands where it may.
-use Rattle.std.proofs.Common.{Bool, List, [], ◌∷◌, ◌++◌, ◌≡◌, refl, length}
+use Rattle.std.proofs.Common.{List, [], ◌∷◌, ◌++◌, ◌≡◌, length}
 use Rattle.std.specs.Prelude.{◌||◌, map, is_some, Some}
 use Rattle.std.specs.List.{flat_map}
 use Rattle.gang_model.specs.declared.refusals.RefusalNumber.TheVariants.{S6}
-use Rattle.gang_model.specs.Tree.{Function, Program}
+use Rattle.gang_model.specs.Tree.{Program}
 use Rattle.gang_model.specs.WellPlaced.{StmtPlaced, FunctionsPlaced}
 use Rattle.gang_model.specs.Parsed.{Name, ParsedFunction, ParsedSource, functions_in, globals_in}
-use Rattle.gang_model.specs.Scope.{Environment, function_site, file_scope}
-use Rattle.gang_model.specs.Judged.{Judged, unless, both, fault_if}
+use Rattle.gang_model.specs.Scope.{function_site, file_scope}
+use Rattle.gang_model.specs.Judged.{unless, fault_if}
 use Rattle.gang_model.proofs.JudgedLaws.{OnSound, on_any, on_pair}
 use Rattle.gang_model.specs.LibraryTable.{is_library_name, statement_call}
 use Rattle.gang_model.specs.Signatures.{result_of}
 use Rattle.gang_model.specs.Calls.{Context}
 use Rattle.gang_model.specs.TypeFaults.{signature_faults}
 use Rattle.gang_model.specs.Statements.{statements}
-use Rattle.gang_model.specs.NameFaults.{Allowed, in_function, stmts_names, params_twice, function_names, globals_twice, functions_twice, name_faults}
+use Rattle.gang_model.specs.NameFaults.{in_function, stmts_names, params_twice, function_names, globals_twice, functions_twice}
 use Rattle.gang_model.specs.Resolved.{param_entries, global_entries, judged_globals, judged_function, judged_functions, judged_program, program_of}
 use Rattle.gang_model.specs.SourceRefusals.{IsAccepted}
 use Rattle.gang_model.proofs.RefusalLaws.{accepted-names}
@@ -26,7 +26,7 @@ abbrev pub function_names_of : ParsedSource → List Name
 function_names_of source = map (λ f. f.name) (functions_in source)
 
 function_placed : (source : ParsedSource) (f : ParsedFunction) → function_names (function_names_of source) (file_scope source) f ≡ []
-  → OnSound (judged_function source f) (λ g. StmtPlaced (in_function (function_names_of source)) g.body)
+    → OnSound (judged_function source f) (λ g. StmtPlaced (in_function (function_names_of source)) g.body)
 function_placed source f e =
     let may = in_function (function_names_of source) in
     let context : Context = record { functions = functions_in source; result = result_of f.spec } in
@@ -39,7 +39,7 @@ function_placed source f e =
     (λ g m _ h. h)
 
 functions_placed : (source : ParsedSource) (functions : List ParsedFunction)
-  → flat_map (function_names (function_names_of source) (file_scope source)) functions ≡ [] → OnSound (judged_functions source functions) (FunctionsPlaced (function_names_of source))
+    → flat_map (function_names (function_names_of source) (file_scope source)) functions ≡ [] → OnSound (judged_functions source functions) (FunctionsPlaced (function_names_of source))
 functions_placed source [] e = tt
 functions_placed source (f ∷ functions) e =
     let names = function_names_of source in
@@ -58,4 +58,4 @@ program_of-placed source p accepted e =
     let none = right_none twice inside (right_none of_globals (twice ++ inside) (accepted-names source accepted)) in
     on_some (judged_program source) (λ q. FunctionsPlaced names q.functions) p
     (on_pair (judged_globals 0 (globals_in source)) (judged_functions source (functions_in source)) _ (λ g. Unit {0}) (FunctionsPlaced names) (λ q. FunctionsPlaced names q.functions)
-      (on_any (judged_globals 0 (globals_in source))) (functions_placed source (functions_in source) none) (λ g typed _ h. h)) e
+    (on_any (judged_globals 0 (globals_in source))) (functions_placed source (functions_in source) none) (λ g typed _ h. h)) e

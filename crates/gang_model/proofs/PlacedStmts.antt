@@ -1,7 +1,7 @@
 -- In the typed tree of a source without faults each control statement stands where it may.
-use Rattle.std.proofs.Common.{ℕ, zero, suc, ◌+◌, true≢false, Bool, true, false, List, [], ◌∷◌, ◌++◌, ◌≡◌, refl, sym, ◌∙◌, ap, length}
-use Rattle.std.specs.Prelude.{not, ◌||◌, map, is_some, slice_get, Option, Some, None, if◌then◌else◌}
-use Rattle.std.specs.List.{flat_map, list_any}
+use Rattle.std.proofs.Common.{ℕ, suc, ◌+◌, true≢false, Bool, true, false, List, [], ◌∷◌, ◌++◌, ◌≡◌, refl, sym, ap, length}
+use Rattle.std.specs.Prelude.{not, Option, Some, None, if◌then◌else◌}
+use Rattle.std.specs.List.{list_any}
 use Rattle.gang_types.specs.declared.types.IntType.{IntType}
 use Rattle.gang_types.specs.declared.types.IntType.TheVariants as t
 use Rattle.gang_types.specs.declared.types.Rate.{Rate}
@@ -11,23 +11,21 @@ use Rattle.gang_types.specs.declared.places.VarId.TheVariants.{Local}
 use Rattle.gang_model.specs.declared.forms.Label.{Label}
 use Rattle.gang_model.specs.declared.refusals.RefusalNumber.{RefusalNumber}
 use Rattle.gang_model.specs.declared.refusals.RefusalNumber.TheVariants.{S6, S9, S11}
-use Rattle.gang_model.specs.declared.refusals.SourceRefusal.{SourceRefusal}
-use Rattle.gang_model.specs.Tree.{Var, ResultFor, Nothing, Declares, Assigns, Returns, Dimension, Rows, Tiles, StepNumber, Stmt, PackedLoad, Function, Program}
+use Rattle.gang_model.specs.Tree.{Var, ResultFor, Nothing, Declares, Assigns, Returns, Dimension, Rows, Tiles, StepNumber, Stmt, PackedLoad}
 use Rattle.gang_model.specs.WellPlaced.{ResultPlaced, RoundsPlaced, inside_rounds, StmtPlaced}
-use Rattle.gang_model.specs.Parsed.{Name, ParsedExpr, ParsedArgs, ParsedTarget, ParsedStmt, ParsedEmpty, ParsedBlock, ParsedDeclare, ParsedAssign, ParsedChange, ParsedIncrement, ParsedDoCall, ParsedBreak, ParsedContinue, ParsedReturn, ParsedIf, ParsedIfElse, ParsedWhile, ParsedDo, ParsedFor, ParsedSwitch, ParsedForEach, ParsedForEachActive, ParsedForEachUnique, ParsedStmts, ParsedLast, ParsedNext, ParsedSegments, ParsedNoMore, ParsedSegment, ParsedFunction, ParsedSource, functions_in, globals_in}
+use Rattle.gang_model.specs.Parsed.{Name, ParsedExpr, ParsedArgs, ParsedTarget, ParsedStmt, ParsedEmpty, ParsedBlock, ParsedDeclare, ParsedAssign, ParsedChange, ParsedIncrement, ParsedDoCall, ParsedBreak, ParsedContinue, ParsedReturn, ParsedIf, ParsedIfElse, ParsedWhile, ParsedDo, ParsedFor, ParsedSwitch, ParsedForEach, ParsedForEachActive, ParsedForEachUnique, ParsedStmts, ParsedLast, ParsedNext, ParsedSegments, ParsedNoMore, ParsedSegment}
 use Rattle.gang_model.specs.Numbering.{steps_in, steps_in_all}
-use Rattle.gang_model.specs.Scope.{Environment, Site, enclosed, past, locals_in, locals_in_all, after, after_all, at_test, in_for, in_rounds, in_domain, function_site, file_scope}
-use Rattle.gang_model.specs.Judged.{Judged, Sound, Faulty, unless, both, ◌>>=◌, fault_if, refused}
+use Rattle.gang_model.specs.Scope.{Site, enclosed, past, locals_in, locals_in_all, after, after_all, at_test, in_for, in_rounds, in_domain}
+use Rattle.gang_model.specs.Judged.{Judged, Sound, unless, both, ◌>>=◌, fault_if, refused}
 use Rattle.gang_model.proofs.JudgedLaws.{OnSound, on_any, on_then, on_both, on_unless, on_pair, on_if}
 use Rattle.gang_model.specs.LibraryTable.{StatementCall, Asserts, PackedStores, PackedLoads, statement_call}
-use Rattle.gang_model.specs.Signatures.{ResultType, result_of}
+use Rattle.gang_model.specs.Signatures.{ResultType}
 use Rattle.gang_model.specs.Typing.{Scope, Passing, Scalar, View, Reference, arguments, expression, given_value, first_of, var_of, declared, index_entry}
-use Rattle.gang_model.specs.Overloads.{Candidate, candidates, overload}
+use Rattle.gang_model.specs.Overloads.{candidates, overload}
 use Rattle.gang_model.specs.Calls.{Context, Called, packed, stored_to, takes_elements, library_statement, call_of_kind, call_of, WholeCall, whole_call, right_call, result_faults}
-use Rattle.gang_model.specs.TypeFaults.{variable_faults, signature_faults}
-use Rattle.gang_model.specs.Statements.{first_value, declaration, Aimed, scalar_target, target_of, rate_of, assigned_type, variable_of, call_for, assigned_by, operand_for, changed, number_one, empty_return, returned_value, returned, value_return, returning, test_of, dimensions, label_word, selector, Made, made, scope_after, index_entries, statement, statements, segments_of}
+use Rattle.gang_model.specs.TypeFaults.{variable_faults}
+use Rattle.gang_model.specs.Statements.{first_value, declaration, scalar_target, target_of, rate_of, assigned_type, variable_of, call_for, assigned_by, operand_for, empty_return, returned_value, returned, value_return, returning, test_of, dimensions, label_word, selector, Made, made, scope_after, index_entries, statement, statements, segments_of}
 use Rattle.gang_model.specs.NameFaults.{Allowed, in_loop, in_switch, in_round, in_domain_round, same_label, stmt_names, stmts_names, segments_names, names_in, names_in_some, right_names_of, dims_names, twice}
-use Rattle.gang_model.specs.Resolved.{param_entries, global_entries, judged_function}
 
 -- ---- lists without faults
 
@@ -62,18 +60,18 @@ module _ (may : Allowed) where
   library_placed p call given result_for n = tt
 
   kind_placed : (kind : Option StatementCall) (context : Context) (p : Place) (name : Name) (given : List Passing) (result_for : ResultFor) (n : StepNumber)
-    → OnSound (call_of_kind kind context p name given result_for n) (CallPlaced result_for)
+      → OnSound (call_of_kind kind context p name given result_for n) (CallPlaced result_for)
   kind_placed None context p name given result_for n =
       on_then (overload p (candidates 0 context.functions name given)) _ (λ c. Unit {0}) (CallPlaced result_for) (on_any (overload p (candidates 0 context.functions name given))) (λ c _ h. h)
   kind_placed (Some call) context p name given result_for n = library_placed p call given result_for n
 
   call_placed : (context : Context) (scope : Scope) (p : Place) (name : Name) (args : ParsedArgs) (result_for : ResultFor) (n : StepNumber)
-    → OnSound (call_of context scope p name args result_for n) (CallPlaced result_for)
+      → OnSound (call_of context scope p name args result_for n) (CallPlaced result_for)
   call_placed context scope p name args result_for n =
       on_then (arguments args scope) _ (λ given. Unit {0}) (CallPlaced result_for) (on_any (arguments args scope)) (λ given _. kind_placed (statement_call name) context p name given result_for n)
 
   right_placed : (context : Context) (scope : Scope) (p : Place) (call : WholeCall) (rate : Rate) (result_for : ResultFor) (n : StepNumber) → ResultPlaced may result_for
-    → OnSound (right_call context scope p call rate result_for n) (StmtPlaced may)
+      → OnSound (right_call context scope p call rate result_for n) (StmtPlaced may)
   right_placed context scope p call rate result_for n h =
       on_then (call_of context scope call.at call.name call.args result_for n) _ (CallPlaced result_for) (StmtPlaced may) (call_placed context scope call.at call.name call.args result_for n)
       (λ c k. on_unless (result_faults p c.result rate) c.stmt (StmtPlaced may) (k h))
@@ -99,7 +97,7 @@ module _ (may : Allowed) where
       on_pair aim given _ (λ x. Unit {0}) (λ x. Unit {0}) (StmtPlaced may) (on_any aim) (on_any given) (λ a x _ _. tt)
 
   returned_placed : (call : Option WholeCall) (context : Context) (scope : Scope) (e : ParsedExpr) (r : IntType × Rate) (n : StepNumber) → may.returns ≡ true
-    → OnSound (returned_value call context scope e r n) (StmtPlaced may)
+      → OnSound (returned_value call context scope e r n) (StmtPlaced may)
   returned_placed (Some call) context scope e r n h = right_placed context scope (first_of e) call r.1 Returns n h
   returned_placed None context scope e r n h = on_then (given_value e scope r.0 r.1) _ (λ x. Unit {0}) (StmtPlaced may) (on_any (given_value e scope r.0 r.1)) (λ x _. h)
 
@@ -117,7 +115,7 @@ module _ (may : Allowed) where
   returning_placed context scope p (Some e) n h = value_return_placed context scope e context.result n h
 
   rounds_placed : (is_tiled : Bool) (ds : List Dimension) (s : Stmt) → may.domains ≡ true → StmtPlaced (in_domain_round may) s
-    → RoundsPlaced may (if is_tiled then Tiles ds else Rows ds) × StmtPlaced (inside_rounds (if is_tiled then Tiles ds else Rows ds) may) s
+      → RoundsPlaced may (if is_tiled then Tiles ds else Rows ds) × StmtPlaced (inside_rounds (if is_tiled then Tiles ds else Rows ds) may) s
   rounds_placed true ds s h k = (h, k)
   rounds_placed false ds s h k = (h, k)
 
@@ -133,7 +131,7 @@ module _ (may : Allowed) where
 mutual
   -- where a statement has no fault of names, its typed form is well placed
   pub statement_placed : (s : ParsedStmt) (may : Allowed) (site : Site) (context : Context) (scope : Scope) (k : ℕ) (n : StepNumber)
-    → stmt_names s may site ≡ [] → OnSound (statement s context scope k n) (MadePlaced may)
+      → stmt_names s may site ≡ [] → OnSound (statement s context scope k n) (MadePlaced may)
   statement_placed ParsedEmpty may site context scope k n e = tt
   statement_placed (ParsedBlock ss) may site context scope k n e = statements_placed ss may (enclosed site) context scope k n e
   statement_placed (ParsedDeclare p spec at name init) may site context scope k n e =
@@ -170,7 +168,7 @@ mutual
       let other = statement b context scope (k + locals_in a) (n + 1 + steps_in a) in
       on_pair (test_of scope (Some test)) (both first other) _ (λ x. Unit {0}) (λ ms. MadePlaced may ms.0 × MadePlaced may ms.1) (MadePlaced may) (on_any (test_of scope (Some test)))
       (on_both first other (MadePlaced may) (MadePlaced may) (statement_placed a may (enclosed site) context scope k (n + 1) (left_none of_a of_b inner))
-        (statement_placed b may (enclosed (past (locals_in a) site)) context scope (k + locals_in a) (n + 1 + steps_in a) (right_none of_a of_b inner)))
+      (statement_placed b may (enclosed (past (locals_in a) site)) context scope (k + locals_in a) (n + 1 + steps_in a) (right_none of_a of_b inner)))
       (λ c ms _ h. h)
   statement_placed (ParsedWhile p test body) may site context scope k n e =
       let inner = right_none (names_in test may.functions site.environment) (stmt_names body (in_loop may) (enclosed site)) e in
@@ -197,13 +195,13 @@ mutual
       on_pair (both before (test_of inside test)) (both updating inner) _ (λ x. MadePlaced may x.0 × Unit {0}) (λ x. MadePlaced may x.0 × MadePlaced (in_loop may) x.1) (MadePlaced may)
       (on_both before (test_of inside test) (MadePlaced may) (λ x. Unit {0}) (statement_placed start may (enclosed site) context scope k n (left_none of_start of_test front)) (on_any (test_of inside test)))
       (on_both updating inner (MadePlaced may) (MadePlaced (in_loop may)) (statement_placed update may (at_test start site) context inside k' u (left_none of_update of_body back))
-        (statement_placed body (in_loop may) (in_for start update site) context inside (k' + locals_in update) b (right_none of_update of_body back)))
+      (statement_placed body (in_loop may) (in_for start update site) context inside (k' + locals_in update) b (right_none of_update of_body back)))
       (λ x y h l. (h.0, l))
   statement_placed (ParsedSwitch p e segments) may site context scope k n none =
       let inner = right_none (names_in e may.functions site.environment) (segments_names segments [] (in_switch may) (enclosed site)) none in
       on_then (selector scope e) _ (λ x. Unit {0}) (MadePlaced may) (on_any (selector scope e))
       (λ x _. on_then (segments_of segments x.type context scope k (n + 1)) _ (MadePlaced (in_switch may)) (MadePlaced may)
-        (segments_placed segments [] (in_switch may) (enclosed site) x.type context scope k (n + 1) inner) (λ m h. h))
+      (segments_placed segments [] (in_switch may) (enclosed site) x.type context scope k (n + 1) inner) (λ m h. h))
   statement_placed (ParsedForEach p is_tiled dims body) may site context scope k n e =
       let of_dims = dims_names dims may.functions site.environment (enclosed site) in
       let of_body = stmt_names body (in_domain_round may) (in_domain dims site) in
@@ -225,11 +223,11 @@ mutual
       let inner = right_none of_value of_body (right_none (twice (enclosed site) at name) (of_value ++ of_body) none) in
       on_then (expression e scope) _ (λ x. Unit {0}) (MadePlaced may) (on_any (expression e scope))
       (λ x _. let v = index_entry name (Local k) x.type Uniform in
-        on_then (statement body context (v ∷ scope) (suc k) (n + 1)) _ (MadePlaced (in_round may)) (MadePlaced may)
-        (statement_placed body (in_round may) (in_rounds name site) context (v ∷ scope) (suc k) (n + 1) inner) (λ m h. (tt, h)))
+      on_then (statement body context (v ∷ scope) (suc k) (n + 1)) _ (MadePlaced (in_round may)) (MadePlaced may)
+      (statement_placed body (in_round may) (in_rounds name site) context (v ∷ scope) (suc k) (n + 1) inner) (λ m h. (tt, h)))
 
   pub statements_placed : (ss : ParsedStmts) (may : Allowed) (site : Site) (context : Context) (scope : Scope) (k : ℕ) (n : StepNumber)
-    → stmts_names ss may site ≡ [] → OnSound (statements ss context scope k n) (MadePlaced may)
+      → stmts_names ss may site ≡ [] → OnSound (statements ss context scope k n) (MadePlaced may)
   statements_placed ParsedLast may site context scope k n e = tt
   statements_placed (ParsedNext s ss) may site context scope k n e =
       let of_s = stmt_names s may site in
@@ -241,7 +239,7 @@ mutual
       (λ a b h l. (h, l))
 
   pub segments_placed : (segments : ParsedSegments) (before : List (Option Label)) (may : Allowed) (site : Site) (type : IntType) (context : Context) (scope : Scope) (k : ℕ) (n : StepNumber)
-    → segments_names segments before may site ≡ [] → OnSound (segments_of segments type context scope k n) (MadePlaced may)
+      → segments_names segments before may site ≡ [] → OnSound (segments_of segments type context scope k n) (MadePlaced may)
   segments_placed ParsedNoMore before may site type context scope k n e = tt
   segments_placed (ParsedSegment p label ss rest) before may site type context scope k n e =
       let own = fault_if (list_any (same_label label) before) S6 p in
@@ -252,5 +250,5 @@ mutual
       let later = segments_of rest type context scope (k + locals_in_all ss) (n + steps_in_all ss) in
       on_pair (label_word p type label) (both first later) _ (λ w. Unit {0}) (λ ms. MadePlaced may ms.0 × MadePlaced may ms.1) (MadePlaced may) (on_any (label_word p type label))
       (on_both first later (MadePlaced may) (MadePlaced may) (statements_placed ss may site context scope k n (left_none of_ss of_rest parts))
-        (segments_placed rest (label ∷ before) may (after_all ss site) type context scope (k + locals_in_all ss) (n + steps_in_all ss) (right_none of_ss of_rest parts)))
+      (segments_placed rest (label ∷ before) may (after_all ss site) type context scope (k + locals_in_all ss) (n + steps_in_all ss) (right_none of_ss of_rest parts)))
       (λ w ms _ h. h)

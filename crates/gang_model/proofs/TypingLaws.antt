@@ -3,15 +3,16 @@
 use Rattle.std.proofs.Common.{ℕ, suc, ◌+◌, Bool, true, false, List, [], ◌∷◌, ◌≡◌, refl, ◌∙◌, ap, arith, length}
 use Rattle.std.specs.Prelude.{Option, Some, None, if◌then◌else◌}
 use Rattle.gang_types.specs.declared.types.IntType.TheVariants as t
-use Rattle.gang_types.specs.declared.types.Rate.TheVariants.{Varying}
+use Rattle.gang_types.specs.declared.types.Rate.TheVariants.{Varying, Uniform}
 use Rattle.gang_types.specs.declared.places.VarId.{VarId}
 use Rattle.gang_types.specs.declared.places.VarId.TheVariants.{File, Local}
 use Rattle.gang_model.specs.Names.{same_text}
-use Rattle.gang_model.specs.Parsed.{Name, ParsedDim, ParsedStmt, ParsedEmpty, ParsedBlock, ParsedDeclare, ParsedAssign, ParsedChange, ParsedIncrement, ParsedDoCall, ParsedBreak, ParsedContinue, ParsedReturn, ParsedIf, ParsedIfElse, ParsedWhile, ParsedDo, ParsedFor, ParsedSwitch, ParsedForEach, ParsedForEachActive, ParsedForEachUnique, ParsedParam, ParsedGlobal}
-use Rattle.gang_model.specs.Scope.{bound, Environment, declaration, Site, with_name, with_dims, with_params, file_bindings, after, locals_in}
+use Rattle.gang_model.specs.Parsed.{Name, ParsedDim, ParsedStmt, ParsedEmpty, ParsedBlock, ParsedDeclare, ParsedAssign, ParsedChange, ParsedIncrement, ParsedDoCall, ParsedBreak, ParsedContinue, ParsedReturn, ParsedIf, ParsedIfElse, ParsedWhile, ParsedDo, ParsedFor, ParsedSwitch, ParsedForEach, ParsedForEachActive, ParsedForEachUnique, ParsedParam, ParsedGlobal, ParsedSource, globals_in}
+use Rattle.gang_model.specs.Scope.{bound, Environment, declaration, Site, with_name, with_dims, with_params, file_bindings, after, locals_in, enclosed, in_rounds, function_site, file_scope}
 use Rattle.gang_model.specs.Typing.{Entry, Scope, entry_of, declared, index_entry}
 use Rattle.gang_model.specs.Statements.{scope_after, index_entries}
 use Rattle.gang_model.specs.Resolved.{global_entries, param_entries}
+use Rattle.gang_types.specs.declared.types.IntType.{IntType}
 
 -- the declarations that a scope has
 abbrev pub bindings_of : Scope → Environment
@@ -84,3 +85,20 @@ agree-params (p ∷ params) scope k site agree =
     let first : Agree (n ∷ scope) (suc k) (with_name p.name site) = (agree_with p.name scope k site agree, ap suc agree.1) in
     let rest = agree-params params (n ∷ scope) (suc k) (with_name p.name site) first in
     (rest.0, omega (arith, rest.1))
+
+-- in a scope inside they agree
+pub agree-enclosed : (scope : Scope) (k : ℕ) (site : Site) → Agree scope k site → Agree scope k (enclosed site)
+agree-enclosed scope k site agree = agree
+
+-- in the body of `foreach_active` and `foreach_unique` they agree
+pub agree-rounds : (name : Name) (type : IntType) (scope : Scope) (k : ℕ) (site : Site) → Agree scope k site
+    → Agree (index_entry name (Local k) type Uniform ∷ scope) (suc k) (in_rounds name site)
+agree-rounds name type scope k site agree = (agree_with name scope k site agree, ap suc agree.1)
+
+-- where a function's body begins they agree
+pub agree-function : (source : ParsedSource) (params : List ParsedParam)
+    → Agree (param_entries 0 params (global_entries 0 (globals_in source))) (length params) (function_site (file_scope source) params)
+agree-function source params =
+    let start : Site = record { environment = file_scope source; here = []; next = 0 } in
+    let all = agree-params params (global_entries 0 (globals_in source)) 0 start (global_entries-bindings 0 (globals_in source), refl) in
+    (all.0, omega (arith, all.1))

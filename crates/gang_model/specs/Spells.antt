@@ -1,10 +1,7 @@
 -- What an expression is spelled as, form by form.
-use Rattle.std.specs.Prelude.{◌≡◌, ℕ, zero, suc, ◌+◌, ◌<◌, ◌≤◌, Bool, true, false, List, [], ◌∷◌, Option, Some}
-use Rattle.gang_types.specs.declared.types.IntType.{IntType}
-use Rattle.gang_types.specs.declared.types.Rate.{Rate}
+use Rattle.std.specs.Prelude.{◌≡◌, ℕ, zero, suc, ◌+◌, ◌<◌, ◌≤◌, Bool, true, false, List, [], ◌∷◌, Some}
 use Rattle.gang_types.specs.declared.operators.UnaryOp.{UnaryOp}
 use Rattle.gang_types.specs.declared.operators.UnaryOp.TheVariants as unary
-use Rattle.gang_types.specs.declared.operators.BinaryOp.{BinaryOp}
 use Rattle.gang_types.specs.declared.operators.BinaryOp.TheVariants as binary
 use Rattle.gang_types.specs.declared.places.Place.{Place}
 use Rattle.gang_model.specs.declared.marks.Mark.{Mark}

@@ -1,7 +1,7 @@
 -- What it means that the control statements of a typed tree stand where they may (ISPC User's Guide, "Control flow": no `break` out
 -- of a foreach form and no `return` in one; that `foreach` does not stand in `foreach` is a choice of this project).
-use Rattle.std.specs.Prelude.{◌≡◌, Bool, true, List, [], ◌∷◌}
-use Rattle.gang_model.specs.Tree.{ResultFor, Nothing, Declares, Assigns, Returns, RoundsOf, Rows, Tiles, EachLane, EachValue, Stmt, Empty, Then, Declare, Assign, Change, If, Loop, BodyFirst, Break, Continue, Return, Switch, Segment, ForEach, Call, Check, PackedStore, PackedLoad, Function, Program}
+use Rattle.std.specs.Prelude.{◌≡◌, true, List, [], ◌∷◌}
+use Rattle.gang_model.specs.Tree.{ResultFor, Nothing, Declares, Assigns, Returns, RoundsOf, Rows, Tiles, EachLane, EachValue, Stmt, Empty, Then, Declare, Assign, Change, If, Loop, BodyFirst, Break, Continue, Return, Switch, Segment, ForEach, Call, Check, PackedStore, PackedLoad, Function}
 use Rattle.gang_model.specs.Parsed.{Name}
 use Rattle.gang_model.specs.NameFaults.{Allowed, in_function, in_loop, in_switch, in_round, in_domain_round}
 

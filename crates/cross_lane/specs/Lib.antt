@@ -1,0 +1,4 @@
+pub mod Calls
+pub mod Folds
+pub mod EachLaws
+pub mod AttemptLaws

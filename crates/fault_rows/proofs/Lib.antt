@@ -1,0 +1,16 @@
+pub mod Trees
+mod WorkedRows
+mod NameRows
+mod ControlRows
+mod NestedRows
+mod RateRows
+mod TypeRows
+mod OverloadRows
+mod LibraryRows
+mod OrderRows
+mod AcceptedRows
+mod LimitRows
+mod TypedRows
+mod ListedRows
+mod KnownRows
+mod WordRows

@@ -1,0 +1,163 @@
+//! Compiles a program for gangs, and debugs it by commands, forwards and backwards.
+#![tactic(auto)]
+
+mod codegen;
+mod commands;
+mod lexer;
+mod machine;
+mod names;
+mod options;
+mod parser;
+mod refusal;
+mod running;
+mod script;
+mod session;
+mod streams;
+#[cfg(test)]
+mod tests;
+mod transcript;
+mod types;
+
+ghost use Rattle.std.specs.Prelude.{◌≡◌, None};
+ghost use Rattle.ispc_cli.specs.Ranges.{AreInRange};
+
+use clap::error::{Error, ErrorKind};
+use options::{Options, Paths, not_there, read_options};
+use refusal::{Refusal, write_refusal};
+use running::{RunEnd, run};
+use script::{MOST_BYTES, split_script};
+use std::alloc::AllocError;
+use std::io::Read;
+use std::process::ExitCode;
+use std::{env, fs, io};
+use streams::{StreamReader, StreamWriter};
+
+fn main(rt: HostRuntime) -> ExitCode {
+    let Ok(owned) = arguments(&rt) else {
+        return refuse(&rt, &Refusal::Memory);
+    };
+    let words: Result<Vec<&str>, AllocError> = owned
+        .iter()
+        .skip(1)
+        .map(|word| word.as_str())
+        .collect(rt.alloc());
+    let Ok(words) = words else {
+        return refuse(&rt, &Refusal::Memory);
+    };
+    match read_options(rt.alloc(), words.as_slice()) {
+        Err(fault) => refuse_arguments(&rt, &fault),
+        Ok((options, paths)) => run_form(&rt, &options, &paths),
+    }
+}
+
+/// The program's name and the words after it.
+fn arguments(rt: &HostRuntime) -> io::Result<Vec<String>> {
+    let arguments = env::args(rt)?.collect(rt.alloc())?;
+    Ok(arguments)
+}
+
+/// The run that the arguments ask for.
+fn run_form(rt: &HostRuntime, options: &Options<'_>, paths: &Paths<'_>) -> ExitCode
+    requires { AreInRange options.now }
+{
+    if paths.input.is_some() {
+        return refuse_option(rt, "--input is not there yet");
+    }
+    if options.entry.is_some() {
+        return refuse_option(rt, "--entry is not there yet");
+    }
+    match paths.source {
+        None => run_script(rt, options),
+        Some(path) => run_file(rt, path, options),
+    }
+}
+
+/// Standard input has the source, a line `%%` and the commands.
+fn run_script(rt: &HostRuntime, options: &Options<'_>) -> ExitCode
+    requires options { AreInRange options.now }
+    requires entry { options.now.entry ≡ None }
+{
+    let mut text = Vec::new(rt.alloc());
+    let most = MOST_BYTES as u64 + 1;
+    if let Err(fault) = rt.reader().take(most).read_to_end(&mut text) {
+        return match fault.kind() {
+            io::ErrorKind::OutOfMemory => refuse(rt, &Refusal::Memory),
+            _ => finish(rt, &RunEnd::ReadFault),
+        };
+    }
+    match split_script(text.as_slice()) {
+        None => refuse(rt, &Refusal::NoScript),
+        Some((source, commands)) => {
+            let mut reader = StreamReader::new(commands);
+            let mut writer = StreamWriter::new(rt.stdout());
+            let end = run(rt.alloc(), source, b"", options, &mut reader, &mut writer);
+            finish(rt, &end)
+        }
+    }
+}
+
+/// A file has the source, and standard input the commands.
+fn run_file(rt: &HostRuntime, path: &str, options: &Options<'_>) -> ExitCode
+    requires options { AreInRange options.now }
+    requires entry { options.now.entry ≡ None }
+{
+    let source = match fs::read(rt, path) {
+        Ok(source) => source,
+        Err(fault) if fault.kind() == io::ErrorKind::OutOfMemory => {
+            return refuse(rt, &Refusal::Memory);
+        }
+        Err(_) => {
+            let _ = eprintln!(rt; "cannot read {path}");
+            return ExitCode::from(2);
+        }
+    };
+    let mut reader = StreamReader::new(rt.reader());
+    let mut writer = StreamWriter::new(rt.stdout());
+    let end = run(
+        rt.alloc(),
+        source.as_slice(),
+        b"",
+        options,
+        &mut reader,
+        &mut writer,
+    );
+    finish(rt, &end)
+}
+
+/// The status of a run, and what standard error has of it.
+fn finish(rt: &HostRuntime, end: &RunEnd) -> ExitCode {
+    match end {
+        RunEnd::Quit | RunEnd::EndOfCommands => ExitCode::SUCCESS,
+        RunEnd::Refused(refusal) => refuse(rt, refusal),
+        RunEnd::ReadFault => {
+            let _ = eprintln!(rt; "read fault");
+            ExitCode::from(3)
+        }
+        RunEnd::WriteFault => {
+            let _ = eprintln!(rt; "write fault");
+            ExitCode::from(4)
+        }
+    }
+}
+
+fn refuse(rt: &HostRuntime, refusal: &Refusal) -> ExitCode {
+    let mut writer = StreamWriter::new(rt.stderr());
+    let _ = write_refusal(refusal, &mut writer);
+    ExitCode::from(2)
+}
+
+fn refuse_option(rt: &HostRuntime, message: &str) -> ExitCode {
+    match not_there(rt.alloc(), message) {
+        Ok(fault) => refuse_arguments(rt, &fault),
+        Err(_) => refuse(rt, &Refusal::Memory),
+    }
+}
+
+/// Prints a fault of the arguments, or the help that was asked for.
+fn refuse_arguments(rt: &HostRuntime, fault: &Error) -> ExitCode {
+    if fault.kind() == ErrorKind::OutOfMemory {
+        return refuse(rt, &Refusal::Memory);
+    }
+    let _ = fault.print(rt);
+    ExitCode::from(fault.exit_code() as u8)
+}

@@ -1,0 +1,123 @@
+//! The words of the command line.
+ghost use Rattle.std.specs.Prelude.{◌≤◌, IfOk, IfSome};
+ghost use Rattle.ispc_cli.specs.Ranges.{AreInRange};
+
+use clap::error::ErrorKind;
+use clap::{Arg, ArgMatches, Command, Error, value_parser};
+use std::alloc::{AllocError, Global};
+
+static WIDTHS: [&str; 3] = ["4", "8", "16"];
+
+/// The most events of the history.
+const MOST_HISTORY: u32 = 65_536;
+
+/// The most moves of one command.
+const MOST_STEPS: u32 = 10_000_000;
+
+/// How many lanes a gang has.
+#[derive(Clone, Copy, Debug, PartialEq, Eq, Drop)]
+pub enum Width {
+    Four,
+    Eight,
+    Sixteen,
+}
+
+#[derive(Clone, Copy, Debug)]
+pub struct Options<'a> {
+    pub width: Width,
+    pub history: u32,
+    pub steps: u32,
+    pub entry: Option<&'a str>,
+}
+
+#[derive(Clone, Copy, Debug)]
+pub struct Paths<'a> {
+    pub source: Option<&'a str>,
+    pub input: Option<&'a str>,
+}
+
+/// Reads the words after the program's name.
+pub fn read_options<'a>(
+    alloc: Global,
+    words: &'a [&'a str],
+) -> Result<(Options<'a>, Paths<'a>), Error>
+    ensures { IfOk result (λ read. AreInRange read.0) }
+{
+    let mut command = command(alloc)?;
+    let matches = command.try_get_matches_from_mut(words)?;
+    let Some(history) = number_within(&matches, "history", MOST_HISTORY) else {
+        return Err(command.error(ErrorKind::ValueValidation, "the history is 1 to 65536")?);
+    };
+    let Some(steps) = number_within(&matches, "steps", MOST_STEPS) else {
+        return Err(command.error(ErrorKind::ValueValidation, "the steps are 1 to 10000000")?);
+    };
+    let width = match matches.get_str("width") {
+        Some("16") => Width::Sixteen,
+        Some("8") => Width::Eight,
+        _ => Width::Four,
+    };
+    let options = Options {
+        width,
+        history,
+        steps,
+        entry: matches.get_str("entry"),
+    };
+    let paths = Paths {
+        source: matches.get_str("source"),
+        input: matches.get_str("input"),
+    };
+    Ok((options, paths))
+}
+
+/// The fault of an argument that is not there yet.
+pub fn not_there(alloc: Global, message: &str) -> Result<Error, AllocError> {
+    command(alloc)?.error(ErrorKind::UnknownArgument, message)
+}
+
+fn number_within(matches: &ArgMatches<'_>, id: &str, most: u32) -> Option<u32>
+    ensures { IfSome result (λ n. (1 ≤ n) × (n ≤ most)) }
+{
+    let n = matches.get_one::<u32>(id)?;
+    if 1 <= n && n <= most { Some(n) } else { None }
+}
+
+fn command<'a>(alloc: Global) -> Result<Command<'a>, AllocError> {
+    let source = Arg::new(alloc, "source").value_name("SOURCE").help(
+        "the program; without it, standard input has the program, a line %% and the commands",
+    );
+    let input = Arg::new(alloc, "input")
+        .long("input")
+        .value_name("FILE")
+        .help("the input of the entry function");
+    let entry = Arg::new(alloc, "entry")
+        .long("entry")
+        .value_name("NAME")
+        .help("the entry function");
+    let width = Arg::new(alloc, "width")
+        .long("width")
+        .value_name("W")
+        .value_parser(WIDTHS.as_slice())
+        .default_value("4")
+        .help("how many lanes a gang has");
+    let history = Arg::new(alloc, "history")
+        .long("history")
+        .value_name("N")
+        .value_parser(value_parser!(u32).range(1..65_537))
+        .default_value("64")
+        .help("how many events can be taken back");
+    let steps = Arg::new(alloc, "steps")
+        .long("steps")
+        .value_name("N")
+        .value_parser(value_parser!(u32).range(1..10_000_001))
+        .default_value("1000000")
+        .help("how many moves one command makes at most");
+    Command::new(alloc, "ispc_cli")
+        .no_binary_name(true)
+        .about("Compiles a program for gangs and debugs it")
+        .arg(source)?
+        .arg(input)?
+        .arg(entry)?
+        .arg(width)?
+        .arg(history)?
+        .arg(steps)
+}

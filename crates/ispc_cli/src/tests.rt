@@ -1,0 +1,277 @@
+//! Worked rows, refusals, and devices that fail or give little.
+mod devices;
+
+use crate::options::{Options, Width};
+use crate::refusal::{Refusal, write_refusal};
+use crate::running::{RunEnd, run};
+use crate::script::split_script;
+use devices::{BlankReader, PieceReader, PieceWriter};
+use gang_model::{RefusalNumber, SourceRefusal};
+use gang_types::Place;
+use std::test::Fail;
+
+const SOURCE: &[u8] = b"export void go() {\n    int x = programIndex * 3;\n    x += 1;\n}\n";
+
+const COMMANDS: &[u8] = b"step\nstep\nprint x\nreverse-step\nprint x\n";
+
+const ANSWERS: &[u8] =
+    b"at 3:5 go depth 1 lanes 1111\nat 4:1 go depth 1 lanes 1111\nx = 1 4 7 10\nat 3:5 go depth 1 lanes 1111\nx = 0 3 6 9\n";
+
+const OPTIONS: Options<'static> = Options {
+    width: Width::Four,
+    history: 64,
+    steps: 1_000_000,
+    entry: None,
+};
+
+/// What a run of the commands on a source writes, through devices that give and take a few bytes at a time.
+fn transcript(
+    rt: &HostRuntime,
+    source: &[u8],
+    commands: &[u8],
+    most: usize,
+) -> (RunEnd, PieceWriter) {
+    let mut reader = PieceReader::new(commands, most, 100_000);
+    let mut writer = PieceWriter::new(most, 100_000);
+    let end = run(rt.alloc(), source, b"", &OPTIONS, &mut reader, &mut writer);
+    (end, writer)
+}
+
+#[test]
+fn runs_forwards_and_back(rt: HostRuntime) {
+    for most in [1, 2, 7, 29, 512] {
+        let (end, writer) = transcript(&rt, SOURCE, COMMANDS, most);
+        assert_eq!(rt; end, RunEnd::EndOfCommands, "at {most}");
+        assert!(rt; writer.bytes() == ANSWERS, "at {most}");
+    }
+}
+
+#[test]
+fn runs_an_empty_function(rt: HostRuntime) {
+    let commands = b"step\nstep\nreverse-step\nreverse-step\n";
+    let answers = b"ended\nC4 Ended\nat 1:20 go depth 1 lanes 1111\nC3 NoHistory\n";
+    let (end, writer) = transcript(&rt, b"export void go() { }", commands, 512);
+    assert_eq!(rt; end, RunEnd::EndOfCommands);
+    assert!(rt; writer.bytes() == answers.as_slice());
+}
+
+#[test]
+fn answers_other_lines(rt: HostRuntime) {
+    let commands = b"print x\n \t\r\nstep  \n print x\nprint y\nprint  x \nstep 2\nquit\nstep\n";
+    let answers =
+        b"C2 NoSuchName\nat 3:5 go depth 1 lanes 1111\nC1 BadCommand\nC2 NoSuchName\nx = 0 3 6 9\nC1 BadCommand\n";
+    let (end, writer) = transcript(&rt, SOURCE, commands, 512);
+    assert_eq!(rt; end, RunEnd::Quit);
+    assert!(rt; writer.bytes() == answers.as_slice());
+}
+
+#[test]
+fn skips_a_long_line(rt: HostRuntime) {
+    let mut commands = [b' '; 515];
+    commands[..4].copy_from_slice(b"step");
+    commands[257] = b'\n';
+    commands[258..262].copy_from_slice(b"step");
+    commands[514] = b'\n';
+    let (end, writer) = transcript(&rt, SOURCE, &commands, 512);
+    assert_eq!(rt; end, RunEnd::EndOfCommands);
+    assert!(rt; writer.bytes() == b"C1 BadCommand\nat 3:5 go depth 1 lanes 1111\n".as_slice());
+}
+
+#[test]
+fn wraps_at_32_bits(rt: HostRuntime) {
+    let source = b"export void go() { int x = 2147483647 * programIndex + 2; x += x * x; }";
+    let commands = b"step\nprint x\nstep\nprint x\n";
+    let answers =
+        b"at 1:59 go depth 1 lanes 1111\nx = 2 -2147483647 0 2147483647\nat 1:71 go depth 1 lanes 1111\nx = 6 -2147483646 0 -2147483648\n";
+    let (_, writer) = transcript(&rt, source, commands, 512);
+    assert!(rt; writer.bytes() == answers.as_slice());
+}
+
+#[test]
+fn stops_at_a_failed_write(rt: HostRuntime) {
+    for room in 0..ANSWERS.len() {
+        let mut reader = PieceReader::new(COMMANDS, 7, 1000);
+        let mut writer = PieceWriter::new(3, room);
+        let end = run(rt.alloc(), SOURCE, b"", &OPTIONS, &mut reader, &mut writer);
+        assert_eq!(rt; end, RunEnd::WriteFault, "at {room}");
+        assert!(rt; writer.bytes() == &ANSWERS[..room], "at {room}");
+    }
+}
+
+#[test]
+fn stops_at_a_failed_read(rt: HostRuntime) {
+    for given in 0..COMMANDS.len() {
+        let mut reader = PieceReader::new(COMMANDS, 1, given);
+        let mut writer = PieceWriter::new(100, 1000);
+        let end = run(rt.alloc(), SOURCE, b"", &OPTIONS, &mut reader, &mut writer);
+        assert_eq!(rt; end, RunEnd::ReadFault, "at {given}");
+        let written = match given {
+            0..5 => 0,
+            5..10 => 29,
+            10..18 => 58,
+            18..31 => 71,
+            _ => 100,
+        };
+        assert!(rt; writer.bytes() == &ANSWERS[..written], "at {given}");
+    }
+}
+
+#[test]
+fn reads_no_more_than_the_limit(rt: HostRuntime) {
+    let mut reader = BlankReader::new();
+    let mut writer = PieceWriter::new(100, 1000);
+    let end = run(rt.alloc(), SOURCE, b"", &OPTIONS, &mut reader, &mut writer);
+    assert_eq!(rt; end, RunEnd::ReadFault);
+    assert_eq!(rt; reader.reads(), 16_777_216);
+    assert!(rt; writer.bytes().is_empty());
+}
+
+/// The text of the refusal of a source, or what the run wrote.
+fn refusal_of(rt: &HostRuntime, source: &[u8]) -> PieceWriter {
+    let (end, written) = transcript(rt, source, COMMANDS, 512);
+    let mut text = PieceWriter::new(512, 512);
+    match end {
+        RunEnd::Refused(refusal) if written.bytes().is_empty() => {
+            let _ = write_refusal(&refusal, &mut text);
+            text
+        }
+        _ => written,
+    }
+}
+
+#[test]
+fn refuses_sources(rt: HostRuntime) {
+    let rows: [(&[u8], &[u8]); 17] = [
+        (b"export void go() { int x = 0x", b"1:28: S2 BadNumber\n"),
+        (
+            b"export void go() { int x = 2147483648; }",
+            b"1:28: S2 BadNumber\n",
+        ),
+        (b"export void go() { int x = 08; }", b"1:28: S2 BadNumber\n"),
+        (b"export void go() { int x", b"1:25: S3 Unexpected\n"),
+        (b"export void go() { int x = 1.5; }", b"1:29: S1 BadByte\n"),
+        (b"export void go() { x = 1; }", b"1:20: S5 UnknownName\n"),
+        (
+            b"export void go() { int x = x; }",
+            b"1:28: S5 UnknownName\n",
+        ),
+        (
+            b"export void go() { int x = programCount; }",
+            b"1:28: S5 UnknownName\n",
+        ),
+        (
+            b"export void go() { int x = 1; int x = 2; }",
+            b"1:35: S6 Duplicate\n",
+        ),
+        (
+            b"export void go() { int programCount = 1; }",
+            b"1:24: S6 Duplicate\n",
+        ),
+        (
+            b"export void go() { programIndex += 1; }",
+            b"1:20: S8 Type\n",
+        ),
+        (
+            b"export void go() { programIndex = 1; y = 2; }",
+            b"1:38: S5 UnknownName\n",
+        ),
+        (
+            b"export void go() {\n int x = 1 - 2; }",
+            b"2:12: S3 Unexpected\n",
+        ),
+        (
+            b"export void go() { int x = 1u; }",
+            b"1:28: S3 Unexpected\n",
+        ),
+        (b"export void go() { } void", b"1:22: S3 Unexpected\n"),
+        (b"", b"1:1: S3 Unexpected\n"),
+        (&[b' '; 65_537], b"1:1: S13 Limit\n"),
+    ];
+    for (source, text) in rows {
+        let told = refusal_of(&rt, source);
+        assert!(rt; told.bytes() == text);
+    }
+}
+
+#[test]
+fn refuses_long_sources(rt: HostRuntime) -> Result<(), Fail> {
+    let mut sum = Vec::from_slice(rt.alloc(), b"export void go() { int x = 0")?;
+    for _ in 0..256 {
+        sum.extend_from_slice(b"+1")?;
+    }
+    let whole = sum.clone()?;
+    sum.extend_from_slice(b"+1; }")?;
+    let told = refusal_of(&rt, sum.as_slice());
+    assert!(rt; told.bytes() == b"1:541: S13 Limit\n".as_slice());
+    let mut whole = whole;
+    whole.extend_from_slice(b"; }")?;
+    let (end, writer) = transcript(&rt, whole.as_slice(), b"step\nprint x", 512);
+    assert_eq!(rt; end, RunEnd::EndOfCommands);
+    assert!(rt;
+        writer.bytes() == b"at 1:543 go depth 1 lanes 1111\nx = 256 256 256 256\n".as_slice()
+    );
+    Ok(())
+}
+
+#[test]
+fn refuses_many_variables(rt: HostRuntime) -> Result<(), Fail> {
+    let mut source = Vec::from_slice(rt.alloc(), b"export void go() {\n")?;
+    for i in 0..257u32 {
+        source.extend_from_slice(format!(in rt.alloc(); "int v{i} = 0;\n")?.as_bytes())?;
+    }
+    source.extend_from_slice(b"}")?;
+    let told = refusal_of(&rt, source.as_slice());
+    assert!(rt; told.bytes() == b"258:5: S13 Limit\n".as_slice());
+    Ok(())
+}
+
+#[test]
+fn tells_each_refusal(rt: HostRuntime) {
+    let place = Place { line: 12, col: 345 };
+    let rows: [(RefusalNumber, &[u8]); 13] = [
+        (RefusalNumber::S1, b"12:345: S1 BadByte\n"),
+        (RefusalNumber::S2, b"12:345: S2 BadNumber\n"),
+        (RefusalNumber::S3, b"12:345: S3 Unexpected\n"),
+        (RefusalNumber::S4, b"12:345: S4 TooDeep\n"),
+        (RefusalNumber::S5, b"12:345: S5 UnknownName\n"),
+        (RefusalNumber::S6, b"12:345: S6 Duplicate\n"),
+        (RefusalNumber::S7, b"12:345: S7 Rate\n"),
+        (RefusalNumber::S8, b"12:345: S8 Type\n"),
+        (RefusalNumber::S9, b"12:345: S9 NoOverload\n"),
+        (RefusalNumber::S10, b"12:345: S10 Ambiguous\n"),
+        (RefusalNumber::S11, b"12:345: S11 BadControl\n"),
+        (RefusalNumber::S12, b"12:345: S12 NestedCall\n"),
+        (RefusalNumber::S13, b"12:345: S13 Limit\n"),
+    ];
+    for (number, text) in rows {
+        let mut writer = PieceWriter::new(4, 512);
+        let refusal = Refusal::Source(SourceRefusal { number, place });
+        let told = write_refusal(&refusal, &mut writer);
+        assert!(rt; told.is_ok());
+        assert!(rt; writer.bytes() == text);
+    }
+    let mut writer = PieceWriter::new(512, 512);
+    let script = write_refusal(&Refusal::NoScript, &mut writer);
+    assert!(rt; script.is_ok());
+    assert!(rt; writer.bytes() == b"script: E2 NoScript\n".as_slice());
+    let mut short = PieceWriter::new(512, 3);
+    let cut = write_refusal(&Refusal::Memory, &mut short);
+    assert!(rt; cut.is_err());
+    assert!(rt; short.bytes() == b"mem".as_slice());
+}
+
+#[test]
+fn splits_scripts(rt: HostRuntime) {
+    let rows: [(&[u8], Option<(&[u8], &[u8])>); 7] = [
+        (b"a\n%%\nb\n%%\n", Some((b"a\n", b"b\n%%\n"))),
+        (b"%%\nb", Some((b"", b"b"))),
+        (b"a\n%%", Some((b"a\n", b""))),
+        (b"a\n%%%\n%% \n", None),
+        (b"a%%\nb", None),
+        (b"", None),
+        (b"%", None),
+    ];
+    for (text, parts) in rows {
+        assert!(rt; split_script(text) == parts);
+    }
+}
