@@ -1,0 +1,16 @@
+pub mod Rows
+pub mod Tools
+pub mod SpecWords
+pub mod Sound
+pub mod Args
+pub mod ArgsSound
+pub mod Starts
+pub mod Follows
+pub mod Complete
+pub mod ArgsComplete
+pub mod Whole
+pub mod Steps
+pub mod SpecOrder
+pub mod WordSteps
+pub mod Said
+pub mod SaidAll

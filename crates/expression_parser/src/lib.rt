@@ -1,0 +1,18 @@
+//! Expressions: their trees, and the parser that reads them from tokens.
+#![tactic(auto)]
+
+mod budget;
+mod descent;
+mod front;
+mod nodes;
+mod operators;
+mod outermost;
+#[cfg(test)]
+mod tests;
+mod tree;
+mod words;
+
+pub use front::{after, begins, take, unexpected};
+pub use outermost::{arguments, expression};
+pub use tree::{Arg, Expr};
+pub use words::{begins_word, spec_words, take_spec};

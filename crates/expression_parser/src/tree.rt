@@ -1,0 +1,75 @@
+//! The trees of expressions.
+
+use gang_model::Infix;
+use gang_types::{IntType, Place, Rate, UnaryOp};
+use ispc_lexer::Number;
+
+/// An expression as it is written. A place is that of the form's first token.
+#[cycle(tree)]
+#[derive(Debug, Drop)]
+pub enum Expr {
+    Number {
+        place: Place,
+        number: Number,
+    },
+    Truth {
+        place: Place,
+        value: bool,
+    },
+    Name {
+        place: Place,
+        name: Vec<u8>,
+    },
+    Index {
+        place: Place,
+        name: Vec<u8>,
+        index: Box<Expr>,
+    },
+    Call {
+        place: Place,
+        name: Vec<u8>,
+        args: Vec<Arg>,
+    },
+    Paren {
+        place: Place,
+        inner: Box<Expr>,
+    },
+    Unary {
+        place: Place,
+        operator: UnaryOp,
+        operand: Box<Expr>,
+    },
+    /// A cast to a rate, where one is written, and to a type, `None` being `void`.
+    Cast {
+        place: Place,
+        rate: Option<Rate>,
+        value_type: Option<IntType>,
+        operand: Box<Expr>,
+    },
+    Binary {
+        operator: Infix,
+        left: Box<Expr>,
+        right: Box<Expr>,
+    },
+    Choice {
+        test: Box<Expr>,
+        first: Box<Expr>,
+        second: Box<Expr>,
+    },
+}
+
+/// An argument of a call: a value, or `&a` or `&a[e]` with the place of the name.
+#[cycle(tree)]
+#[derive(Debug, Drop)]
+pub enum Arg {
+    Value(Expr),
+    Part {
+        place: Place,
+        name: Vec<u8>,
+    },
+    PartFrom {
+        place: Place,
+        name: Vec<u8>,
+        index: Expr,
+    },
+}
