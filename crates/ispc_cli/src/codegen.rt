@@ -5,9 +5,10 @@ ghost use Rattle.ispc_cli.specs.Code.{IsCode, IsOperand, IsStatement, Leads, wai
 
 use crate::names::{Named, NamedStatement, Target, Value, Values, Variable};
 use crate::parser::{Form, Operator};
-use crate::refusal::SourceFault;
+use crate::refusal::refused;
 use gang_model::RefusalNumber;
 use gang_types::Place;
+use ispc_lexer::SourceFault;
 use std::alloc::{AllocError, Global};
 
 /// The most variables of a function.
@@ -51,7 +52,7 @@ pub fn compile(alloc: Global, named: Named) -> Result<Code, SourceFault>
     ensures { IfOk result IsCode }
 {
     if let Some(variable) = named.variables.get(MOST_VARIABLES) {
-        return Err(SourceFault::at(RefusalNumber::S13, variable.place));
+        return Err(refused(RefusalNumber::S13, variable.place));
     }
     let mut statements = Vec::new(alloc);
     for statement in named.statements.as_slice() {
@@ -72,7 +73,7 @@ fn compile_statement(alloc: Global, statement: &NamedStatement) -> Result<Statem
 {
     let target = match statement.target {
         Target::Variable(index) => index,
-        Target::LaneIndex(place) => return Err(SourceFault::at(RefusalNumber::S8, place)),
+        Target::LaneIndex(place) => return Err(refused(RefusalNumber::S8, place)),
     };
     let value = compile_value(alloc, statement.form, target, &statement.value)?;
     Ok(Statement {

@@ -3,7 +3,6 @@
 
 mod codegen;
 mod commands;
-mod lexer;
 mod machine;
 mod names;
 mod options;

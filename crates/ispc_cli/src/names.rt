@@ -3,9 +3,10 @@ ghost use Rattle.std.specs.Prelude.{◌≡◌, ◌<◌, ◌≤◌, IfOk, IfSome,
 ghost use Rattle.ispc_cli.specs.Named.{AreNames, IsNamed, IsNamedStatement, IsValue, IsTarget};
 
 use crate::parser::{Expression, Form, Operand, Operator, Statement, Tree};
-use crate::refusal::SourceFault;
+use crate::refusal::refused;
 use gang_model::RefusalNumber;
 use gang_types::Place;
+use ispc_lexer::SourceFault;
 use std::alloc::Global;
 
 /// A function whose names are resolved.
@@ -112,7 +113,7 @@ fn declare(
     let name = statement.name;
     let place = statement.name_place;
     if is_lane_name(name) || find(variables.as_slice(), name).is_some() {
-        return Err(SourceFault::at(RefusalNumber::S6, place));
+        return Err(refused(RefusalNumber::S6, place));
     }
     let value = resolve_values(alloc, variables.as_slice(), &statement.value)?;
     let index = variables.len();
@@ -137,7 +138,7 @@ fn find_target(variables: &[Variable], name: &[u8], place: Place) -> Result<Targ
     }
     match find(variables, name) {
         Some(index) => Ok(Target::Variable(index)),
-        None => Err(SourceFault::at(RefusalNumber::S5, place)),
+        None => Err(refused(RefusalNumber::S5, place)),
     }
 }
 

@@ -1,9 +1,12 @@
 //! Tokens to a tree.
-use crate::lexer::{Kind, Token};
-use crate::refusal::SourceFault;
+use crate::refusal::refused;
 use gang_model::{Mark, RefusalNumber};
 use gang_types::Place;
+use ispc_lexer::{Kind, Number, SourceFault, Token};
 use std::alloc::Global;
+
+/// The greatest literal of the first path.
+const MOST_VALUE: u64 = 2_147_483_647;
 
 /// The most operators of an expression.
 const MOST_OPERATORS: usize = 256;
@@ -54,7 +57,7 @@ pub enum Operand<'a> {
 }
 
 /// The tree of the tokens; `S3` at the first token that cannot stand there, `S13` at the 257th operator.
-pub fn parse<'a>(alloc: Global, tokens: &[Token<'a>], end: Place) -> Result<Tree<'a>, SourceFault> {
+pub fn parse<'a>(alloc: Global, tokens: &'a [Token], end: Place) -> Result<Tree<'a>, SourceFault> {
     let mut parser = Parser {
         tokens,
         next: 0,
@@ -80,15 +83,24 @@ pub fn parse<'a>(alloc: Global, tokens: &[Token<'a>], end: Place) -> Result<Tree
     }
 }
 
+/// The value of a literal that the first path has.
+fn literal(number: Number) -> Option<u32> {
+    if number.is_unsigned || number.is_long || number.value > MOST_VALUE {
+        None
+    } else {
+        Some(number.value as u32)
+    }
+}
+
 /// The tokens, the number of the next one, and where the source ends.
 #[derive(Drop)]
-struct Parser<'t, 'a> {
-    tokens: &'t [Token<'a>],
+struct Parser<'a> {
+    tokens: &'a [Token],
     next: usize,
     end: Place,
 }
 
-impl<'a> Parser<'_, 'a> {
+impl<'a> Parser<'a> {
     /// Where the next token begins.
     fn place(&self) -> Place {
         match self.tokens.get(self.next) {
@@ -98,12 +110,20 @@ impl<'a> Parser<'_, 'a> {
     }
 
     fn unexpected(&self) -> SourceFault {
-        SourceFault::at(RefusalNumber::S3, self.place())
+        refused(RefusalNumber::S3, self.place())
     }
 
     /// The next token's kind, which stays.
-    fn peek(&self) -> Option<Kind<'a>> {
-        self.tokens.get(self.next).map(|token| token.kind)
+    fn peek(&self) -> Option<&'a Kind> {
+        self.tokens.get(self.next).map(|token| &token.kind)
+    }
+
+    /// Whether the mark is next.
+    fn begins(&self, mark: Mark) -> bool {
+        match self.peek() {
+            Some(Kind::Mark(found)) => *found == mark,
+            _ => false,
+        }
     }
 
     fn advance(&mut self) {
@@ -114,7 +134,7 @@ impl<'a> Parser<'_, 'a> {
 
     /// Whether the mark is next; then it is taken.
     fn takes(&mut self, mark: Mark) -> bool {
-        if self.peek() == Some(Kind::Mark(mark)) {
+        if self.begins(mark) {
             self.advance();
             true
         } else {
@@ -134,7 +154,7 @@ impl<'a> Parser<'_, 'a> {
         match self.peek() {
             Some(Kind::Name(name)) => {
                 self.advance();
-                Ok(name)
+                Ok(name.as_slice())
             }
             _ => Err(self.unexpected()),
         }
@@ -144,7 +164,7 @@ impl<'a> Parser<'_, 'a> {
     fn statements(&mut self, alloc: Global) -> Result<Vec<Statement<'a>>, SourceFault> {
         let mut statements = Vec::new(alloc);
         for _ in 0..self.tokens.len() {
-            if self.peek() == Some(Kind::Mark(Mark::RightBrace)) {
+            if self.begins(Mark::RightBrace) {
                 return Ok(statements);
             }
             statements.push(self.statement(alloc)?)?;
@@ -186,7 +206,7 @@ impl<'a> Parser<'_, 'a> {
                 return Ok(Expression { first, rest });
             };
             if rest.len() == MOST_OPERATORS {
-                return Err(SourceFault::at(RefusalNumber::S13, place));
+                return Err(refused(RefusalNumber::S13, place));
             }
             rest.push((operator, self.operand()?))?;
         }
@@ -206,8 +226,11 @@ impl<'a> Parser<'_, 'a> {
     fn operand(&mut self) -> Result<Operand<'a>, SourceFault> {
         let place = self.place();
         let operand = match self.peek() {
-            Some(Kind::Number(value)) => Operand::Number(value),
-            Some(Kind::Name(name)) => Operand::Name(name, place),
+            Some(Kind::Number(number)) => match literal(*number) {
+                Some(value) => Operand::Number(value),
+                None => return Err(self.unexpected()),
+            },
+            Some(Kind::Name(name)) => Operand::Name(name.as_slice(), place),
             _ => return Err(self.unexpected()),
         };
         self.advance();

@@ -6,26 +6,14 @@ ghost use Rattle.ispc_cli.specs.Refusals.{refusal_text, source_text, name_text};
 use crate::transcript::{AnswerWriter, WriteFault, write_all, write_pieces};
 use gang_model::{RefusalNumber, SourceRefusal};
 use gang_types::Place;
+use ispc_lexer::SourceFault;
 use itoa::Buffer;
-use std::alloc::AllocError;
-use thiserror::Error;
 
-/// Why a source is not compiled.
-#[derive(Debug, Drop, Error)]
-pub enum SourceFault {
-    #[error("the source is refused")]
-    Refused(SourceRefusal),
-    #[error("memory")]
-    Memory(#[from(alloc)] AllocError),
-}
-
-impl SourceFault {
-    /// The refusal of this number at this place.
-    pub fn at(number: RefusalNumber, place: Place) -> Self
-        ensures { result ≡ SourceFault.Refused (record { number = number; place = place }) }
-    {
-        SourceFault::Refused(SourceRefusal { number, place })
-    }
+/// The refusal of this number at this place.
+pub fn refused(number: RefusalNumber, place: Place) -> SourceFault
+    ensures { result ≡ SourceFault.Refused (record { number = number; place = place }) }
+{
+    SourceFault::Refused(SourceRefusal { number, place })
 }
 
 /// Why a run is refused before its first command.

@@ -13,16 +13,16 @@ ghost use Rattle.ispc_cli.specs.Widths.{IsGangWidth};
 
 use crate::codegen::{Code, compile};
 use crate::commands::{Command, read_command};
-use crate::lexer::tokens;
 use crate::machine::Machine;
 use crate::names::resolve;
 use crate::options::{Options, Width};
 use crate::parser::parse;
-use crate::refusal::{Refusal, SourceFault};
+use crate::refusal::Refusal;
 use crate::session::{Answer, Session};
 use crate::transcript::{AnswerWriter, CommandReader, READS, WriteFault, write_answer};
 use crate::types::check;
 use arrayvec::ArrayVec;
+use ispc_lexer::{SourceFault, source_end, tokens};
 use std::alloc::{AllocError, Global};
 use undo_log::{SnapshotRing, Timeline};
 
@@ -72,7 +72,7 @@ pub fn run<R: CommandReader, O: AnswerWriter>(
 {
     match front_end(alloc, source) {
         Err(SourceFault::Refused(refusal)) => RunEnd::Refused(Refusal::Source(refusal)),
-        Err(SourceFault::Memory(_)) => RunEnd::Refused(Refusal::Memory),
+        Err(SourceFault::Memory) => RunEnd::Refused(Refusal::Memory),
         Ok(code) => match options.width {
             Width::Four => run_wide::<4, R, O>(alloc, code, options, reader, writer),
             Width::Eight => run_wide::<8, R, O>(alloc, code, options, reader, writer),
@@ -85,8 +85,8 @@ pub fn run<R: CommandReader, O: AnswerWriter>(
 fn front_end(alloc: Global, source: &[u8]) -> Result<Code, SourceFault>
     ensures { IfOk result IsCode }
 {
-    let lexed = tokens(alloc, source)?;
-    let tree = parse(alloc, lexed.tokens.as_slice(), lexed.end)?;
+    let tokens = tokens(alloc, source)?;
+    let tree = parse(alloc, tokens.as_slice(), source_end(source))?;
     let named = resolve(alloc, &tree)?;
     check(&named)?;
     compile(alloc, named)

@@ -78,6 +78,16 @@ fn skips_a_long_line(rt: HostRuntime) {
 }
 
 #[test]
+fn reads_comments_and_other_bases(rt: HostRuntime) {
+    let source =
+        b"/* one */ export void go() { // two\nint x = 0x10 * programIndex; x += 0b11 /* int */ + 7; }";
+    let answers =
+        b"at 2:30 go depth 1 lanes 1111\nat 2:55 go depth 1 lanes 1111\nx = 10 26 42 58\n";
+    let (_, writer) = transcript(&rt, source, b"step\nstep\nprint x\n", 512);
+    assert!(rt; writer.bytes() == answers.as_slice());
+}
+
+#[test]
 fn wraps_at_32_bits(rt: HostRuntime) {
     let source = b"export void go() { int x = 2147483647 * programIndex + 2; x += x * x; }";
     let commands = b"step\nprint x\nstep\nprint x\n";
@@ -145,7 +155,7 @@ fn refuses_sources(rt: HostRuntime) {
         (b"export void go() { int x = 0x", b"1:28: S2 BadNumber\n"),
         (
             b"export void go() { int x = 2147483648; }",
-            b"1:28: S2 BadNumber\n",
+            b"1:28: S3 Unexpected\n",
         ),
         (b"export void go() { int x = 08; }", b"1:28: S2 BadNumber\n"),
         (b"export void go() { int x", b"1:25: S3 Unexpected\n"),

@@ -3,8 +3,9 @@ ghost use Rattle.std.specs.Prelude.{OnOk, All};
 ghost use Rattle.ispc_cli.specs.Named.{IsAssignable};
 
 use crate::names::{Named, Target};
-use crate::refusal::SourceFault;
+use crate::refusal::refused;
 use gang_model::RefusalNumber;
+use ispc_lexer::SourceFault;
 
 /// Tests that no statement assigns to `programIndex`: `S8` at the first that does.
 pub fn check(named: &Named) -> Result<(), SourceFault>
@@ -12,7 +13,7 @@ pub fn check(named: &Named) -> Result<(), SourceFault>
 {
     for statement in named.statements.as_slice() {
         if let Target::LaneIndex(place) = statement.target {
-            return Err(SourceFault::at(RefusalNumber::S8, place));
+            return Err(refused(RefusalNumber::S8, place));
         }
     }
     Ok(())
