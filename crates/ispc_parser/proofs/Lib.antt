@@ -1,0 +1,16 @@
+pub mod Fails
+pub mod Lists
+pub mod Rows
+pub mod Sequences
+pub mod Items
+pub mod Tokens
+pub mod Lengths
+pub mod PartsSound
+pub mod PartsComplete
+pub mod HeadsSound
+pub mod HeadsComplete
+pub mod StatementsSound
+pub mod StatementsComplete
+pub mod SourceSound
+pub mod SourceComplete
+pub mod Whole

@@ -1,0 +1,28 @@
+-- The tree of all the tokens.
+use Rattle.std.proofs.Common.{◌≡◌, ◌⊎◌, inl, inr, List, Result, Ok, Err, refl, sym, ◌∙◌}
+use Rattle.std.specs.Prelude.{IfOk, IfErr}
+use Rattle.gang_model.specs.Tokens.{Lexeme}
+use Rattle.gang_model.specs.Parsed.{ParsedSource}
+use Rattle.gang_model.specs.SpellsSource.{IsTree}
+use Rattle.ispc_lexer.specs.declared.fault.SourceFault.{SourceFault}
+use Rattle.ispc_lexer.specs.declared.fault.SourceFault.TheVariants as faults
+use Rattle.expression_parser.specs.Parse.{Gives}
+use Rattle.expression_parser.proofs.Tools.{some_is}
+use Rattle.ispc_parser.specs.Refusals.{IsRefusal}
+use Rattle.ispc_parser.specs.Source.{tree_of}
+use Rattle.ispc_parser.proofs.SourceSound.{tree_sound}
+use Rattle.ispc_parser.proofs.SourceComplete.{tree_complete}
+
+module _ {X : Type 0} (view : X → ParsedSource) (ts : List Lexeme) where
+  pub is_found : (r : Result X SourceFault) → Gives view r (tree_of ts) → IfOk r (λ x. IsTree (view x) ts)
+  is_found (Ok x) h = tree_sound (view x) ts h
+  is_found (Err e) h = tt
+
+  pub is_one : (r : Result X SourceFault) → Gives view r (tree_of ts) → IfOk r (λ x. (other : ParsedSource) → IsTree other ts → other ≡ view x)
+  is_one (Ok x) h = λ other t. some_is other (view x) (sym (tree_complete other ts t) ∙ h)
+  is_one (Err e) h = tt
+
+  pub is_none : (r : Result X SourceFault) → Gives view r (tree_of ts) → IfErr r (λ e. (e ≡ faults.Memory) ⊎ (IsRefusal e × ((tree : ParsedSource) → IsTree tree ts → ⊥)))
+  is_none (Ok x) h = tt
+  is_none (Err faults.Memory) h = inl refl
+  is_none (Err (faults.Refused f)) h = inr (h.1, λ tree t. let found = tree_complete tree ts t in let none = h.0 in absurd cc)

@@ -1,0 +1,5 @@
+use Rattle.ispc_parser.proofs.Rows.{view_block}
+use Rattle.ispc_parser.proofs.nodes.block.Goals as goal
+
+pub returns : goal.returns
+returns c = view_block c.args.stmts

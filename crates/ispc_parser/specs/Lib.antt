@@ -1,0 +1,6 @@
+pub mod Tree
+pub mod Parts
+pub mod Heads
+pub mod Statements
+pub mod Source
+pub mod Refusals

@@ -1,0 +1,119 @@
+-- Declarations, assignments and calls at the front of the tokens, by descent.
+use Rattle.std.specs.Prelude.{ℕ, zero, suc, Bool, not, ◌||◌, List, [], ◌∷◌, Option, Some, None, if◌then◌else◌}
+use denote.Enum.Bare.{sameb}
+use Rattle.gang_types.specs.declared.places.Place.{Place}
+use Rattle.gang_model.specs.declared.marks.Mark.{Mark}
+use Rattle.gang_model.specs.declared.marks.Mark.TheVariants as mark
+use Rattle.gang_model.specs.contracts.marks.Mark.{the_type}
+use Rattle.gang_model.specs.declared.forms.Spec.{Spec}
+use Rattle.gang_model.specs.Tokens.{Sort, named, numbered, marked, Lexeme}
+use Rattle.gang_model.specs.Parsed.{Name, ParsedExpr, ParsedTarget, ParsedStmt, ParsedDeclare, ParsedAssign, ParsedChange, ParsedIncrement, ParsedDoCall}
+use Rattle.gang_model.specs.SpellsStatements.{change_of, increment_of}
+use Rattle.expression_parser.specs.Parse.{◌>>=◌, if_some, begins, take, mark_of, is_mark, spec_at, whole_expr, whole_args}
+use Rattle.ispc_parser.specs.declared.front.Identifier.{Identifier}
+
+abbrev pub Reader : Type 0 → Type 0
+Reader A = List Lexeme → Option (A × List Lexeme)
+
+-- ---- tokens
+
+-- one nesting more
+abbrev pub deeper : ℕ → Option ℕ
+deeper zero = None
+deeper (suc d) = Some d
+
+-- a mark that opens a nesting, and how many are left inside
+unfoldable pub enter : Mark → ℕ → Reader ℕ
+enter m d ts = take m ts >>= λ rest. deeper d >>= λ inner. Some (inner, rest)
+
+-- a mark, and its place
+unfoldable pub take_at : Mark → Reader Place
+take_at m [] = None
+take_at m (t ∷ ts) = if is_mark m t.sort then Some (t.place, ts) else None
+
+abbrev pub name_in : Sort → Option Name
+name_in (named n) = Some n
+name_in _ = None
+
+unfoldable pub name_of : Reader (Place × Name)
+name_of [] = None
+name_of (t ∷ ts) = name_in t.sort >>= λ n. Some ((t.place, n), ts)
+
+abbrev pub name_view : Identifier → Place × Name
+name_view n = (n.place, n.text.items)
+
+abbrev pub first_place : List Lexeme → Place → Place
+first_place [] end = end
+first_place (t ∷ ts) end = t.place
+
+-- ( .. )
+unfoldable pub in_parens : {A : Type 0} → (ℕ → Reader A) → ℕ → Reader A
+in_parens one d ts = enter mark.LeftParen d ts >>= λ o. one o.0 o.1 >>= λ x. take mark.RightParen x.1 >>= λ rest. Some (x.0, rest)
+
+-- one to n, with commas between them
+unfoldable pub list_of : {A : Type 0} → Reader A → ℕ → Reader (List A)
+list_of one zero ts = None
+list_of one (suc n) ts = one ts >>= λ x. if_some (take mark.Comma x.1)
+    (λ a. list_of one n a >>= λ xs. Some (x.0 ∷ xs.0, xs.1))
+    (Some (x.0 ∷ [], x.1))
+
+-- ---- declarations, assignments and calls
+
+abbrev pub is_local : Spec → Bool
+is_local s = not (s.is_exported || s.is_static || s.is_inline)
+
+-- the words before the name of a variable of a function
+unfoldable pub local_spec_of : Reader Spec
+local_spec_of ts = spec_at ts >>= λ s. if is_local s.0 then Some s else None
+
+unfoldable pub value_of : ℕ → Reader (Option ParsedExpr)
+value_of d ts =
+    if begins mark.Assign ts then (take mark.Assign ts >>= λ a. whole_expr d a >>= λ e. Some (Some e.0, e.1))
+    else Some (None, ts)
+
+-- a declaration whose first word stands here
+unfoldable pub declaration_of : ℕ → Place → Reader ParsedStmt
+declaration_of d at ts = local_spec_of ts >>= λ s. name_of s.1 >>= λ n. value_of d n.1 >>= λ v. Some (ParsedDeclare at s.0 n.0.0 n.0.1 v.0, v.1)
+
+unfoldable pub index_of : ℕ → Reader (Option ParsedExpr)
+index_of d ts =
+    if begins mark.LeftBracket ts
+    then (enter mark.LeftBracket d ts >>= λ o. whole_expr o.0 o.1 >>= λ e. take mark.RightBracket e.1 >>= λ rest. Some (Some e.0, rest))
+    else Some (None, ts)
+
+unfoldable pub target_of : ℕ → Reader ParsedTarget
+target_of d ts = name_of ts >>= λ n. index_of d n.1 >>= λ i. Some (record { at = n.0.0; name = n.0.1; index = i.0 }, i.1)
+
+-- behind a target and a mark
+unfoldable pub changed_of : ℕ → ParsedTarget → Mark → Reader ParsedStmt
+changed_of d target m ts =
+    if_some (increment_of m) (λ op. Some (ParsedIncrement target.at target op, ts))
+    (if sameb the_type m mark.Assign then (whole_expr d ts >>= λ e. Some (ParsedAssign target.at target e.0, e.1))
+    else (change_of m >>= λ op. whole_expr d ts >>= λ e. Some (ParsedChange target.at target op e.0, e.1)))
+
+-- behind a target
+unfoldable pub assigned_of : ℕ → ParsedTarget → Reader ParsedStmt
+assigned_of d target [] = None
+assigned_of d target (t ∷ ts) = mark_of t.sort >>= λ m. changed_of d target m ts
+
+unfoldable pub call_of : ℕ → Place → Name → Reader ParsedStmt
+call_of d at n ts = in_parens whole_args d ts >>= λ es. Some (ParsedDoCall at n es.0, es.1)
+
+-- behind a name
+unfoldable pub named_of : ℕ → Place → Name → Reader ParsedStmt
+named_of d at n ts =
+    if begins mark.LeftParen ts then call_of d at n ts
+    else (index_of d ts >>= λ i. assigned_of d (record { at = at; name = n; index = i.0 }) i.1)
+
+-- behind a mark
+unfoldable pub incremented_of : ℕ → Place → Mark → Reader ParsedStmt
+incremented_of d at m ts = increment_of m >>= λ op. target_of d ts >>= λ x. Some (ParsedIncrement at x.0 op, x.1)
+
+abbrev pub simple_at : ℕ → Sort → Place → Reader ParsedStmt
+simple_at d (named n) at ts = named_of d at n ts
+simple_at d (marked m) at ts = incremented_of d at m ts
+simple_at d (numbered n u l) at ts = None
+
+unfoldable pub simple_of : ℕ → Reader ParsedStmt
+simple_of d [] = None
+simple_of d (t ∷ ts) = simple_at d t.sort t.place ts

@@ -1,0 +1,115 @@
+//! Statements with their parts in boxes.
+ghost use Rattle.std.specs.Prelude.{◌≡◌, IfOk, IfErr};
+ghost use Rattle.gang_model.specs.Parsed.{ParsedBlock, ParsedIf, ParsedIfElse, ParsedDo};
+ghost use Rattle.expression_parser.specs.Tree.{expr_view};
+ghost use Rattle.ispc_parser.specs.Tree.{stmt_view, stmts_view};
+ghost use Rattle.ispc_parser.specs.Heads.{head_view, completed};
+
+use crate::heads::Head;
+use crate::tree::Stmt;
+use expression_parser::Expr;
+use gang_types::Place;
+use ispc_lexer::SourceFault;
+use std::alloc::Global;
+
+pub(crate) fn block(stmts: Vec<Stmt>) -> Stmt
+    ensures { stmt_view result ≡ ParsedBlock (stmts_view stmts.items) }
+{
+    Stmt::Block(stmts)
+}
+
+pub(crate) fn if_then(
+    alloc: Global,
+    place: Place,
+    test: Expr,
+    first: Stmt,
+) -> Result<Stmt, SourceFault>
+    ensures value { IfOk result (λ s. stmt_view s ≡ ParsedIf place (expr_view test) (stmt_view first)) }
+    ensures memory { IfErr result (λ e. e ≡ SourceFault.Memory) }
+{
+    let first = Box::new(alloc, first)?;
+    Ok(Stmt::If {
+        place,
+        test,
+        first,
+        other: None,
+    })
+}
+
+pub(crate) fn if_else(
+    alloc: Global,
+    place: Place,
+    test: Expr,
+    first: Stmt,
+    other: Stmt,
+) -> Result<Stmt, SourceFault>
+    ensures value { IfOk result (λ s. stmt_view s ≡ ParsedIfElse place (expr_view test) (stmt_view first) (stmt_view other)) }
+    ensures memory { IfErr result (λ e. e ≡ SourceFault.Memory) }
+{
+    let first = Box::new(alloc, first)?;
+    let other = Box::new(alloc, other)?;
+    Ok(Stmt::If {
+        place,
+        test,
+        first,
+        other: Some(other),
+    })
+}
+
+pub(crate) fn do_while(
+    alloc: Global,
+    body: Stmt,
+    place: Place,
+    test: Expr,
+) -> Result<Stmt, SourceFault>
+    ensures value { IfOk result (λ s. stmt_view s ≡ ParsedDo (stmt_view body) place (expr_view test)) }
+    ensures memory { IfErr result (λ e. e ≡ SourceFault.Memory) }
+{
+    let body = Box::new(alloc, body)?;
+    Ok(Stmt::Do { body, place, test })
+}
+
+/// A loop or a foreach form with its body.
+pub(crate) fn with_body(alloc: Global, head: Head, body: Stmt) -> Result<Stmt, SourceFault>
+    ensures value { IfOk result (λ s. stmt_view s ≡ completed (head_view head) (stmt_view body)) }
+    ensures memory { IfErr result (λ e. e ≡ SourceFault.Memory) }
+{
+    let body = Box::new(alloc, body)?;
+    match head {
+        Head::While { place, test } => Ok(Stmt::While { place, test, body }),
+        Head::For { place, rounds } => {
+            let start = Box::new(alloc, rounds.start)?;
+            let update = Box::new(alloc, rounds.update)?;
+            Ok(Stmt::For {
+                place,
+                start,
+                test: rounds.test,
+                update,
+                body,
+            })
+        }
+        Head::ForEach {
+            place,
+            is_tiled,
+            dims,
+        } => Ok(Stmt::ForEach {
+            place,
+            is_tiled,
+            dims,
+            body,
+        }),
+        Head::ForEachActive { place, name } => Ok(Stmt::ForEachActive {
+            place,
+            name_place: name.place,
+            name: name.text,
+            body,
+        }),
+        Head::ForEachUnique { place, distinct } => Ok(Stmt::ForEachUnique {
+            place,
+            name_place: distinct.name.place,
+            name: distinct.name.text,
+            value: distinct.value,
+            body,
+        }),
+    }
+}

@@ -1,0 +1,262 @@
+//! Declarations, assignments and calls, without the `;` that ends them.
+ghost use Rattle.std.specs.Prelude.{◌≡◌};
+ghost use Rattle.ispc_lexer.specs.Views.{sort_of, lexemes_of};
+ghost use Rattle.gang_model.specs.SpellsStatements as grammar;
+ghost use Rattle.expression_parser.specs.Tree.{expr_view};
+ghost use Rattle.expression_parser.specs.Parse.{Gives};
+ghost use Rattle.ispc_parser.specs.Tree.{option_view, target_view, stmt_view};
+ghost use Rattle.ispc_parser.specs.Parts as spec;
+ghost use Rattle.ispc_parser.specs.Parts.{name_view};
+
+use crate::front::{Context, Identifier, Read, copied_name, enter, name};
+use crate::misfits::local_spec;
+use crate::tree::{Stmt, Target};
+use expression_parser::{Expr, arguments, begins, expression, take, unexpected};
+use gang_model::Mark;
+use gang_types::{BinaryOp, Place};
+use ispc_lexer::{Kind, SourceFault, Token};
+
+/// What `op=` does, for such a mark.
+fn change_of(mark: Mark) -> Option<BinaryOp>
+    ensures { result ≡ grammar.change_of mark }
+{
+    match mark {
+        Mark::PlusAssign => Some(BinaryOp::Add),
+        Mark::MinusAssign => Some(BinaryOp::Sub),
+        Mark::StarAssign => Some(BinaryOp::Mul),
+        Mark::SlashAssign => Some(BinaryOp::Div),
+        Mark::PercentAssign => Some(BinaryOp::Rem),
+        Mark::AmpersandAssign => Some(BinaryOp::And),
+        Mark::BarAssign => Some(BinaryOp::Or),
+        Mark::CaretAssign => Some(BinaryOp::Xor),
+        Mark::ShiftLeftAssign => Some(BinaryOp::Shl),
+        Mark::ShiftRightAssign => Some(BinaryOp::Shr),
+        _ => None,
+    }
+}
+
+/// What `++` and `--` do.
+fn increment_of(mark: Mark) -> Option<BinaryOp>
+    ensures { result ≡ grammar.increment_of mark }
+{
+    match mark {
+        Mark::PlusPlus => Some(BinaryOp::Add),
+        Mark::MinusMinus => Some(BinaryOp::Sub),
+        _ => None,
+    }
+}
+
+/// `= e`, which may be missing.
+#[tactic(auto, unfolding(crate::specs::Parts::value_of))]
+fn value(context: Context, depth: u32, tokens: &[Token]) -> Read<'_, Option<Expr>>
+    ensures { Gives (λ x. (option_view expr_view x.0, lexemes_of x.1.now)) result
+        (spec.value_of depth (lexemes_of tokens.now)) }
+{
+    if !begins(Mark::Assign, tokens) {
+        return Ok((None, tokens));
+    }
+    let rest = take(Mark::Assign, tokens, context.end)?;
+    let (value, rest) = expression(context.alloc, depth, rest, context.end)?;
+    Ok((Some(value), rest))
+}
+
+/// A declaration whose first word stands at this place.
+#[tactic(auto, unfolding(crate::specs::Parts::declaration_of))]
+pub(crate) fn declaration(
+    context: Context,
+    depth: u32,
+    place: Place,
+    tokens: &[Token],
+) -> Read<'_, Stmt>
+    ensures { Gives (λ x. (stmt_view x.0, lexemes_of x.1.now)) result
+        (spec.declaration_of depth place (lexemes_of tokens.now)) }
+{
+    let (spec, rest) = local_spec(context, tokens)?;
+    let (name, rest) = name(context, rest)?;
+    let (value, rest) = value(context, depth, rest)?;
+    let declared = Stmt::Declare {
+        place,
+        spec,
+        name_place: name.place,
+        name: name.text,
+        value,
+    };
+    Ok((declared, rest))
+}
+
+/// `[ e ]`, which may be missing.
+#[tactic(auto, unfolding(crate::specs::Parts::index_of))]
+fn index(context: Context, depth: u32, tokens: &[Token]) -> Read<'_, Option<Expr>>
+    ensures { Gives (λ x. (option_view expr_view x.0, lexemes_of x.1.now)) result
+        (spec.index_of depth (lexemes_of tokens.now)) }
+{
+    if !begins(Mark::LeftBracket, tokens) {
+        return Ok((None, tokens));
+    }
+    let (inner, rest) = enter(Mark::LeftBracket, depth, tokens, context.end)?;
+    let (index, rest) = expression(context.alloc, inner, rest, context.end)?;
+    let rest = take(Mark::RightBracket, rest, context.end)?;
+    Ok((Some(index), rest))
+}
+
+/// A name, and its index where there is one.
+#[tactic(auto, unfolding(crate::specs::Parts::target_of))]
+fn target(context: Context, depth: u32, tokens: &[Token]) -> Read<'_, Target>
+    ensures { Gives (λ x. (target_view x.0, lexemes_of x.1.now)) result
+        (spec.target_of depth (lexemes_of tokens.now)) }
+{
+    let (name, rest) = name(context, tokens)?;
+    let (index, rest) = index(context, depth, rest)?;
+    let target = Target {
+        place: name.place,
+        name: name.text,
+        index,
+    };
+    Ok((target, rest))
+}
+
+/// Behind a target and a mark, with the tokens from the mark on: a value, where the mark asks for one.
+#[tactic(auto, unfolding(crate::specs::Parts::changed_of))]
+fn changed<'a>(
+    context: Context,
+    depth: u32,
+    target: Target,
+    mark: Mark,
+    tokens: &'a [Token],
+    rest: &'a [Token],
+) -> Read<'a, Stmt>
+    ensures { Gives (λ x. (stmt_view x.0, lexemes_of x.1.now)) result
+        (spec.changed_of depth (target_view target) mark (lexemes_of rest.now)) }
+{
+    let place = target.place;
+    if let Some(operator) = increment_of(mark) {
+        return Ok((
+            Stmt::Increment {
+                place,
+                target,
+                operator,
+            },
+            rest,
+        ));
+    }
+    if mark == Mark::Assign {
+        let (value, rest) = expression(context.alloc, depth, rest, context.end)?;
+        return Ok((
+            Stmt::Assign {
+                place,
+                target,
+                value,
+            },
+            rest,
+        ));
+    }
+    let Some(operator) = change_of(mark) else {
+        return Err(unexpected(tokens, context.end));
+    };
+    let (value, rest) = expression(context.alloc, depth, rest, context.end)?;
+    Ok((
+        Stmt::Change {
+            place,
+            target,
+            operator,
+            value,
+        },
+        rest,
+    ))
+}
+
+/// Behind a target.
+#[tactic(auto, unfolding(crate::specs::Parts::assigned_of))]
+fn assigned(context: Context, depth: u32, target: Target, tokens: &[Token]) -> Read<'_, Stmt>
+    ensures { Gives (λ x. (stmt_view x.0, lexemes_of x.1.now)) result
+        (spec.assigned_of depth (target_view target) (lexemes_of tokens.now)) }
+{
+    match tokens {
+        [] => Err(unexpected(tokens, context.end)),
+        [first, rest @ ..] => match first.kind {
+            Kind::Mark(mark) => changed(context, depth, target, mark, tokens, rest),
+            _ => Err(unexpected(tokens, context.end)),
+        },
+    }
+}
+
+/// Behind the name of a function that is called.
+#[tactic(auto, unfolding(crate::specs::Parts::call_of, crate::specs::Parts::in_parens))]
+fn call(context: Context, depth: u32, name: Identifier, tokens: &[Token]) -> Read<'_, Stmt>
+    ensures { Gives (λ x. (stmt_view x.0, lexemes_of x.1.now)) result
+        (spec.call_of depth (name_view name).0 (name_view name).1 (lexemes_of tokens.now)) }
+{
+    let (inner, rest) = enter(Mark::LeftParen, depth, tokens, context.end)?;
+    let (args, rest) = arguments(context.alloc, inner, rest, context.end)?;
+    let rest = take(Mark::RightParen, rest, context.end)?;
+    let call = Stmt::Call {
+        place: name.place,
+        name: name.text,
+        args,
+    };
+    Ok((call, rest))
+}
+
+/// Behind a name: a call, or an assignment or an increment of what it names.
+#[tactic(auto, unfolding(crate::specs::Parts::named_of))]
+fn named(context: Context, depth: u32, name: Identifier, tokens: &[Token]) -> Read<'_, Stmt>
+    ensures { Gives (λ x. (stmt_view x.0, lexemes_of x.1.now)) result
+        (spec.named_of depth (name_view name).0 (name_view name).1 (lexemes_of tokens.now)) }
+{
+    if begins(Mark::LeftParen, tokens) {
+        return call(context, depth, name, tokens);
+    }
+    let (index, rest) = index(context, depth, tokens)?;
+    let target = Target {
+        place: name.place,
+        name: name.text,
+        index,
+    };
+    assigned(context, depth, target, rest)
+}
+
+/// Behind a mark that stands at this place, with the tokens from the mark on.
+#[tactic(auto, unfolding(crate::specs::Parts::incremented_of))]
+fn incremented<'a>(
+    context: Context,
+    depth: u32,
+    place: Place,
+    mark: Mark,
+    tokens: &'a [Token],
+    rest: &'a [Token],
+) -> Read<'a, Stmt>
+    ensures { Gives (λ x. (stmt_view x.0, lexemes_of x.1.now)) result
+        (spec.incremented_of depth place mark (lexemes_of rest.now)) }
+{
+    let Some(operator) = increment_of(mark) else {
+        return Err(unexpected(tokens, context.end));
+    };
+    let (target, rest) = target(context, depth, rest)?;
+    Ok((
+        Stmt::Increment {
+            place,
+            target,
+            operator,
+        },
+        rest,
+    ))
+}
+
+/// An assignment, an increment or a call.
+#[tactic(auto, unfolding(crate::specs::Parts::simple_of))]
+pub(crate) fn simple(context: Context, depth: u32, tokens: &[Token]) -> Read<'_, Stmt>
+    ensures { Gives (λ x. (stmt_view x.0, lexemes_of x.1.now)) result
+        (spec.simple_of depth (lexemes_of tokens.now)) }
+{
+    match tokens {
+        [] => Err(unexpected(tokens, context.end)),
+        [first, rest @ ..] => match &first.kind {
+            Kind::Name(text) => {
+                let name = copied_name(context.alloc, first.place, text)?;
+                named(context, depth, name, rest)
+            }
+            Kind::Mark(mark) => incremented(context, depth, first.place, *mark, tokens, rest),
+            Kind::Number(_) => Err(unexpected(tokens, context.end)),
+        },
+    }
+}
