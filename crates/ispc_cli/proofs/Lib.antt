@@ -1,5 +1,6 @@
 pub mod Words
 pub mod Bounds
+pub mod SameTexts
 pub mod Spelling
 pub mod Steps
 pub mod Texts

@@ -1,5 +1,5 @@
 -- Stack code that is well formed, and where its statements and variables stand.
-use Rattle.std.specs.Prelude.{◌≡◌, ℕ, ◌+◌, ◌*◌, ◌<◌, ◌≤◌, ◌&&◌, List, [], ◌∷◌, ◌++◌, length, map, All, Bool, Option, None, cond, nat_lt, slice_get, bytes_eq, option_map, unwrap_or}
+use Rattle.std.specs.Prelude.{◌≡◌, ℕ, ◌+◌, ◌*◌, ◌<◌, ◌≤◌, ◌&&◌, List, [], ◌∷◌, ◌++◌, length, map, All, Option, None, cond, nat_lt, slice_get, bytes_eq, option_map, unwrap_or}
 use Rattle.std.specs.List.{position}
 use Rattle.gang_types.specs.declared.places.Place.{Place}
 use Rattle.ispc_cli.specs.declared.codegen.Code.{Code}
@@ -10,11 +10,11 @@ use Rattle.ispc_cli.specs.declared.codegen.Instruction.TheVariants as code
 
 -- an instruction finds so many operands on the stack, and leaves so many
 abbrev pub Leaves : ℕ → Instruction → ℕ → ℕ → Type 0
-Leaves variables (code.Number n) height after = (height < 4) × (after ≡ height + 1)
-Leaves variables (code.Variable index) height after = (index < variables) × (height < 4) × (after ≡ height + 1)
-Leaves variables code.LaneIndex height after = (height < 4) × (after ≡ height + 1)
-Leaves variables code.Add height after = (2 ≤ height) × (height ≤ 4) × (after + 1 ≡ height)
-Leaves variables code.Multiply height after = (2 ≤ height) × (height ≤ 4) × (after + 1 ≡ height)
+Leaves variables (code.Number n) height after = (height < 258) × (after ≡ height + 1)
+Leaves variables (code.Variable index) height after = (index < variables) × (height < 258) × (after ≡ height + 1)
+Leaves variables code.LaneIndex height after = (height < 258) × (after ≡ height + 1)
+Leaves variables code.Add height after = (2 ≤ height) × (height ≤ 258) × (after + 1 ≡ height)
+Leaves variables code.Multiply height after = (2 ≤ height) × (height ≤ 258) × (after + 1 ≡ height)
 
 -- so do instructions in order
 abbrev pub Leads : ℕ → List Instruction → ℕ → ℕ → Type 0
@@ -23,11 +23,7 @@ Leads variables (i ∷ is) height after = (between : ℕ) × Leaves variables i 
 
 -- an operand
 abbrev pub IsOperand : ℕ → Instruction → Type 0
-IsOperand variables i = (height : ℕ) → height < 4 → Leaves variables i height (height + 1)
-
--- the operands of a product, and of a sum before it
-abbrev pub waiting : Bool → ℕ
-waiting has_sum = cond has_sum 2 1
+IsOperand variables i = (height : ℕ) → height < 258 → Leaves variables i height (height + 1)
 
 pub record IsStatement (variables : ℕ) (statement : Statement) : Type 0 where
   pub target : statement.target < variables

@@ -5,7 +5,7 @@ use Rattle.gang_model.specs.declared.refusals.RefusalNumber.{RefusalNumber}
 use Rattle.gang_model.specs.declared.refusals.RefusalNumber.TheVariants.{S1, S2, S3, S4, S5, S6, S7, S8, S9, S10, S11, S12, S13}
 use Rattle.gang_model.specs.declared.refusals.SourceRefusal.{SourceRefusal}
 use Rattle.ispc_cli.specs.declared.refusal.Refusal.{Refusal}
-use Rattle.ispc_cli.specs.declared.refusal.Refusal.TheVariants.{Source, NoScript, Memory}
+use Rattle.ispc_cli.specs.declared.refusal.Refusal.TheVariants.{Source, NoScript, NoEntry, Memory}
 
 abbrev pub name_text : RefusalNumber → List ℕ
 name_text S1 = codes "S1 BadByte"
@@ -29,4 +29,5 @@ source_text refusal = concat (decimal refusal.place.line ∷ codes ":" ∷ decim
 abbrev pub refusal_text : Refusal → List ℕ
 refusal_text (Source refusal) = source_text refusal
 refusal_text NoScript = codes "script: E2 NoScript\n"
+refusal_text NoEntry = codes "entry: E1 NoEntry\n"
 refusal_text Memory = codes "memory\n"

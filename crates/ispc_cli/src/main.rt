@@ -3,10 +3,11 @@
 
 mod codegen;
 mod commands;
+mod expressions;
 mod machine;
 mod names;
+mod not_yet;
 mod options;
-mod parser;
 mod refusal;
 mod running;
 mod script;

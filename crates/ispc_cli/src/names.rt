@@ -1,12 +1,16 @@
 //! Which variable a name stands for.
 ghost use Rattle.std.specs.Prelude.{◌≡◌, ◌<◌, ◌≤◌, IfOk, IfSome, length};
-ghost use Rattle.ispc_cli.specs.Named.{AreNames, IsNamed, IsNamedStatement, IsValue, IsTarget};
+ghost use Rattle.ispc_cli.specs.Code.{Leads};
+ghost use Rattle.ispc_cli.specs.Named.{IsNamed, IsNamedStatement, IsTarget};
 
-use crate::parser::{Expression, Form, Operand, Operator, Statement, Tree};
+use crate::codegen::Instruction;
+use crate::expressions::{append_code, operand};
 use crate::refusal::refused;
+use expression_parser::Expr;
 use gang_model::RefusalNumber;
 use gang_types::Place;
 use ispc_lexer::SourceFault;
+use ispc_parser::{Function, Stmt};
 use std::alloc::Global;
 
 /// A function whose names are resolved.
@@ -29,10 +33,10 @@ pub struct Variable {
 
 #[derive(Debug, Drop)]
 pub struct NamedStatement {
-    pub form: Form,
     pub place: Place,
     pub target: Target,
-    pub value: Values,
+    /// The stack code of what the target gets.
+    pub value: Vec<Instruction>,
 }
 
 /// What is assigned to.
@@ -43,94 +47,152 @@ pub enum Target {
     LaneIndex(Place),
 }
 
-/// Operands in the order of the source, with an operator before each but the first.
-#[derive(Debug, Drop)]
-pub struct Values {
-    pub first: Value,
-    pub rest: Vec<(Operator, Value)>,
-}
-
-#[derive(Clone, Copy, Debug, PartialEq, Eq, Drop)]
-pub enum Value {
-    Number(u32),
-    Variable(usize),
-    LaneIndex,
-}
-
 /// Resolves the names; `S5` for a name that is not in scope, `S6` for a name that is declared twice or taken.
-pub fn resolve(alloc: Global, tree: &Tree<'_>) -> Result<Named, SourceFault>
+pub fn resolve(alloc: Global, function: &Function) -> Result<Named, SourceFault>
     ensures { IfOk result IsNamed }
 {
     let mut variables = Vec::new(alloc);
     let mut statements = Vec::new(alloc);
-    for statement in tree.statements.as_slice() {
+    for statement in function.body.as_slice() {
         let number = statements.len();
-        let named = resolve_statement(alloc, &mut variables, statement, number)?;
+        let named = resolve_statement(alloc, &mut variables, statement, number, function.closing)?;
         statements.push(named)?;
     }
     Ok(Named {
-        function: Vec::from_slice(alloc, tree.name)?,
+        function: Vec::from_slice(alloc, function.name.as_slice())?,
         variables,
         statements,
-        end: tree.end,
+        end: function.closing,
     })
 }
 
-/// Resolves a statement, and declares its variable if it is a declaration.
+/// Resolves a statement, and declares its variable if it is a declaration; `S3` for a form that `not_yet` refuses.
 fn resolve_statement(
     alloc: Global,
     variables: &mut Vec<Variable>,
-    statement: &Statement<'_>,
+    statement: &Stmt,
     number: usize,
+    end: Place,
 ) -> Result<NamedStatement, SourceFault>
     ensures named { IfOk result (IsNamedStatement (length variables.new.items)) }
     ensures grows { length variables.old.items ≤ length variables.new.items }
 {
-    let place = statement.name_place;
-    let form = statement.form;
-    if form == Form::Declare {
-        return declare(alloc, variables, statement, number);
+    match statement {
+        Stmt::Declare {
+            place,
+            spec: _,
+            name_place,
+            name,
+            value: Some(value),
+        } => {
+            let variable = NewVariable {
+                name: name.as_slice(),
+                place: *name_place,
+                declared_by: number,
+            };
+            declare(alloc, variables, *place, &variable, value)
+        }
+        Stmt::Assign {
+            place,
+            target,
+            value,
+        } => {
+            let found = find_target(variables.as_slice(), target.name.as_slice(), target.place)?;
+            assign(alloc, variables.as_slice(), *place, found, value)
+        }
+        Stmt::Change {
+            place,
+            target,
+            operator: _,
+            value,
+        } => {
+            let found = find_target(variables.as_slice(), target.name.as_slice(), target.place)?;
+            add(alloc, variables.as_slice(), *place, found, value)
+        }
+        _ => Err(refused(RefusalNumber::S3, end)),
     }
-    let target = find_target(variables.as_slice(), statement.name, place)?;
-    let value = resolve_values(alloc, variables.as_slice(), &statement.value)?;
-    Ok(NamedStatement {
-        form,
-        place: statement.place,
-        target,
-        value,
-    })
+}
+
+/// A variable that a statement is to declare.
+#[derive(Drop)]
+struct NewVariable<'a> {
+    name: &'a [u8],
+    place: Place,
+    declared_by: usize,
 }
 
 fn declare(
     alloc: Global,
     variables: &mut Vec<Variable>,
-    statement: &Statement<'_>,
-    number: usize,
+    place: Place,
+    new: &NewVariable<'_>,
+    value: &Expr,
 ) -> Result<NamedStatement, SourceFault>
     ensures named { IfOk result (IsNamedStatement (length variables.new.items)) }
     ensures grows { length variables.old.items ≤ length variables.new.items }
 {
-    let name = statement.name;
-    let place = statement.name_place;
-    if is_lane_name(name) || find(variables.as_slice(), name).is_some() {
-        return Err(refused(RefusalNumber::S6, place));
+    if is_lane_name(new.name) || find(variables.as_slice(), new.name).is_some() {
+        return Err(refused(RefusalNumber::S6, new.place));
     }
-    let value = resolve_values(alloc, variables.as_slice(), &statement.value)?;
+    let mut code = Vec::new(alloc);
+    append_code(&mut code, variables.as_slice(), value, 0)?;
     let index = variables.len();
     variables.push(Variable {
-        name: Vec::from_slice(alloc, name)?,
-        place,
-        declared_by: number,
+        name: Vec::from_slice(alloc, new.name)?,
+        place: new.place,
+        declared_by: new.declared_by,
     })?;
     Ok(NamedStatement {
-        form: Form::Declare,
-        place: statement.place,
+        place,
         target: Target::Variable(index),
-        value,
+        value: code,
     })
 }
 
-fn find_target(variables: &[Variable], name: &[u8], place: Place) -> Result<Target, SourceFault>
+/// The target gets the value.
+fn assign(
+    alloc: Global,
+    variables: &[Variable],
+    place: Place,
+    target: Target,
+    value: &Expr,
+) -> Result<NamedStatement, SourceFault>
+    requires { IsTarget (length variables.now) target }
+    ensures { IfOk result (IsNamedStatement (length variables.now)) }
+{
+    let mut code = Vec::new(alloc);
+    append_code(&mut code, variables, value, 0)?;
+    Ok(NamedStatement {
+        place,
+        target,
+        value: code,
+    })
+}
+
+/// The target gets the sum of what it has and the value.
+fn add(
+    alloc: Global,
+    variables: &[Variable],
+    place: Place,
+    target: Target,
+    value: &Expr,
+) -> Result<NamedStatement, SourceFault>
+    requires { IsTarget (length variables.now) target }
+    ensures { IfOk result (IsNamedStatement (length variables.now)) }
+{
+    let mut code = Vec::new(alloc);
+    code.push(operand(target))?;
+    append_code(&mut code, variables, value, 1)?;
+    code.push(Instruction::Add)?;
+    Ok(NamedStatement {
+        place,
+        target,
+        value: code,
+    })
+}
+
+/// What a name stands for; `S5` where it is not in scope.
+pub fn find_target(variables: &[Variable], name: &[u8], place: Place) -> Result<Target, SourceFault>
     ensures { IfOk result (IsTarget (length variables.now)) }
 {
     if name == b"programIndex".as_slice() {
@@ -139,34 +201,6 @@ fn find_target(variables: &[Variable], name: &[u8], place: Place) -> Result<Targ
     match find(variables, name) {
         Some(index) => Ok(Target::Variable(index)),
         None => Err(refused(RefusalNumber::S5, place)),
-    }
-}
-
-fn resolve_values(
-    alloc: Global,
-    variables: &[Variable],
-    expression: &Expression<'_>,
-) -> Result<Values, SourceFault>
-    ensures { IfOk result (AreNames (length variables.now)) }
-{
-    let first = resolve_operand(variables, expression.first)?;
-    let mut rest = Vec::new(alloc);
-    for (operator, operand) in expression.rest.as_slice() {
-        let value = resolve_operand(variables, *operand)?;
-        rest.push((*operator, value))?;
-    }
-    Ok(Values { first, rest })
-}
-
-fn resolve_operand(variables: &[Variable], operand: Operand<'_>) -> Result<Value, SourceFault>
-    ensures { IfOk result (IsValue (length variables.now)) }
-{
-    match operand {
-        Operand::Number(number) => Ok(Value::Number(number)),
-        Operand::Name(name, place) => match find_target(variables, name, place)? {
-            Target::Variable(index) => Ok(Value::Variable(index)),
-            Target::LaneIndex(_) => Ok(Value::LaneIndex),
-        },
     }
 }
 

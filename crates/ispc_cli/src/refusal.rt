@@ -22,6 +22,8 @@ pub enum Refusal {
     Source(SourceRefusal),
     /// Standard input has no line `%%`, or too many bytes. The program says so, and no run.
     NoScript,
+    /// The source has no function to run.
+    NoEntry,
     Memory,
 }
 
@@ -33,6 +35,7 @@ pub fn write_refusal<O: AnswerWriter>(refusal: &Refusal, out: &mut O) -> Result<
     match refusal {
         Refusal::Source(refused) => write_source_refusal(*refused, out),
         Refusal::NoScript => write_all(out, b"script: E2 NoScript\n"),
+        Refusal::NoEntry => write_all(out, b"entry: E1 NoEntry\n"),
         Refusal::Memory => write_all(out, b"memory\n"),
     }
 }

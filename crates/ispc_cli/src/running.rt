@@ -15,14 +15,16 @@ use crate::codegen::{Code, compile};
 use crate::commands::{Command, read_command};
 use crate::machine::Machine;
 use crate::names::resolve;
+use crate::not_yet::not_yet;
 use crate::options::{Options, Width};
-use crate::parser::parse;
-use crate::refusal::Refusal;
+use crate::refusal::{Refusal, refused};
 use crate::session::{Answer, Session};
 use crate::transcript::{AnswerWriter, CommandReader, READS, WriteFault, write_answer};
 use crate::types::check;
 use arrayvec::ArrayVec;
+use gang_model::RefusalNumber;
 use ispc_lexer::{SourceFault, source_end, tokens};
+use ispc_parser::{Function, Item, Tree, parse};
 use std::alloc::{AllocError, Global};
 use undo_log::{SnapshotRing, Timeline};
 
@@ -73,7 +75,8 @@ pub fn run<R: CommandReader, O: AnswerWriter>(
     match front_end(alloc, source) {
         Err(SourceFault::Refused(refusal)) => RunEnd::Refused(Refusal::Source(refusal)),
         Err(SourceFault::Memory) => RunEnd::Refused(Refusal::Memory),
-        Ok(code) => match options.width {
+        Ok(None) => RunEnd::Refused(Refusal::NoEntry),
+        Ok(Some(code)) => match options.width {
             Width::Four => run_wide::<4, R, O>(alloc, code, options, reader, writer),
             Width::Eight => run_wide::<8, R, O>(alloc, code, options, reader, writer),
             Width::Sixteen => run_wide::<16, R, O>(alloc, code, options, reader, writer),
@@ -81,15 +84,30 @@ pub fn run<R: CommandReader, O: AnswerWriter>(
     }
 }
 
-/// The code of a source.
-fn front_end(alloc: Global, source: &[u8]) -> Result<Code, SourceFault>
-    ensures { IfOk result IsCode }
+/// The code of a source, if it has a function to run.
+fn front_end(alloc: Global, source: &[u8]) -> Result<Option<Code>, SourceFault>
+    ensures { IfOk result (λ found. IfSome found IsCode) }
 {
     let tokens = tokens(alloc, source)?;
     let tree = parse(alloc, tokens.as_slice(), source_end(source))?;
-    let named = resolve(alloc, &tree)?;
+    if let Some(place) = not_yet(&tree, tokens.as_slice()) {
+        return Err(refused(RefusalNumber::S3, place));
+    }
+    let Some(function) = entry_of(&tree) else {
+        return Ok(None);
+    };
+    let named = resolve(alloc, function)?;
     check(&named)?;
-    compile(alloc, named)
+    let code = compile(alloc, named)?;
+    Ok(Some(code))
+}
+
+/// The function to run: the one that a known source has.
+fn entry_of(tree: &Tree) -> Option<&Function> {
+    match tree.items.as_slice() {
+        [Item::Function(function), ..] => Some(function),
+        _ => None,
+    }
 }
 
 /// The run of some code at a width.

@@ -78,16 +78,6 @@ fn skips_a_long_line(rt: HostRuntime) {
 }
 
 #[test]
-fn reads_comments_and_other_bases(rt: HostRuntime) {
-    let source =
-        b"/* one */ export void go() { // two\nint x = 0x10 * programIndex; x += 0b11 /* int */ + 7; }";
-    let answers =
-        b"at 2:30 go depth 1 lanes 1111\nat 2:55 go depth 1 lanes 1111\nx = 10 26 42 58\n";
-    let (_, writer) = transcript(&rt, source, b"step\nstep\nprint x\n", 512);
-    assert!(rt; writer.bytes() == answers.as_slice());
-}
-
-#[test]
 fn wraps_at_32_bits(rt: HostRuntime) {
     let source = b"export void go() { int x = 2147483647 * programIndex + 2; x += x * x; }";
     let commands = b"step\nprint x\nstep\nprint x\n";
@@ -151,22 +141,14 @@ fn refusal_of(rt: &HostRuntime, source: &[u8]) -> PieceWriter {
 
 #[test]
 fn refuses_sources(rt: HostRuntime) {
-    let rows: [(&[u8], &[u8]); 17] = [
+    let rows: [(&[u8], &[u8]); 13] = [
         (b"export void go() { int x = 0x", b"1:28: S2 BadNumber\n"),
-        (
-            b"export void go() { int x = 2147483648; }",
-            b"1:28: S3 Unexpected\n",
-        ),
         (b"export void go() { int x = 08; }", b"1:28: S2 BadNumber\n"),
         (b"export void go() { int x", b"1:25: S3 Unexpected\n"),
         (b"export void go() { int x = 1.5; }", b"1:29: S1 BadByte\n"),
         (b"export void go() { x = 1; }", b"1:20: S5 UnknownName\n"),
         (
             b"export void go() { int x = x; }",
-            b"1:28: S5 UnknownName\n",
-        ),
-        (
-            b"export void go() { int x = programCount; }",
             b"1:28: S5 UnknownName\n",
         ),
         (
@@ -185,22 +167,146 @@ fn refuses_sources(rt: HostRuntime) {
             b"export void go() { programIndex = 1; y = 2; }",
             b"1:38: S5 UnknownName\n",
         ),
-        (
-            b"export void go() {\n int x = 1 - 2; }",
-            b"2:12: S3 Unexpected\n",
-        ),
-        (
-            b"export void go() { int x = 1u; }",
-            b"1:28: S3 Unexpected\n",
-        ),
-        (b"export void go() { } void", b"1:22: S3 Unexpected\n"),
-        (b"", b"1:1: S3 Unexpected\n"),
+        (b"export void go() { } void", b"1:26: S3 Unexpected\n"),
+        (b"", b"entry: E1 NoEntry\n"),
         (&[b' '; 65_537], b"1:1: S13 Limit\n"),
     ];
     for (source, text) in rows {
         let told = refusal_of(&rt, source);
         assert!(rt; told.bytes() == text);
     }
+}
+
+/// Forms that are refused until their meaning is there, at the first token of the smallest statement or expression.
+#[test]
+fn refuses_forms(rt: HostRuntime) {
+    let rows: [(&[u8], &[u8]); 24] = [
+        (
+            b"export void go() { int x = 2147483648; }",
+            b"1:28: S3 Unexpected\n",
+        ),
+        (
+            b"export void go() { int x = 0xFFFFFFFF; }",
+            b"1:28: S3 Unexpected\n",
+        ),
+        (
+            b"export void go() { int x = 1u; }",
+            b"1:28: S3 Unexpected\n",
+        ),
+        (
+            b"export void go() { int x = 1ll; }",
+            b"1:28: S3 Unexpected\n",
+        ),
+        (
+            b"export void go() { int x = 2 + programCount; }",
+            b"1:32: S3 Unexpected\n",
+        ),
+        (
+            b"export void go() {\n int x = 0; x = 1 - 2; }",
+            b"2:17: S3 Unexpected\n",
+        ),
+        (
+            b"export void go() { int x = 2 * (3 + (1 - 2)); }",
+            b"1:38: S3 Unexpected\n",
+        ),
+        (
+            b"export void go() { int x = (1 - 2) - 3; }",
+            b"1:28: S3 Unexpected\n",
+        ),
+        (
+            b"export void go() { int x = true; }",
+            b"1:28: S3 Unexpected\n",
+        ),
+        (
+            b"export void go() { int x = (int8)1; }",
+            b"1:28: S3 Unexpected\n",
+        ),
+        (b"export void go() { int x; }", b"1:20: S3 Unexpected\n"),
+        (
+            b"export void go() { uniform int x = 1; }",
+            b"1:20: S3 Unexpected\n",
+        ),
+        (
+            b"export void go() { int x = 1; x -= 1; }",
+            b"1:31: S3 Unexpected\n",
+        ),
+        (
+            b"export void go() { int x = 1; ++x; }",
+            b"1:31: S3 Unexpected\n",
+        ),
+        (
+            b"export void go() { int x = 1; x[0] = 1; }",
+            b"1:31: S3 Unexpected\n",
+        ),
+        (
+            b"export void go() { int x = 1; /* ; { */ ; }",
+            b"1:41: S3 Unexpected\n",
+        ),
+        (
+            b"export void go() { int x = 1; { x = 2 - 1; } }",
+            b"1:31: S3 Unexpected\n",
+        ),
+        (
+            b"export void go() { do { } while (1); }",
+            b"1:20: S3 Unexpected\n",
+        ),
+        (b"export void go() { if (1) { } }", b"1:20: S3 Unexpected\n"),
+        (b"void go() { }", b"1:6: S3 Unexpected\n"),
+        (b"export int go() { }", b"1:12: S3 Unexpected\n"),
+        (b"export void go(int a) { }", b"1:13: S3 Unexpected\n"),
+        (b"int x; export void go() { }", b"1:5: S3 Unexpected\n"),
+        (
+            b"export void go() { } export void other() { }",
+            b"1:34: S3 Unexpected\n",
+        ),
+    ];
+    for (source, text) in rows {
+        let told = refusal_of(&rt, source);
+        assert!(rt; told.bytes() == text);
+    }
+}
+
+#[test]
+fn runs_known_forms(rt: HostRuntime) {
+    let rows: [(&[u8], &[u8]); 6] = [
+        (b"export void go(){int x=(2+3)*4;}", b"x = 20 20 20 20\n"),
+        (b"export void go(){int x=2+3*4;}", b"x = 14 14 14 14\n"),
+        (
+            b"export void go(){int x=1+(programIndex*(2+3));}",
+            b"x = 1 6 11 16\n",
+        ),
+        (
+            b"export void go(){int x=0x7fffffff;}",
+            b"x = 2147483647 2147483647 2147483647 2147483647\n",
+        ),
+        (
+            b"void export go(void){int x=0b101+0X1F;}",
+            b"x = 36 36 36 36\n",
+        ),
+        (b"export void go(){/* ; */int x// {\n=1;}", b"x = 1 1 1 1\n"),
+    ];
+    for (source, text) in rows {
+        let (end, writer) = transcript(&rt, source, b"step\nprint x", 512);
+        assert_eq!(rt; end, RunEnd::EndOfCommands);
+        let told = writer.bytes();
+        assert!(rt;
+            told.ends_with(text),
+            "{}",
+            str::from_utf8(told).unwrap_or("?")
+        );
+    }
+}
+
+#[test]
+fn refuses_deep_sources(rt: HostRuntime) -> Result<(), Fail> {
+    let mut source = Vec::from_slice(rt.alloc(), b"export void go() { int x = ")?;
+    for _ in 0..64 {
+        source.extend_from_slice(b"(")?;
+    }
+    source.extend_from_slice(b"1; }")?;
+    let told = refusal_of(&rt, source.as_slice());
+    assert!(rt; told.bytes() == b"1:91: S4 TooDeep\n".as_slice());
+    Ok(())
 }
 
 #[test]
@@ -264,6 +370,10 @@ fn tells_each_refusal(rt: HostRuntime) {
     let script = write_refusal(&Refusal::NoScript, &mut writer);
     assert!(rt; script.is_ok());
     assert!(rt; writer.bytes() == b"script: E2 NoScript\n".as_slice());
+    let mut writer = PieceWriter::new(512, 512);
+    let entry = write_refusal(&Refusal::NoEntry, &mut writer);
+    assert!(rt; entry.is_ok());
+    assert!(rt; writer.bytes() == b"entry: E1 NoEntry\n".as_slice());
     let mut short = PieceWriter::new(512, 3);
     let cut = write_refusal(&Refusal::Memory, &mut short);
     assert!(rt; cut.is_err());

@@ -3,19 +3,15 @@ ghost use Rattle.std.specs.Prelude.{◌≡◌, ℕ, ◌+◌, ◌<◌, ◌≤◌,
 ghost use Rattle.std.specs.Io.KnownBytes.{ReadConsumes, WriteAppends};
 ghost use Rattle.ispc_cli.specs.Devices.{tells_of_write};
 
-use thiserror::Error;
-
 /// The most reads of one run.
 pub const READS: u32 = 16_777_216;
 
 /// A reader failed, or had been read too often.
-#[derive(Clone, Copy, Debug, PartialEq, Eq, Error)]
-#[error("the reader failed")]
+#[derive(Clone, Copy, Debug, PartialEq, Eq)]
 pub struct ReadFault;
 
 /// A writer failed, or took nothing.
-#[derive(Clone, Copy, Debug, PartialEq, Eq, Error)]
-#[error("the writer failed")]
+#[derive(Clone, Copy, Debug, PartialEq, Eq)]
 pub struct WriteFault;
 
 /// Gives the bytes of the commands, in pieces. A read of none, into a slice that is not empty, is their end.
