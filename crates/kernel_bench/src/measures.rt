@@ -73,9 +73,13 @@ fn row<R: Clock + Print, K: Fn(&mut Operands), P: Fn(&mut Operands)>(
 pub fn measure_all<R: Clock + Print>(rt: &R, ty: IntType) -> io::Result<()> {
     println!(rt; "{:<14} {:>10} {:>10}", "operation", "vectors", "loop")?;
     measure_arithmetic(rt, ty)?;
+    measure_bits(rt, ty)?;
     measure_shifts(rt, ty)?;
-    measure_comparisons(rt, ty)?;
-    measure_calls(rt, ty)
+    measure_orders(rt, ty)?;
+    measure_equalities(rt, ty)?;
+    measure_choices(rt, ty)?;
+    measure_calls(rt, ty)?;
+    measure_divisions(rt, ty)
 }
 
 fn measure_arithmetic<R: Clock + Print>(rt: &R, ty: IntType) -> io::Result<()> {
@@ -105,7 +109,19 @@ fn measure_arithmetic<R: Clock + Print>(rt: &R, ty: IntType) -> io::Result<()> {
     )
 }
 
-fn measure_shifts<R: Clock + Print>(rt: &R, ty: IntType) -> io::Result<()> {
+fn measure_bits<R: Clock + Print>(rt: &R, ty: IntType) -> io::Result<()> {
+    row(
+        rt,
+        "and",
+        &|x| x.a = lane_kernels::and(ty, x.a, x.b),
+        &|x| x.a = plain::binary(BinaryOp::And, ty, x.a, x.b),
+    )?;
+    row(
+        rt,
+        "or",
+        &|x| x.a = lane_kernels::or(ty, x.a, x.b),
+        &|x| x.a = plain::binary(BinaryOp::Or, ty, x.a, x.b),
+    )?;
     row(
         rt,
         "xor",
@@ -117,7 +133,10 @@ fn measure_shifts<R: Clock + Print>(rt: &R, ty: IntType) -> io::Result<()> {
         "complement",
         &|x| x.a = lane_kernels::complement(ty, x.a),
         &|x| x.a = plain::unary(UnaryOp::Complement, ty, x.a),
-    )?;
+    )
+}
+
+fn measure_shifts<R: Clock + Print>(rt: &R, ty: IntType) -> io::Result<()> {
     row(
         rt,
         "shl",
@@ -132,7 +151,7 @@ fn measure_shifts<R: Clock + Print>(rt: &R, ty: IntType) -> io::Result<()> {
     )
 }
 
-fn measure_comparisons<R: Clock + Print>(rt: &R, ty: IntType) -> io::Result<()> {
+fn measure_orders<R: Clock + Print>(rt: &R, ty: IntType) -> io::Result<()> {
     row(
         rt,
         "less",
@@ -147,10 +166,40 @@ fn measure_comparisons<R: Clock + Print>(rt: &R, ty: IntType) -> io::Result<()> 
     )?;
     row(
         rt,
+        "greater",
+        &|x| x.a = lane_kernels::greater(ty, x.a, x.b),
+        &|x| x.a = plain::binary(BinaryOp::Greater, ty, x.a, x.b),
+    )?;
+    row(
+        rt,
+        "greater_equal",
+        &|x| x.a = lane_kernels::greater_equal(ty, x.a, x.b),
+        &|x| x.a = plain::binary(BinaryOp::GreaterEqual, ty, x.a, x.b),
+    )
+}
+
+fn measure_equalities<R: Clock + Print>(rt: &R, ty: IntType) -> io::Result<()> {
+    row(
+        rt,
         "equal",
         &|x| x.a = lane_kernels::equal(ty, x.a, x.b),
         &|x| x.a = plain::binary(BinaryOp::Equal, ty, x.a, x.b),
     )?;
+    row(
+        rt,
+        "not_equal",
+        &|x| x.a = lane_kernels::not_equal(ty, x.a, x.b),
+        &|x| x.a = plain::binary(BinaryOp::NotEqual, ty, x.a, x.b),
+    )?;
+    row(
+        rt,
+        "not",
+        &|x| x.a = lane_kernels::not(ty, x.a),
+        &|x| x.a = plain::unary(UnaryOp::Not, ty, x.a),
+    )
+}
+
+fn measure_choices<R: Clock + Print>(rt: &R, ty: IntType) -> io::Result<()> {
     row(
         rt,
         "select",
@@ -159,24 +208,30 @@ fn measure_comparisons<R: Clock + Print>(rt: &R, ty: IntType) -> io::Result<()> 
     )?;
     row(
         rt,
-        "convert",
-        &|x| x.a = lane_kernels::convert(ty, IntType::Uint8, x.a),
-        &|x| x.a = plain::convert(ty, IntType::Uint8, x.a),
-    )
-}
-
-fn measure_calls<R: Clock + Print>(rt: &R, ty: IntType) -> io::Result<()> {
-    row(
-        rt,
         "min",
         &|x| x.a = lane_kernels::min(ty, x.a, x.b),
         &|x| x.a = plain::min(ty, x.a, x.b),
     )?;
     row(
         rt,
+        "max",
+        &|x| x.a = lane_kernels::max(ty, x.a, x.b),
+        &|x| x.a = plain::max(ty, x.a, x.b),
+    )?;
+    row(
+        rt,
         "clamp",
         &|x| x.a = lane_kernels::clamp(ty, x.a, x.b, START),
         &|x| x.a = plain::clamp(ty, x.a, x.b, START),
+    )
+}
+
+fn measure_calls<R: Clock + Print>(rt: &R, ty: IntType) -> io::Result<()> {
+    row(
+        rt,
+        "convert",
+        &|x| x.a = lane_kernels::convert(ty, IntType::Uint8, x.a),
+        &|x| x.a = plain::convert(ty, IntType::Uint8, x.a),
     )?;
     row(
         rt,
@@ -189,12 +244,23 @@ fn measure_calls<R: Clock + Print>(rt: &R, ty: IntType) -> io::Result<()> {
         "popcnt",
         &|x| x.a = lane_kernels::popcnt(ty, x.a),
         &|x| x.a = plain::popcnt(ty, x.a),
-    )?;
+    )
+}
+
+fn measure_divisions<R: Clock + Print>(rt: &R, ty: IntType) -> io::Result<()> {
     row(
         rt,
         "divide",
         &|x| x.a = lane_kernels::divide(ty, Mask::all::<LANES>(), x.a, x.b).unwrap_or(START),
         &|x| x.a = plain::divide(BinaryOp::Div, ty, Mask::all::<LANES>(), x.a, x.b).unwrap_or(
+            START,
+        ),
+    )?;
+    row(
+        rt,
+        "remainder",
+        &|x| x.a = lane_kernels::remainder(ty, Mask::all::<LANES>(), x.a, x.b).unwrap_or(START),
+        &|x| x.a = plain::divide(BinaryOp::Rem, ty, Mask::all::<LANES>(), x.a, x.b).unwrap_or(
             START,
         ),
     )
