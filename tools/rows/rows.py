@@ -1305,7 +1305,7 @@ for name, fault, statement, before in [
     rows(
         name,
         "a fault comes at a lane exactly if that lane is active, and is no step",
-        *[fault_by_lane(fault, statement, before, mask, lane) for mask in (1, 6, 10, 15) for lane in (0, 1, 3)],
+        *[fault_by_lane(fault, statement, before, mask, lane) for mask in range(1, 16) for lane in range(4)],
     )
 
 
