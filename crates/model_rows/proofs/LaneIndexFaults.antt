@@ -2,15 +2,11 @@
 use Rattle.std.specs.Prelude.{◌≡◌, refl, true, false, [], ◌∷◌, Some, None, codes}
 use Rattle.std.specs.Fmt.{digits}
 use Rattle.gang_types.specs.Values.{value_of, residue, word_of, value_in, wrapped, binary_of}
-use Rattle.gang_types.specs.declared.types.Rate.TheVariants.{Uniform, Varying}
 use Rattle.gang_types.specs.declared.types.IntType.TheVariants as t
-use Rattle.gang_types.specs.declared.operators.UnaryOp.TheVariants as unary
 use Rattle.gang_types.specs.declared.operators.BinaryOp.TheVariants as op
-use Rattle.gang_model.specs.declared.forms.Infix.TheVariants.{Op, AndAlso, OrElse}
-use Rattle.gang_model.specs.declared.forms.GlobalForm.TheVariants.{Plain, Array, Initial}
-use Rattle.gang_model.specs.declared.forms.Literal.TheVariants.{Number, Truth}
-use Rattle.gang_model.specs.Parsed.{ParsedNumber, ParsedBool, ParsedName, ParsedIndex, ParsedCall, ParsedParen, ParsedUnary, ParsedCast, ParsedBinary, ParsedChoice, ParsedEnd, ParsedValue, ParsedPart, ParsedPartFrom, ParsedEmpty, ParsedBlock, ParsedDeclare, ParsedAssign, ParsedChange, ParsedIncrement, ParsedDoCall, ParsedBreak, ParsedContinue, ParsedReturn, ParsedIf, ParsedIfElse, ParsedWhile, ParsedDo, ParsedFor, ParsedSwitch, ParsedForEach, ParsedForEachActive, ParsedForEachUnique, ParsedLast, ParsedNext, ParsedNoMore, ParsedSegment, ParsedSource}
-use Rattle.model_rows.proofs.Forms.{at, spec, target, dimension, label, parameter, function, file_variable, options, run, run_from}
+use Rattle.gang_model.specs.declared.forms.Infix.TheVariants.{Op}
+use Rattle.gang_model.specs.Parsed.{ParsedNumber, ParsedName, ParsedCall, ParsedParen, ParsedBinary, ParsedChoice, ParsedEnd, ParsedValue, ParsedDeclare, ParsedAssign, ParsedIf, ParsedLast, ParsedNext, ParsedSource}
+use Rattle.model_rows.proofs.Forms.{at, spec, target, function, options, run}
 
 -- export void go() { int x = 0; if ((1 >> programIndex) & 1) x = shuffle(x, programIndex == 0 ? 4 : 0); }
 abbrev pub source_1 : ParsedSource
