@@ -48,3 +48,5 @@ pub mod SeparateInstances
 pub mod Bindings
 pub mod WellScoped
 pub mod WellPlaced
+pub mod Endings
+pub mod Sources

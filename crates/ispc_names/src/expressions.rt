@@ -16,7 +16,8 @@ use expression_parser::{Arg, Expr};
 use gang_model::{RefusalNumber, SourceRefusal};
 use gang_types::Place;
 
-fn fault_if(holds: bool, number: RefusalNumber, place: Place) -> Option<SourceRefusal>
+/// A fault at a place, if there is one.
+pub fn fault_if(holds: bool, number: RefusalNumber, place: Place) -> Option<SourceRefusal>
     ensures { result ≡ least_fault (judged.fault_if holds number place) }
 {
     if holds {

@@ -11,7 +11,9 @@ mod scopes;
 mod tests;
 mod texts;
 
-pub use expressions::{arguments_fault, expression_fault, is_built_in, stands_whole, unknown_name};
+pub use expressions::{
+    arguments_fault, expression_fault, fault_if, is_built_in, stands_whole, unknown_name,
+};
 pub use functions::FunctionNames;
 pub use least_faults::{least, least_inside};
 pub use library::{StatementCall, is_library_name, statement_call};

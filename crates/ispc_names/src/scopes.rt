@@ -105,6 +105,18 @@ impl Scopes {
         self.enter()
     }
 
+    /// The mark of the present scope as it is: `leave` with it ends what the scope declares later.
+    pub fn mark(&self) -> ScopeMark
+        ensures declared { result.declared ≡ length self.now.environment }
+        ensures outside { result.outside ≡ self.now.outside }
+        ensures within { result.outside ≤ result.declared }
+    {
+        ScopeMark {
+            declared: self.bindings.len(),
+            outside: self.outside,
+        }
+    }
+
     /// Begins a scope inside the present one, whose mark is the answer.
     pub fn enter(&mut self) -> ScopeMark
         ensures inside { site self.new ≡ scope.enclosed (site self.old) }

@@ -1,0 +1,3 @@
+mod CutLines
+mod LineAnswers
+mod PieceAnswers

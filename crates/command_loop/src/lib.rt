@@ -1,0 +1,8 @@
+//! Answers the command lines that a reader gives, on a writer.
+#![tactic(auto)]
+
+mod answering;
+#[cfg(test)]
+mod tests;
+
+pub use answering::{LoopEnd, answer_lines};

@@ -1,0 +1,6 @@
+mod SameBytes
+mod SplitWords
+mod DigitRuns
+mod WordLists
+mod LongLines
+mod Assignments

@@ -1,0 +1,6 @@
+pub mod Views
+pub mod LineWords
+pub mod WordViews
+pub mod Digits
+pub mod TargetViews
+pub mod CommandTable

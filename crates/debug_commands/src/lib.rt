@@ -1,0 +1,16 @@
+//! Command lines, and the commands that they spell.
+#![tactic(auto)]
+
+mod command;
+mod numbers;
+mod reading;
+mod splitting;
+mod table;
+mod targets;
+mod words;
+
+pub use command::{Command, Target};
+pub use reading::read_command;
+
+#[cfg(test)]
+mod tests;

@@ -1,0 +1,18 @@
+-- Parts of the texts of answers.
+use Rattle.std.specs.Prelude.{ℕ, List, [], ◌∷◌, ◌++◌, codes, decimal, flat_map}
+use Rattle.std.specs.List.{concat}
+use Rattle.gang_types.specs.declared.types.IntType.{IntType}
+use Rattle.gang_model.specs.Text.{Bytes, word_text}
+use Rattle.debug_interface.specs.declared.machine.Position.{Position}
+
+-- the text of a position up to its lanes
+abbrev pub place_front : Position → Bytes
+place_front p = concat (codes "at " ∷ decimal p.place.line ∷ codes ":" ∷ decimal p.place.col ∷ codes " " ∷ p.function.now ∷ codes " depth " ∷ decimal p.depth ∷ codes " lanes " ∷ [])
+
+-- a blank and the value of a word
+abbrev pub value_text : IntType → ℕ → Bytes
+value_text type word = codes " " ++ word_text type word
+
+-- a blank and the value, for each word
+abbrev pub values_text : IntType → List ℕ → Bytes
+values_text type words = flat_map (λ word. value_text type word) words

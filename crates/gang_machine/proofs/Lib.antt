@@ -1,0 +1,12 @@
+pub mod Advancing
+pub mod GangWords
+pub mod HandMade
+pub mod Keeping
+pub mod Performed
+pub mod Scopes
+pub mod Showing
+pub mod StraightLines
+pub mod Starting
+pub mod Sums
+pub mod Stores
+pub mod TreeSteps

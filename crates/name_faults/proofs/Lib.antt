@@ -1,0 +1,5 @@
+pub mod Merging
+pub mod ScopeSteps
+pub mod Keys
+pub mod Collected
+pub mod Found

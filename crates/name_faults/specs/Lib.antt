@@ -1,0 +1,4 @@
+pub mod IndexVariables
+pub mod MayStand
+pub mod Moved
+pub mod SignatureKeys

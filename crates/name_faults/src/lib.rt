@@ -1,0 +1,17 @@
+//! The faults of names of a whole tree: names that nothing declares, names that are declared twice, and statements and calls
+//! where they may not stand.
+#![tactic(auto)]
+
+mod allowed;
+mod declarations;
+mod file_scope;
+mod outermost;
+mod parts;
+mod right_sides;
+mod signatures;
+mod statements;
+#[cfg(test)]
+mod tests;
+mod whole;
+
+pub use whole::names_fault;

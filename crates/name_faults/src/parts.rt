@@ -1,0 +1,91 @@
+//! The faults of names in statements that hold no other one.
+ghost use Rattle.std.specs.Prelude.{◌≡◌, ◌++◌, not};
+ghost use Rattle.gang_model.specs.Judged as judged;
+ghost use Rattle.gang_model.specs.Judged.{least_fault};
+ghost use Rattle.gang_model.specs.declared.refusals.RefusalNumber.TheVariants as number;
+ghost use Rattle.gang_model.specs.NameFaults as names;
+ghost use Rattle.expression_parser.specs.Tree.{expr_view};
+ghost use Rattle.ispc_parser.specs.Tree.{option_view, target_view};
+
+use crate::right_sides::{right_fault, some_expression_fault, some_right_fault};
+use expression_parser::Expr;
+use gang_model::{RefusalNumber, SourceRefusal};
+use gang_types::Place;
+use ispc_names::{FunctionNames, Scopes, expression_fault, fault_if, least, unknown_name};
+use ispc_parser::Target;
+
+/// The fault of names in what is assigned.
+pub(crate) fn target_fault(
+    target: &Target,
+    functions: &FunctionNames,
+    scopes: &Scopes,
+) -> Option<SourceRefusal>
+    ensures { result ≡ least_fault (names.target_names (target_view target.now) functions.now scopes.now.environment) }
+{
+    let in_name = unknown_name(scopes, target.place, &target.name);
+    least(
+        in_name,
+        some_expression_fault(&target.index, functions, scopes),
+    )
+}
+
+/// The fault of names in what is given to a target: a call stands whole only for a variable.
+fn assigned_fault(
+    index: &Option<Expr>,
+    value: &Expr,
+    functions: &FunctionNames,
+    scopes: &Scopes,
+) -> Option<SourceRefusal>
+    ensures { result ≡ least_fault (names.assigned_names (option_view expr_view index.now) (expr_view value.now) functions.now scopes.now.environment) }
+{
+    match index {
+        Some(_) => expression_fault(value, functions, scopes),
+        None => right_fault(value, functions, scopes),
+    }
+}
+
+/// The fault of names in an assignment.
+pub(crate) fn assignment_fault(
+    target: &Target,
+    value: &Expr,
+    functions: &FunctionNames,
+    scopes: &Scopes,
+) -> Option<SourceRefusal>
+    ensures { result ≡ least_fault (names.target_names (target_view target.now) functions.now scopes.now.environment
+        ++ names.assigned_names (target_view target.now).index (expr_view value.now) functions.now scopes.now.environment) }
+{
+    let in_target = target_fault(target, functions, scopes);
+    least(
+        in_target,
+        assigned_fault(&target.index, value, functions, scopes),
+    )
+}
+
+/// The fault of names in an assignment with an operator.
+pub(crate) fn change_fault(
+    target: &Target,
+    value: &Expr,
+    functions: &FunctionNames,
+    scopes: &Scopes,
+) -> Option<SourceRefusal>
+    ensures { result ≡ least_fault (names.target_names (target_view target.now) functions.now scopes.now.environment
+        ++ names.names_in (expr_view value.now) functions.now scopes.now.environment) }
+{
+    let in_target = target_fault(target, functions, scopes);
+    least(in_target, expression_fault(value, functions, scopes))
+}
+
+/// The fault of names in a `return`, which may stand there or not.
+pub(crate) fn return_fault(
+    place: Place,
+    value: &Option<Expr>,
+    is_allowed: bool,
+    functions: &FunctionNames,
+    scopes: &Scopes,
+) -> Option<SourceRefusal>
+    ensures { result ≡ least_fault (judged.fault_if (not is_allowed) number.S11 place
+        ++ names.right_names_of (option_view expr_view value.now) functions.now scopes.now.environment) }
+{
+    let own = fault_if(!is_allowed, RefusalNumber::S11, place);
+    least(own, some_right_fault(value, functions, scopes))
+}

@@ -1,0 +1,11 @@
+//! A tree without faults of names, with what is in scope at each step of its functions.
+#![tactic(auto)]
+
+mod file_variables;
+mod named;
+mod resolution;
+#[cfg(test)]
+mod tests;
+
+pub use named::Named;
+pub use resolution::resolve;

@@ -1,0 +1,5 @@
+pub mod DeclaredLists
+pub mod Functions
+pub mod Growth
+pub mod Passing
+pub mod Sequences

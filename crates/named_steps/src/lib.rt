@@ -1,0 +1,11 @@
+//! What is in scope at each step of a function, found from its tree.
+#![tactic(auto)]
+
+mod declared;
+mod function;
+mod returns;
+mod statements;
+#[cfg(test)]
+mod tests;
+
+pub use function::steps_of;

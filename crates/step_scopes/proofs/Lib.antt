@@ -1,0 +1,4 @@
+pub mod InnerNames
+pub mod Links
+pub mod ListedNumbers
+pub mod Texts

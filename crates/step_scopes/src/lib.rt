@@ -1,0 +1,9 @@
+//! The variables of a function and its steps: which variables are in scope at each step.
+#![tactic(auto)]
+
+mod look_ups;
+mod table;
+#[cfg(test)]
+mod tests;
+
+pub use table::{Declaration, Standing, StepScopes};
