@@ -14,3 +14,4 @@ mod value_texts;
 mod write_answer;
 
 pub use session::Session;
+pub use texts::{write_all, write_pieces};

@@ -6,7 +6,7 @@ ghost use Rattle.debug_interface.specs.Devices.{Writes};
 use debug_interface::{AnswerWriter, WriteFault};
 
 /// Writes these bytes and no others, or the front of them where the writer fails.
-pub(crate) fn write_all<O: AnswerWriter>(writer: &mut O, bytes: &[u8]) -> Result<(), WriteFault>
+pub fn write_all<O: AnswerWriter>(writer: &mut O, bytes: &[u8]) -> Result<(), WriteFault>
     requires { O.has_failed writer.old ≡ false }
     ensures { Writes bytes.now (O.written writer.old) (O.written writer.new) (O.has_failed writer.new) result }
 {
@@ -21,7 +21,7 @@ pub(crate) fn write_all<O: AnswerWriter>(writer: &mut O, bytes: &[u8]) -> Result
 }
 
 /// Writes these pieces in order, or the front of them where the writer fails.
-pub(crate) fn write_pieces<O: AnswerWriter>(
+pub fn write_pieces<O: AnswerWriter>(
     writer: &mut O,
     pieces: &[&[u8]],
 ) -> Result<(), WriteFault>

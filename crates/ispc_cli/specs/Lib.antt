@@ -1,14 +1,4 @@
-pub mod Code
-pub mod Commands
-pub mod Devices
-pub mod Lines
-pub mod Machine
 pub mod Marks
-pub mod Named
-pub mod Progress
 pub mod Ranges
 pub mod Refusals
 pub mod Runs
-pub mod Session
-pub mod Transcript
-pub mod Widths

@@ -1,22 +1,13 @@
 //! Compiles a program for gangs, and debugs it by commands, forwards and backwards.
 #![tactic(auto)]
 
-mod codegen;
-mod commands;
-mod expressions;
-mod machine;
-mod names;
-mod not_yet;
 mod options;
 mod refusal;
 mod running;
 mod script;
-mod session;
 mod streams;
 #[cfg(test)]
 mod tests;
-mod transcript;
-mod types;
 
 ghost use Rattle.std.specs.Prelude.{◌≡◌, None};
 ghost use Rattle.ispc_cli.specs.Ranges.{AreInRange};

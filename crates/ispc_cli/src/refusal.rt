@@ -1,20 +1,13 @@
 //! Why a run is refused, and how it is told.
 ghost use Rattle.std.specs.Prelude.{◌≡◌, false};
-ghost use Rattle.ispc_cli.specs.Devices.{Writes};
-ghost use Rattle.ispc_cli.specs.Refusals.{refusal_text, source_text, name_text};
+ghost use Rattle.debug_interface.specs.Devices.{Writes};
+ghost use Rattle.gang_model.specs.RunRefusals.{FromSource, run_refusal_text, source_text};
+ghost use Rattle.ispc_cli.specs.Refusals.{refusal_view};
 
-use crate::transcript::{AnswerWriter, WriteFault, write_all, write_pieces};
+use debug_interface::{AnswerWriter, WriteFault};
+use debug_session::{write_all, write_pieces};
 use gang_model::{RefusalNumber, SourceRefusal};
-use gang_types::Place;
-use ispc_lexer::SourceFault;
 use itoa::Buffer;
-
-/// The refusal of this number at this place.
-pub fn refused(number: RefusalNumber, place: Place) -> SourceFault
-    ensures { result ≡ SourceFault.Refused (record { number = number; place = place }) }
-{
-    SourceFault::Refused(SourceRefusal { number, place })
-}
 
 /// Why a run is refused before its first command.
 #[derive(Clone, Copy, Debug, PartialEq, Eq, Drop)]
@@ -30,7 +23,7 @@ pub enum Refusal {
 /// Writes the line that tells a refusal.
 pub fn write_refusal<O: AnswerWriter>(refusal: &Refusal, out: &mut O) -> Result<(), WriteFault>
     requires { O.has_failed out.old ≡ false }
-    ensures { Writes (refusal_text refusal.now) (O.written out.old) (O.written out.new) (O.has_failed out.new) result }
+    ensures { Writes (run_refusal_text (refusal_view refusal.now)) (O.written out.old) (O.written out.new) (O.has_failed out.new) result }
 {
     match refusal {
         Refusal::Source(refused) => write_source_refusal(*refused, out),
@@ -45,7 +38,7 @@ fn write_source_refusal<O: AnswerWriter>(
     out: &mut O,
 ) -> Result<(), WriteFault>
     requires { O.has_failed out.old ≡ false }
-    ensures { Writes (source_text refusal) (O.written out.old) (O.written out.new) (O.has_failed out.new) result }
+    ensures { Writes (run_refusal_text (FromSource refusal)) (O.written out.old) (O.written out.new) (O.has_failed out.new) result }
 {
     let mut line = Buffer::new();
     let mut column = Buffer::new();
@@ -62,7 +55,7 @@ fn write_source_refusal<O: AnswerWriter>(
 
 /// A refusal's number and name.
 fn name_of(number: RefusalNumber) -> &'static str
-    ensures { result.now ≡ name_text number }
+    ensures { result.now ≡ source_text number }
 {
     match number {
         RefusalNumber::S1 => "S1 BadByte",

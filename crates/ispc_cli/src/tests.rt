@@ -57,9 +57,10 @@ fn runs_an_empty_function(rt: HostRuntime) {
 
 #[test]
 fn answers_other_lines(rt: HostRuntime) {
-    let commands = b"print x\n \t\r\nstep  \n print x\nprint y\nprint  x \nstep 2\nquit\nstep\n";
+    let commands =
+        b"print x\n \t\r\nstep  \n print x\nprint y\np  x \nfinish\nstep 2\ns\nquit\nstep\n";
     let answers =
-        b"C2 NoSuchName\nat 3:5 go depth 1 lanes 1111\nC1 BadCommand\nC2 NoSuchName\nx = 0 3 6 9\nC1 BadCommand\n";
+        b"C2 NoSuchName\nat 3:5 go depth 1 lanes 1111\nC1 BadCommand\nC2 NoSuchName\nx = 0 3 6 9\nC1 BadCommand\nended\nC4 Ended\n";
     let (end, writer) = transcript(&rt, SOURCE, commands, 512);
     assert_eq!(rt; end, RunEnd::Quit);
     assert!(rt; writer.bytes() == answers.as_slice());

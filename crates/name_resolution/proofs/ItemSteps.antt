@@ -1,17 +1,16 @@
 -- The items of a tree, one after another.
-use Rattle.std.proofs.Common.{ℕ, suc, ◌+◌, ◌<◌, ◌≡◌, Bool, true, false, List, [], ◌∷◌, ◌++◌, Option, Some, None, refl, sym, ap, ◌∙◌, arith, length, get_or, take, drop, map, append-nil}
+use Rattle.std.proofs.Common.{ℕ, suc, ◌+◌, ◌<◌, ◌≡◌, Bool, true, false, List, [], ◌∷◌, ◌++◌, Some, refl, sym, ap, ◌∙◌, arith, length, get_or, take, drop, map}
 use Rattle.std.specs.Prelude.{if◌then◌else◌}
 use Rattle.std.proofs.lemmas.List.{take_more, drop_more}
-use Rattle.gang_types.specs.declared.places.VarId.{VarId}
 use Rattle.gang_types.specs.declared.places.VarId.TheVariants.{File}
 use Rattle.gang_model.specs.Names.{same_text}
-use Rattle.gang_model.specs.Parsed.{Name, ParsedFunction, ParsedGlobal, functions_in, globals_in}
-use Rattle.gang_model.specs.Scope.{Binding, bound, declaration, file_bindings}
+use Rattle.gang_model.specs.Parsed.{Name, ParsedFunction, functions_in, globals_in}
+use Rattle.gang_model.specs.Scope.{Binding, declaration, file_bindings}
 use Rattle.ispc_parser.specs.declared.tree.Function.{Function}
 use Rattle.ispc_parser.specs.declared.tree.GlobalVariable.{GlobalVariable}
 use Rattle.ispc_parser.specs.declared.tree.Item.{Item}
 use Rattle.ispc_parser.specs.declared.tree.Item.TheVariants as item
-use Rattle.ispc_parser.specs.Tree.{item_view, function_view, global_view}
+use Rattle.ispc_parser.specs.Tree.{item_view, function_view}
 
 -- the functions among items
 abbrev pub functions : List Item → List ParsedFunction

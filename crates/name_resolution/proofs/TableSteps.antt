@@ -1,11 +1,11 @@
 -- What is read in the tables of functions.
-use Rattle.std.proofs.Common.{ℕ, ◌<◌, ◌≤◌, ◌≡◌, List, [], Option, Some, None, refl, sym, ap, ◌∙◌, arith, length, get_or, map}
+use Rattle.std.proofs.Common.{ℕ, ◌<◌, ◌≤◌, ◌≡◌, List, [], Option, Some, None, refl, sym, ap, ◌∙◌, length, get_or}
 use Rattle.std.specs.Prelude.{option_map, slice_get}
 use Rattle.std.proofs.lemmas.Option.{slice_get-map, slice_get-get_or, slice_get_past}
 use Rattle.gang_types.specs.declared.places.Spot.{Spot}
 use Rattle.gang_types.specs.declared.places.VarId.TheVariants.{Local}
 use Rattle.gang_model.specs.Parsed.{Name, ParsedFunction, ParsedSource, functions_in}
-use Rattle.gang_model.specs.Scope.{Binding, NameStanding, declaration, found_at, file_scope, names_at, scope_at, standings_at, standings_of}
+use Rattle.gang_model.specs.Scope.{NameStanding, declaration, found_at, file_scope, scope_at, standings_at, standings_of}
 use Rattle.step_scopes.specs.declared.table.StepScopes.{StepScopes}
 use Rattle.step_scopes.specs.Scopes.{standings_view}
 use Rattle.step_scopes.proofs.InnerNames.{or_else, declaration-append}

@@ -2,8 +2,8 @@
 ghost use Rattle.std.specs.Prelude.{◌≡◌, ◌≤◌, ◌<◌, Some, None, [], false};
 ghost use Rattle.arrayvec.specs.ArrayVec.{array_vec_len};
 
-use crate::transcript::{AnswerWriter, CommandReader, ReadFault, WriteFault};
 use arrayvec::ArrayVec;
+use debug_interface::{AnswerWriter, CommandReader, ReadFault, WriteFault};
 
 /// Gives some bytes, at most so many at a time, and fails once so many were given.
 #[derive(Drop)]

@@ -1,11 +1,13 @@
-use Rattle.std.proofs.Common.{refl, inr, subst}
-use Rattle.ispc_cli.specs.Runs.{Ends}
+use Rattle.std.proofs.Common.{[], refl}
+use Rattle.gang_model.specs.Debugger.{fresh}
+use Rattle.gang_model.specs.Transcript.{setting}
+use Rattle.typed_tree.specs.Views.{program_view}
 use Rattle.ispc_cli.proofs.running.run_wide.Goals as goal
 
 pub returns-in-Ok-clause-transcript : goal.returns-in-Ok-clause-transcript
-returns-in-Ok-clause-transcript g c = inr (c.in-Ok.session, c.in-Ok.ensures, c.answer_lines.ensures.transcript c.in-Ok.session refl)
-
-pub returns-in-Ok-clause-refused : goal.returns-in-Ok-clause-refused
-returns-in-Ok-clause-refused g c refusal e =
-    let (out, wrote, ends) = c.answer_lines.ensures.transcript c.in-Ok.session refl in
-    absurd (subst (λ end. Ends end c.in-Ok.session (g.R.CommandReader.left c.args.reader.now) (g.R.CommandReader.left c.answer_lines.new.reader) out) e ends)
+returns-in-Ok-clause-transcript g c =
+    let options = c.args.options.now in
+    let s = setting (program_view c.args.program) 0 [] (record { width = g.row.W; history = options.history; steps = options.steps }) in
+    let d = fresh options.history in
+    rw c.end_of.ensures (c.answer_lines.ensures.transcript s d
+    (c.open-session.ensures s d (c.in-Ok.ensures options.steps) (record { no_stops = refl; only_steps = refl }) refl))

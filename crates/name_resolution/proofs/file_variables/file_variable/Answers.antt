@@ -1,7 +1,6 @@
 use Rattle.std.proofs.Common.{◌≡◌, ℕ, List, ◌∙◌, sym, ap, arith, Bool, true, false}
 use Rattle.std.specs.Prelude.{bytes_eq}
 use Rattle.gang_model.specs.Names.{same_text}
-use Rattle.gang_model.specs.Scope.{declaration}
 use Rattle.step_scopes.proofs.Texts.{bytes_same}
 use Rattle.name_resolution.proofs.ItemSteps.{file-found, file-later, file-apart}
 use Rattle.name_resolution.proofs.file_variables.file_variable.Goals as goal

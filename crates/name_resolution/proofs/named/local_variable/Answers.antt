@@ -1,4 +1,4 @@
-use Rattle.std.proofs.Common.{◌≡◌, ◌∙◌, sym, ap, arith}
+use Rattle.std.proofs.Common.{◌∙◌, sym, ap}
 use Rattle.std.specs.Prelude.{slice_get}
 use Rattle.gang_model.specs.Scope.{declaration, names_at}
 use Rattle.name_resolution.proofs.TableSteps.{scope-in}

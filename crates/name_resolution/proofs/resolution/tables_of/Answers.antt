@@ -1,4 +1,4 @@
-use Rattle.std.proofs.Common.{◌≡◌, ◌∷◌, ◌++◌, [], sym, ap, ◌∙◌, map, take}
+use Rattle.std.proofs.Common.{◌∷◌, ◌++◌, [], sym, ap, ◌∙◌, map, take}
 use Rattle.std.proofs.lemmas.List.{map-append}
 use Rattle.gang_model.specs.Scope.{file_scope, standings_of}
 use Rattle.ispc_parser.specs.Tree.{function_view}

@@ -1,0 +1,3 @@
+mod SameTexts
+mod Fronts
+mod Named
