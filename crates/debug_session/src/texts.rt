@@ -21,10 +21,7 @@ pub fn write_all<O: AnswerWriter>(writer: &mut O, bytes: &[u8]) -> Result<(), Wr
 }
 
 /// Writes these pieces in order, or the front of them where the writer fails.
-pub fn write_pieces<O: AnswerWriter>(
-    writer: &mut O,
-    pieces: &[&[u8]],
-) -> Result<(), WriteFault>
+pub fn write_pieces<O: AnswerWriter>(writer: &mut O, pieces: &[&[u8]]) -> Result<(), WriteFault>
     requires { O.has_failed writer.old ≡ false }
     ensures { Writes (concat (map (λ p. p.now) pieces.now)) (O.written writer.old) (O.written writer.new) (O.has_failed writer.new) result }
 {
