@@ -18,3 +18,4 @@ pub use functions::FunctionNames;
 pub use least_faults::{least, least_inside};
 pub use library::{StatementCall, is_library_name, statement_call};
 pub use scopes::{ScopeMark, Scopes};
+pub use texts::is_same;

@@ -3,7 +3,7 @@ ghost use Rattle.std.specs.Prelude.{◌≡◌};
 ghost use Rattle.gang_model.specs.Names.{same_text};
 
 /// Whether two names have the same bytes.
-pub(crate) fn is_same(left: &[u8], right: &[u8]) -> bool
+pub fn is_same(left: &[u8], right: &[u8]) -> bool
     ensures { result ≡ same_text left.now right.now }
 {
     left == right

@@ -24,7 +24,7 @@ use Rattle.typed_tree.specs.declared.statements.ResultFor.TheVariants as result
 use Rattle.typed_tree.specs.declared.statements.Dimension.{Dimension}
 use Rattle.typed_tree.specs.declared.statements.Rounds.{Rounds}
 use Rattle.typed_tree.specs.declared.statements.Rounds.TheVariants as rounds
-use Rattle.typed_tree.specs.declared.statements.Stmt.{Stmt, Empty, Block', Declare, Assign, Change, If', Loop', BodyFirst', Break, Continue, Return, ForEach', Call, Check, PackedStore, PackedLoad, Row_of-Stmt, end_of-Stmt, more_of-Stmt}
+use Rattle.typed_tree.specs.declared.statements.Stmt.{Stmt, Empty, Block', Then', Declare, Assign, Change, If', Loop', BodyFirst', Break, Continue, Return, ForEach', Call, Check, PackedStore, PackedLoad, Row_of-Stmt, end_of-Stmt, more_of-Stmt}
 use Rattle.typed_tree.specs.declared.program.Variable.{Variable}
 use Rattle.typed_tree.specs.declared.program.Function.{Function}
 use Rattle.typed_tree.specs.declared.program.Global.{Global}
@@ -113,6 +113,7 @@ abbrev mutual
   pub stmt_view : Stmt → t.Stmt
   stmt_view Empty = t.Empty
   stmt_view (Block' shape ss) = row_view ss
+  stmt_view (Then' p first q rest) = t.Then (stmt_view first) (stmt_view rest)
   stmt_view (Declare n v e) = t.Declare n (var_view v) (option_view expr_view e)
   stmt_view (Assign n target e) = t.Assign n (target_view target) (expr_view e)
   stmt_view (Change n target ty op value_ty e) = t.Change n (target_view target) ty op value_ty (expr_view e)

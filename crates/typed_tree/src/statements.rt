@@ -60,6 +60,11 @@ pub enum Rounds {
 pub enum Stmt {
     Empty,
     Block(Vec<Stmt>),
+    /// The start of a `for`, and what comes after it.
+    Then {
+        first: Box<Stmt>,
+        rest: Box<Stmt>,
+    },
     Declare {
         step: usize,
         variable: Var,

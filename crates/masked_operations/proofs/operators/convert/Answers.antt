@@ -1,0 +1,13 @@
+use Rattle.std.proofs.Common.{◌∙◌, slice_index}
+use Rattle.gang_types.specs.Values.{converted}
+use Rattle.gang_types.specs.Masks.{lanes_of}
+use Rattle.gang_types.specs.MaskLaws.{length-lanes_of_word}
+use Rattle.gang_model.specs.Lanes.{at}
+use Rattle.cross_lane.specs.EachLaws.{each_same}
+use Rattle.masked_operations.proofs.operators.convert.Goals as goal
+
+pub returns : goal.returns
+returns g c =
+    c.only.ensures
+    ∙ each_same g.row.W (lanes_of g.row.W c.args.mask) (slice_index c.convert.result) (λ k. converted c.args.from c.args.to (at c.args.words k)) (length-lanes_of_word g.row.W c.args.mask.word)
+    (λ i h e. c.convert.ensures i h)

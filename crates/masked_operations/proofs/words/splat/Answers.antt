@@ -1,0 +1,13 @@
+use Rattle.std.proofs.Common.{◌∙◌, slice_index}
+use Rattle.std.specs.Prelude.{replicate}
+use Rattle.gang_types.specs.Masks.{lanes_of}
+use Rattle.gang_types.specs.MaskLaws.{length-lanes_of_word}
+use Rattle.cross_lane.specs.EachLaws.{each_same}
+use Rattle.cross_lane.proofs.VectorLanes.{lane_splat}
+use Rattle.masked_operations.proofs.words.splat.Goals as goal
+
+pub returns : goal.returns
+returns g c =
+    c.only.ensures
+    ∙ each_same g.row.W (lanes_of g.row.W c.args.mask) (slice_index (replicate g.row.W c.args.word)) (λ k. c.args.word) (length-lanes_of_word g.row.W c.args.mask.word)
+    (λ i h e. lane_splat g.row.W i c.args.word h)

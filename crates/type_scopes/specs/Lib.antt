@@ -1,0 +1,4 @@
+pub mod Answers
+pub mod Entries
+pub mod Passings
+pub mod Tables

@@ -1,0 +1,15 @@
+//! What names declare where a part of a tree is typed, what arguments pass, and how parts that are judged each by itself are put
+//! together.
+#![tactic(auto)]
+
+mod entries;
+mod judged;
+mod passings;
+mod scope;
+#[cfg(test)]
+mod tests;
+
+pub use entries::{Declared, Entry, built_in, declared_with, index_variable};
+pub use judged::{both, refuse};
+pub use passings::Passing;
+pub use scope::{TypeMark, TypeScope};

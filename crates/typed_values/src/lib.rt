@@ -1,0 +1,18 @@
+//! Expressions with their types and rates: joined types, conversions, and the type of each operation.
+#![tactic(auto)]
+
+mod conversions;
+mod operations;
+mod rates;
+#[cfg(test)]
+mod tests;
+mod typed;
+mod types;
+
+pub use conversions::{as_bool, as_type, right_operand};
+pub use operations::{chosen_by, infixed, prefixed};
+pub use rates::{is_varying, joined_rate, may_become, same_rate};
+pub use typed::Typed;
+pub use types::{
+    declared_rate, declared_type, joined, literal_type, operation_type, promoted, same_type,
+};
