@@ -1,0 +1,58 @@
+//! The value of an expression for some lanes of a gang, by its code.
+ghost use Rattle.std.specs.Prelude.{◌≤◌, ℕ, suc};
+ghost use Rattle.gang_types.specs.Masks.{IsGangWidth, lanes_of};
+ghost use Rattle.gang_model.specs.State.{State};
+ghost use Rattle.gang_model.specs.Value.{value};
+ghost use Rattle.typed_tree.specs.declared.expressions.Expr.{Expr};
+ghost use Rattle.typed_tree.specs.Views.{expr_view};
+ghost use Rattle.expression_code.specs.Room.{depth, nesting};
+ghost use Rattle.expression_code.specs.Correct.{Computes};
+ghost use Rattle.expression_code.specs.Evaluated.{IsValue};
+
+use crate::code::Instruction;
+use crate::machine::{RunEnd, run};
+use crate::stacks::{push_mask, take_vector};
+use crate::words::Words;
+use arrayvec::ArrayVec;
+use gang_types::{FaultName, Mask};
+
+/// The most vectors that the code of one expression may keep at one time.
+pub const ROOM: usize = 513;
+
+/// The most masks that it may keep at one time, the first one counted.
+pub const NESTING: usize = 257;
+
+/// Why an expression has no value.
+#[derive(Clone, Copy, PartialEq, Eq, Debug, Drop)]
+pub enum Refusal {
+    /// A fault, with its lane.
+    Fault((usize, FaultName)),
+    /// The code keeps more vectors or masks than there is room for, or is not that of an expression.
+    NoRoom,
+}
+
+/// The value of the expression that the code computes: a word in each lane of the mask, and 0 in the others.
+///
+/// # Errors
+///
+/// The first fault; or no room, which an expression of few enough vectors and masks never meets.
+pub fn evaluate<const W: usize, S: Words<W>>(
+    code: &[Instruction],
+    words: &S,
+    mask: Mask,
+) -> Result<[u64; W], Refusal>
+    requires { IsGangWidth W }
+    ensures { (e : Expr) (state : State) → Computes e code.now → depth e ≤ ROOM → suc (nesting e) ≤ NESTING → S.shows words.now state → IsValue result (value (expr_view e) (lanes_of W mask) state) }
+{
+    let mut stack = ArrayVec::<[u64; W], ROOM>::new();
+    let mut masks = ArrayVec::<u64, NESTING>::new();
+    push_mask::<W, NESTING>(&mut masks, mask);
+    match run(code, words, &mut stack, &mut masks) {
+        RunEnd::Finished => match take_vector(&mut stack) {
+            Some(vector) => Ok(vector),
+            None => Err(Refusal::NoRoom),
+        },
+        RunEnd::Refused(found) => Err(Refusal::Fault(found)),
+        RunEnd::Jammed => Err(Refusal::NoRoom),
+    }
+}

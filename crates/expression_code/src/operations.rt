@@ -1,0 +1,87 @@
+//! What the instructions compute.
+ghost use Rattle.std.specs.Prelude.{◌≡◌, ℕ};
+ghost use Rattle.gang_types.specs.Masks.{IsGangWidth, lanes_of};
+ghost use Rattle.gang_model.specs.Lanes.{each};
+ghost use Rattle.gang_model.specs.Library.{bits_from};
+ghost use Rattle.gang_model.specs.State.{State, words_in, seen};
+ghost use Rattle.cross_lane.specs.Calls.{answer_of};
+ghost use Rattle.expression_code.specs.Values.{leaf_value, one_value, two_value};
+ghost use Rattle.expression_code.specs.declared.code.Leaf.TheVariants.{ProgramCount};
+
+use crate::code::{Leaf, OneOperand, TwoOperands};
+use crate::words::Words;
+use gang_types::{FaultName, Mask};
+use masked_operations::{
+    absolute, binary, convert, lane_numbers, max, min, only, popcnt, splat, unary,
+};
+use typed_tree::{OneCall, TwoCall, Var};
+
+// The word with bit k set for each lane k of the mask.
+fn lane_bits<const W: usize>(mask: Mask) -> u64
+    requires { IsGangWidth W }
+    ensures { result ≡ bits_from 0 (each (lanes_of W mask) (λ k. 1)) }
+{
+    mask.word::<W>()
+}
+
+// The gang's width in each lane of the mask.
+fn widths<const W: usize>(mask: Mask) -> [u64; W]
+    requires { IsGangWidth W }
+    ensures { (state : State) → result ≡ leaf_value ProgramCount (lanes_of W mask) state }
+{
+    splat(mask, W as u64)
+}
+
+fn read<const W: usize, S: Words<W>>(variable: Var, words: &S, mask: Mask) -> [u64; W]
+    requires { IsGangWidth W }
+    ensures { (state : State) → S.shows words.now state → result ≡ seen variable.rate (lanes_of W mask) (words_in state variable.id) }
+{
+    only(mask, words.words(variable))
+}
+
+pub(crate) fn leaf_words<const W: usize, S: Words<W>>(leaf: Leaf, words: &S, mask: Mask) -> [u64; W]
+    requires { IsGangWidth W }
+    ensures { (state : State) → S.shows words.now state → result ≡ leaf_value leaf (lanes_of W mask) state }
+{
+    match leaf {
+        Leaf::Number(number) => splat(mask, number),
+        Leaf::ProgramIndex => lane_numbers(mask),
+        Leaf::ProgramCount => widths(mask),
+        Leaf::LaneMask => splat(mask, lane_bits::<W>(mask)),
+        Leaf::Read(variable) => read(variable, words, mask),
+    }
+}
+
+pub(crate) fn apply_one<const W: usize>(
+    operation: OneOperand,
+    mask: Mask,
+    operand: [u64; W],
+) -> [u64; W]
+    requires { IsGangWidth W }
+    ensures { result ≡ one_value operation (lanes_of W mask) operand.entry }
+{
+    match operation {
+        OneOperand::Unary(operator, value_type) => unary(mask, operator, value_type, operand),
+        OneOperand::Convert(from, to) => convert(mask, from, to, operand),
+        OneOperand::OfOne(OneCall::Absolute, value_type) => absolute(mask, value_type, operand),
+        OneOperand::OfOne(OneCall::PopCount, value_type) => popcnt(mask, value_type, operand),
+    }
+}
+
+pub(crate) fn apply_two<const W: usize>(
+    operation: TwoOperands,
+    mask: Mask,
+    left: [u64; W],
+    right: [u64; W],
+) -> Result<[u64; W], (usize, FaultName)>
+    requires { IsGangWidth W }
+    ensures { answer_of result ≡ two_value operation (lanes_of W mask) left.entry right.entry }
+{
+    match operation {
+        TwoOperands::Binary(operator, value_type) => {
+            binary(mask, operator, value_type, left, right)
+        }
+        TwoOperands::OfTwo(TwoCall::Lesser, value_type) => Ok(min(mask, value_type, left, right)),
+        TwoOperands::OfTwo(TwoCall::Larger, value_type) => Ok(max(mask, value_type, left, right)),
+    }
+}

@@ -1,0 +1,4 @@
+pub mod ArgumentLists
+pub mod Residuals
+pub mod TwoFaults
+pub mod Calls

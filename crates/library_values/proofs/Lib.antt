@@ -1,0 +1,4 @@
+pub mod CalledValues
+pub mod GivenValues
+pub mod NamedCalls
+pub mod RemovedValues

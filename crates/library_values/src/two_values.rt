@@ -1,0 +1,164 @@
+//! Library calls of two values.
+ghost use Rattle.std.specs.Prelude.{◌≡◌, Some, [], ◌∷◌, IfErr, IfOk};
+ghost use Rattle.gang_model.specs.Conversions as model;
+ghost use Rattle.gang_model.specs.LibraryTable as table;
+ghost use Rattle.gang_model.specs.Tree as tree;
+ghost use Rattle.gang_types.specs.declared.types.IntType.TheVariants.{Int32};
+ghost use Rattle.ispc_lexer.specs.declared.fault.SourceFault.TheVariants.{Memory};
+ghost use Rattle.typed_tree.specs.Views.{expr_view, two_view};
+ghost use Rattle.typed_values.specs.Views.{typed_view};
+ghost use Rattle.library_values.specs.Calls.{call_of_two_view};
+
+use crate::calls::CallOfTwo;
+use crate::types::number_type;
+use gang_types::{IntType, Rate};
+use ispc_lexer::SourceFault;
+use std::alloc::Global;
+use typed_tree::{Expr, TwoCall};
+use typed_values::{Typed, as_type, joined_rate};
+
+/// The expression, converted to a type, in a box.
+///
+/// # Errors
+///
+/// Want of memory.
+pub(crate) fn converted(alloc: Global, to: IntType, value: Typed) -> Result<Box<Expr>, SourceFault>
+    ensures converted { IfOk result (λ e. expr_view e.value ≡ model.as_type to (typed_view value)) }
+    ensures memory { IfErr result (λ fault. fault ≡ Memory) }
+{
+    let value = as_type(alloc, to, value)?;
+    Ok(Box::new(alloc, value)?)
+}
+
+/// The lesser or the larger of two numbers, in a type.
+///
+/// # Errors
+///
+/// Want of memory.
+pub(crate) fn one_of_two(
+    alloc: Global,
+    function: TwoCall,
+    value_type: IntType,
+    left: Typed,
+    right: Typed,
+) -> Result<Expr, SourceFault>
+    ensures one { IfOk result (λ e. expr_view e ≡ tree.OfTwo (two_view function) value_type (model.as_type value_type (typed_view left)) (model.as_type value_type (typed_view right))) }
+    ensures memory { IfErr result (λ fault. fault ≡ Memory) }
+{
+    Ok(Expr::OfTwo {
+        function,
+        value_type,
+        left: converted(alloc, value_type, left)?,
+        right: converted(alloc, value_type, right)?,
+    })
+}
+
+fn compared(
+    alloc: Global,
+    function: TwoCall,
+    left: Typed,
+    right: Typed,
+) -> Result<Typed, SourceFault>
+    ensures compared { IfOk result (λ e. Some (typed_view e) ≡ table.library_value (table.ComparesTwo (two_view function)) (typed_view left ∷ typed_view right ∷ [])) }
+    ensures memory { IfErr result (λ fault. fault ≡ Memory) }
+{
+    let value_type = number_type(&left, &right);
+    let rate = joined_rate(left.rate, right.rate);
+    Ok(Typed {
+        expr: one_of_two(alloc, function, value_type, left, right)?,
+        value_type,
+        rate,
+    })
+}
+
+/// A lane's number, converted to int32.
+///
+/// # Errors
+///
+/// Want of memory.
+pub(crate) fn as_index(alloc: Global, index: Typed) -> Result<Box<Expr>, SourceFault>
+    ensures index { IfOk result (λ e. expr_view e.value ≡ model.as_type Int32 (typed_view index)) }
+    ensures memory { IfErr result (λ fault. fault ≡ Memory) }
+{
+    converted(alloc, IntType::Int32, index)
+}
+
+fn extracted(alloc: Global, rate: Rate, value: Typed, index: Typed) -> Result<Typed, SourceFault>
+    ensures extracted { IfOk result (λ e. typed_view e ≡ model.typed (tree.Extract (expr_view value.expr) (model.as_type Int32 (typed_view index))) value.value_type rate) }
+    ensures memory { IfErr result (λ fault. fault ≡ Memory) }
+{
+    Ok(Typed {
+        expr: Expr::Extract {
+            value: Box::new(alloc, value.expr)?,
+            index: as_index(alloc, index)?,
+        },
+        value_type: value.value_type,
+        rate,
+    })
+}
+
+fn rotated(alloc: Global, value: Typed, by: Typed) -> Result<Typed, SourceFault>
+    ensures rotated { IfOk result (λ e. Some (typed_view e) ≡ table.library_value table.Rotates (typed_view value ∷ typed_view by ∷ [])) }
+    ensures memory { IfErr result (λ fault. fault ≡ Memory) }
+{
+    Ok(Typed {
+        expr: Expr::Rotate {
+            value: Box::new(alloc, value.expr)?,
+            by: as_index(alloc, by)?,
+        },
+        value_type: value.value_type,
+        rate: Rate::Varying,
+    })
+}
+
+fn shifted(alloc: Global, value: Typed, by: Typed) -> Result<Typed, SourceFault>
+    ensures shifted { IfOk result (λ e. Some (typed_view e) ≡ table.library_value table.Shifts (typed_view value ∷ typed_view by ∷ [])) }
+    ensures memory { IfErr result (λ fault. fault ≡ Memory) }
+{
+    Ok(Typed {
+        expr: Expr::Shift {
+            value: Box::new(alloc, value.expr)?,
+            by: as_index(alloc, by)?,
+        },
+        value_type: value.value_type,
+        rate: Rate::Varying,
+    })
+}
+
+fn shuffled(alloc: Global, value: Typed, places: Typed) -> Result<Typed, SourceFault>
+    ensures shuffled { IfOk result (λ e. Some (typed_view e) ≡ table.library_value table.Shuffles (typed_view value ∷ typed_view places ∷ [])) }
+    ensures memory { IfErr result (λ fault. fault ≡ Memory) }
+{
+    Ok(Typed {
+        expr: Expr::Shuffle {
+            value: Box::new(alloc, value.expr)?,
+            places: as_index(alloc, places)?,
+        },
+        value_type: value.value_type,
+        rate: Rate::Varying,
+    })
+}
+
+/// The expression of a library call with these arguments.
+///
+/// # Errors
+///
+/// Want of memory.
+pub(crate) fn value_of_two(
+    alloc: Global,
+    call: CallOfTwo,
+    first: Typed,
+    second: Typed,
+) -> Result<Typed, SourceFault>
+    ensures value { IfOk result (λ e. Some (typed_view e) ≡ table.library_value (call_of_two_view call) (typed_view first ∷ typed_view second ∷ [])) }
+    ensures memory { IfErr result (λ fault. fault ≡ Memory) }
+{
+    match call {
+        CallOfTwo::Compare(function) => compared(alloc, function, first, second),
+        CallOfTwo::Broadcast => extracted(alloc, Rate::Varying, first, second),
+        CallOfTwo::Extract => extracted(alloc, Rate::Uniform, first, second),
+        CallOfTwo::Rotate => rotated(alloc, first, second),
+        CallOfTwo::Shift => shifted(alloc, first, second),
+        CallOfTwo::Shuffle => shuffled(alloc, first, second),
+    }
+}
