@@ -347,9 +347,11 @@ KNOWN = [
     ('export void go() {\n    int x = programIndex * 3;\n    x += 1;\n}', True),
     ('export void go() { }', True),
     (P + 'int x = (1 + programIndex) * 0x10; x = x; }', True),
-    (P + 'int x; }', False), (P + 'int x = 2147483648; }', False), (P + 'int x = 1u; }', False), (P + 'int x = 1 - 1; }', False),
-    (P + 'int8 x = 1; }', False), (P + 'uniform int x = 1; }', False), (P + 'int x = programCount; }', False), (P + 'int x = 1; x -= 1; }', False), (P + '{ } }', False),
-    (P + 'if (1) ; }', False), ('void go() { }', False), (P + '}\n' + P + '}', False), ('uniform int a;', False), (P + 'int x = any(1); }', False),
+    (P + 'int x; }', True), (P + 'int x = 2147483648; }', True), (P + 'int x = 1u; }', True), (P + 'int x = 1 - 1; }', True),
+    (P + 'int8 x = 1; }', True), (P + 'uniform int x = 1; }', True), (P + 'int x = programCount; }', True), (P + 'int x = 1; x -= 1; }', True), (P + '{ } }', True),
+    (P + 'if (1) ; }', False), ('void go() { }', True), (P + '}\n' + P + '}', True), ('uniform int a;', True), (P + 'int x = any(1); }', False),
+    ('uniform int a[3];', False), (P + 'int x = a[0]; }', False), (P + 'a[0] = 1; }', False), ('void f(int n) { }', False), (P + 'f(); }', False), (P + 'int x = -f(); }', False),
+    (P + '{ while (true) ; } }', False), (P + 'break; }', False), (P + 'return; }', False), (P + 'foreach (i = 0 ... 4) ; }', False),
 ]
 
 # a file-scope variable and its first word

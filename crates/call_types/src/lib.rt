@@ -8,8 +8,6 @@ mod faults;
 mod library;
 mod overloads;
 mod passed;
-#[cfg(test)]
-mod tests;
 mod user_calls;
 mod whole;
 

@@ -7,8 +7,6 @@ mod evaluation;
 mod machine;
 mod operations;
 mod stacks;
-#[cfg(test)]
-mod tests;
 mod words;
 
 pub use code::{Gate, Instruction, Joining, Leaf, OneOperand, TwoOperands};

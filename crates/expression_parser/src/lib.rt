@@ -7,8 +7,6 @@ mod front;
 mod nodes;
 mod operators;
 mod outermost;
-#[cfg(test)]
-mod tests;
 mod tree;
 mod words;
 

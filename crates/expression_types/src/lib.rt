@@ -8,8 +8,6 @@ mod named;
 mod operands;
 mod passed;
 mod places;
-#[cfg(test)]
-mod tests;
 mod values;
 
 pub use expressions::{arguments, expression, given_value};

@@ -1,11 +1,12 @@
 -- Rows of sources with forms that are let through today, and of others.
 use Rattle.std.specs.Prelude.{◌≡◌, refl, true, false, [], ◌∷◌, Some, None, codes}
 use Rattle.gang_types.specs.declared.types.Rate.TheVariants.{Uniform}
+use Rattle.gang_types.specs.declared.operators.UnaryOp.TheVariants.{Negate}
 use Rattle.gang_model.specs.declared.forms.Infix.TheVariants.{Op}
-use Rattle.gang_model.specs.declared.forms.GlobalForm.TheVariants.{Plain}
-use Rattle.gang_model.specs.Parsed.{ParsedNumber, ParsedName, ParsedCall, ParsedParen, ParsedBinary, ParsedEnd, ParsedValue, ParsedEmpty, ParsedBlock, ParsedDeclare, ParsedAssign, ParsedChange, ParsedIf, ParsedLast, ParsedNext, ParsedSource}
+use Rattle.gang_model.specs.declared.forms.GlobalForm.TheVariants.{Plain, Array}
+use Rattle.gang_model.specs.Parsed.{ParsedNumber, ParsedBool, ParsedName, ParsedIndex, ParsedCall, ParsedParen, ParsedUnary, ParsedBinary, ParsedEnd, ParsedValue, ParsedEmpty, ParsedBlock, ParsedDeclare, ParsedAssign, ParsedChange, ParsedDoCall, ParsedBreak, ParsedReturn, ParsedIf, ParsedWhile, ParsedForEach, ParsedLast, ParsedNext, ParsedSource}
 use Rattle.gang_model.specs.Known.{today, is_known}
-use Rattle.fault_rows.proofs.Trees.{at, spec, exported, target, function, global}
+use Rattle.fault_rows.proofs.Trees.{at, spec, exported, target, dim, param, function, global}
 use Rattle.gang_types.specs.declared.types.IntType.TheVariants as t
 use Rattle.gang_types.specs.declared.operators.BinaryOp.TheVariants as op
 
@@ -49,7 +50,7 @@ tree_3 =
     (ParsedNext (ParsedDeclare (at 1 20) (spec None (Some t.Int32)) (at 1 24) (codes "x") None) ParsedLast) (at 1 27)
     ∷ []
 
-row_3 : is_known today tree_3 ≡ false
+row_3 : is_known today tree_3 ≡ true
 row_3 = refl
 
 -- export void go() { int x = 2147483648; }
@@ -59,7 +60,7 @@ tree_4 =
     (ParsedNext (ParsedDeclare (at 1 20) (spec None (Some t.Int32)) (at 1 24) (codes "x") (Some (ParsedNumber (at 1 28) 2147483648 false false))) ParsedLast) (at 1 40)
     ∷ []
 
-row_4 : is_known today tree_4 ≡ false
+row_4 : is_known today tree_4 ≡ true
 row_4 = refl
 
 -- export void go() { int x = 1u; }
@@ -69,7 +70,7 @@ tree_5 =
     (ParsedNext (ParsedDeclare (at 1 20) (spec None (Some t.Int32)) (at 1 24) (codes "x") (Some (ParsedNumber (at 1 28) 1 true false))) ParsedLast) (at 1 32)
     ∷ []
 
-row_5 : is_known today tree_5 ≡ false
+row_5 : is_known today tree_5 ≡ true
 row_5 = refl
 
 -- export void go() { int x = 1 - 1; }
@@ -79,7 +80,7 @@ tree_6 =
     (ParsedNext (ParsedDeclare (at 1 20) (spec None (Some t.Int32)) (at 1 24) (codes "x") (Some (ParsedBinary (Op op.Sub) (ParsedNumber (at 1 28) 1 false false) (ParsedNumber (at 1 32) 1 false false)))) ParsedLast) (at 1 35)
     ∷ []
 
-row_6 : is_known today tree_6 ≡ false
+row_6 : is_known today tree_6 ≡ true
 row_6 = refl
 
 -- export void go() { int8 x = 1; }
@@ -89,7 +90,7 @@ tree_7 =
     (ParsedNext (ParsedDeclare (at 1 20) (spec None (Some t.Int8)) (at 1 25) (codes "x") (Some (ParsedNumber (at 1 29) 1 false false))) ParsedLast) (at 1 32)
     ∷ []
 
-row_7 : is_known today tree_7 ≡ false
+row_7 : is_known today tree_7 ≡ true
 row_7 = refl
 
 -- export void go() { uniform int x = 1; }
@@ -99,7 +100,7 @@ tree_8 =
     (ParsedNext (ParsedDeclare (at 1 20) (spec (Some Uniform) (Some t.Int32)) (at 1 32) (codes "x") (Some (ParsedNumber (at 1 36) 1 false false))) ParsedLast) (at 1 39)
     ∷ []
 
-row_8 : is_known today tree_8 ≡ false
+row_8 : is_known today tree_8 ≡ true
 row_8 = refl
 
 -- export void go() { int x = programCount; }
@@ -109,7 +110,7 @@ tree_9 =
     (ParsedNext (ParsedDeclare (at 1 20) (spec None (Some t.Int32)) (at 1 24) (codes "x") (Some (ParsedName (at 1 28) (codes "programCount")))) ParsedLast) (at 1 42)
     ∷ []
 
-row_9 : is_known today tree_9 ≡ false
+row_9 : is_known today tree_9 ≡ true
 row_9 = refl
 
 -- export void go() { int x = 1; x -= 1; }
@@ -119,7 +120,7 @@ tree_10 =
     (ParsedNext (ParsedDeclare (at 1 20) (spec None (Some t.Int32)) (at 1 24) (codes "x") (Some (ParsedNumber (at 1 28) 1 false false))) (ParsedNext (ParsedChange (at 1 31) (target (at 1 31) (codes "x") None) op.Sub (ParsedNumber (at 1 36) 1 false false)) ParsedLast)) (at 1 39)
     ∷ []
 
-row_10 : is_known today tree_10 ≡ false
+row_10 : is_known today tree_10 ≡ true
 row_10 = refl
 
 -- export void go() { { } }
@@ -129,7 +130,7 @@ tree_11 =
     (ParsedNext (ParsedBlock ParsedLast) ParsedLast) (at 1 24)
     ∷ []
 
-row_11 : is_known today tree_11 ≡ false
+row_11 : is_known today tree_11 ≡ true
 row_11 = refl
 
 -- export void go() { if (1) ; }
@@ -149,7 +150,7 @@ tree_13 =
     ParsedLast (at 1 13)
     ∷ []
 
-row_13 : is_known today tree_13 ≡ false
+row_13 : is_known today tree_13 ≡ true
 row_13 = refl
 
 -- export void go() { }
@@ -162,7 +163,7 @@ tree_14 =
     ParsedLast (at 2 20)
     ∷ []
 
-row_14 : is_known today tree_14 ≡ false
+row_14 : is_known today tree_14 ≡ true
 row_14 = refl
 
 -- uniform int a;
@@ -171,7 +172,7 @@ tree_15 =
     global (at 1 13) (codes "a") (spec (Some Uniform) (Some t.Int32)) Plain
     ∷ []
 
-row_15 : is_known today tree_15 ≡ false
+row_15 : is_known today tree_15 ≡ true
 row_15 = refl
 
 -- export void go() { int x = any(1); }
@@ -183,3 +184,102 @@ tree_16 =
 
 row_16 : is_known today tree_16 ≡ false
 row_16 = refl
+
+-- uniform int a[3];
+abbrev tree_17 : ParsedSource
+tree_17 =
+    global (at 1 13) (codes "a") (spec (Some Uniform) (Some t.Int32)) (Array 3)
+    ∷ []
+
+row_17 : is_known today tree_17 ≡ false
+row_17 = refl
+
+-- export void go() { int x = a[0]; }
+abbrev tree_18 : ParsedSource
+tree_18 =
+    function (at 1 13) (codes "go") (exported (spec None None)) []
+    (ParsedNext (ParsedDeclare (at 1 20) (spec None (Some t.Int32)) (at 1 24) (codes "x") (Some (ParsedIndex (at 1 28) (codes "a") (ParsedNumber (at 1 30) 0 false false)))) ParsedLast) (at 1 34)
+    ∷ []
+
+row_18 : is_known today tree_18 ≡ false
+row_18 = refl
+
+-- export void go() { a[0] = 1; }
+abbrev tree_19 : ParsedSource
+tree_19 =
+    function (at 1 13) (codes "go") (exported (spec None None)) []
+    (ParsedNext (ParsedAssign (at 1 20) (target (at 1 20) (codes "a") (Some (ParsedNumber (at 1 22) 0 false false))) (ParsedNumber (at 1 27) 1 false false)) ParsedLast) (at 1 30)
+    ∷ []
+
+row_19 : is_known today tree_19 ≡ false
+row_19 = refl
+
+-- void f(int n) { }
+abbrev tree_20 : ParsedSource
+tree_20 =
+    function (at 1 6) (codes "f") (spec None None) (param (at 1 12) (codes "n") (spec None (Some t.Int32)) false ∷ [])
+    ParsedLast (at 1 17)
+    ∷ []
+
+row_20 : is_known today tree_20 ≡ false
+row_20 = refl
+
+-- export void go() { f(); }
+abbrev tree_21 : ParsedSource
+tree_21 =
+    function (at 1 13) (codes "go") (exported (spec None None)) []
+    (ParsedNext (ParsedDoCall (at 1 20) (codes "f") ParsedEnd) ParsedLast) (at 1 25)
+    ∷ []
+
+row_21 : is_known today tree_21 ≡ false
+row_21 = refl
+
+-- export void go() { int x = -f(); }
+abbrev tree_22 : ParsedSource
+tree_22 =
+    function (at 1 13) (codes "go") (exported (spec None None)) []
+    (ParsedNext (ParsedDeclare (at 1 20) (spec None (Some t.Int32)) (at 1 24) (codes "x") (Some (ParsedUnary (at 1 28) Negate (ParsedCall (at 1 29) (codes "f") ParsedEnd)))) ParsedLast) (at 1 34)
+    ∷ []
+
+row_22 : is_known today tree_22 ≡ false
+row_22 = refl
+
+-- export void go() { { while (true) ; } }
+abbrev tree_23 : ParsedSource
+tree_23 =
+    function (at 1 13) (codes "go") (exported (spec None None)) []
+    (ParsedNext (ParsedBlock (ParsedNext (ParsedWhile (at 1 22) (ParsedBool (at 1 29) true) ParsedEmpty) ParsedLast)) ParsedLast) (at 1 39)
+    ∷ []
+
+row_23 : is_known today tree_23 ≡ false
+row_23 = refl
+
+-- export void go() { break; }
+abbrev tree_24 : ParsedSource
+tree_24 =
+    function (at 1 13) (codes "go") (exported (spec None None)) []
+    (ParsedNext (ParsedBreak (at 1 20)) ParsedLast) (at 1 27)
+    ∷ []
+
+row_24 : is_known today tree_24 ≡ false
+row_24 = refl
+
+-- export void go() { return; }
+abbrev tree_25 : ParsedSource
+tree_25 =
+    function (at 1 13) (codes "go") (exported (spec None None)) []
+    (ParsedNext (ParsedReturn (at 1 20) None) ParsedLast) (at 1 28)
+    ∷ []
+
+row_25 : is_known today tree_25 ≡ false
+row_25 = refl
+
+-- export void go() { foreach (i = 0 ... 4) ; }
+abbrev tree_26 : ParsedSource
+tree_26 =
+    function (at 1 13) (codes "go") (exported (spec None None)) []
+    (ParsedNext (ParsedForEach (at 1 20) false (dim (at 1 29) (codes "i") (ParsedNumber (at 1 33) 0 false false) (ParsedNumber (at 1 39) 4 false false) ∷ []) ParsedEmpty) ParsedLast) (at 1 44)
+    ∷ []
+
+row_26 : is_known today tree_26 ≡ false
+row_26 = refl

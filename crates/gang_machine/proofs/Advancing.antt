@@ -1,133 +1,139 @@
 -- What the steps of a machine come to, by its words.
-use Rattle.std.proofs.Common.{◌≡◌, refl, sym, ap, subst, ◌∙◌, ℕ, suc, ◌+◌, ◌*◌, ◌^◌, ◌<◌, ◌≤◌, inl, inr, List, ◌∷◌, length, get_or, set, take, drop, slice_index, Some, arith}
+use Rattle.std.proofs.Common.{◌≡◌, refl, sym, ap, subst, ◌∙◌, ℕ, suc, ◌+◌, ◌^◌, ◌<◌, ◌≤◌, List, [], ◌∷◌, ◌++◌, length, set, take, slice_index, arith}
 use Rattle.std.proofs.lemmas.List.{get_or-set_same}
-use Rattle.std.proofs.lemmas.Option.{slice_get_read}
-use Rattle.std.proofs.Math.Nat.{mul-le-mul_right}
-use Rattle.std.specs.Prelude.{slice_get}
-use Rattle.gang_types.specs.Masks.{IsGangWidth}
+use Rattle.std.proofs.lemmas.Option.{slice_get_past, slice_get_within}
+use Rattle.std.specs.Prelude.{Ok, Err, Some, slice_get}
+use Rattle.gang_types.specs.declared.places.VarId.{VarId}
+use Rattle.gang_types.specs.declared.places.VarId.TheVariants.{File, Local}
+use Rattle.gang_types.specs.declared.types.Rate.{Rate}
+use Rattle.gang_types.specs.declared.types.Rate.TheVariants.{Uniform, Varying}
 use Rattle.undo_log.specs.declared.timeline.Undone.TheVariants as undone
 use Rattle.undo_log.specs.History.{History, moment}
-use Rattle.gang_model.specs.Tree.{Stmt}
-use Rattle.gang_model.specs.State.{State}
-use Rattle.gang_model.specs.Step.{step, steps_of, Goes, Over}
+use Rattle.gang_model.specs.Lanes.{Fault}
+use Rattle.gang_model.specs.Tree.{Stmt, Var}
+use Rattle.gang_model.specs.State.{State, with_words_in, words_in}
+use Rattle.gang_model.specs.Step.{run, step, stepped, Goes, Fails, Over}
 use Rattle.gang_model.specs.Events.{Step}
 use Rattle.gang_model.specs.Debugger.{Debugger, Setting, moved, now}
+use Rattle.scalar_programs.specs.Scalars.{declared_before, declared_by, steps_in_line, var_at}
 use Rattle.typed_tree.specs.declared.program.Function.{Function as TreeFunction}
-use Rattle.typed_tree.specs.declared.statements.Stmt.{Stmt as TreeStmt}
-use Rattle.typed_tree.specs.Plain.{IsPlainExpr, IsPlainStep}
-use Rattle.typed_tree.specs.Views.{function_view, stmt_view, stmts_view}
-use Rattle.gang_machine.specs.Assigned.{Assignment, assigned_word, written_by}
-use Rattle.gang_machine.specs.Layout.{Stored, declared_before, declared_in, position, slot_of, words_needed}
-use Rattle.gang_types.specs.declared.places.VarId.TheVariants.{Local}
-use Rattle.gang_machine.specs.Standings.{Holds, IsMachine, Stands, view_of}
+use Rattle.typed_tree.specs.declared.program.Global.{Global as TreeGlobal}
+use Rattle.typed_tree.specs.Views.{function_view}
+use Rattle.scalar_steps.specs.Written.{kept_words, written_var}
+use Rattle.gang_machine.specs.Layout.{StandsAt, Stored, all_lanes, place_of, position, rate_words, slot_of, words_count}
+use Rattle.gang_machine.specs.Standings.{IsRunning, Stands, file_of, view_of}
+use Rattle.gang_machine.specs.Stored.{AreThoseOf}
+use Rattle.gang_machine.proofs.Alterations.{Alters, alters, beside_position, written}
+use Rattle.gang_machine.proofs.Gangs.{some_lanes}
 use Rattle.gang_machine.proofs.Keeping.{stands_moved}
-use Rattle.gang_machine.proofs.Performed.{there_declared}
-use Rattle.gang_machine.proofs.Showing.{AtStep, Written, first_here, leaves, over, steps_on, written}
-use Rattle.gang_machine.proofs.StraightLines.{declared_more, declared_within, plain_is_one}
-use Rattle.gang_machine.proofs.TreeSteps.{get_below, length_steps, rest_from}
+use Rattle.gang_machine.proofs.Lines.{declared_more, declared_within, step_at}
+use Rattle.gang_machine.proofs.Reading.{place_inside}
+use Rattle.gang_machine.proofs.Showing.{AtStep, RunsIn, leaves, over, runs_in, state_in, step_runs, steps_on}
+use Rattle.gang_machine.proofs.Starting.{length_file}
 
--- a gang has some lanes
-pub some_lanes : (w : ℕ) → IsGangWidth w → 0 < w
-some_lanes w (inl four) = omega arith
-some_lanes w (inr (inl eight)) = omega arith
-some_lanes w (inr (inr sixteen)) = omega arith
+length_kept : (w : ℕ) (rate : Rate) (values : List ℕ) → length values ≡ w → length (kept_words rate values) ≡ rate_words w rate
+length_kept w Uniform values long = refl
+length_kept w Varying values long = long
 
-pub few_lanes : (w : ℕ) → IsGangWidth w → w ≤ 16
-few_lanes w (inl four) = omega arith
-few_lanes w (inr (inl eight)) = omega arith
-few_lanes w (inr (inr sixteen)) = omega arith
+module _ (w entry locals : ℕ) (f : TreeFunction) (globals : List TreeGlobal) (h : History) (machine : IsRunning w f globals locals h) where
+  abbrev steps : List Stmt
+  steps = steps_in_line (function_view f).body
 
--- there is room for the words of a variable and for the position
-pub enough : (w k words room left : ℕ) → slot_of w (k + 1) 0 ≤ words → words ≤ room → left ≡ room → w < left
-enough w k words room left inside within all = omega arith
+  abbrev own : List Var
+  own = declared_before (position h.words) (function_view f).body
 
-pub room_left : (w left rest : ℕ) → w < left → left ≤ rest + w → 0 < rest
-room_left w left rest some used = omega arith
+  -- the next step, and the variable that it writes
+  pub record Next (s : Stmt) (v : Var) : Type 0 where
+    pub get : slice_get steps (position h.words) ≡ Some s
+    pub writes : written_var s ≡ Some v
 
--- what a slice of a list holds
-pub read_at : {A : Type 0} (items xs : List A) (i : ℕ) (x : A) → xs ≡ items → i < length xs → x ≡ get_or xs i x → slice_get items i ≡ Some x
-read_at items xs i x same below is = ap (λ ys. slice_get ys i) (sym same) ∙ slice_get_read xs (length xs) i x refl below is
+  alters_next : (s : Stmt) (v : Var) → Next s v → Alters (file_of globals) own s v
+  alters_next s v next = alters (file_of globals) own s v (step_at (file_of globals) (function_view f).body (position h.words) s machine.straight.body next.get).1 next.writes
 
--- the words of a variable lie within those of all
-pub slots_inside : (w k variables : ℕ) → k < variables → slot_of w (k + 1) 0 ≤ words_needed w variables
-slots_inside w k variables below =
-    let inside : (k + 1) * w ≤ variables * w = mul-le-mul_right w (omega arith) in
-    omega arith
+  -- where the words of its variable lie
+  target_place : (x : Stmt) (v : Var) → Next x v → (id : VarId) → var_at (file_of globals) (own ++ declared_by x) id ≡ Some v → place_of (length globals) id < length globals + locals
+  target_place x v next (File k) is =
+      let inside = slice_get_within (file_of globals) k v is in
+      let long = length_file w globals machine.scalars in
+      omega (arith, inside, long)
+  target_place x v next (Local k) is =
+      let inside = slice_get_within (own ++ declared_by x) k v is in
+      let more : length (declared_before (suc (position h.words)) (function_view f).body) ≡ length (own ++ declared_by x) = ap length (declared_more (function_view f).body (position h.words) x next.get) in
+      let within = declared_within (file_of globals) (function_view f).body (suc (position h.words)) machine.straight.body in
+      omega (arith, inside, more, within, machine.enough)
 
-pub words_inside : (w few many : ℕ) → few ≤ many → slot_of w few 0 ≤ words_needed w many
-words_inside w few many le =
-    let inside : few * w ≤ many * w = mul-le-mul_right w le in
-    omega arith
+  pub target_lies : (x : Stmt) (v : Var) → Next x v → (place_of (length globals) v.id < 2 ^ 64) × (slot_of w (place_of (length globals) v.id + 1) 0 ≤ length h.words)
+  target_lies x v next = place_inside w entry locals f globals h machine (place_of (length globals) v.id) (target_place x v next v.id (alters_next x v next).here)
 
-module _ (w : ℕ) (f : TreeFunction) (h : History) (machine : IsMachine w f h) where
-  abbrev body : Stmt
-  body = stmts_view f.body.items
-
-  pub steps_are : steps_of body ≡ length f.body.items
-  steps_are = length_steps f.body.items 0 0 (function_view f).standings machine.plain
-
-  pub at_step : (at : ℕ) (x : TreeStmt) (a : Assignment) → slice_get f.body.items at ≡ Some x → Some a ≡ written_by (stmt_view x)
-      → AtStep w (function_view f) machine.plain at (stmt_view x) (stmts_view (drop (suc at) f.body.items)) a
-  at_step at x a get writes = record {
-    rest_is = rest_from f.body.items at x get;
-    below = let below = get_below f.body.items at x get in omega (arith, steps_are, below);
-    writes = writes;
-  }
-
-  -- a statement of the body is a step of a straight line
-  pub plain_step : (at : ℕ) (x : TreeStmt) → slice_get f.body.items at ≡ Some x → (n : ℕ) × (declared : ℕ) × (after : ℕ) × IsPlainStep n declared (stmt_view x) after
-  plain_step at x get =
-      let below = get_below f.body.items at x get in
-      let first = first_here w (function_view f) machine.plain at (stmt_view x) (stmts_view (drop (suc at) f.body.items)) (rest_from f.body.items at x get) (omega (arith, steps_are, below)) in
-      (at, declared_before at body, first.after, first.step)
-
-  -- it assigns a variable of the machine the value of such variables
-  pub assignable : (at : ℕ) (x : TreeStmt) (a : Assignment) → slice_get f.body.items at ≡ Some x → Some a ≡ written_by (stmt_view x)
-      → (slot_of w (a.variable + 1) 0 ≤ length h.words) × ((declared : ℕ) × IsPlainExpr declared a.value × (slot_of w declared 0 ≤ length h.words))
-  assignable at x a get writes =
-      let below = get_below f.body.items at x get in
-      let s = stmt_view x in
-      let rest = stmts_view (drop (suc at) f.body.items) in
-      let first = first_here w (function_view f) machine.plain at s rest (rest_from f.body.items at x get) (omega (arith, steps_are, below)) in
-      let there = there_declared at (declared_before at body) s first.after a first.step writes in
-      let one = plain_is_one at (declared_before at body) s first.after first.step in
-      let count : declared_before (suc at) body ≡ first.after = declared_more at body s rest (rest_from f.body.items at x get) ∙ sym one.after_is in
-      let within = declared_within (suc at) body in
-      let before = declared_within at body in
-      let target = slots_inside w a.variable (declared_in body) (omega (arith, there.0, count, within)) in
-      let read = words_inside w (declared_before at body) (declared_in body) before in
-      (omega (arith, target, machine.long), (declared_before at body, there.1, omega (arith, read, machine.long)))
-
-  module _ (s : Setting) (d : Debugger) (stands : Stands (view_of w f h) s d) where
+  module _ (s : Setting) (d : Debugger) (stands : Stands (view_of w entry f globals h) s d) where
     -- the program had ended
-    pub ended : (at : ℕ) → at ≡ position h.words → length f.body.items < at → step s.program (now s d) ≡ Over
-    ended at at_is past = ap (λ p. step p (now s d)) stands.program ∙ over w (function_view f) machine.plain h.words (now s d) stands.words (omega (arith, steps_are))
+    pub ended : (at : ℕ) → at ≡ position h.words → length steps < at → step s.program (now s d) ≡ Over
+    ended at at_is past = over w entry (file_of globals) (function_view f) s.program h.words (now s d) stands.words (omega (arith, at_is, past))
 
     -- the function is left
-    pub left_behind : (new : History) (at : ℕ) → at ≡ position h.words → at ≡ length f.body.items → new.words ≡ set h.words 0 (at + 1) → new.past ≡ take h.limit (moment undone.Step h.words ∷ h.past) → new.limit ≡ h.limit
-        → (next : State) × (step s.program (now s d) ≡ Goes next) × Stands (view_of w f new) s (moved Step d)
+    pub left_behind : (new : History) (at : ℕ) → at ≡ position h.words → at ≡ length steps → new.words ≡ set h.words 0 (at + 1) → new.past ≡ take h.limit (moment undone.Step h.words ∷ h.past) → new.limit ≡ h.limit
+        → (next : State) × (step s.program (now s d) ≡ Goes next) × Stands (view_of w entry f globals new) s (moved Step d)
     left_behind new at at_is last words past limit =
-        let next_is : position new.words ≡ suc (position h.words) = ap position words ∙ (get_or-set_same h.words 0 (at + 1) 0 (omega (arith, machine.long)) ∙ omega arith) in
-        let (next, goes, shows) = leaves w (function_view f) machine.plain h.words new.words (now s d) stands.words (omega (arith, steps_are)) next_is in
-        let goes' : step s.program (now s d) ≡ Goes next = ap (λ p. step p (now s d)) stands.program ∙ goes in
-        (next, goes', stands_moved w f h new s d next stands goes' shows past limit)
+        let next_is : position new.words ≡ suc (position h.words) = ap position words ∙ (get_or-set_same h.words 0 (at + 1) 0 (omega (arith, machine.long)) ∙ omega (arith, at_is)) in
+        let same : (place lane : ℕ) → slice_index new.words (slot_of w place lane) ≡ slice_index h.words (slot_of w place lane) = λ place lane. ap (λ ws. slice_index ws (slot_of w place lane)) words ∙ beside_position h.words w place lane (at + 1) in
+        let (next, goes, shows) = leaves w entry (file_of globals) (function_view f) s.program h.words new.words (now s d) stands.function stands.words (omega (arith, at_is, last)) next_is same in
+        (next, goes, stands_moved w entry f globals h s d stands new next goes shows past limit)
+
+    -- the frame of the next step
+    abbrev frame_next : (x : Stmt) → slice_get steps (position h.words) ≡ Some x → RunsIn w entry (file_of globals) (function_view f) h.words (now s d) x
+    frame_next x get = runs_in w entry (file_of globals) (function_view f) h.words (now s d) x stands.words get
+
+    -- the state that it runs in
+    abbrev pub state_next : (x : Stmt) → slice_get steps (position h.words) ≡ Some x → State
+    state_next x get = state_in w entry (file_of globals) (function_view f) h.words (now s d) x (frame_next x get)
+
+    -- the words are those of its variables
+    pub shown_next : (x : Stmt) (get : slice_get steps (position h.words) ≡ Some x) → AreThoseOf w (length globals) h.words (state_next x get)
+    shown_next x get =
+        let long = length_file w globals machine.scalars in
+        record {
+          file = λ k inside. stands.words.memory.stand k (omega (arith, long, inside));
+          no_more = λ k past. stands.words.memory.counts k ∙ ap (words_count w) (slice_get_past (file_of globals) k (omega (arith, long, past)));
+          local = λ k. subst (λ n. StandsAt w (n + k) h.words (words_in (state_next x get) (Local k))) long ((frame_next x get).shown.stand k);
+        }
+
+    counted_next : (x : Stmt) (get : slice_get steps (position h.words) ≡ Some x) (id : VarId) → length (words_in (state_next x get) id) ≡ words_count w (var_at (file_of globals) own id)
+    counted_next x get (File k) = stands.words.memory.counts k
+    counted_next x get (Local k) = (frame_next x get).shown.counts k
+
+    -- those that a varying variable has before it is assigned
+    pub had_words : (x : Stmt) (v : Var) (next : Next x v) → declared_by x ≡ [] → v.rate ≡ Varying → length (words_in (state_next x next.get) v.id) ≡ w
+    had_words x v next none rate =
+        counted_next x next.get v.id ∙ ap (words_count w) ((alters_next x v next).before none) ∙ ap (rate_words w) rate
+
+    stands_next : (x : Stmt) (get : slice_get steps (position h.words) ≡ Some x) (v : Var) (id : VarId) → var_at (file_of globals) (own ++ declared_by x) id ≡ Some v
+        → StandsAt w (place_of (length (file_of globals)) id) h.words (words_in (state_next x get) id)
+    stands_next x get v (File k) there = stands.words.memory.stand k (slice_get_within (file_of globals) k v there)
+    stands_next x get v (Local k) there = (frame_next x get).shown.stand k
+
+    -- a fault
+    pub faults : (x : Stmt) (get : slice_get steps (position h.words) ≡ Some x) (fault : Fault) → run s.program x (all_lanes w) (state_next x get) ≡ Err fault → step s.program (now s d) ≡ Fails fault
+    faults x get fault ran = step_runs w entry (file_of globals) (function_view f) s.program h.words (now s d) x (frame_next x get) ∙ ap stepped ran
 
     -- a statement is done
-    pub advanced : (new : History) (mid values : List ℕ) (at : ℕ) (x : TreeStmt) (a : Assignment) → at ≡ position h.words → slice_get f.body.items at ≡ Some x → Some a ≡ written_by (stmt_view x)
-        → ((lane : ℕ) → lane < w → slice_index values lane ≡ assigned_word w h.words a lane) → Stored w a.variable w (λ lane. slice_index values lane) h.words mid → new.words ≡ set mid 0 (at + 1)
+    pub advanced : (new : History) (mid values : List ℕ) (at : ℕ) (x : Stmt) (v : Var) (next : Next x v) → at ≡ position h.words → length values ≡ w
+        → run s.program x (all_lanes w) (state_next x next.get) ≡ Ok (with_words_in (state_next x next.get) v.id (kept_words v.rate values))
+        → Stored w (place_of (length globals) v.id) (rate_words w v.rate) (λ lane. slice_index values lane) h.words mid → new.words ≡ set mid 0 (at + 1)
         → new.past ≡ take h.limit (moment undone.Step h.words ∷ h.past) → new.limit ≡ h.limit
-        → (next : State) × (step s.program (now s d) ≡ Goes next) × Stands (view_of w f new) s (moved Step d)
-    advanced new mid values at x a at_is get writes are stored words past limit =
+        → (next : State) × (step s.program (now s d) ≡ Goes next) × Stands (view_of w entry f globals new) s (moved Step d)
+    advanced new mid values at x v next at_is long ran stored words past limit =
         let some = some_lanes w machine.width_is in
-        let long : 0 < length h.words = omega (arith, machine.long) in
-        let wrote = subst (Written w a h.words) (sym words) (written w at a (λ lane. slice_index values lane) h.words mid long at_is are stored) in
-        let (next, goes, shows) = steps_on w (function_view f) machine.plain h.words new.words (now s d) at (stmt_view x) (stmts_view (drop (suc at) f.body.items)) a some stands.words at_is (at_step at x a get writes) wrote in
-        let goes' : step s.program (now s d) ≡ Goes next = ap (λ p. step p (now s d)) stands.program ∙ goes in
-        (next, goes', stands_moved w f h new s d next stands goes' shows past limit)
-
--- the word of a variable in a lane is one of the machine's
-pub held_slot : (w : ℕ) (f : TreeFunction) (h : History) → IsMachine w f h → (k lane : ℕ) → Holds (view_of w f h) (Local k) lane → (slot_of w (k + 1) 0 < 2 ^ 64) × (slot_of w k lane < length h.words)
-held_slot w f h machine k lane (running, declared, below) =
-    let within = declared_within (position h.words) (stmts_view f.body.items) in
-    let inside = slots_inside w k (declared_in (stmts_view f.body.items)) (omega (arith, declared, within)) in
-    (omega (arith, inside, machine.long, machine.small), omega (arith, inside, machine.long, below))
+        let file = length_file w globals machine.scalars in
+        let alters = alters_next x v next in
+        let was = words_in (state_next x next.get) v.id in
+        let here = subst (λ n. Stored w (place_of n v.id) (rate_words w v.rate) (λ lane. slice_index values lane) h.words mid) (sym file) stored in
+        let few : length was ≤ rate_words w v.rate = (let count = counted_next x next.get v.id in let most = alters.few w in omega (arith, count, most)) in
+        let wrote = written w (length (file_of globals)) at v values was h.words mid some (omega (arith, machine.long)) at_is (stands_next x next.get v v.id alters.here) few here in
+        let at_step : AtStep w entry (file_of globals) (function_view f) h.words new.words values x v = record {
+          get = next.get;
+          alters = alters;
+          wrote = rw words wrote;
+          long = length_kept w v.rate values long;
+        } in
+        let (after, goes, shows) = steps_on w entry (file_of globals) (function_view f) s.program h.words new.words values (now s d) x v some stands.words at_step (frame_next x next.get) ran in
+        (after, goes, stands_moved w entry f globals h s d stands new after goes shows past limit)

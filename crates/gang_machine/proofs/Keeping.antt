@@ -6,70 +6,78 @@ use Rattle.undo_log.specs.declared.timeline.Undone.{Undone}
 use Rattle.undo_log.specs.declared.timeline.Undone.TheVariants as undone
 use Rattle.undo_log.specs.History.{History, Moment, moment, steps_in, is_step as is_kept_step}
 use Rattle.debug_interface.specs.Machines.{kind_of}
-use Rattle.gang_model.specs.Tree.{Function}
+use Rattle.gang_model.specs.Tree.{Var, Function}
 use Rattle.gang_model.specs.State.{State}
 use Rattle.gang_model.specs.Step.{step, Goes}
-use Rattle.gang_model.specs.Events.{Event, Step, Poke, after, gone}
+use Rattle.gang_model.specs.Events.{Event, Step, Poke, gone}
 use Rattle.gang_model.specs.Debugger.{Debugger, Setting, is_step, kept_steps, moved, now, taken_back}
 use Rattle.typed_tree.specs.declared.program.Function.{Function as TreeFunction}
+use Rattle.typed_tree.specs.declared.program.Global.{Global as TreeGlobal}
 use Rattle.typed_tree.specs.Views.{function_view}
-use Rattle.gang_machine.specs.Standings.{AreKept, Shows, Stands, view_of}
+use Rattle.gang_machine.specs.Standings.{AreKept, Shows, Stands, file_of, view_of}
 
-kept_front : (w : ℕ) (f : Function) (s : Setting) (n : ℕ) (events : List Event) (past : List Moment) → AreKept w f s events past → AreKept w f s events (take n past)
-kept_front w f s zero events past h = tt
-kept_front w f s (suc n) events [] h = tt
-kept_front w f s (suc n) [] (m ∷ past) h = absurd h
-kept_front w f s (suc n) (event ∷ events) (m ∷ past) h = (h.0, h.1, kept_front w f s n events past h.2)
+-- ---- the kept events
 
--- a step that is recorded, and does what the definitions' does
-pub stands_moved : (w : ℕ) (f : TreeFunction) (old new : History) (s : Setting) (d : Debugger) (next : State) → Stands (view_of w f old) s d → step s.program (now s d) ≡ Goes next
-    → Shows w (function_view f) new.words next → new.past ≡ take old.limit (moment undone.Step old.words ∷ old.past) → new.limit ≡ old.limit → Stands (view_of w f new) s (moved Step d)
-stands_moved w f old new s d next stands goes shows past limit = record {
-  program = stands.program;
-  words = subst (λ r. Shows w (function_view f) new.words (gone r (now s d))) (sym goes) shows;
-  past = rw past (kept_front w (function_view f) s old.limit (Step ∷ d.events) (moment undone.Step old.words ∷ old.past) (refl, stands.words, stands.past));
-  kept = rw (past, length-take, stands.kept, stands.limit) (omega arith);
-  limit = stands.limit ∙ sym limit;
-}
+module _ (w entry : ℕ) (file : List Var) (f : Function) (s : Setting) where
+  pub kept_front : (n : ℕ) (events : List Event) (past : List Moment) → AreKept w entry file f s events past → AreKept w entry file f s events (take n past)
+  kept_front zero events past h = tt
+  kept_front (suc n) events [] h = tt
+  kept_front (suc n) [] (m ∷ past) h = absurd h
+  kept_front (suc n) (event ∷ events) (m ∷ past) h = (h.0, h.1, kept_front n events past h.2)
 
--- the newest event is taken back
-pub stands_undone : (w : ℕ) (f : TreeFunction) (old new : History) (kind : Undone) (s : Setting) (d : Debugger) → Stands (view_of w f old) s d
-    → old.past ≡ moment kind new.words ∷ new.past → new.limit ≡ old.limit
-    → (event : Event) × (events : List Event) × (kept : ℕ) × (d.events ≡ event ∷ events) × (d.kept ≡ kept + 1) × (kind ≡ kind_of event) × Stands (view_of w f new) s (taken_back d)
-stands_undone w f old new kind s d stands past limit = go d.events d.kept refl stands.words (subst (AreKept w (function_view f) s d.events) past stands.past) (stands.kept ∙ ap length past)
-  where
-    go : (events : List Event) (kept : ℕ) → d.events ≡ events → Shows w (function_view f) old.words (after s.program s.first d.events) → AreKept w (function_view f) s d.events (moment kind new.words ∷ new.past) → d.kept ≡ suc (length new.past)
-        → (event : Event) × (events : List Event) × (kept : ℕ) × (d.events ≡ event ∷ events) × (d.kept ≡ kept + 1) × (kind ≡ kind_of event) × Stands (view_of w f new) s (taken_back d)
-    go [] kept is words are count = absurd (subst (λ events. AreKept w (function_view f) s events (moment kind new.words ∷ new.past)) is are)
-    go (event ∷ events) kept is words are count =
-        let all = subst (λ events. AreKept w (function_view f) s events (moment kind new.words ∷ new.past)) is are in (
-          event,
-          events,
-          length new.past,
-          is,
-          omega (arith, count),
-          all.0,
-          record {
-            program = stands.program;
-            words = rw is all.1;
-            past = rw is all.2;
-            kept = omega (arith, count);
-            limit = stands.limit ∙ sym limit;
-          },
-        )
-
--- the kept events are the newest ones
-events_kept : (w : ℕ) (f : Function) (s : Setting) (events : List Event) (past : List Moment) → AreKept w f s events past → map (λ (m : Moment). m.event) past ≡ map kind_of (take (length past) events)
-events_kept w f s events [] h = refl
-events_kept w f s [] (m ∷ past) h = absurd h
-events_kept w f s (event ∷ events) (m ∷ past) h = rw (h.0, events_kept w f s events past h.2)
+  -- they are the newest ones
+  pub events_kept : (events : List Event) (past : List Moment) → AreKept w entry file f s events past → map (λ (m : Moment). m.event) past ≡ map kind_of (take (length past) events)
+  events_kept events [] h = refl
+  events_kept [] (m ∷ past) h = absurd h
+  events_kept (event ∷ events) (m ∷ past) h = rw (h.0, events_kept events past h.2)
 
 count_from : (events : List Event) (n : ℕ) → fold (λ a x. a + cond (is_kept_step x) 1 0) n (map kind_of events) ≡ n + length (filter is_step events)
 count_from [] n = omega arith
 count_from (Step ∷ events) n = count_from events (n + 1) ∙ omega arith
 count_from (Poke what word ∷ events) n = count_from events (n + 0) ∙ omega arith
 
-pub steps_kept : (w : ℕ) (f : TreeFunction) (h : History) (s : Setting) (d : Debugger) → Stands (view_of w f h) s d → steps_in h.past ≡ kept_steps d
-steps_kept w f h s d stands =
-    ap (count_by is_kept_step) (events_kept w (function_view f) s d.events h.past stands.past ∙ ap (λ n. map kind_of (take n d.events)) (sym stands.kept))
-    ∙ count_from (take d.kept d.events) 0 ∙ omega arith
+-- ---- a machine
+
+module _ (w entry : ℕ) (f : TreeFunction) (globals : List TreeGlobal) (old : History) (s : Setting) (d : Debugger) (stands : Stands (view_of w entry f globals old) s d) where
+  -- a step that is recorded, and does what the definitions' does
+  pub stands_moved : (new : History) (next : State) → step s.program (now s d) ≡ Goes next → Shows w entry (file_of globals) (function_view f) new.words next
+      → new.past ≡ take old.limit (moment undone.Step old.words ∷ old.past) → new.limit ≡ old.limit → Stands (view_of w entry f globals new) s (moved Step d)
+  stands_moved new next goes shows past limit = record {
+    function = stands.function;
+    globals = stands.globals;
+    words = subst (λ r. Shows w entry (file_of globals) (function_view f) new.words (gone r (now s d))) (sym goes) shows;
+    past = rw past (kept_front w entry (file_of globals) (function_view f) s old.limit (Step ∷ d.events) (moment undone.Step old.words ∷ old.past) (refl, stands.words, stands.past));
+    kept = rw (past, length-take, stands.kept, stands.limit) (omega arith);
+    limit = stands.limit ∙ sym limit;
+  }
+
+  -- the newest event is taken back
+  pub stands_undone : (new : History) (kind : Undone) → old.past ≡ moment kind new.words ∷ new.past → new.limit ≡ old.limit
+      → (event : Event) × (events : List Event) × (kept : ℕ) × (d.events ≡ event ∷ events) × (d.kept ≡ kept + 1) × (kind ≡ kind_of event) × Stands (view_of w entry f globals new) s (taken_back d)
+  stands_undone new kind past limit = go d.events refl (subst (AreKept w entry (file_of globals) (function_view f) s d.events) past stands.past) (stands.kept ∙ ap length past)
+    where
+      go : (events : List Event) → d.events ≡ events → AreKept w entry (file_of globals) (function_view f) s d.events (moment kind new.words ∷ new.past) → d.kept ≡ suc (length new.past)
+          → (event : Event) × (events : List Event) × (kept : ℕ) × (d.events ≡ event ∷ events) × (d.kept ≡ kept + 1) × (kind ≡ kind_of event) × Stands (view_of w entry f globals new) s (taken_back d)
+      go [] is are count = absurd (subst (λ events. AreKept w entry (file_of globals) (function_view f) s events (moment kind new.words ∷ new.past)) is are)
+      go (event ∷ events) is are count =
+          let all = subst (λ events. AreKept w entry (file_of globals) (function_view f) s events (moment kind new.words ∷ new.past)) is are in (
+            event,
+            events,
+            length new.past,
+            is,
+            omega (arith, count),
+            all.0,
+            record {
+              function = stands.function;
+              globals = stands.globals;
+              words = rw is all.1;
+              past = rw is all.2;
+              kept = omega (arith, count);
+              limit = stands.limit ∙ sym limit;
+            },
+          )
+
+  pub steps_kept : steps_in old.past ≡ kept_steps d
+  steps_kept =
+      ap (count_by is_kept_step) (events_kept w entry (file_of globals) (function_view f) s d.events old.past stands.past ∙ ap (λ n. map kind_of (take n d.events)) (sym stands.kept))
+      ∙ count_from (take d.kept d.events) 0 ∙ omega arith

@@ -1,139 +1,280 @@
 -- Words that show a state, one step on.
-use Rattle.std.proofs.Common.{◌≡◌, ◌≢◌, refl, sym, ap, subst, ◌∙◌, ℕ, suc, ◌+◌, ◌*◌, ◌<◌, ◌≤◌, ◌⊎◌, inl, inr, Bool, true, false, nat_eq, List, [], ◌∷◌, length, set, drop, slice_index, arith}
-use Rattle.std.proofs.lemmas.Bool.Decides.{nat_tests}
-use Rattle.std.proofs.lemmas.Bool.{cases_lt}
-use Rattle.std.proofs.lemmas.List.{get_or-set_same, get_or-set_other}
-use Rattle.std.proofs.Math.Nat.{mul-le-mul_right}
-use Rattle.std.specs.Prelude.{Some, slice_get}
-use Rattle.gang_types.specs.declared.places.VarId.TheVariants.{Local}
-use Rattle.gang_model.specs.Lanes.{each}
-use Rattle.gang_model.specs.Tree.{Stmt, Empty, Then, Function}
-use Rattle.gang_model.specs.State.{Run, Frame, State, Store, words_of, with_words, seen}
-use Rattle.gang_model.specs.Step.{deliver, left, opened, settle, step, step_frame, step_task, stepped, steps_of, task, Goes, Over}
-use Rattle.typed_tree.specs.Plain.{IsPlainBody, IsPlainStep}
-use Rattle.gang_machine.specs.Assigned.{Assignment, assigned_word, written_by}
-use Rattle.gang_machine.specs.Layout.{Stored, all_lanes, declared_before, position, rest_after, slot_of, variable_words}
-use Rattle.gang_machine.specs.Standings.{Shows, ShowsFrame, program_with}
-use Rattle.gang_machine.proofs.GangWords.{each_same}
-use Rattle.gang_machine.proofs.Performed.{opened_step, others_declared, settled_rest, step_makes}
+use Rattle.std.proofs.Common.{◌≡◌, ◌≢◌, refl, sym, ap, subst, ◌∙◌, ℕ, suc, ◌+◌, ◌<◌, inl, inr, List, [], ◌∷◌, ◌++◌, length, drop, slice_index, arith}
+use Rattle.std.proofs.lemmas.Option.{slice_get_within}
+use Rattle.std.proofs.Math.ListN.{drop_of_length-le}
+use Rattle.std.specs.Prelude.{Ok, Some, flat_map, slice_get}
+use Rattle.gang_types.specs.declared.places.VarId.{VarId}
+use Rattle.gang_types.specs.declared.places.VarId.TheVariants.{File, Local}
+use Rattle.gang_types.specs.Lanes.{Lanes}
+use Rattle.gang_model.specs.Tree.{Var, Stmt, Declare, Assign, Change, Function, Program}
+use Rattle.gang_model.specs.State.{Run, Frame, State, Store, Task, words_of, with_words, with_words_in, seen}
+use Rattle.gang_model.specs.Step.{deliver, left, run, settle, settled, step, step_frame, step_task, stepped, task, Goes, Over}
+use Rattle.scalar_programs.specs.Scalars.{declared_before, declared_by, steps_in_line, var_at}
+use Rattle.scalar_steps.specs.Written.{kept_words}
+use Rattle.gang_machine.specs.Layout.{StandsAt, all_lanes, place_of, position, rate_words, slot_of, words_count}
+use Rattle.gang_machine.specs.Remaining.{AreLines, AreRemaining, BeginWithStep, IsSimple, tasks_of}
+use Rattle.gang_machine.specs.Standings.{Shows, ShowsFrame, ShowsMemory, step_count}
+use Rattle.gang_machine.proofs.Alterations.{Alters, Written, same_or_not}
+use Rattle.gang_machine.proofs.Lines.{declared_more, drop_first}
+use Rattle.gang_machine.proofs.Remains.{settled_remains, some_lane}
 use Rattle.gang_machine.proofs.Stores.{words_kept, words_set}
-use Rattle.gang_machine.proofs.StraightLines.{BodyFrom, body_at, declared_more, first_of_body, plain_is_one, rest_all, rest_more}
 
--- ---- words
+-- ---- tasks
 
--- an assignment was made, and the position moved on
-pub record Written (w : ℕ) (a : Assignment) (old new : List ℕ) : Type 0 where
-  pub next : position new ≡ suc (position old)
-  pub here : (lane : ℕ) → lane < w → slice_index new (slot_of w a.variable lane) ≡ assigned_word w old a lane
-  pub others : (k lane : ℕ) → k ≢ a.variable → lane < w → slice_index new (slot_of w k lane) ≡ slice_index old (slot_of w k lane)
+-- the first task is the next step, and the others come to the steps after it
+pub record NextTask (lanes : Lanes) (s : Stmt) (steps : List Stmt) (tasks : List Task) : Type 0 where
+  pub rest : List Stmt
+  pub tasks_are : tasks ≡ task (Run s) lanes ∷ tasks_of lanes rest
+  pub lines : AreLines rest
+  pub steps_are : flat_map steps_in_line rest ≡ steps
 
--- the slots of another variable
-apart : (w k m lane : ℕ) → k ≢ m → lane < w → (slot_of w k lane < slot_of w m 0) ⊎ (slot_of w m w ≤ slot_of w k lane)
-apart w k m lane other below = elim (cases_lt k m) [
-  | inl less ↦
-      let at_most : (k + 1) * w ≤ m * w = mul-le-mul_right w (omega arith) in
-      inl (omega arith)
-  | inr more ↦
-      let at_least : (m + 1) * w ≤ k * w = mul-le-mul_right w (omega arith) in
-      inr (omega arith)
-]
+simple_alone : (s : Stmt) → IsSimple s → steps_in_line s ≡ s ∷ []
+simple_alone (Declare number v e) simple = refl
+simple_alone (Assign number target e) simple = refl
+simple_alone (Change number target type op in_type e) simple = refl
+simple_alone s simple = absurd simple
 
-pub written : (w i : ℕ) (a : Assignment) (value : ℕ → ℕ) (old new : List ℕ) → 0 < length old → i ≡ position old → ((lane : ℕ) → lane < w → value lane ≡ assigned_word w old a lane)
-    → Stored w a.variable w value old new → Written w a old (set new 0 (i + 1))
-written w i a value old new some at are s = record {
-  next = get_or-set_same new 0 (i + 1) 0 (omega (arith, s.long)) ∙ omega arith;
-  here = λ lane below. get_or-set_other new 0 (slot_of w a.variable lane) (i + 1) 0 (λ e. omega arith) ∙ s.here lane below ∙ are lane below;
-  others = λ k lane other below. get_or-set_other new 0 (slot_of w k lane) (i + 1) 0 (λ e. omega arith) ∙ s.others (slot_of w k lane) (apart w k a.variable lane other below);
-}
+next_task : (lanes : Lanes) (s : Stmt) (steps : List Stmt) (tasks : List Task) → AreRemaining lanes (s ∷ steps) tasks → NextTask lanes s steps tasks
+next_task lanes s steps tasks remaining = go remaining.statements remaining.tasks_are remaining.lines remaining.steps_are remaining.first
+  where
+    go : (statements : List Stmt) → tasks ≡ tasks_of lanes statements → AreLines statements → flat_map steps_in_line statements ≡ s ∷ steps → BeginWithStep statements → NextTask lanes s steps tasks
+    go [] are lines come first = cc
+    go (x ∷ rest) are lines come first =
+        let split : x ∷ flat_map steps_in_line rest ≡ s ∷ steps = sym (ap (λ xs. xs ++ flat_map steps_in_line rest) (simple_alone x first)) ∙ come in
+        let same : x ≡ s = cc in
+        record {
+          rest = rest;
+          tasks_are = are ∙ ap (λ y. task (Run y) lanes ∷ tasks_of lanes rest) same;
+          lines = lines.1;
+          steps_are = cc;
+        }
 
-module _ (w : ℕ) (f : Function) (plain : IsPlainBody 0 0 f.body f.standings) where
+pub no_tasks : (lanes : Lanes) (tasks : List Task) → AreRemaining lanes [] tasks → tasks ≡ []
+no_tasks lanes tasks remaining = go remaining.statements remaining.tasks_are remaining.steps_are remaining.first
+  where
+    go : (statements : List Stmt) → tasks ≡ tasks_of lanes statements → flat_map steps_in_line statements ≡ [] → BeginWithStep statements → tasks ≡ []
+    go [] are come first = are
+    go (x ∷ rest) are come first =
+        let split : x ∷ flat_map steps_in_line rest ≡ [] = sym (ap (λ xs. xs ++ flat_map steps_in_line rest) (simple_alone x first)) ∙ come in
+        cc
+
+module _ (w entry : ℕ) (file : List Var) (f : Function) where
   -- ---- at the end
 
-  pub over : (words : List ℕ) (state : State) → Shows w f words state → steps_of f.body < position words → step (program_with f) state ≡ Over
-  over words state shows past = ap (step_frame (program_with f) state.memory) (shows.ended past)
+  pub over : (p : Program) (words : List ℕ) (state : State) → Shows w entry file f words state → step_count f < position words → step p state ≡ Over
+  over p words state shows past = ap (step_frame p state.memory) (shows.ended past)
 
   -- ---- at the closing brace
 
-  pub leaves : (words new : List ℕ) (state : State) → Shows w f words state → position words ≡ steps_of f.body → position new ≡ suc (position words)
-      → (next : State) × (step (program_with f) state ≡ Goes next) × Shows w f new next
-  leaves words new state shows at next =
-      let (frame, frames_are, sh) = shows.running (omega arith) in
-      let p = program_with f in
+  -- the variables of the file stay where they are
+  memory_stays : (words new : List ℕ) (memory : Store) → ((place lane : ℕ) → slice_index new (slot_of w place lane) ≡ slice_index words (slot_of w place lane))
+      → ShowsMemory w file words memory → ShowsMemory w file new memory
+  memory_stays words new memory same shown = record {
+    counts = shown.counts;
+    stand = λ k inside lane below. same k lane ∙ shown.stand k inside lane below;
+  }
+
+  pub leaves : (p : Program) (words new : List ℕ) (state : State) → slice_get p.functions entry ≡ Some f → Shows w entry file f words state → position words ≡ step_count f → position new ≡ suc (position words)
+      → ((place lane : ℕ) → slice_index new (slot_of w place lane) ≡ slice_index words (slot_of w place lane))
+      → (next : State) × (step p state ≡ Goes next) × Shows w entry file f new next
+  leaves p words new state is_entry shows at next same =
+      let (frame, frames_are, sh) = shows.running (omega (arith, at)) in
       let rest : State = record { memory = state.memory; frames = [] } in
-      let none : rest_after (position words) f.body ≡ Empty = ap (λ i. rest_after i f.body) at ∙ rest_all 0 0 f.body f.standings plain in (
+      let none : drop (position words) (steps_in_line f.body) ≡ [] = drop_of_length-le (steps_in_line f.body) (omega (arith, at)) in
+      let done : frame.tasks ≡ [] = no_tasks (all_lanes w) frame.tasks (subst (λ steps. AreRemaining (all_lanes w) steps frame.tasks) none sh.tasks) in (
         rest,
         ap (step_frame p state.memory) frames_are
-            ∙ ap (step_task p state.memory [] frame) (sh.tasks ∙ ap (λ s. opened s (all_lanes w)) none)
+            ∙ ap (step_task p state.memory [] frame) done
             ∙ ap (λ n. Goes (settle (left p (slice_get p.functions n) frame rest))) sh.function
+            ∙ ap (λ o. Goes (settle (left p o frame rest))) is_entry
             ∙ ap (λ r. Goes (settle (deliver p f.result_type r frame.lanes (seen f.result frame.lanes frame.result) rest))) sh.result_for,
-        record { running = λ within. absurd (omega arith); ended = λ past. refl },
+        record {
+          memory = memory_stays words new state.memory same shows.memory;
+          running = λ within. absurd (omega (arith, at, next, within));
+          ended = λ past. refl;
+        },
       )
 
   -- ---- at a step
 
-  pub record AtStep (i : ℕ) (s rest : Stmt) (a : Assignment) : Type 0 where
-    pub rest_is : rest_after i f.body ≡ Then s rest
-    pub below : i < steps_of f.body
-    pub writes : Some a ≡ written_by s
+  -- what is written at a step that stands next
+  pub record AtStep (words new values : List ℕ) (s : Stmt) (v : Var) : Type 0 where
+    pub get : slice_get (steps_in_line f.body) (position words) ≡ Some s
+    pub alters : Alters file (declared_before (position words) f.body) s v
+    pub wrote : Written w (length file) v values words new
+    pub long : length (kept_words v.rate values) ≡ rate_words w v.rate
 
-  -- the words of the variables that are declared after the step
-  words_on : (words new : List ℕ) (store : Store) (a : Assignment) (k : ℕ) (b : Bool) → nat_eq k a.variable ≡ b → Written w a words new → (k ≢ a.variable → words_of store (Local k) ≡ variable_words w k words)
-      → words_of (with_words store (Local a.variable) (each (all_lanes w) (assigned_word w words a))) (Local k) ≡ variable_words w k new
-  words_on words new store a k true is wrote were =
-      let same : k ≡ a.variable = grind (arith, nat_tests) in
-      subst (λ n. words_of (with_words store (Local a.variable) (each (all_lanes w) (assigned_word w words a))) (Local n) ≡ variable_words w n new) (sym same)
-      (words_set store a.variable (each (all_lanes w) (assigned_word w words a)) ∙ each_same w (assigned_word w words a) (λ lane. slice_index new (slot_of w a.variable lane)) (λ lane below. sym (wrote.here lane below)))
-  words_on words new store a k false is wrote were =
-      let other : k ≢ a.variable = λ e. grind (arith, nat_tests) in
-      words_kept store a.variable k (each (all_lanes w) (assigned_word w words a)) other ∙ were other
-      ∙ each_same w (λ lane. slice_index words (slot_of w k lane)) (λ lane. slice_index new (slot_of w k lane)) (λ lane below. sym (wrote.others k lane other below))
+  module _ (words new values : List ℕ) (s : Stmt) (v : Var) (here : AtStep words new values s v) where
+    declared_next : declared_before (position new) f.body ≡ declared_before (position words) f.body ++ declared_by s
+    declared_next = ap (λ n. declared_before n f.body) here.wrote.next ∙ declared_more f.body (position words) s here.get
 
-  -- the frame after the step
-  abbrev frame_on : List ℕ → Frame → Stmt → Assignment → Frame
-  frame_on words frame rest a = record frame { vars = with_words frame.vars (Local a.variable) (each (all_lanes w) (assigned_word w words a)); tasks = opened rest (all_lanes w) }
+    -- a variable of the file that is not written
+    file_kept : (n : ℕ) → v.id ≡ Local n → (memory : Store) → ShowsMemory w file words memory → ShowsMemory w file new memory
+    file_kept n is memory shown = record {
+      counts = shown.counts;
+      stand = λ k inside lane below.
+          here.wrote.others k lane (λ e. let place : place_of (length file) v.id ≡ length file + n = ap (place_of (length file)) is in omega (arith, e, place, inside)) below ∙ shown.stand k inside lane below;
+    }
 
-  -- what is known of a step
-  pub first_here : (i : ℕ) (s rest : Stmt) → rest_after i f.body ≡ Then s rest → i < steps_of f.body → BodyFrom i (declared_before i f.body) s rest (drop i f.standings)
-  first_here i s rest rest_is below =
-      first_of_body i (declared_before i f.body) s rest (drop i f.standings)
-      (subst (λ b. IsPlainBody i (declared_before i f.body) b (drop i f.standings)) rest_is (body_at i f.body f.standings plain (omega arith)))
+    -- one that is
+    file_written : (n : ℕ) → v.id ≡ File n → (memory : Store) → ShowsMemory w file words memory → ShowsMemory w file new (with_words memory (File n) (kept_words v.rate values))
+    file_written n is memory shown = record { counts = count; stand = stand }
+      where
+        there : slice_get file n ≡ Some v
+        there = subst (λ i. var_at file (declared_before (position words) f.body ++ declared_by s) i ≡ Some v) is here.alters.here
 
-  frame_steps : (words : List ℕ) (memory : Store) (frame : Frame) (i : ℕ) (s rest : Stmt) (a : Assignment) (declared after : ℕ) → 0 < w → IsPlainStep i declared s after
-      → (vars : (k : ℕ) → k < declared → words_of frame.vars (Local k) ≡ variable_words w k words) → Some a ≡ written_by s → frame.tasks ≡ opened (Then s rest) (all_lanes w)
-      → step (program_with f) (record { memory = memory; frames = frame ∷ [] }) ≡ Goes (record { memory = memory; frames = frame_on words frame rest a ∷ [] })
-  frame_steps words memory frame i s rest a declared after some one vars writes tasks =
-      let p = program_with f in
-      let ran = (step_makes w words memory (record frame { tasks = task (Run rest) (all_lanes w) ∷ [] }) declared vars p i s after a one writes).run_is in
-      ap (step_task p memory [] frame) (tasks ∙ opened_step i declared s after rest (all_lanes w) one)
-      ∙ ap stepped ran
-      ∙ ap (λ ts. Goes (record { memory = memory; frames = record frame { vars = with_words frame.vars (Local a.variable) (each (all_lanes w) (assigned_word w words a)); tasks = ts } ∷ [] })) (settled_rest w rest some)
+        count : (k : ℕ) → length (words_of (with_words memory (File n) (kept_words v.rate values)) (File k)) ≡ words_count w (slice_get file k)
+        count k = elim (same_or_not k n) [
+          | inl same ↦
+              subst (λ m. length (words_of (with_words memory (File n) (kept_words v.rate values)) (File m)) ≡ words_count w (slice_get file m)) (sym same)
+              (ap length (words_set memory (File n) (kept_words v.rate values)) ∙ here.long ∙ sym (ap (words_count w) there))
+          | inr other ↦ ap length (words_kept memory (File n) (File k) (kept_words v.rate values) (λ e. other (cc))) ∙ shown.counts k
+        ]
 
-  frame_shows : (words new : List ℕ) (frame : Frame) (i : ℕ) (s rest : Stmt) (a : Assignment) → ShowsFrame w f words frame → i ≡ position words → AtStep i s rest a → Written w a words new
-      → ShowsFrame w f new (frame_on words frame rest a)
-  frame_shows words new frame i s rest a sh at here wrote =
-      let first = first_here i s rest here.rest_is here.below in
-      let one = plain_is_one i (declared_before i f.body) s first.after first.step in
-      let count : declared_before (suc i) f.body ≡ first.after = declared_more i f.body s rest here.rest_is ∙ sym one.after_is in
-      let next : position new ≡ suc i = wrote.next ∙ ap suc (sym at) in
+        stand : (k : ℕ) → k < length file → StandsAt w k new (words_of (with_words memory (File n) (kept_words v.rate values)) (File k))
+        stand k inside = elim (same_or_not k n) [
+          | inl same ↦
+              subst (λ m. StandsAt w m new (words_of (with_words memory (File n) (kept_words v.rate values)) (File m))) (sym same)
+              (λ lane below. subst (λ i. slice_index new (slot_of w (place_of (length file) i) lane) ≡ slice_index (kept_words v.rate values) lane) is (here.wrote.here lane below)
+              ∙ sym (ap (λ ws. slice_index ws lane) (words_set memory (File n) (kept_words v.rate values))))
+          | inr other ↦
+              λ lane below.
+              here.wrote.others k lane (λ e. other (e ∙ ap (place_of (length file)) is)) below ∙ shown.stand k inside lane below
+              ∙ sym (ap (λ ws. slice_index ws lane) (words_kept memory (File n) (File k) (kept_words v.rate values) (λ e. other (cc))))
+        ]
+
+    -- the variables of the function, by a store
+    abbrev Locals : List ℕ → List Var → Store → Type 0
+    Locals now declared vars =
+        ((k : ℕ) → length (words_of vars (Local k)) ≡ words_count w (slice_get declared k)) × ((k : ℕ) → StandsAt w (length file + k) now (words_of vars (Local k)))
+
+    -- a variable of the file is written
+    locals_kept : (n : ℕ) → v.id ≡ File n → (vars : Store) → Locals words (declared_before (position words) f.body) vars → Locals new (declared_before (position words) f.body ++ declared_by s) vars
+    locals_kept n is vars shown =
+        let there : slice_get file n ≡ Some v = subst (λ i. var_at file (declared_before (position words) f.body ++ declared_by s) i ≡ Some v) is here.alters.here in
+        let inside = slice_get_within file n v there in (
+          λ k. shown.0 k ∙ sym (ap (words_count w) (here.alters.others (Local k) (λ e. absurd (local_file k n (e ∙ is))))),
+          λ k lane below.
+              here.wrote.others (length file + k) lane (λ e. let place : place_of (length file) v.id ≡ n = ap (place_of (length file)) is in omega (arith, e, place, inside)) below ∙ shown.1 k lane below,
+        )
+      where
+        local_file : (k n : ℕ) → Local k ≡ File n → ⊥
+        local_file k n e = cc
+
+    -- one of the function is
+    locals_written : (n : ℕ) → v.id ≡ Local n → (vars : Store) → Locals words (declared_before (position words) f.body) vars
+        → Locals new (declared_before (position words) f.body ++ declared_by s) (with_words vars (Local n) (kept_words v.rate values))
+    locals_written n is vars shown = (count, stand)
+      where
+        there : slice_get (declared_before (position words) f.body ++ declared_by s) n ≡ Some v
+        there = subst (λ i. var_at file (declared_before (position words) f.body ++ declared_by s) i ≡ Some v) is here.alters.here
+
+        apart : (k : ℕ) → k ≢ n → Local k ≢ Local n
+        apart k other e = other (cc)
+
+        count : (k : ℕ) → length (words_of (with_words vars (Local n) (kept_words v.rate values)) (Local k)) ≡ words_count w (slice_get (declared_before (position words) f.body ++ declared_by s) k)
+        count k = elim (same_or_not k n) [
+          | inl same ↦
+              subst (λ m. length (words_of (with_words vars (Local n) (kept_words v.rate values)) (Local m)) ≡ words_count w (slice_get (declared_before (position words) f.body ++ declared_by s) m)) (sym same)
+              (ap length (words_set vars (Local n) (kept_words v.rate values)) ∙ here.long ∙ sym (ap (words_count w) there))
+          | inr other ↦
+              ap length (words_kept vars (Local n) (Local k) (kept_words v.rate values) (apart k other)) ∙ shown.0 k
+              ∙ sym (ap (words_count w) (here.alters.others (Local k) (λ e. apart k other (e ∙ is))))
+        ]
+
+        stand : (k : ℕ) → StandsAt w (length file + k) new (words_of (with_words vars (Local n) (kept_words v.rate values)) (Local k))
+        stand k = elim (same_or_not k n) [
+          | inl same ↦
+              subst (λ m. StandsAt w (length file + m) new (words_of (with_words vars (Local n) (kept_words v.rate values)) (Local m))) (sym same)
+              (λ lane below. subst (λ i. slice_index new (slot_of w (place_of (length file) i) lane) ≡ slice_index (kept_words v.rate values) lane) is (here.wrote.here lane below)
+              ∙ sym (ap (λ ws. slice_index ws lane) (words_set vars (Local n) (kept_words v.rate values))))
+          | inr other ↦
+              λ lane below.
+              here.wrote.others (length file + k) lane (λ e. let place : place_of (length file) v.id ≡ length file + n = ap (place_of (length file)) is in other (omega (arith, e, place))) below ∙ shown.1 k lane below
+              ∙ sym (ap (λ ws. slice_index ws lane) (words_kept vars (Local n) (Local k) (kept_words v.rate values) (apart k other)))
+        ]
+
+    -- a frame after the step shows again
+    frame_after : (frame after : Frame) → ShowsFrame w entry file f words frame → after.function ≡ frame.function → after.lanes ≡ frame.lanes → after.result_for ≡ frame.result_for
+        → AreRemaining (all_lanes w) (drop (suc (position words)) (steps_in_line f.body)) after.tasks
+        → Locals new (declared_before (position words) f.body ++ declared_by s) after.vars → ShowsFrame w entry file f new after
+    frame_after frame after sh function lanes result_for remaining locals = record {
+      function = function ∙ sh.function;
+      lanes = lanes ∙ sh.lanes;
+      result_for = result_for ∙ sh.result_for;
+      tasks = subst (λ n. AreRemaining (all_lanes w) (drop n (steps_in_line f.body)) after.tasks) (sym here.wrote.next) remaining;
+      counts = λ k. locals.0 k ∙ sym (ap (λ vs. words_count w (slice_get vs k)) declared_next);
+      stand = locals.1;
+    }
+
+    -- the state with the first task taken
+    abbrev taken : State → Frame → List Stmt → State
+    taken state frame rest = record { memory = state.memory; frames = record frame { tasks = tasks_of (all_lanes w) rest } ∷ [] }
+
+    -- the state after the step shows again
+    shows_after : (state : State) (frame : Frame) (rest : List Stmt) → 0 < w → ShowsMemory w file words state.memory → ShowsFrame w entry file f words frame → AreLines rest
+        → flat_map steps_in_line rest ≡ drop (suc (position words)) (steps_in_line f.body)
+        → (id : VarId) → v.id ≡ id → Shows w entry file f new (settle (with_words_in (taken state frame rest) id (kept_words v.rate values)))
+    shows_after state frame rest some memory sh lines come (File n) is =
+        let inside = slice_get_within (steps_in_line f.body) (position words) s here.get in
+        let remaining = subst (λ steps. AreRemaining (all_lanes w) steps (settled (tasks_of (all_lanes w) rest))) come (settled_remains (all_lanes w) rest (some_lane w some) lines) in
+        record {
+          memory = file_written n is state.memory memory;
+          running = λ within. (_, refl, frame_after frame (record frame { tasks = settled (tasks_of (all_lanes w) rest) }) sh refl refl refl remaining (locals_kept n is frame.vars (sh.counts, sh.stand)));
+          ended = λ past. absurd (omega (arith, inside, here.wrote.next, past));
+        }
+    shows_after state frame rest some memory sh lines come (Local n) is =
+        let inside = slice_get_within (steps_in_line f.body) (position words) s here.get in
+        let remaining = subst (λ steps. AreRemaining (all_lanes w) steps (settled (tasks_of (all_lanes w) rest))) come (settled_remains (all_lanes w) rest (some_lane w some) lines) in
+        record {
+          memory = file_kept n is state.memory memory;
+          running = λ within. (
+            _,
+            refl,
+            frame_after frame (record frame { vars = with_words frame.vars (Local n) (kept_words v.rate values); tasks = settled (tasks_of (all_lanes w) rest) }) sh refl refl refl remaining
+                (locals_written n is frame.vars (sh.counts, sh.stand)),
+          );
+          ended = λ past. absurd (omega (arith, inside, here.wrote.next, past));
+        }
+
+  -- what a frame does next
+  pub next_here : (words : List ℕ) (frame : Frame) (s : Stmt) → ShowsFrame w entry file f words frame → slice_get (steps_in_line f.body) (position words) ≡ Some s
+      → NextTask (all_lanes w) s (drop (suc (position words)) (steps_in_line f.body)) frame.tasks
+  next_here words frame s sh get =
+      next_task (all_lanes w) s (drop (suc (position words)) (steps_in_line f.body)) frame.tasks
+      (subst (λ steps. AreRemaining (all_lanes w) steps frame.tasks) (drop_first (steps_in_line f.body) (position words) s get) sh.tasks)
+
+  -- the frame where a step stands next, and the state that the step runs in
+  pub record RunsIn (words : List ℕ) (state : State) (s : Stmt) : Type 0 where
+    pub frame : Frame
+    pub frames_are : state.frames ≡ frame ∷ []
+    pub shown : ShowsFrame w entry file f words frame
+    pub next : NextTask (all_lanes w) s (drop (suc (position words)) (steps_in_line f.body)) frame.tasks
+
+  pub runs_in : (words : List ℕ) (state : State) (s : Stmt) → Shows w entry file f words state → slice_get (steps_in_line f.body) (position words) ≡ Some s → RunsIn words state s
+  runs_in words state s shows get =
+      let inside = slice_get_within (steps_in_line f.body) (position words) s get in
+      let (frame, frames_are, sh) = shows.running (omega (arith, inside)) in
       record {
-        function = sh.function;
-        lanes = sh.lanes;
-        result_for = sh.result_for;
-        tasks = ap (λ r. opened r (all_lanes w)) (sym (ap (λ n. rest_after n f.body) next ∙ rest_more i f.body s rest here.rest_is));
-        vars = λ k below.
-            let within : k < first.after = subst (λ n. k < n) count (subst (λ n. k < declared_before n f.body) next below) in
-            words_on words new frame.vars a k (nat_eq k a.variable) refl wrote (λ other.
-            sh.vars k (subst (λ n. k < declared_before n f.body) at (others_declared i (declared_before i f.body) s first.after a first.step here.writes k within other)));
+        frame = frame;
+        frames_are = frames_are;
+        shown = sh;
+        next = next_here words frame s sh get;
       }
 
-  pub steps_on : (words new : List ℕ) (state : State) (i : ℕ) (s rest : Stmt) (a : Assignment) → 0 < w → Shows w f words state → i ≡ position words → AtStep i s rest a → Written w a words new
-      → (next : State) × (step (program_with f) state ≡ Goes next) × Shows w f new next
-  steps_on words new state i s rest a some shows at here wrote =
-      let (frame, frames_are, sh) = shows.running (omega (arith, here.below)) in
-      let first = first_here i s rest here.rest_is here.below in (
-        record { memory = state.memory; frames = frame_on words frame rest a ∷ [] },
-        ap (step_frame (program_with f) state.memory) frames_are
-            ∙ frame_steps words state.memory frame i s rest a (declared_before i f.body) first.after some first.step (λ k below. sh.vars k (subst (λ n. k < declared_before n f.body) at below)) here.writes
-            (sh.tasks ∙ ap (λ n. opened (rest_after n f.body) (all_lanes w)) (sym at) ∙ ap (λ b. opened b (all_lanes w)) here.rest_is),
-        record { running = λ within. (frame_on words frame rest a, refl, frame_shows words new frame i s rest a sh at here wrote); ended = λ past. absurd (omega (arith, here.below, wrote.next, past)) },
-      )
+  -- the state that the step runs in
+  abbrev pub state_in : (words : List ℕ) (state : State) (s : Stmt) → RunsIn words state s → State
+  state_in words state s runs = record { memory = state.memory; frames = record runs.frame { tasks = tasks_of (all_lanes w) runs.next.rest } ∷ [] }
+
+  -- the step of the program, by what its statement runs to
+  pub step_runs : (p : Program) (words : List ℕ) (state : State) (s : Stmt) (runs : RunsIn words state s) → step p state ≡ stepped (run p s (all_lanes w) (state_in words state s runs))
+  step_runs p words state s runs = ap (step_frame p state.memory) runs.frames_are ∙ ap (step_task p state.memory [] runs.frame) runs.next.tasks_are
+
+  pub steps_on : (p : Program) (words new values : List ℕ) (state : State) (s : Stmt) (v : Var) → 0 < w → Shows w entry file f words state → AtStep words new values s v
+      → (runs : RunsIn words state s) → run p s (all_lanes w) (state_in words state s runs) ≡ Ok (with_words_in (state_in words state s runs) v.id (kept_words v.rate values))
+      → (next : State) × (step p state ≡ Goes next) × Shows w entry file f new next
+  steps_on p words new values state s v some shows here runs ran = (
+    settle (with_words_in (state_in words state s runs) v.id (kept_words v.rate values)),
+    step_runs p words state s runs ∙ ap stepped ran,
+    shows_after words new values s v here state runs.frame runs.next.rest some shows.memory runs.shown runs.next.lines runs.next.steps_are v.id refl,
+  )

@@ -1,3 +1,6 @@
+pub mod Found
 pub mod Layout
-pub mod Assigned
+pub mod Machines
+pub mod Remaining
 pub mod Standings
+pub mod Stored

@@ -1,11 +1,12 @@
-//! A machine that runs a straight-line program step by step, and takes steps back: one function without parameters, whose
-//! body declares varying int32 variables, assigns to them and adds to them.
+//! A machine that runs a scalar program step by step, and takes steps back: a program whose entry is a straight line of
+//! declarations and assignments of scalars, in any blocks, with variables of the file.
 #![tactic(auto)]
 
-mod assignments;
-mod lanes;
 mod machine;
+mod names;
 mod opening;
+mod slots;
+mod variables;
 
 pub use machine::Machine;
 pub use opening::open;

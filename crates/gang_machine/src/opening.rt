@@ -1,20 +1,25 @@
 //! A machine before the first step of a program.
-ghost use Rattle.std.specs.Prelude.{◌≡◌, ℕ, ◌^◌, ◌<◌, ◌≤◌, [], IfOk, IfSome};
-ghost use Rattle.std.specs.List.{count_by};
+ghost use Rattle.std.specs.Prelude.{◌≡◌, ℕ, ◌+◌, ◌^◌, ◌<◌, ◌≤◌, [], Some, length, slice_get, IfOk, IfSome};
 ghost use Rattle.gang_types.specs.Masks.{IsGangWidth};
+ghost use Rattle.gang_types.specs.declared.places.VarId.TheVariants.{Local};
 ghost use Rattle.gang_model.specs.Debugger.{fresh};
+ghost use Rattle.gang_model.specs.RunningOrder.{IsNumberedProgram};
 ghost use Rattle.gang_model.specs.Transcript.{setting};
-ghost use Rattle.typed_tree.specs.Plain.{IsPlainProgram};
+ghost use Rattle.scalar_programs.specs.Scalars.{IsScalarProgram};
+ghost use Rattle.scalar_steps.specs.declared.assignment.Assignment.{Assignment as Made};
 ghost use Rattle.typed_tree.specs.Views.{program_view};
-ghost use Rattle.gang_machine.specs.Layout.{is_declaration, words_needed};
-ghost use Rattle.gang_machine.specs.Standings.{AreNamed, Stands};
+ghost use Rattle.gang_machine.specs.Layout.{words_needed};
+ghost use Rattle.gang_machine.specs.Standings.{Stands};
 
 use crate::machine::Machine;
+use crate::slots::store_globals;
+use gang_types::{FuncId, VarId};
+use scalar_steps::{Assignment, assignments};
 use std::alloc::{AllocError, Global};
-use typed_tree::{Program, Stmt};
+use typed_tree::Program;
 use undo_log::SnapshotRing;
 
-/// A machine before the first step of a program, that keeps at most `history` steps. All memory is taken here.
+/// A machine before the first step of a program's entry, that keeps at most `history` steps. All memory is taken here.
 ///
 /// # Errors
 ///
@@ -22,47 +27,57 @@ use undo_log::SnapshotRing;
 pub fn open<const W: usize>(
     alloc: Global,
     program: Program,
+    entry: FuncId,
     history: u32,
 ) -> Result<Machine<W, SnapshotRing>, AllocError>
     requires width { IsGangWidth W }
-    requires plain { IsPlainProgram (program_view program) }
-    requires named { AreNamed program }
+    requires scalars { IsScalarProgram (program_view program) entry.0 }
+    requires numbered { IsNumberedProgram (program_view program) }
     requires range { (1 ≤ history) × (history ≤ 65536) }
     ensures { IfOk result
-        (λ machine. (steps : ℕ) → Stands machine (setting (program_view program) 0 [] (record { width = W; history = history; steps = steps })) (fresh history)) }
+        (λ machine. (steps : ℕ) → Stands machine (setting (program_view program) entry.0 [] (record { width = W; history = history; steps = steps })) (fresh history)) }
 {
     let Program {
         mut functions,
-        globals: _,
+        globals,
     } = program;
-    let function = functions.pop().unwrap();
-    let Some(words) = word_count::<W>(declaration_count(&function.body)) else {
+    let function = functions.remove(entry.0);
+    let code = assignments(alloc, &function.body)?;
+    let Some(locals) = local_count(&code) else {
         return Err(AllocError);
     };
-    let timeline = SnapshotRing::new(alloc, words, history as usize)?;
-    Ok(Machine { function, timeline })
+    let Some(words) = word_count::<W>(globals.len(), locals) else {
+        return Err(AllocError);
+    };
+    let mut timeline = SnapshotRing::new(alloc, words, history as usize)?;
+    store_globals::<W, SnapshotRing>(&mut timeline, &globals);
+    Ok(Machine {
+        entry: entry.0,
+        function,
+        globals,
+        code,
+        locals,
+        timeline,
+    })
 }
 
-/// How many of the statements are declarations.
-fn declaration_count(statements: &[Stmt]) -> usize
-    ensures { result ≡ count_by is_declaration statements.now }
+/// One more than the greatest number of a variable of the function that is written, unless that is too great.
+fn local_count(code: &[Assignment]) -> Option<usize>
+    ensures { IfSome result (λ count. (i : ℕ) (a : Made) (k : ℕ) → slice_get code.now i ≡ Some a → a.variable.id ≡ Local k → k < count) }
 {
-    statements
-        .iter()
-        .filter(|statement| is_declaration(statement))
-        .count()
+    let mut count = 0;
+    for assignment in code {
+        if let VarId::Local(number) = assignment.variable.id {
+            count = number.checked_add(1)?.max(count);
+        }
+    }
+    Some(count)
 }
 
-fn is_declaration(statement: &Stmt) -> bool
-    ensures { result ≡ is_declaration statement.now }
-{
-    matches!(statement, Stmt::Declare { .. })
-}
-
-/// How many words so many variables need, unless there are too many.
-fn word_count<const W: usize>(variables: usize) -> Option<usize>
-    ensures count { IfSome result (λ words. words ≡ words_needed W variables) }
+/// How many words so many variables of the file and of the function need, unless there are too many.
+fn word_count<const W: usize>(globals: usize, locals: usize) -> Option<usize>
+    ensures count { IfSome result (λ words. words ≡ words_needed W (globals + locals)) }
     ensures small { IfSome result (λ words. words < 2 ^ 64) }
 {
-    variables.checked_mul(W)?.checked_add(1)
+    globals.checked_add(locals)?.checked_mul(W)?.checked_add(1)
 }

@@ -1,50 +1,64 @@
-//! A program that is made by hand, run forwards and back.
+//! A program that is made by hand, run forwards to its fault and back.
 ghost use Rattle.std.specs.Prelude.{◌≡◌, ◌∷◌, [], Some, None, IfOk};
 ghost use Rattle.gang_types.specs.Masks.{IsGangWidth};
-ghost use Rattle.typed_tree.specs.Plain.{IsPlainProgram};
-ghost use Rattle.typed_tree.specs.Views.{program_view};
-ghost use Rattle.gang_machine.specs.Standings.{AreNamed};
-ghost use Rattle.gang_types.specs.declared.operators.BinaryOp.TheVariants.{Add};
-ghost use Rattle.gang_types.specs.declared.places.VarId.TheVariants.{Local};
+ghost use Rattle.gang_types.specs.declared.operators.BinaryOp.TheVariants.{Add, Div};
+ghost use Rattle.gang_types.specs.declared.places.VarId.TheVariants.{File, Local};
 ghost use Rattle.gang_types.specs.declared.types.IntType.TheVariants.{Int32};
-ghost use Rattle.gang_types.specs.declared.types.Rate.TheVariants.{Varying};
+ghost use Rattle.gang_types.specs.declared.types.Rate.TheVariants.{Uniform, Varying};
+ghost use Rattle.gang_model.specs.RunningOrder.{IsNumberedProgram};
+ghost use Rattle.scalar_programs.specs.Scalars.{IsScalarProgram};
+ghost use Rattle.typed_tree.specs.Views.{program_view};
 ghost use Rattle.typed_tree.specs.declared.expressions.Expr.{Number, ProgramIndex};
 ghost use Rattle.typed_tree.specs.declared.statements.Stmt.{Change, Declare};
 ghost use Rattle.typed_tree.specs.declared.statements.Target.TheVariants.{Scalar};
 
 use crate::open;
-use debug_interface::{RecordedMachine, StepEnd};
-use gang_types::{BinaryOp, IntType, Place, Rate, VarId};
-use std::alloc::{AllocError, Global};
+use debug_interface::{Fault, RecordedMachine, StepEnd};
+use gang_types::{BinaryOp, FaultName, FuncId, IntType, Place, Rate, VarId};
+use std::alloc::{AllocError, Global as Memory};
 use std::test::*;
 use step_scopes::{Declaration, Standing, StepScopes};
-use typed_tree::{Expr, Function, Program, Stmt, Target, Var, Variable};
+use typed_tree::{Expr, Function, Global, Program, Stmt, Target, Var, Variable};
 use undo_log::{NoHistory, Undone};
 
-const VARIABLE: Var = Var {
+const LOCAL: Var = Var {
     id: VarId::Local(0),
     value_type: IntType::Int32,
     rate: Rate::Varying,
 };
 
-/// `int a = programIndex; a += 5;`
-fn statements(alloc: Global) -> Result<Vec<Stmt>, AllocError>
-    ensures { IfOk result (λ v. v.items ≡ Declare 0 (record { id = Local 0; value_type = Int32; rate = Varying }) (Some ProgramIndex) ∷ Change 1 (Scalar (record { id = Local 0; value_type = Int32; rate = Varying })) Int32 Add Int32 (Number 5) ∷ []) }
+const FILE: Var = Var {
+    id: VarId::File(0),
+    value_type: IntType::Int32,
+    rate: Rate::Uniform,
+};
+
+/// `target op= value` of 32 bits.
+fn change(step: usize, target: Var, operator: BinaryOp, value: Expr) -> Stmt
+    ensures { result ≡ Change step (Scalar target) Int32 operator Int32 value }
+{
+    Stmt::Change {
+        step,
+        target: Target::Scalar(target),
+        target_type: IntType::Int32,
+        operator,
+        value_type: IntType::Int32,
+        value,
+    }
+}
+
+/// `int a = programIndex; g += 2; a /= programIndex;`
+fn statements(alloc: Memory) -> Result<Vec<Stmt>, AllocError>
+    ensures { IfOk result (λ v. v.items ≡ Declare 0 (record { id = Local 0; value_type = Int32; rate = Varying }) (Some ProgramIndex) ∷ Change 1 (Scalar (record { id = File 0; value_type = Int32; rate = Uniform })) Int32 Add Int32 (Number 2) ∷ Change 2 (Scalar (record { id = Local 0; value_type = Int32; rate = Varying })) Int32 Div Int32 ProgramIndex ∷ []) }
 {
     let first = Stmt::Declare {
         step: 0,
-        variable: VARIABLE,
+        variable: LOCAL,
         value: Some(Expr::ProgramIndex),
     };
-    let second = Stmt::Change {
-        step: 1,
-        target: Target::Scalar(VARIABLE),
-        target_type: IntType::Int32,
-        operator: BinaryOp::Add,
-        value_type: IntType::Int32,
-        value: Expr::Number(5),
-    };
-    Ok(vec![in alloc; first, second]?)
+    let second = change(1, FILE, BinaryOp::Add, Expr::Number(2));
+    let third = change(2, LOCAL, BinaryOp::Div, Expr::ProgramIndex);
+    Ok(vec![in alloc; first, second, third]?)
 }
 
 fn standing(line: u32, innermost: Option<usize>) -> Standing
@@ -57,31 +71,30 @@ fn standing(line: u32, innermost: Option<usize>) -> Standing
 }
 
 /// `a` is in scope after its declaration.
-fn standings(alloc: Global) -> Result<Vec<Standing>, AllocError>
-    ensures { IfOk result (λ v. v.items ≡ record { place = record { line = 2; col = 5 }; innermost = None } ∷ record { place = record { line = 3; col = 5 }; innermost = Some 0 } ∷ record { place = record { line = 4; col = 5 }; innermost = Some 0 } ∷ []) }
+fn standings(alloc: Memory) -> Result<Vec<Standing>, AllocError>
+    ensures { IfOk result (λ v. v.items ≡ record { place = record { line = 3; col = 5 }; innermost = None } ∷ record { place = record { line = 4; col = 5 }; innermost = Some 0 } ∷ record { place = record { line = 5; col = 5 }; innermost = Some 0 } ∷ record { place = record { line = 6; col = 5 }; innermost = Some 0 } ∷ []) }
 {
-    let first = standing(2, None);
-    let second = standing(3, Some(0));
-    let end = standing(4, Some(0));
-    Ok(vec![in alloc; first, second, end]?)
+    let first = standing(3, None);
+    let second = standing(4, Some(0));
+    let third = standing(5, Some(0));
+    let end = standing(6, Some(0));
+    Ok(vec![in alloc; first, second, third, end]?)
 }
 
-fn name(alloc: Global) -> Result<Vec<u8>, AllocError>
-    ensures { IfOk result (λ v. v.items ≡ 97 ∷ []) }
-{
-    Vec::from_slice(alloc, b"a")
+fn text(alloc: Memory, bytes: &[u8]) -> Result<Vec<u8>, AllocError> {
+    Vec::from_slice(alloc, bytes)
 }
 
-fn program(alloc: Global) -> Result<Program, AllocError>
-    ensures plain { IfOk result (λ p. IsPlainProgram (program_view p)) }
-    ensures named { IfOk result AreNamed }
+fn program(alloc: Memory) -> Result<Program, AllocError>
+    ensures scalars { IfOk result (λ p. IsScalarProgram (program_view p) 0) }
+    ensures numbered { IfOk result (λ p. IsNumberedProgram (program_view p)) }
 {
     let declaration = Declaration {
-        name: name(alloc)?,
+        name: text(alloc, b"a")?,
         outside: None,
     };
-    let variable = Variable {
-        name: name(alloc)?,
+    let local = Variable {
+        name: text(alloc, b"a")?,
         id: VarId::Local(0),
         value_type: IntType::Int32,
         rate: Rate::Varying,
@@ -89,12 +102,26 @@ fn program(alloc: Global) -> Result<Program, AllocError>
         is_parameter: false,
         is_constant: false,
     };
+    let file = Variable {
+        name: text(alloc, b"g")?,
+        id: VarId::File(0),
+        value_type: IntType::Int32,
+        rate: Rate::Uniform,
+        is_array: false,
+        is_parameter: false,
+        is_constant: false,
+    };
+    let global = Global {
+        variable: file,
+        word: 5,
+        length: 0,
+    };
     let function = Function {
-        name: name(alloc)?,
+        name: text(alloc, b"f")?,
         result: Rate::Uniform,
         result_type: IntType::Int32,
         body: statements(alloc)?,
-        variables: vec![in alloc; variable]?,
+        variables: vec![in alloc; local]?,
         scopes: StepScopes {
             declarations: vec![in alloc; declaration]?,
             standings: standings(alloc)?,
@@ -102,74 +129,73 @@ fn program(alloc: Global) -> Result<Program, AllocError>
     };
     Ok(Program {
         functions: vec![in alloc; function]?,
-        globals: vec![in alloc]?,
+        globals: vec![in alloc; global]?,
     })
 }
 
-/// The word of `a` in the last lane, where `a` is in scope.
-fn last_word<M: RecordedMachine>(machine: &M) -> Option<u64> {
-    let shown = machine.find(b"a")?;
+/// The last word of a variable that is in scope.
+fn last_word<M: RecordedMachine>(machine: &M, name: &[u8]) -> Option<u64> {
+    let shown = machine.find(name)?;
     if shown.count == 0 {
         return None;
     }
     Some(machine.word(shown.id, shown.count - 1))
 }
 
-/// What was seen of a machine: the last word of `a` before and after each step, and how the calls ended.
+/// What was seen of a machine: the last words of `a` and of `g` before and after two steps, and how the calls ended.
 #[derive(Drop)]
 struct Seen {
-    words: [Option<u64>; 4],
-    ends: [StepEnd; 4],
+    locals: [Option<u64>; 3],
+    globals: [Option<u64>; 3],
+    ends: [StepEnd; 3],
     kept: usize,
-    undone: [Result<Undone, NoHistory>; 3],
-    word: Option<u64>,
+    undone: Result<Undone, NoHistory>,
+    global: Option<u64>,
 }
 
-/// Three steps and an attempt at a fourth, then back as far as two kept steps allow.
-fn run<const W: usize>(alloc: Global) -> Result<Seen, AllocError>
+/// Two steps and one that faults, then one back.
+fn run<const W: usize>(alloc: Memory) -> Result<Seen, AllocError>
     requires { IsGangWidth W }
 {
-    let mut machine = open::<W>(alloc, program(alloc)?, 2)?;
-    let before = last_word(&machine);
+    let mut machine = open::<W>(alloc, program(alloc)?, FuncId(0), 4)?;
+    let (a0, g0) = (last_word(&machine, b"a"), last_word(&machine, b"g"));
     let first = machine.step();
-    let declared = last_word(&machine);
+    let (a1, g1) = (last_word(&machine, b"a"), last_word(&machine, b"g"));
     let second = machine.step();
-    let changed = last_word(&machine);
     let third = machine.step();
-    let gone = last_word(&machine);
-    let fourth = machine.step();
+    let (a2, g2) = (last_word(&machine, b"a"), last_word(&machine, b"g"));
     let kept = machine.kept_steps();
-    let undone = [machine.undo(), machine.undo(), machine.undo()];
-    let word = last_word(&machine);
+    let undone = machine.undo();
+    let global = last_word(&machine, b"g");
     Ok(Seen {
-        words: [before, declared, changed, gone],
-        ends: [first, second, third, fourth],
+        locals: [a0, a1, a2],
+        globals: [g0, g1, g2],
+        ends: [first, second, third],
         kept,
         undone,
-        word,
+        global,
     })
 }
 
 #[test]
-fn a_program_runs_forwards_and_back(rt: HostRuntime) -> Result<(), Fail> {
+fn a_program_runs_to_its_fault_and_back(rt: HostRuntime) -> Result<(), Fail> {
     let runs = [
         (4, run::<4>(rt.alloc())?),
         (8, run::<8>(rt.alloc())?),
         (16, run::<16>(rt.alloc())?),
     ];
+    let fault = StepEnd::Fault(Fault {
+        name: FaultName::DivideByZero,
+        lane: 0,
+    });
     for (width, seen) in &runs {
         let last = *width - 1;
-        assert_eq!(rt; seen.words, [None, Some(last), Some(last + 5), None]);
-        assert_eq!(rt;
-            seen.ends,
-            [StepEnd::Done, StepEnd::Done, StepEnd::Done, StepEnd::Ended]
-        );
+        assert_eq!(rt; seen.locals, [None, Some(last), Some(last)]);
+        assert_eq!(rt; seen.globals, [Some(5), Some(5), Some(7)]);
+        assert_eq!(rt; seen.ends, [StepEnd::Done, StepEnd::Done, fault]);
         assert_eq!(rt; seen.kept, 2);
-        assert_eq!(rt;
-            seen.undone,
-            [Ok(Undone::Step), Ok(Undone::Step), Err(NoHistory)]
-        );
-        assert_eq!(rt; seen.word, Some(last));
+        assert_eq!(rt; seen.undone, Ok(Undone::Step));
+        assert_eq!(rt; seen.global, Some(5));
     }
     Ok(())
 }

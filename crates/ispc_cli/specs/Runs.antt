@@ -1,6 +1,7 @@
 -- How a run ends.
-use Rattle.std.specs.Prelude.{ℕ, List, Option, Some, None}
+use Rattle.std.specs.Prelude.{ℕ, List, Option, Some, None, option_map}
 use Rattle.gang_model.specs.Endings.{Ending, AtQuit, AtEnd, AtReadFault, AtWriteFault}
+use Rattle.gang_model.specs.Parsed.{Name}
 use Rattle.gang_model.specs.Sources.{HasNoEntry, IsRightRefusal}
 use Rattle.gang_model.specs.Transcript.{Options as ModelOptions}
 use Rattle.ispc_cli.specs.declared.options.Options.{Options}
@@ -20,6 +21,10 @@ lanes_of Sixteen = 16
 abbrev pub options_view : Options → ModelOptions
 options_view options = record { width = lanes_of options.width; history = options.history; steps = options.steps }
 
+-- the name of the entry that is asked for, if one is
+abbrev pub asked_of : Options → Option Name
+asked_of options = option_map (λ name. name.now) options.entry
+
 -- how the answering of lines ended, unless the run was refused
 abbrev pub ending_of : RunEnd → Option Ending
 ending_of end.Quit = Some AtQuit
@@ -33,9 +38,9 @@ abbrev pub refusal_of : RunEnd → Option Refusal
 refusal_of (end.Refused r) = Some r
 refusal_of end = None
 
--- whether a refusal of a run of this text is right; want of memory may come at any time
-abbrev pub IsRight : (text : List ℕ) → Refusal → Type 0
-IsRight text (refusal.Source r) = IsRightRefusal text r
-IsRight text refusal.NoEntry = HasNoEntry text None
-IsRight text refusal.NoScript = ⊥
-IsRight text refusal.Memory = Unit {0}
+-- whether a refusal of a run of this text with this entry asked for is right; want of memory may come at any time
+abbrev pub IsRight : (text : List ℕ) → (asked : Option Name) → Refusal → Type 0
+IsRight text asked (refusal.Source r) = IsRightRefusal text r
+IsRight text asked refusal.NoEntry = HasNoEntry text asked
+IsRight text asked refusal.NoScript = ⊥
+IsRight text asked refusal.Memory = Unit {0}

@@ -9,7 +9,6 @@ mod streams;
 #[cfg(test)]
 mod tests;
 
-ghost use Rattle.std.specs.Prelude.{◌≡◌, None};
 ghost use Rattle.ispc_cli.specs.Ranges.{AreInRange};
 
 use clap::error::{Error, ErrorKind};
@@ -54,9 +53,6 @@ fn run_form(rt: &HostRuntime, options: &Options<'_>, paths: &Paths<'_>) -> ExitC
     if paths.input.is_some() {
         return refuse_option(rt, "--input is not there yet");
     }
-    if options.entry.is_some() {
-        return refuse_option(rt, "--entry is not there yet");
-    }
     match paths.source {
         None => run_script(rt, options),
         Some(path) => run_file(rt, path, options),
@@ -65,8 +61,7 @@ fn run_form(rt: &HostRuntime, options: &Options<'_>, paths: &Paths<'_>) -> ExitC
 
 /// Standard input has the source, a line `%%` and the commands.
 fn run_script(rt: &HostRuntime, options: &Options<'_>) -> ExitCode
-    requires options { AreInRange options.now }
-    requires entry { options.now.entry ≡ None }
+    requires { AreInRange options.now }
 {
     let mut text = Vec::new(rt.alloc());
     let most = MOST_BYTES as u64 + 1;
@@ -89,8 +84,7 @@ fn run_script(rt: &HostRuntime, options: &Options<'_>) -> ExitCode
 
 /// A file has the source, and standard input the commands.
 fn run_file(rt: &HostRuntime, path: &str, options: &Options<'_>) -> ExitCode
-    requires options { AreInRange options.now }
-    requires entry { options.now.entry ≡ None }
+    requires { AreInRange options.now }
 {
     let source = match fs::read(rt, path) {
         Ok(source) => source,

@@ -15,7 +15,7 @@ pub enum Refusal {
     Source(SourceRefusal),
     /// Standard input has no line `%%`, or too many bytes. The program says so, and no run.
     NoScript,
-    /// The source has no function to run.
+    /// The source has no exported function, or none of the name that is asked for.
     NoEntry,
     Memory,
 }

@@ -1,18 +1,18 @@
 //! A run: a source is compiled, and command lines are answered.
-ghost use Rattle.std.specs.Prelude.{◌≡◌, ◌⊎◌, ℕ, ◌≤◌, true, false, List, [], None, Some, IfSome};
+ghost use Rattle.std.specs.Prelude.{◌≡◌, ◌⊎◌, ℕ, ◌≤◌, true, false, List, [], Some, IfSome, option_map};
 ghost use Rattle.std.specs.Io.KnownBytes.{Appends};
 ghost use Rattle.gang_types.specs.Masks.{IsGangWidth};
 ghost use Rattle.gang_model.specs.Debugger.{fresh};
 ghost use Rattle.gang_model.specs.Endings.{Ends};
+ghost use Rattle.gang_model.specs.RunningOrder.{IsNumberedProgram};
 ghost use Rattle.gang_model.specs.Sources.{IsProgramOf};
 ghost use Rattle.gang_model.specs.Transcript.{setting};
 ghost use Rattle.gang_model.specs.Tree.{Program as ModelProgram};
-ghost use Rattle.typed_tree.specs.Plain.{IsPlainProgram};
 ghost use Rattle.typed_tree.specs.Views.{program_view};
 ghost use Rattle.command_loop.specs.LoopEnds.{ending_of as loop_ending};
-ghost use Rattle.gang_machine.specs.Standings.{AreNamed};
+ghost use Rattle.source_front.specs.Front.{IsReady};
 ghost use Rattle.ispc_cli.specs.Ranges.{AreInRange};
-ghost use Rattle.ispc_cli.specs.Runs.{IsRight, ending_of, options_view, refusal_of};
+ghost use Rattle.ispc_cli.specs.Runs.{IsRight, asked_of, ending_of, options_view, refusal_of};
 
 use crate::options::{Options, Width};
 use crate::refusal::Refusal;
@@ -21,9 +21,8 @@ use debug_interface::{AnswerWriter, CommandReader, READS};
 use debug_session::Session;
 use gang_machine::open;
 use ispc_lexer::SourceFault;
-use source_front::compile_source;
+use source_front::{Compiled, compile_source};
 use std::alloc::Global;
-use typed_tree::Program;
 
 /// How a run ended.
 #[derive(Clone, Copy, Debug, PartialEq, Eq, Drop)]
@@ -35,7 +34,8 @@ pub enum RunEnd {
     Refused(Refusal),
 }
 
-/// Compiles a source, and answers the command lines that the reader gives.
+/// Compiles a source, and answers the command lines that the reader gives. It begins with the exported function of the name
+/// that the options ask for, or with the first exported one where they ask for none.
 ///
 /// A run that is not refused writes the transcript of the debugger of the definitions: after each command it shows the state
 /// that the source reaches by the steps not taken back, and taking one back restores every word, up to the history limit.
@@ -49,55 +49,55 @@ pub fn run<R: CommandReader, O: AnswerWriter>(
     writer: &mut O,
 ) -> RunEnd
     requires input { input.now ≡ [] }
-    requires entry { options.now.entry ≡ None }
     requires range { AreInRange options.now }
     requires fresh { R.reads reader.old ≡ 0 }
     requires reader_works { R.has_failed reader.old ≡ false }
     requires writer_works { O.has_failed writer.old ≡ false }
-    ensures transcript { IfSome (ending_of result) (λ ending. (program : ModelProgram) × (entry : ℕ) × IsProgramOf source.now None program entry
+    ensures transcript { IfSome (ending_of result) (λ ending. (program : ModelProgram) × (entry : ℕ) × IsProgramOf source.now (asked_of options.now) program entry
         × ((out : List ℕ) × Appends (O.written writer.old) (O.written writer.new) out
         × Ends (setting program entry [] (options_view options.now)) (fresh options.now.history) ending (R.left reader.old) (R.left reader.new) out)) }
-    ensures refused { IfSome (refusal_of result) (λ refusal. IsRight source.now refusal × ((reader.new ≡ reader.old) × (writer.new ≡ writer.old))) }
+    ensures refused { IfSome (refusal_of result) (λ refusal. IsRight source.now (asked_of options.now) refusal × ((reader.new ≡ reader.old) × (writer.new ≡ writer.old))) }
     ensures read_fault { result ≡ RunEnd.ReadFault
         → (R.has_failed reader.new ≡ true) ⊎ (R.reads reader.new ≡ READS) }
     ensures write_fault { result ≡ RunEnd.WriteFault → O.has_failed writer.new ≡ true }
     ensures reads { R.reads reader.new ≤ READS }
 {
-    match compile_source(alloc, source) {
+    match compile_source(alloc, source, asked_entry(options)) {
         Err(SourceFault::Refused(refusal)) => RunEnd::Refused(Refusal::Source(refusal)),
         Err(SourceFault::Memory) => RunEnd::Refused(Refusal::Memory),
         Ok(None) => RunEnd::Refused(Refusal::NoEntry),
         Ok(Some(compiled)) => match options.width {
-            Width::Four => run_wide::<4, R, O>(alloc, compiled.program, options, reader, writer),
-            Width::Eight => run_wide::<8, R, O>(alloc, compiled.program, options, reader, writer),
-            Width::Sixteen => run_wide::<16, R, O>(
-                alloc,
-                compiled.program,
-                options,
-                reader,
-                writer,
-            ),
+            Width::Four => run_wide::<4, R, O>(alloc, compiled, options, reader, writer),
+            Width::Eight => run_wide::<8, R, O>(alloc, compiled, options, reader, writer),
+            Width::Sixteen => run_wide::<16, R, O>(alloc, compiled, options, reader, writer),
         },
     }
+}
+
+/// The bytes of the name of the entry that is asked for, if one is.
+fn asked_entry<'a>(options: &Options<'a>) -> Option<&'a [u8]>
+    ensures { option_map (λ name. name.now) result ≡ asked_of options.now }
+{
+    options.entry.map(|name| name.as_bytes())
 }
 
 /// The run of a program at a width.
 fn run_wide<const W: usize, R: CommandReader, O: AnswerWriter>(
     alloc: Global,
-    program: Program,
+    compiled: Compiled,
     options: &Options<'_>,
     reader: &mut R,
     writer: &mut O,
 ) -> RunEnd
     requires width { IsGangWidth W }
-    requires plain { IsPlainProgram (program_view program) }
-    requires named { AreNamed program }
+    requires ready { IsReady compiled }
+    requires numbered { IsNumberedProgram (program_view compiled.program) }
     requires range { AreInRange options.now }
     requires fresh { R.reads reader.old ≡ 0 }
     requires reader_works { R.has_failed reader.old ≡ false }
     requires writer_works { O.has_failed writer.old ≡ false }
     ensures transcript { IfSome (ending_of result) (λ ending. (out : List ℕ) × Appends (O.written writer.old) (O.written writer.new) out
-        × Ends (setting (program_view program) 0 [] (record { width = W; history = options.now.history; steps = options.now.steps })) (fresh options.now.history)
+        × Ends (setting (program_view compiled.program) compiled.entry.0 [] (record { width = W; history = options.now.history; steps = options.now.steps })) (fresh options.now.history)
         ending (R.left reader.old) (R.left reader.new) out) }
     ensures refused { IfSome (refusal_of result) (λ refusal. (refusal ≡ Refusal.Memory) × ((reader.new ≡ reader.old) × (writer.new ≡ writer.old))) }
     ensures read_fault { result ≡ RunEnd.ReadFault
@@ -105,7 +105,7 @@ fn run_wide<const W: usize, R: CommandReader, O: AnswerWriter>(
     ensures write_fault { result ≡ RunEnd.WriteFault → O.has_failed writer.new ≡ true }
     ensures reads { R.reads reader.new ≤ READS }
 {
-    match open::<W>(alloc, program, options.history) {
+    match open::<W>(alloc, compiled.program, compiled.entry, options.history) {
         Err(_) => RunEnd::Refused(Refusal::Memory),
         Ok(machine) => {
             let mut session = Session::open(machine, options.steps);

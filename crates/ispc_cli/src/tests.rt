@@ -1,5 +1,10 @@
 //! Worked rows, refusals, and devices that fail or give little.
 mod devices;
+mod entries;
+mod programs;
+mod sources;
+
+ghost use Rattle.ispc_cli.specs.Ranges.{AreInRange};
 
 use crate::options::{Options, Width};
 use crate::refusal::{Refusal, write_refusal};
@@ -8,6 +13,7 @@ use crate::script::split_script;
 use devices::{BlankReader, PieceReader, PieceWriter};
 use gang_model::{RefusalNumber, SourceRefusal};
 use gang_types::Place;
+use std::alloc::Global;
 use std::test::Fail;
 
 const SOURCE: &[u8] = b"export void go() {\n    int x = programIndex * 3;\n    x += 1;\n}\n";
@@ -25,22 +31,76 @@ const OPTIONS: Options<'static> = Options {
 };
 
 /// What a run of the commands on a source writes, through devices that give and take a few bytes at a time.
-fn transcript(
-    rt: &HostRuntime,
+fn transcript(alloc: Global, source: &[u8], commands: &[u8], most: usize) -> (RunEnd, PieceWriter) {
+    transcript_with(alloc, &OPTIONS, source, commands, most)
+}
+
+/// The same with options.
+fn transcript_with(
+    alloc: Global,
+    options: &Options<'_>,
     source: &[u8],
     commands: &[u8],
     most: usize,
-) -> (RunEnd, PieceWriter) {
+) -> (RunEnd, PieceWriter)
+    requires { AreInRange options.now }
+{
     let mut reader = PieceReader::new(commands, most, 100_000);
     let mut writer = PieceWriter::new(most, 100_000);
-    let end = run(rt.alloc(), source, b"", &OPTIONS, &mut reader, &mut writer);
+    let end = run(alloc, source, b"", options, &mut reader, &mut writer);
     (end, writer)
+}
+
+/// Runs a source; a failure unless each command has the answer beside it.
+fn answers(
+    alloc: Global,
+    options: &Options<'_>,
+    source: &str,
+    script: &[(&str, &str)],
+) -> Result<(), Fail>
+    requires { AreInRange options.now }
+{
+    let mut commands = String::new(alloc);
+    let mut wanted = String::new(alloc);
+    for (command, answer) in script {
+        commands.push_str(command)?;
+        commands.push('\n')?;
+        wanted.push_str(answer)?;
+        wanted.push('\n')?;
+    }
+    let (end, writer) = transcript_with(
+        alloc,
+        options,
+        source.as_bytes(),
+        commands.as_bytes(),
+        512,
+    );
+    let told = str::from_utf8(writer.bytes()).unwrap_or("?");
+    if end == RunEnd::EndOfCommands && told == wanted.as_str() {
+        return Ok(());
+    }
+    Err(Fail::new(format_args!("{end:?} after {told}")))
+}
+
+/// The text of the refusal of a source, or what the run wrote.
+fn refusal_of(alloc: Global, options: &Options<'_>, source: &[u8]) -> PieceWriter
+    requires { AreInRange options.now }
+{
+    let (end, written) = transcript_with(alloc, options, source, COMMANDS, 512);
+    let mut text = PieceWriter::new(512, 512);
+    match end {
+        RunEnd::Refused(refusal) if written.bytes().is_empty() => {
+            let _ = write_refusal(&refusal, &mut text);
+            text
+        }
+        _ => written,
+    }
 }
 
 #[test]
 fn runs_forwards_and_back(rt: HostRuntime) {
     for most in [1, 2, 7, 29, 512] {
-        let (end, writer) = transcript(&rt, SOURCE, COMMANDS, most);
+        let (end, writer) = transcript(rt.alloc(), SOURCE, COMMANDS, most);
         assert_eq!(rt; end, RunEnd::EndOfCommands, "at {most}");
         assert!(rt; writer.bytes() == ANSWERS, "at {most}");
     }
@@ -50,7 +110,7 @@ fn runs_forwards_and_back(rt: HostRuntime) {
 fn runs_an_empty_function(rt: HostRuntime) {
     let commands = b"step\nstep\nreverse-step\nreverse-step\n";
     let answers = b"ended\nC4 Ended\nat 1:20 go depth 1 lanes 1111\nC3 NoHistory\n";
-    let (end, writer) = transcript(&rt, b"export void go() { }", commands, 512);
+    let (end, writer) = transcript(rt.alloc(), b"export void go() { }", commands, 512);
     assert_eq!(rt; end, RunEnd::EndOfCommands);
     assert!(rt; writer.bytes() == answers.as_slice());
 }
@@ -61,7 +121,7 @@ fn answers_other_lines(rt: HostRuntime) {
         b"print x\n \t\r\nstep  \n print x\nprint y\np  x \nfinish\nstep 2\ns\nquit\nstep\n";
     let answers =
         b"C2 NoSuchName\nat 3:5 go depth 1 lanes 1111\nC1 BadCommand\nC2 NoSuchName\nx = 0 3 6 9\nC1 BadCommand\nended\nC4 Ended\n";
-    let (end, writer) = transcript(&rt, SOURCE, commands, 512);
+    let (end, writer) = transcript(rt.alloc(), SOURCE, commands, 512);
     assert_eq!(rt; end, RunEnd::Quit);
     assert!(rt; writer.bytes() == answers.as_slice());
 }
@@ -73,7 +133,7 @@ fn skips_a_long_line(rt: HostRuntime) {
     commands[257] = b'\n';
     commands[258..262].copy_from_slice(b"step");
     commands[514] = b'\n';
-    let (end, writer) = transcript(&rt, SOURCE, &commands, 512);
+    let (end, writer) = transcript(rt.alloc(), SOURCE, &commands, 512);
     assert_eq!(rt; end, RunEnd::EndOfCommands);
     assert!(rt; writer.bytes() == b"C1 BadCommand\nat 3:5 go depth 1 lanes 1111\n".as_slice());
 }
@@ -84,7 +144,7 @@ fn wraps_at_32_bits(rt: HostRuntime) {
     let commands = b"step\nprint x\nstep\nprint x\n";
     let answers =
         b"at 1:59 go depth 1 lanes 1111\nx = 2 -2147483647 0 2147483647\nat 1:71 go depth 1 lanes 1111\nx = 6 -2147483646 0 -2147483648\n";
-    let (_, writer) = transcript(&rt, source, commands, 512);
+    let (_, writer) = transcript(rt.alloc(), source, commands, 512);
     assert!(rt; writer.bytes() == answers.as_slice());
 }
 
@@ -125,221 +185,6 @@ fn reads_no_more_than_the_limit(rt: HostRuntime) {
     assert_eq!(rt; end, RunEnd::ReadFault);
     assert_eq!(rt; reader.reads(), 16_777_216);
     assert!(rt; writer.bytes().is_empty());
-}
-
-/// The text of the refusal of a source, or what the run wrote.
-fn refusal_of(rt: &HostRuntime, source: &[u8]) -> PieceWriter {
-    let (end, written) = transcript(rt, source, COMMANDS, 512);
-    let mut text = PieceWriter::new(512, 512);
-    match end {
-        RunEnd::Refused(refusal) if written.bytes().is_empty() => {
-            let _ = write_refusal(&refusal, &mut text);
-            text
-        }
-        _ => written,
-    }
-}
-
-#[test]
-fn refuses_sources(rt: HostRuntime) {
-    let rows: [(&[u8], &[u8]); 13] = [
-        (b"export void go() { int x = 0x", b"1:28: S2 BadNumber\n"),
-        (b"export void go() { int x = 08; }", b"1:28: S2 BadNumber\n"),
-        (b"export void go() { int x", b"1:25: S3 Unexpected\n"),
-        (b"export void go() { int x = 1.5; }", b"1:29: S1 BadByte\n"),
-        (b"export void go() { x = 1; }", b"1:20: S5 UnknownName\n"),
-        (
-            b"export void go() { int x = x; }",
-            b"1:28: S5 UnknownName\n",
-        ),
-        (
-            b"export void go() { int x = 1; int x = 2; }",
-            b"1:35: S6 Duplicate\n",
-        ),
-        (
-            b"export void go() { int programCount = 1; }",
-            b"1:24: S6 Duplicate\n",
-        ),
-        (
-            b"export void go() { programIndex += 1; }",
-            b"1:20: S8 Type\n",
-        ),
-        (
-            b"export void go() { programIndex = 1; y = 2; }",
-            b"1:38: S5 UnknownName\n",
-        ),
-        (b"export void go() { } void", b"1:26: S3 Unexpected\n"),
-        (b"", b"entry: E1 NoEntry\n"),
-        (&[b' '; 65_537], b"1:1: S13 Limit\n"),
-    ];
-    for (source, text) in rows {
-        let told = refusal_of(&rt, source);
-        assert!(rt; told.bytes() == text);
-    }
-}
-
-/// Forms that are refused until their meaning is there, at the first token of the smallest statement or expression.
-#[test]
-fn refuses_forms(rt: HostRuntime) {
-    let rows: [(&[u8], &[u8]); 24] = [
-        (
-            b"export void go() { int x = 2147483648; }",
-            b"1:28: S3 Unexpected\n",
-        ),
-        (
-            b"export void go() { int x = 0xFFFFFFFF; }",
-            b"1:28: S3 Unexpected\n",
-        ),
-        (
-            b"export void go() { int x = 1u; }",
-            b"1:28: S3 Unexpected\n",
-        ),
-        (
-            b"export void go() { int x = 1ll; }",
-            b"1:28: S3 Unexpected\n",
-        ),
-        (
-            b"export void go() { int x = 2 + programCount; }",
-            b"1:32: S3 Unexpected\n",
-        ),
-        (
-            b"export void go() {\n int x = 0; x = 1 - 2; }",
-            b"2:17: S3 Unexpected\n",
-        ),
-        (
-            b"export void go() { int x = 2 * (3 + (1 - 2)); }",
-            b"1:38: S3 Unexpected\n",
-        ),
-        (
-            b"export void go() { int x = (1 - 2) - 3; }",
-            b"1:28: S3 Unexpected\n",
-        ),
-        (
-            b"export void go() { int x = true; }",
-            b"1:28: S3 Unexpected\n",
-        ),
-        (
-            b"export void go() { int x = (int8)1; }",
-            b"1:28: S3 Unexpected\n",
-        ),
-        (b"export void go() { int x; }", b"1:20: S3 Unexpected\n"),
-        (
-            b"export void go() { uniform int x = 1; }",
-            b"1:20: S3 Unexpected\n",
-        ),
-        (
-            b"export void go() { int x = 1; x -= 1; }",
-            b"1:31: S3 Unexpected\n",
-        ),
-        (
-            b"export void go() { int x = 1; ++x; }",
-            b"1:31: S3 Unexpected\n",
-        ),
-        (
-            b"export void go() { int x = 1; x[0] = 1; }",
-            b"1:31: S3 Unexpected\n",
-        ),
-        (
-            b"export void go() { int x = 1; /* ; { */ ; }",
-            b"1:41: S3 Unexpected\n",
-        ),
-        (
-            b"export void go() { int x = 1; { x = 2 - 1; } }",
-            b"1:31: S3 Unexpected\n",
-        ),
-        (
-            b"export void go() { do { } while (1); }",
-            b"1:20: S3 Unexpected\n",
-        ),
-        (b"export void go() { if (1) { } }", b"1:20: S3 Unexpected\n"),
-        (b"void go() { }", b"1:6: S3 Unexpected\n"),
-        (b"export int go() { }", b"1:12: S3 Unexpected\n"),
-        (b"export void go(int a) { }", b"1:13: S3 Unexpected\n"),
-        (b"int x; export void go() { }", b"1:5: S3 Unexpected\n"),
-        (
-            b"export void go() { } export void other() { }",
-            b"1:34: S3 Unexpected\n",
-        ),
-    ];
-    for (source, text) in rows {
-        let told = refusal_of(&rt, source);
-        assert!(rt; told.bytes() == text);
-    }
-}
-
-#[test]
-fn runs_known_forms(rt: HostRuntime) {
-    let rows: [(&[u8], &[u8]); 6] = [
-        (b"export void go(){int x=(2+3)*4;}", b"x = 20 20 20 20\n"),
-        (b"export void go(){int x=2+3*4;}", b"x = 14 14 14 14\n"),
-        (
-            b"export void go(){int x=1+(programIndex*(2+3));}",
-            b"x = 1 6 11 16\n",
-        ),
-        (
-            b"export void go(){int x=0x7fffffff;}",
-            b"x = 2147483647 2147483647 2147483647 2147483647\n",
-        ),
-        (
-            b"void export go(void){int x=0b101+0X1F;}",
-            b"x = 36 36 36 36\n",
-        ),
-        (b"export void go(){/* ; */int x// {\n=1;}", b"x = 1 1 1 1\n"),
-    ];
-    for (source, text) in rows {
-        let (end, writer) = transcript(&rt, source, b"step\nprint x", 512);
-        assert_eq!(rt; end, RunEnd::EndOfCommands);
-        let told = writer.bytes();
-        assert!(rt;
-            told.ends_with(text),
-            "{}",
-            str::from_utf8(told).unwrap_or("?")
-        );
-    }
-}
-
-#[test]
-fn refuses_deep_sources(rt: HostRuntime) -> Result<(), Fail> {
-    let mut source = Vec::from_slice(rt.alloc(), b"export void go() { int x = ")?;
-    for _ in 0..64 {
-        source.extend_from_slice(b"(")?;
-    }
-    source.extend_from_slice(b"1; }")?;
-    let told = refusal_of(&rt, source.as_slice());
-    assert!(rt; told.bytes() == b"1:91: S4 TooDeep\n".as_slice());
-    Ok(())
-}
-
-#[test]
-fn refuses_long_sources(rt: HostRuntime) -> Result<(), Fail> {
-    let mut sum = Vec::from_slice(rt.alloc(), b"export void go() { int x = 0")?;
-    for _ in 0..256 {
-        sum.extend_from_slice(b"+1")?;
-    }
-    let whole = sum.clone()?;
-    sum.extend_from_slice(b"+1; }")?;
-    let told = refusal_of(&rt, sum.as_slice());
-    assert!(rt; told.bytes() == b"1:541: S13 Limit\n".as_slice());
-    let mut whole = whole;
-    whole.extend_from_slice(b"; }")?;
-    let (end, writer) = transcript(&rt, whole.as_slice(), b"step\nprint x", 512);
-    assert_eq!(rt; end, RunEnd::EndOfCommands);
-    assert!(rt;
-        writer.bytes() == b"at 1:543 go depth 1 lanes 1111\nx = 256 256 256 256\n".as_slice()
-    );
-    Ok(())
-}
-
-#[test]
-fn refuses_many_variables(rt: HostRuntime) -> Result<(), Fail> {
-    let mut source = Vec::from_slice(rt.alloc(), b"export void go() {\n")?;
-    for i in 0..257u32 {
-        source.extend_from_slice(format!(in rt.alloc(); "int v{i} = 0;\n")?.as_bytes())?;
-    }
-    source.extend_from_slice(b"}")?;
-    let told = refusal_of(&rt, source.as_slice());
-    assert!(rt; told.bytes() == b"258:5: S13 Limit\n".as_slice());
-    Ok(())
 }
 
 #[test]

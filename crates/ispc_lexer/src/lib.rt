@@ -8,8 +8,6 @@ mod numbers;
 mod pieces;
 mod places;
 mod source;
-#[cfg(test)]
-mod tests;
 mod token;
 
 pub use fault::SourceFault;

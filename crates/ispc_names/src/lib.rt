@@ -7,8 +7,6 @@ mod functions;
 mod least_faults;
 mod library;
 mod scopes;
-#[cfg(test)]
-mod tests;
 mod texts;
 
 pub use expressions::{

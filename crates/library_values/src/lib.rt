@@ -5,8 +5,6 @@ mod arguments;
 mod called;
 mod calls;
 mod one_value;
-#[cfg(test)]
-mod tests;
 mod three_values;
 mod two_values;
 mod types;

@@ -7,8 +7,6 @@
 mod calls;
 mod choices;
 mod operators;
-#[cfg(test)]
-mod tests;
 mod words;
 
 pub use calls::{absolute, max, min, popcnt};

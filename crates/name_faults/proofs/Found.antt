@@ -1,6 +1,7 @@
 -- The least fault of a declaration, a statement or a function, from those of its parts.
-use Rattle.std.proofs.Common.{◌≡◌, List, [], ◌∷◌, ◌++◌, Bool, not, refl, sym, ap, ◌∙◌, Option, Vec, Global, map}
-use Rattle.std.specs.Prelude.{◌||◌, is_some}
+use Rattle.std.proofs.Common.{◌≡◌, ℕ, List, [], ◌∷◌, ◌++◌, Bool, not, refl, sym, ap, ◌∙◌, Option, map}
+use Rattle.std.specs.Prelude.{◌||◌, IfOk, OnOk, Result, is_some}
+use Rattle.std.proofs.lemmas.Result.{IfOk-weaker, on_ok_weaker}
 use Rattle.std.specs.List.{flat_map}
 use Rattle.gang_types.specs.declared.places.Place.{Place}
 use Rattle.gang_model.specs.declared.refusals.RefusalNumber.TheVariants.{S6, S11}
@@ -8,17 +9,17 @@ use Rattle.gang_model.specs.declared.refusals.SourceRefusal.{SourceRefusal}
 use Rattle.gang_model.specs.Judged.{fault_if, least_fault}
 use Rattle.gang_model.specs.LibraryTable.{is_library_name, statement_call}
 use Rattle.gang_model.specs.NameFaults.{Allowed, in_loop, in_round, in_domain_round, in_function, names_in, names_in_some, twice, dims_names, params_twice, stmt_names, stmts_names, function_names, globals_twice, functions_twice}
-use Rattle.gang_model.specs.Parsed.{Name, ParsedExpr, ParsedDim, ParsedParam, ParsedStmt, ParsedBlock, ParsedIf, ParsedIfElse, ParsedWhile, ParsedDo, ParsedFor, ParsedForEach, ParsedForEachUnique, ParsedGlobal, ParsedFunction, ParsedSource, functions_in, globals_in}
+use Rattle.gang_model.specs.Parsed.{Name, ParsedExpr, ParsedDim, ParsedParam, ParsedStmt, ParsedIfElse, ParsedWhile, ParsedDo, ParsedFor, ParsedForEach, ParsedForEachUnique, ParsedGlobal, ParsedFunction, ParsedSource, functions_in, globals_in}
 use Rattle.gang_model.specs.Scope.{Environment, Site, with_name, with_dims, with_params, enclosed, past, after, after_all, at_test, in_for, in_rounds, in_domain, locals_in, function_site, file_bindings}
 use Rattle.gang_model.specs.SourceRefusals.{names_refusal}
 use Rattle.gang_model.proofs.JudgedLaws.{merged, least_fault-append}
 use Rattle.ispc_names.specs.Scopes.{Scoped, site}
-use Rattle.ispc_parser.specs.declared.tree.Stmt.{Stmt, Block}
+use Rattle.ispc_lexer.specs.declared.fault.SourceFault.{SourceFault}
+use Rattle.ispc_parser.specs.declared.tree.Stmt.{Stmt}
 use Rattle.ispc_parser.specs.Tree.{stmt_view, stmts_view}
-use Rattle.ispc_parser.proofs.Rows.{view_block}
 use Rattle.name_faults.specs.IndexVariables.{dims_twice, bounds_names}
 use Rattle.name_faults.specs.Moved.{moved}
-use Rattle.name_faults.proofs.Merging.{Fault, pair_fault, one_more, all_found, second_first, two_pairs}
+use Rattle.name_faults.proofs.Merging.{Fault, pair_fault, either_order, one_more, all_found, second_first, two_pairs}
 
 -- ---- declarations
 
@@ -73,18 +74,23 @@ dims_apart (d ∷ dims) functions outside t =
 
 -- ---- statements
 
-pub domain_found : (s0 s1 s2 : Scoped) (dims : List ParsedDim) (body : ParsedStmt) (functions : List Name) (may round : Allowed) (in_names in_bounds head in_body r : Fault)
-    → site s1 ≡ enclosed (site s0) → site s2 ≡ with_dims dims (site s1)
-    → in_names ≡ least_fault (dims_twice dims (site s1)) → in_bounds ≡ least_fault (bounds_names dims functions s0.environment)
+pub domain_found : (s0 s1 s2 : Scoped) (p : Place) (is_tiled : Bool) (dims : List ParsedDim) (body : ParsedStmt) (may round : Allowed) (own in_names in_bounds head in_body inside r : Fault)
+    → own ≡ least_fault (fault_if (not may.domains) S11 p) → site s1 ≡ enclosed (site s0) → site s2 ≡ with_dims dims (site s1)
+    → in_names ≡ least_fault (dims_twice dims (site s1)) → in_bounds ≡ least_fault (bounds_names dims may.functions s0.environment)
     → round ≡ in_domain_round may → in_body ≡ least_fault (stmt_names body round (enclosed (site s2)))
-    → head ≡ merged in_names in_bounds → r ≡ merged head in_body
-    → r ≡ least_fault (dims_names dims functions s0.environment (enclosed (site s0)) ++ stmt_names body (in_domain_round may) (in_domain dims (site s0)))
-domain_found s0 s1 s2 dims body functions may round in_names in_bounds head in_body r entered declared n b rounds inside h whole =
+    → head ≡ merged in_names in_bounds → inside ≡ merged head in_body → r ≡ merged own inside
+    → r ≡ least_fault (stmt_names (ParsedForEach p is_tiled dims body) may (site s0))
+domain_found s0 s1 s2 p is_tiled dims body may round own in_names in_bounds head in_body inside r o entered declared n b rounds f h i whole =
+    let functions = may.functions in
     let inner : site s2 ≡ with_dims dims (enclosed (site s0)) = declared ∙ ap (with_dims dims) entered in
-    pair_fault (dims_names dims functions s0.environment (enclosed (site s0))) (stmt_names body (in_domain_round may) (in_domain dims (site s0))) head in_body r
+    let heads = dims_names dims functions s0.environment (enclosed (site s0)) in
+    let bodies = stmt_names body (in_domain_round may) (in_domain dims (site s0)) in
+    pair_fault (fault_if (not may.domains) S11 p) (heads ++ bodies) own inside r o
+    (pair_fault heads bodies head in_body inside
     (h ∙ (ap (λ x. merged x in_bounds) (n ∙ ap (λ t. least_fault (dims_twice dims t)) entered)
     ∙ (ap (merged (least_fault (dims_twice dims (enclosed (site s0))))) b ∙ sym (dims_apart dims functions s0.environment (enclosed (site s0))))))
-    (inside ∙ (ap (λ m. least_fault (stmt_names body m (enclosed (site s2)))) rounds ∙ ap (λ t. least_fault (stmt_names body (in_domain_round may) (enclosed t))) inner))
+    (f ∙ (ap (λ m. least_fault (stmt_names body m (enclosed (site s2)))) rounds ∙ ap (λ t. least_fault (stmt_names body (in_domain_round may) (enclosed t))) inner))
+    i)
     whole
 
 pub rounds_found : (s0 s1 s2 : Scoped) (name : Name) (place : Place) (body : ParsedStmt) (may round : Allowed) (in_name in_body r : Fault)
@@ -117,26 +123,13 @@ pub stmts_passed : (rest later : List Stmt) (x : Stmt) (s s' : Scoped) (end : Si
 stmts_passed rest later x s s' end split e after_one =
     e ∙ (ap (λ xs. after_all (stmts_view xs) (site s)) split ∙ ap (after_all (stmts_view later)) (sym after_one))
 
--- a block as it lies in memory
-pub block_found : (e : Stmt) (v : Vec Stmt Global) (items rest : List Stmt) (may : Allowed) (s0 s : Scoped) (found : Fault) → e ≡ Block v → items ≡ v.items
-    → least_fault (stmts_names (stmts_view items) may (enclosed (site s0))) ≡ merged found (least_fault (stmts_names (stmts_view rest) may (site s))) → rest ≡ []
-    → found ≡ least_fault (stmt_names (stmt_view e) may (site s0))
-block_found e v items rest may s0 s found is same t none =
-    all_found (least_fault (stmts_names (stmts_view items) may (enclosed (site s0)))) found (least_fault (stmts_names (stmts_view rest) may (site s))) t
+-- all of some statements
+pub stmts_found : (items rest : List Stmt) (may : Allowed) (s : Scoped) (t : Site) (found : Fault)
+    → least_fault (stmts_names (stmts_view items) may t) ≡ merged found (least_fault (stmts_names (stmts_view rest) may (site s))) → rest ≡ []
+    → found ≡ least_fault (stmts_names (stmts_view items) may t)
+stmts_found items rest may s t found e none =
+    all_found (least_fault (stmts_names (stmts_view items) may t)) found (least_fault (stmts_names (stmts_view rest) may (site s))) e
     (ap (λ xs. least_fault (stmts_names (stmts_view xs) may (site s))) none)
-    ∙ (ap (λ xs. least_fault (stmts_names (stmts_view xs) may (enclosed (site s0)))) same
-    ∙ sym (ap (λ x. least_fault (stmt_names (stmt_view x) may (site s0))) is ∙ ap (λ x. least_fault (stmt_names x may (site s0))) (view_block v)))
-
-pub after_block : (e : Stmt) (v : Vec Stmt Global) (items : List Stmt) (t : Site) → e ≡ Block v → items ≡ v.items
-    → after (stmt_view e) t ≡ after (ParsedBlock (stmts_view items)) t
-after_block e v items t is same =
-    ap (λ x. after (stmt_view x) t) is ∙ (ap (λ x. after x t) (view_block v) ∙ ap (λ xs. after (ParsedBlock (stmts_view xs)) t) (sym same))
-
-pub if_found : (s0 : Scoped) (p : Place) (e : ParsedExpr) (a : ParsedStmt) (may : Allowed) (in_test in_first r : Fault)
-    → in_test ≡ least_fault (names_in e may.functions s0.environment) → in_first ≡ least_fault (stmt_names a may (enclosed (site s0))) → r ≡ merged in_test in_first
-    → r ≡ least_fault (stmt_names (ParsedIf p e a) may (site s0))
-if_found s0 p e a may in_test in_first r t f whole =
-    pair_fault (names_in e may.functions s0.environment) (stmt_names a may (enclosed (site s0))) in_test in_first r t f whole
 
 pub if_else_found : (s0 s1 : Scoped) (p : Place) (e : ParsedExpr) (a b : ParsedStmt) (may : Allowed) (in_test in_first in_other both r : Fault)
     → in_test ≡ least_fault (names_in e may.functions s0.environment) → in_first ≡ least_fault (stmt_names a may (enclosed (site s0))) → s1 ≡ moved (locals_in a) s0
@@ -149,20 +142,10 @@ if_else_found s0 s1 p e a b may in_test in_first in_other both r t f past_first 
     (o ∙ ap (λ s. least_fault (stmt_names b may (enclosed (site s)))) past_first) m)
     whole
 
-pub while_found : (s0 : Scoped) (p : Place) (e : ParsedExpr) (a : ParsedStmt) (may inside : Allowed) (in_test in_body r : Fault)
-    → in_test ≡ least_fault (names_in e may.functions s0.environment) → inside ≡ in_loop may → in_body ≡ least_fault (stmt_names a inside (enclosed (site s0)))
-    → r ≡ merged in_test in_body → r ≡ least_fault (stmt_names (ParsedWhile p e a) may (site s0))
-while_found s0 p e a may inside in_test in_body r t loop f whole =
-    pair_fault (names_in e may.functions s0.environment) (stmt_names a (in_loop may) (enclosed (site s0))) in_test in_body r t
-    (f ∙ ap (λ m. least_fault (stmt_names a m (enclosed (site s0)))) loop) whole
-
-pub do_found : (s0 s1 : Scoped) (p : Place) (e : ParsedExpr) (a : ParsedStmt) (may inside : Allowed) (in_body in_test r : Fault)
-    → inside ≡ in_loop may → in_body ≡ least_fault (stmt_names a inside (enclosed (site s0))) → s1 ≡ moved (locals_in a) s0
-    → in_test ≡ least_fault (names_in e may.functions s1.environment) → r ≡ merged in_body in_test → r ≡ least_fault (stmt_names (ParsedDo a p e) may (site s0))
-do_found s0 s1 p e a may inside in_body in_test r loop f past_body t whole =
-    pair_fault (stmt_names a (in_loop may) (enclosed (site s0))) (names_in e may.functions s0.environment) in_body in_test r
-    (f ∙ ap (λ m. least_fault (stmt_names a m (enclosed (site s0)))) loop)
-    (t ∙ ap (λ s. least_fault (names_in e may.functions s.environment)) past_body) whole
+-- the test of a `do` behind its body
+body_first : (e : ParsedExpr) (a : ParsedStmt) (p : Place) (may : Allowed) (t : Site)
+    → least_fault (stmt_names (ParsedWhile p e a) may t) ≡ least_fault (stmt_names (ParsedDo a p e) may t)
+body_first e a p may t = either_order (names_in e may.functions t.environment) (stmt_names a (in_loop may) (enclosed t))
 
 pub for_found : (s0 s1 s2 s3 : Scoped) (p : Place) (start : ParsedStmt) (test : Option ParsedExpr) (update body : ParsedStmt) (may inside : Allowed)
     (in_start in_test in_update in_body head tail r : Fault)
@@ -186,15 +169,6 @@ for_found s0 s1 s2 s3 p start test update body may inside in_start in_test in_up
     (bo ∙ (ap (λ m. least_fault (stmt_names body m (enclosed (site s3)))) loop ∙ ap (λ t. least_fault (stmt_names body (in_loop may) (enclosed t))) past_update)) ta)
     whole
 
-pub for_each_found : (s0 : Scoped) (p : Place) (is_tiled : Bool) (dims others : List ParsedDim) (body : ParsedStmt) (may : Allowed) (own in_domain' r : Fault)
-    → own ≡ least_fault (fault_if (not may.domains) S11 p) → others ≡ dims
-    → in_domain' ≡ least_fault (dims_names others may.functions s0.environment (enclosed (site s0)) ++ stmt_names body (in_domain_round may) (in_domain others (site s0)))
-    → r ≡ merged own in_domain' → r ≡ least_fault (stmt_names (ParsedForEach p is_tiled dims body) may (site s0))
-for_each_found s0 p is_tiled dims others body may own in_domain' r o same f whole =
-    pair_fault (fault_if (not may.domains) S11 p) (dims_names dims may.functions s0.environment (enclosed (site s0)) ++ stmt_names body (in_domain_round may) (in_domain dims (site s0)))
-    own in_domain' r o
-    (f ∙ ap (λ ds. least_fault (dims_names ds may.functions s0.environment (enclosed (site s0)) ++ stmt_names body (in_domain_round may) (in_domain ds (site s0)))) same) whole
-
 -- what stands between two others is looked at first
 pub middle_first : (xs ys zs : List SourceRefusal) (v w r : Fault) → v ≡ least_fault ys → w ≡ least_fault (xs ++ zs) → r ≡ merged v w → r ≡ least_fault (xs ++ (ys ++ zs))
 middle_first xs ys zs v w r e f whole =
@@ -212,13 +186,32 @@ for_each_unique_found s0 p at name other e body may in_value in_rounds' r v same
     middle_first (twice (enclosed (site s0)) at name) (names_in e may.functions s0.environment) (stmt_names body (in_round may) (in_rounds name (site s0))) in_value in_rounds' r v
     (f ∙ ap (λ n. least_fault (twice (enclosed (site s0)) at n ++ stmt_names body (in_round may) (in_rounds n (site s0)))) same) whole
 
--- the parts of a `for` as they lie in memory
-pub for_view : (e start update body start' update' body' : Stmt) (p : Place) (test : Option ParsedExpr)
-    → stmt_view e ≡ ParsedFor p (stmt_view start) test (stmt_view update) (stmt_view body) → start' ≡ start → update' ≡ update → body' ≡ body
-    → stmt_view e ≡ ParsedFor p (stmt_view start') test (stmt_view update') (stmt_view body')
-for_view e start update body start' update' body' p test is x y z =
-    is ∙ sym (ap (λ a. ParsedFor p (stmt_view a) test (stmt_view update') (stmt_view body')) x
-    ∙ (ap (λ a. ParsedFor p (stmt_view start) test (stmt_view a) (stmt_view body')) y ∙ ap (λ a. ParsedFor p (stmt_view start) test (stmt_view update) (stmt_view a)) z))
+-- ---- statements as they lie in memory
+
+module _ (result : Result Fault SourceFault) (v w : ParsedStmt) (is : v ≡ w) where
+  pub found_as : (may : Allowed) (t : Site) → IfOk result (λ fault. fault ≡ least_fault (stmt_names w may t)) → IfOk result (λ fault. fault ≡ least_fault (stmt_names v may t))
+  found_as may t h = IfOk-weaker result _ _ (λ fault f. f ∙ sym (ap (λ s. least_fault (stmt_names s may t)) is)) h
+
+  pub after_as : (n : ℕ) (s0 s1 : Scoped) → past n (site s0) ≡ after w (site s0) → OnOk result (s1 ≡ moved n s0) → OnOk result (site s1 ≡ after v (site s0))
+  after_as n s0 s1 moves h = on_ok_weaker result (λ e. ap site e ∙ (moves ∙ sym (ap (λ s. after s (site s0)) is))) h
+
+-- the same, where the call says it of any value of a part that does not matter
+pub found_at : {A : Type 0} (result : Result Fault SourceFault) (v : ParsedStmt) (w : A → ParsedStmt) (a : A) (may : Allowed) (t : Site) → v ≡ w a
+    → IfOk result (λ fault. (b : A) → fault ≡ least_fault (stmt_names (w b) may t)) → IfOk result (λ fault. fault ≡ least_fault (stmt_names v may t))
+found_at result v w a may t is h =
+    found_as result v (w a) is may t (IfOk-weaker result (λ fault. (b : _) → fault ≡ least_fault (stmt_names (w b) may t)) (λ fault. fault ≡ least_fault (stmt_names (w a) may t)) (λ fault f. f a) h)
+
+-- a test and what it decides about, in a loop
+module _ (result : Result Fault SourceFault) (v : ParsedStmt) (p : Place) (e : ParsedExpr) (a : ParsedStmt) (may inside : Allowed) (t : Site) (loop : inside ≡ in_loop may)
+    (h : IfOk result (λ fault. fault ≡ least_fault (names_in e may.functions t.environment ++ stmt_names a inside (enclosed t)))) where
+  in_a_loop : IfOk result (λ fault. fault ≡ least_fault (stmt_names (ParsedWhile p e a) may t))
+  in_a_loop = IfOk-weaker result _ _ (λ fault f. f ∙ ap (λ m. least_fault (names_in e may.functions t.environment ++ stmt_names a m (enclosed t))) loop) h
+
+  pub while_found : v ≡ ParsedWhile p e a → IfOk result (λ fault. fault ≡ least_fault (stmt_names v may t))
+  while_found is = found_as result v (ParsedWhile p e a) is may t in_a_loop
+
+  pub do_found : v ≡ ParsedDo a p e → IfOk result (λ fault. fault ≡ least_fault (stmt_names v may t))
+  do_found is = found_as result v (ParsedDo a p e) is may t (IfOk-weaker result _ _ (λ fault f. f ∙ body_first e a p may t) in_a_loop)
 
 -- ---- functions
 

@@ -91,6 +91,10 @@ pub pair_fault : (xs ys : List SourceRefusal) (a b r : Fault) → a ≡ least_fa
 pair_fault xs ys a b r left right whole =
     whole ∙ (ap (λ x. merged x b) left ∙ (ap (merged (least_fault xs)) right ∙ sym (least_fault-append xs ys)))
 
+-- two parts, in either order
+pub either_order : (xs ys : List SourceRefusal) → least_fault (xs ++ ys) ≡ least_fault (ys ++ xs)
+either_order xs ys = least_fault-append xs ys ∙ (merged-comm (least_fault xs) (least_fault ys) ∙ sym (least_fault-append ys xs))
+
 -- one more part: what is found and what is left come to the same
 pub one_more : (total found fault more here rest later : Fault) → total ≡ merged found rest → rest ≡ merged here later → fault ≡ here → more ≡ merged found fault
     → total ≡ merged more later

@@ -1,3 +1,4 @@
+pub mod HeldStatements
 pub mod IndexVariables
 pub mod MayStand
 pub mod Moved

@@ -15,7 +15,11 @@ use ispc_parser::{Function, GlobalVariable, Item, Tree};
 use std::alloc::Global;
 
 /// The functions of a tree, in order.
-pub(crate) fn functions_of(alloc: Global, tree: &Tree) -> Result<Vec<&Function>, SourceFault>
+///
+/// # Errors
+///
+/// Want of memory.
+pub fn functions_of(alloc: Global, tree: &Tree) -> Result<Vec<&Function>, SourceFault>
     ensures functions { IfOk result (λ functions. map (λ f. function_view f.now) functions.items ≡ functions_in (tree_view tree.now)) }
     ensures memory { IfErr result (λ fault. fault ≡ Memory) }
 {
@@ -29,7 +33,11 @@ pub(crate) fn functions_of(alloc: Global, tree: &Tree) -> Result<Vec<&Function>,
 }
 
 /// The file-scope variables of a tree, in order.
-pub(crate) fn globals_of(alloc: Global, tree: &Tree) -> Result<Vec<&GlobalVariable>, SourceFault>
+///
+/// # Errors
+///
+/// Want of memory.
+pub fn globals_of(alloc: Global, tree: &Tree) -> Result<Vec<&GlobalVariable>, SourceFault>
     ensures globals { IfOk result (λ globals. map (λ g. global_view g.now) globals.items ≡ globals_in (tree_view tree.now)) }
     ensures memory { IfErr result (λ fault. fault ≡ Memory) }
 {

@@ -10,8 +10,7 @@ mod parts;
 mod right_sides;
 mod signatures;
 mod statements;
-#[cfg(test)]
-mod tests;
 mod whole;
 
+pub use file_scope::{functions_of, globals_of};
 pub use whole::names_fault;

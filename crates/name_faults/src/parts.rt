@@ -1,18 +1,27 @@
 //! The faults of names in statements that hold no other one.
-ghost use Rattle.std.specs.Prelude.{◌≡◌, ◌++◌, not};
+ghost use Rattle.std.specs.Prelude.{◌≡◌, ◌++◌, IfErr, IfOk, OnOk, false, not};
 ghost use Rattle.gang_model.specs.Judged as judged;
 ghost use Rattle.gang_model.specs.Judged.{least_fault};
 ghost use Rattle.gang_model.specs.declared.refusals.RefusalNumber.TheVariants as number;
 ghost use Rattle.gang_model.specs.NameFaults as names;
+ghost use Rattle.gang_model.specs.Scope as scope;
 ghost use Rattle.expression_parser.specs.Tree.{expr_view};
-ghost use Rattle.ispc_parser.specs.Tree.{option_view, target_view};
+ghost use Rattle.ispc_lexer.specs.declared.fault.SourceFault.TheVariants.{Memory};
+ghost use Rattle.ispc_names.specs.Scopes.{site};
+ghost use Rattle.ispc_parser.specs.Tree.{option_view, stmt_view, target_view};
+ghost use Rattle.name_faults.specs.MayStand.{allowed_view};
+ghost use Rattle.name_faults.specs.HeldStatements.{holds_others};
 
-use crate::right_sides::{right_fault, some_expression_fault, some_right_fault};
+use crate::allowed::Allowed;
+use crate::declarations::declaration_fault;
+use crate::right_sides::{call_fault, right_fault, some_expression_fault, some_right_fault};
 use expression_parser::Expr;
 use gang_model::{RefusalNumber, SourceRefusal};
 use gang_types::Place;
+use ispc_lexer::SourceFault;
 use ispc_names::{FunctionNames, Scopes, expression_fault, fault_if, least, unknown_name};
-use ispc_parser::Target;
+use ispc_parser::{Stmt, Target};
+use std::alloc::Global;
 
 /// The fault of names in what is assigned.
 pub(crate) fn target_fault(
@@ -88,4 +97,44 @@ pub(crate) fn return_fault(
 {
     let own = fault_if(!is_allowed, RefusalNumber::S11, place);
     least(own, some_right_fault(value, functions, scopes))
+}
+
+/// The first fault of names in a statement that holds no other one. The scopes are then those that the next statement finds.
+pub(crate) fn simple_fault(
+    alloc: Global,
+    stmt: &Stmt,
+    may: Allowed,
+    functions: &FunctionNames,
+    scopes: &mut Scopes,
+) -> Result<Option<SourceRefusal>, SourceFault>
+    requires simple { holds_others (stmt_view stmt.now) ≡ false }
+    ensures fault { IfOk result (λ fault. fault ≡ least_fault (names.stmt_names (stmt_view stmt.now) (allowed_view functions.now may) (site scopes.old))) }
+    ensures after { OnOk result (site scopes.new ≡ scope.after (stmt_view stmt.now) (site scopes.old)) }
+    ensures outside { OnOk result (scopes.new.outside ≡ scopes.old.outside) }
+    ensures memory { IfErr result (λ fault. fault ≡ Memory) }
+{
+    match stmt {
+        Stmt::Declare {
+            name_place,
+            name,
+            value,
+            ..
+        } => {
+            let in_value = some_right_fault(value, functions, scopes);
+            let in_name = declaration_fault(alloc, *name_place, name, scopes)?;
+            Ok(least(in_name, in_value))
+        }
+        Stmt::Assign { target, value, .. } => {
+            Ok(assignment_fault(target, value, functions, scopes))
+        }
+        Stmt::Change { target, value, .. } => Ok(change_fault(target, value, functions, scopes)),
+        Stmt::Increment { target, .. } => Ok(target_fault(target, functions, scopes)),
+        Stmt::Call { place, name, args } => Ok(call_fault(*place, name, args, functions, scopes)),
+        Stmt::Break { place } => Ok(fault_if(!may.breaks, RefusalNumber::S11, *place)),
+        Stmt::Continue { place } => Ok(fault_if(!may.continues, RefusalNumber::S11, *place)),
+        Stmt::Return { place, value } => {
+            Ok(return_fault(*place, value, may.returns, functions, scopes))
+        }
+        _ => Ok(None),
+    }
 }

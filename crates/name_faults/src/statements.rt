@@ -1,18 +1,22 @@
 //! The faults of names in statements.
-ghost use Rattle.std.specs.Prelude.{◌≡◌, ◌++◌, ◌+◌, IfErr, IfOk, OnOk, length, map};
+ghost use Rattle.std.specs.Prelude.{◌≡◌, ◌++◌, ◌+◌, Bool, IfErr, IfOk, OnOk, length, map};
+ghost use Rattle.gang_types.specs.declared.places.Place.{Place};
 ghost use Rattle.gang_model.specs.Judged.{least_fault};
 ghost use Rattle.gang_model.specs.NameFaults as names;
+ghost use Rattle.gang_model.specs.Parsed.{ParsedFor, ParsedForEach, ParsedIfElse};
 ghost use Rattle.gang_model.specs.Scope as scope;
+ghost use Rattle.expression_parser.specs.Tree.{expr_view};
 ghost use Rattle.ispc_lexer.specs.declared.fault.SourceFault.TheVariants.{Memory};
 ghost use Rattle.ispc_names.specs.Scopes.{site};
-ghost use Rattle.ispc_parser.specs.Tree.{dim_view, stmt_view};
+ghost use Rattle.ispc_parser.specs.Tree.{dim_view, option_view, stmt_view, stmts_view};
 ghost use Rattle.name_faults.specs.MayStand.{allowed_view};
 ghost use Rattle.name_faults.specs.Moved.{moved};
 
 use crate::allowed::Allowed;
 use crate::declarations::{bounds_fault, declaration_fault, dims_fault};
-use crate::parts::{assignment_fault, change_fault, return_fault, target_fault};
-use crate::right_sides::{call_fault, some_expression_fault, some_right_fault};
+use crate::parts::simple_fault;
+use crate::right_sides::some_expression_fault;
+use expression_parser::Expr;
 use gang_model::{RefusalNumber, SourceRefusal};
 use gang_types::Place;
 use ispc_lexer::SourceFault;
@@ -37,65 +41,18 @@ pub(crate) fn statement_fault(
     ensures memory { IfErr result (λ fault. fault ≡ Memory) }
 {
     match stmt {
-        Stmt::Empty => Ok(None),
-        Stmt::Block(stmts) => {
-            let mark = scopes.enter();
-            let mut first = None;
-            for inner in stmts {
-                first = least(
-                    first,
-                    statement_fault(alloc, inner, may, functions, scopes)?,
-                );
-            }
-            scopes.leave(mark);
-            Ok(first)
-        }
-        Stmt::Declare {
-            name_place,
-            name,
-            value,
-            ..
-        } => {
-            let in_value = some_right_fault(value, functions, scopes);
-            let in_name = declaration_fault(alloc, *name_place, name, scopes)?;
-            Ok(least(in_name, in_value))
-        }
-        Stmt::Assign { target, value, .. } => {
-            Ok(assignment_fault(target, value, functions, scopes))
-        }
-        Stmt::Change { target, value, .. } => Ok(change_fault(target, value, functions, scopes)),
-        Stmt::Increment { target, .. } => Ok(target_fault(target, functions, scopes)),
-        Stmt::Call { place, name, args } => Ok(call_fault(*place, name, args, functions, scopes)),
-        Stmt::Break { place } => Ok(fault_if(!may.breaks, RefusalNumber::S11, *place)),
-        Stmt::Continue { place } => Ok(fault_if(!may.continues, RefusalNumber::S11, *place)),
-        Stmt::Return { place, value } => {
-            Ok(return_fault(*place, value, may.returns, functions, scopes))
-        }
+        Stmt::Block(stmts) => block_fault(alloc, stmts, may, functions, scopes),
         Stmt::If {
             test,
             first,
             other,
             ..
-        } => {
-            let in_test = expression_fault(test, functions, scopes);
-            let in_first = inner_fault(alloc, first, may, functions, scopes)?;
-            match other {
-                Some(other) => {
-                    let in_other = inner_fault(alloc, other, may, functions, scopes)?;
-                    Ok(least(in_test, least(in_first, in_other)))
-                }
-                None => Ok(least(in_test, in_first)),
-            }
-        }
-        Stmt::While { test, body, .. } => {
-            let in_test = expression_fault(test, functions, scopes);
-            let in_body = inner_fault(alloc, body, may.in_loop(), functions, scopes)?;
-            Ok(least(in_test, in_body))
-        }
-        Stmt::Do { body, test, .. } => {
-            let in_body = inner_fault(alloc, body, may.in_loop(), functions, scopes)?;
-            let in_test = expression_fault(test, functions, scopes);
-            Ok(least(in_body, in_test))
+        } => match other {
+            Some(other) => choice_fault(alloc, first, other, test, may, functions, scopes),
+            None => tested_fault(alloc, first, test, may, functions, scopes),
+        },
+        Stmt::While { test, body, .. } | Stmt::Do { test, body, .. } => {
+            tested_fault(alloc, body, test, may.in_loop(), functions, scopes)
         }
         Stmt::For {
             start,
@@ -103,25 +60,13 @@ pub(crate) fn statement_fault(
             update,
             body,
             ..
-        } => {
-            let mark = scopes.enter();
-            let in_start = statement_fault(alloc, start, may, functions, scopes)?;
-            let in_test = some_expression_fault(test, functions, scopes);
-            let in_update = update_fault(alloc, update, may, functions, scopes)?;
-            let in_body = inner_fault(alloc, body, may.in_loop(), functions, scopes)?;
-            scopes.leave(mark);
-            Ok(least(least(in_start, in_test), least(in_update, in_body)))
-        }
+        } => for_fault(alloc, start, update, body, test, may, functions, scopes),
         Stmt::ForEach {
             place,
             dims,
             body,
             ..
-        } => {
-            let own = fault_if(!may.domains, RefusalNumber::S11, *place);
-            let in_domain = domain_fault(alloc, body, dims, may, functions, scopes)?;
-            Ok(least(own, in_domain))
-        }
+        } => domain_fault(alloc, body, *place, dims, may, functions, scopes),
         Stmt::ForEachActive {
             name_place,
             name,
@@ -134,12 +79,37 @@ pub(crate) fn statement_fault(
             value,
             body,
             ..
-        } => {
-            let in_value = expression_fault(value, functions, scopes);
-            let in_rounds = rounds_fault(alloc, body, *name_place, name, may, functions, scopes)?;
-            Ok(least(in_value, in_rounds))
-        }
+        } => Ok(least(
+            expression_fault(value, functions, scopes),
+            rounds_fault(alloc, body, *name_place, name, may, functions, scopes)?,
+        )),
+        _ => simple_fault(alloc, stmt, may, functions, scopes),
     }
+}
+
+/// The first fault of names in a block.
+#[cycle(statement)]
+fn block_fault(
+    alloc: Global,
+    stmts: &[Stmt],
+    may: Allowed,
+    functions: &FunctionNames,
+    scopes: &mut Scopes,
+) -> Found
+    ensures fault { IfOk result (λ fault. fault ≡ least_fault (names.stmts_names (stmts_view stmts.now) (allowed_view functions.now may) (scope.enclosed (site scopes.old)))) }
+    ensures after { OnOk result (scopes.new ≡ moved (scope.locals_in_all (stmts_view stmts.now)) scopes.old) }
+    ensures memory { IfErr result (λ fault. fault ≡ Memory) }
+{
+    let mark = scopes.enter();
+    let mut first = None;
+    for inner in stmts {
+        first = least(
+            first,
+            statement_fault(alloc, inner, may, functions, scopes)?,
+        );
+    }
+    scopes.leave(mark);
+    Ok(first)
 }
 
 /// The first fault of names in a statement that is a scope of its own.
@@ -180,27 +150,97 @@ fn update_fault(
     Ok(fault)
 }
 
+/// The first fault of names in a test and in the statement that it decides about.
+#[cycle(statement)]
+fn tested_fault(
+    alloc: Global,
+    stmt: &Stmt,
+    test: &Expr,
+    may: Allowed,
+    functions: &FunctionNames,
+    scopes: &mut Scopes,
+) -> Found
+    ensures fault { IfOk result (λ fault. fault ≡ least_fault (names.names_in (expr_view test.now) functions.now scopes.old.environment
+        ++ names.stmt_names (stmt_view stmt.now) (allowed_view functions.now may) (scope.enclosed (site scopes.old)))) }
+    ensures after { OnOk result (scopes.new ≡ moved (scope.locals_in (stmt_view stmt.now)) scopes.old) }
+    ensures memory { IfErr result (λ fault. fault ≡ Memory) }
+{
+    let in_test = expression_fault(test, functions, scopes);
+    let in_stmt = inner_fault(alloc, stmt, may, functions, scopes)?;
+    Ok(least(in_test, in_stmt))
+}
+
+/// The first fault of names in an `if` with an `else`.
+#[cycle(statement)]
+fn choice_fault(
+    alloc: Global,
+    first: &Stmt,
+    other: &Stmt,
+    test: &Expr,
+    may: Allowed,
+    functions: &FunctionNames,
+    scopes: &mut Scopes,
+) -> Found
+    ensures fault { IfOk result (λ fault. (place : Place) → fault ≡ least_fault (names.stmt_names (ParsedIfElse place (expr_view test.now) (stmt_view first.now) (stmt_view other.now))
+        (allowed_view functions.now may) (site scopes.old))) }
+    ensures after { OnOk result (scopes.new ≡ moved (scope.locals_in (stmt_view first.now) + scope.locals_in (stmt_view other.now)) scopes.old) }
+    ensures memory { IfErr result (λ fault. fault ≡ Memory) }
+{
+    let in_test = expression_fault(test, functions, scopes);
+    let in_first = inner_fault(alloc, first, may, functions, scopes)?;
+    let in_other = inner_fault(alloc, other, may, functions, scopes)?;
+    Ok(least(in_test, least(in_first, in_other)))
+}
+
+/// The first fault of names in a `for`: its start is in the scope of the rest.
+#[cycle(statement)]
+fn for_fault(
+    alloc: Global,
+    start: &Stmt,
+    update: &Stmt,
+    body: &Stmt,
+    test: &Option<Expr>,
+    may: Allowed,
+    functions: &FunctionNames,
+    scopes: &mut Scopes,
+) -> Found
+    ensures fault { IfOk result (λ fault. (place : Place) → fault ≡ least_fault (names.stmt_names (ParsedFor place (stmt_view start.now) (option_view expr_view test.now) (stmt_view update.now) (stmt_view body.now))
+        (allowed_view functions.now may) (site scopes.old))) }
+    ensures after { OnOk result (scopes.new ≡ moved (scope.locals_in (stmt_view start.now) + scope.locals_in (stmt_view update.now) + scope.locals_in (stmt_view body.now)) scopes.old) }
+    ensures memory { IfErr result (λ fault. fault ≡ Memory) }
+{
+    let mark = scopes.enter();
+    let in_start = statement_fault(alloc, start, may, functions, scopes)?;
+    let in_test = some_expression_fault(test, functions, scopes);
+    let in_update = update_fault(alloc, update, may, functions, scopes)?;
+    let in_body = inner_fault(alloc, body, may.in_loop(), functions, scopes)?;
+    scopes.leave(mark);
+    Ok(least(least(in_start, in_test), least(in_update, in_body)))
+}
+
 /// The first fault of names in a `foreach`: its index variables, its bounds, which are outside their scope, and its body.
 #[cycle(statement)]
 fn domain_fault(
     alloc: Global,
     body: &Stmt,
+    place: Place,
     dims: &[Dim],
     may: Allowed,
     functions: &FunctionNames,
     scopes: &mut Scopes,
 ) -> Found
-    ensures fault { IfOk result (λ fault. fault ≡ least_fault (names.dims_names (map dim_view dims.now) functions.now scopes.old.environment (scope.enclosed (site scopes.old))
-        ++ names.stmt_names (stmt_view body.now) (names.in_domain_round (allowed_view functions.now may)) (scope.in_domain (map dim_view dims.now) (site scopes.old)))) }
+    ensures fault { IfOk result (λ fault. (is_tiled : Bool) → fault ≡ least_fault (names.stmt_names (ParsedForEach place is_tiled (map dim_view dims.now) (stmt_view body.now))
+        (allowed_view functions.now may) (site scopes.old))) }
     ensures after { OnOk result (scopes.new ≡ moved (length dims.now + scope.locals_in (stmt_view body.now)) scopes.old) }
     ensures memory { IfErr result (λ fault. fault ≡ Memory) }
 {
+    let own = fault_if(!may.domains, RefusalNumber::S11, place);
     let in_bounds = bounds_fault(dims, functions, scopes);
     let mark = scopes.enter();
     let in_names = dims_fault(alloc, dims, scopes)?;
     let in_body = inner_fault(alloc, body, may.in_domain_round(), functions, scopes)?;
     scopes.leave(mark);
-    Ok(least(least(in_names, in_bounds), in_body))
+    Ok(least(own, least(least(in_names, in_bounds), in_body)))
 }
 
 /// The first fault of names in a `foreach_active` or `foreach_unique`, but for the values that it goes over.

@@ -4,8 +4,6 @@
 mod file_variables;
 mod named;
 mod resolution;
-#[cfg(test)]
-mod tests;
 
 pub use named::Named;
 pub use resolution::resolve;

@@ -9,7 +9,7 @@ use Rattle.gang_model.specs.Scope.{Binding, bound, Environment, NameStanding, Si
 use Rattle.step_scopes.specs.declared.table.Declaration.{Declaration}
 use Rattle.step_scopes.specs.declared.table.Standing.{Standing}
 use Rattle.named_steps.specs.declared.declared.Declared.{Declared}
-use Rattle.named_steps.specs.Sites.{Declares, Reaches, Lists, Stands, StandsIn}
+use Rattle.named_steps.specs.Sites.{Declares, Lists, Passes, Reaches, StandsIn}
 use Rattle.gang_model.proofs.VariableLaws.{bindings_numbers}
 use Rattle.named_steps.proofs.Growth.{declares-join, declares-one, declares-length, reaches-one, reaches-more, lists-more, lists-one}
 
@@ -82,10 +82,24 @@ declares_for a b c d s u r p q o =
     declares-join a b d (bindings_in s (length a)) (bindings_in u (length a + locals_in s) ++ bindings_in r (length a + locals_in s + locals_in u)) p
     (subst (λ k. Declares b d (bindings_in u k ++ bindings_in r (k + locals_in u))) n (declares_two b c d u r q o))
 
--- from before a statement to behind it
-abbrev pub Passes : ParsedStmt → (before after : Declared) → (ss ts : List Standing) → Type 0
-Passes s old new ss ts = (site : Site) (steps : List NameStanding) → Stands old ss site steps → Stands new ts (after s site) (steps ++ standings_in s site)
-
 pub on_ok_any : {A E : Type 0} (r : Result A E) (P : Type 0) → P → OnOk r P
 on_ok_any (Ok x) P h = h
 on_ok_any (Err e) P h = tt
+
+-- a statement as it lies in memory, where the call says this of any value of a part that does not matter
+module _ {A E X : Type 0} (r : Result A E) (s : ParsedStmt) (z : X → ParsedStmt) (x : X) (is : s ≡ z x) (old new : Declared) where
+  pub declares_at : OnOk r ((y : X) → Declares old.declarations.items new.declarations.items (bindings_in (z y) (length old.declarations.items)))
+      → OnOk r (Declares old.declarations.items new.declarations.items (bindings_in s (length old.declarations.items)))
+  declares_at h = on_ok r _ _ h (λ d. declares_as s (z x) _ _ is (d x))
+
+  pub passes_at : (ss ts : List Standing) → OnOk r ((y : X) → Passes (z y) old new ss ts) → OnOk r (Passes s old new ss ts)
+  passes_at ss ts h = on_ok r ((y : X) → Passes (z y) old new ss ts) (Passes s old new ss ts) h (λ f site steps g. ends_as s (z x) _ _ _ site steps is (f x site steps g))
+
+-- a statement as it lies in memory
+module _ {A E : Type 0} (r : Result A E) (s z : ParsedStmt) (is : s ≡ z) (old new : Declared) where
+  pub declares_in : OnOk r (Declares old.declarations.items new.declarations.items (bindings_in z (length old.declarations.items)))
+      → OnOk r (Declares old.declarations.items new.declarations.items (bindings_in s (length old.declarations.items)))
+  declares_in h = on_ok r _ _ h (λ d. declares_as s z _ _ is d)
+
+  pub passes_in : (ss ts : List Standing) → OnOk r (Passes z old new ss ts) → OnOk r (Passes s old new ss ts)
+  passes_in ss ts h = on_ok r (Passes z old new ss ts) (Passes s old new ss ts) h (λ f site steps g. ends_as s z _ _ _ site steps is (f site steps g))

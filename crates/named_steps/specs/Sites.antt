@@ -2,7 +2,8 @@
 use Rattle.std.specs.Prelude.{ℕ, suc, ◌<◌, ◌≡◌, List, [], ◌∷◌, ◌++◌, filter, length, map, Option, Some, None}
 use Rattle.std.specs.List.{All}
 use Rattle.gang_types.specs.declared.places.VarId.TheVariants.{Local}
-use Rattle.gang_model.specs.Scope.{Binding, bound, Environment, NameStanding, Site, is_local}
+use Rattle.gang_model.specs.Parsed.{ParsedStmt}
+use Rattle.gang_model.specs.Scope.{Binding, bound, Environment, NameStanding, Site, after, is_local, standings_in}
 use Rattle.step_scopes.specs.declared.table.Declaration.{Declaration}
 use Rattle.step_scopes.specs.declared.table.Standing.{Standing}
 use Rattle.step_scopes.specs.Scopes.{in_scope, standing_view}
@@ -43,3 +44,7 @@ pub record StandsIn (ds : List Declaration) (innermost : Option ℕ) (standings 
 -- so far has the function been passed through: what a statement finds here, and the steps before it
 abbrev pub Stands : Declared → List Standing → Site → List NameStanding → Type 0
 Stands declared standings site steps = StandsIn declared.declarations.items declared.innermost standings site.environment site.next steps
+
+-- from before a statement to behind it
+abbrev pub Passes : ParsedStmt → (before after : Declared) → (ss ts : List Standing) → Type 0
+Passes s old new ss ts = (site : Site) (steps : List NameStanding) → Stands old ss site steps → Stands new ts (after s site) (steps ++ standings_in s site)

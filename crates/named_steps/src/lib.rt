@@ -5,7 +5,5 @@ mod declared;
 mod function;
 mod returns;
 mod statements;
-#[cfg(test)]
-mod tests;
 
 pub use function::steps_of;

@@ -1,14 +1,17 @@
 //! The steps of statements.
-ghost use Rattle.std.specs.Prelude.{◌≡◌, ◌++◌, List, IfErr, OnOk, length};
+ghost use Rattle.std.specs.Prelude.{◌≡◌, ◌++◌, Bool, List, IfErr, OnOk, Option, length, map};
+ghost use Rattle.gang_types.specs.declared.places.Place.{Place};
 ghost use Rattle.gang_model.specs.Bindings.{bindings_in, bindings_in_all};
+ghost use Rattle.gang_model.specs.Parsed.{ParsedBlock, ParsedExpr, ParsedFor, ParsedForEach, ParsedForEachActive, ParsedIf, ParsedIfElse};
 ghost use Rattle.gang_model.specs.Scope.{NameStanding, Site, after, after_all, locals_in, past, standings_in, standings_in_all};
 ghost use Rattle.ispc_lexer.specs.declared.fault.SourceFault.TheVariants.{Memory};
-ghost use Rattle.ispc_parser.specs.Tree.{stmt_view, stmts_view};
-ghost use Rattle.named_steps.specs.Sites.{Declares, Stands};
+ghost use Rattle.ispc_parser.specs.Tree.{dim_view, stmt_view, stmts_view};
+ghost use Rattle.named_steps.specs.Sites.{Declares, Passes, Stands};
 
 use crate::declared::{Declared, declare, declare_dims, step};
+use gang_types::Place;
 use ispc_lexer::SourceFault;
-use ispc_parser::Stmt;
+use ispc_parser::{Dim, Stmt};
 use std::alloc::Global;
 use step_scopes::Standing;
 
@@ -27,12 +30,7 @@ fn statement_steps(
 {
     match stmt {
         Stmt::Empty => Ok(()),
-        Stmt::Block(stmts) => {
-            let outside = declared.innermost;
-            list_steps(alloc, stmts, declared, standings)?;
-            declared.innermost = outside;
-            Ok(())
-        }
+        Stmt::Block(stmts) => block_steps(alloc, stmts, declared, standings),
         Stmt::Declare { place, name, .. } => {
             step(*place, declared, standings)?;
             declare(alloc, name, declared)
@@ -49,14 +47,10 @@ fn statement_steps(
             first,
             other,
             ..
-        } => {
-            step(*place, declared, standings)?;
-            inner_steps(alloc, first, declared, standings)?;
-            match other {
-                Some(other) => inner_steps(alloc, other, declared, standings),
-                None => Ok(()),
-            }
-        }
+        } => match other {
+            Some(other) => choice_steps(alloc, first, other, *place, declared, standings),
+            None => branch_steps(alloc, first, *place, declared, standings),
+        },
         Stmt::While { place, body, .. } | Stmt::Do { place, body, .. } => {
             inner_steps(alloc, body, declared, standings)?;
             step(*place, declared, standings)
@@ -67,31 +61,13 @@ fn statement_steps(
             update,
             body,
             ..
-        } => {
-            let outside = declared.innermost;
-            statement_steps(alloc, start, declared, standings)?;
-            // The update's variables are numbered before the body's, and its steps after them.
-            let mut last = Vec::new(alloc);
-            inner_steps(alloc, update, declared, &mut last)?;
-            inner_steps(alloc, body, declared, standings)?;
-            standings.extend_from_slice(&last)?;
-            step(*place, declared, standings)?;
-            declared.innermost = outside;
-            Ok(())
-        }
+        } => for_steps(alloc, start, update, body, *place, declared, standings),
         Stmt::ForEach {
             place,
             dims,
             body,
             ..
-        } => {
-            let outside = declared.innermost;
-            step(*place, declared, standings)?;
-            declare_dims(alloc, dims, declared)?;
-            inner_steps(alloc, body, declared, standings)?;
-            declared.innermost = outside;
-            step(*place, declared, standings)
-        }
+        } => domain_steps(alloc, body, *place, dims, declared, standings),
         Stmt::ForEachActive {
             place,
             name,
@@ -103,15 +79,138 @@ fn statement_steps(
             name,
             body,
             ..
-        } => {
-            let outside = declared.innermost;
-            step(*place, declared, standings)?;
-            declare(alloc, name, declared)?;
-            inner_steps(alloc, body, declared, standings)?;
-            declared.innermost = outside;
-            step(*place, declared, standings)
-        }
+        } => rounds_steps(alloc, body, *place, name, declared, standings),
     }
+}
+
+/// The steps of a block.
+#[cycle(statement)]
+fn block_steps(
+    alloc: Global,
+    stmts: &[Stmt],
+    declared: &mut Declared,
+    standings: &mut Vec<Standing>,
+) -> Result<(), SourceFault>
+    ensures declares { OnOk result (Declares declared.old.declarations.items declared.new.declarations.items (bindings_in (ParsedBlock (stmts_view stmts.now)) (length declared.old.declarations.items))) }
+    ensures stands { OnOk result (Passes (ParsedBlock (stmts_view stmts.now)) declared.old declared.new standings.old.items standings.new.items) }
+    ensures memory { IfErr result (λ fault. fault ≡ Memory) }
+{
+    let outside = declared.innermost;
+    list_steps(alloc, stmts, declared, standings)?;
+    declared.innermost = outside;
+    Ok(())
+}
+
+/// The steps of an `if` without an `else`.
+#[cycle(statement)]
+fn branch_steps(
+    alloc: Global,
+    first: &Stmt,
+    place: Place,
+    declared: &mut Declared,
+    standings: &mut Vec<Standing>,
+) -> Result<(), SourceFault>
+    ensures declares { OnOk result ((test : ParsedExpr) → Declares declared.old.declarations.items declared.new.declarations.items
+        (bindings_in (ParsedIf place test (stmt_view first.now)) (length declared.old.declarations.items))) }
+    ensures stands { OnOk result ((test : ParsedExpr) → Passes (ParsedIf place test (stmt_view first.now)) declared.old declared.new standings.old.items standings.new.items) }
+    ensures memory { IfErr result (λ fault. fault ≡ Memory) }
+{
+    step(place, declared, standings)?;
+    inner_steps(alloc, first, declared, standings)
+}
+
+/// The steps of an `if` with an `else`.
+#[cycle(statement)]
+fn choice_steps(
+    alloc: Global,
+    first: &Stmt,
+    other: &Stmt,
+    place: Place,
+    declared: &mut Declared,
+    standings: &mut Vec<Standing>,
+) -> Result<(), SourceFault>
+    ensures declares { OnOk result ((test : ParsedExpr) → Declares declared.old.declarations.items declared.new.declarations.items
+        (bindings_in (ParsedIfElse place test (stmt_view first.now) (stmt_view other.now)) (length declared.old.declarations.items))) }
+    ensures stands { OnOk result ((test : ParsedExpr) → Passes (ParsedIfElse place test (stmt_view first.now) (stmt_view other.now)) declared.old declared.new standings.old.items standings.new.items) }
+    ensures memory { IfErr result (λ fault. fault ≡ Memory) }
+{
+    step(place, declared, standings)?;
+    inner_steps(alloc, first, declared, standings)?;
+    inner_steps(alloc, other, declared, standings)
+}
+
+/// The steps of a `for`. The update's variables are numbered before the body's, and its steps after them.
+#[cycle(statement)]
+fn for_steps(
+    alloc: Global,
+    start: &Stmt,
+    update: &Stmt,
+    body: &Stmt,
+    place: Place,
+    declared: &mut Declared,
+    standings: &mut Vec<Standing>,
+) -> Result<(), SourceFault>
+    ensures declares { OnOk result ((test : Option ParsedExpr) → Declares declared.old.declarations.items declared.new.declarations.items
+        (bindings_in (ParsedFor place (stmt_view start.now) test (stmt_view update.now) (stmt_view body.now)) (length declared.old.declarations.items))) }
+    ensures stands { OnOk result ((test : Option ParsedExpr) → Passes (ParsedFor place (stmt_view start.now) test (stmt_view update.now) (stmt_view body.now))
+        declared.old declared.new standings.old.items standings.new.items) }
+    ensures memory { IfErr result (λ fault. fault ≡ Memory) }
+{
+    let outside = declared.innermost;
+    statement_steps(alloc, start, declared, standings)?;
+    let mut last = Vec::new(alloc);
+    inner_steps(alloc, update, declared, &mut last)?;
+    inner_steps(alloc, body, declared, standings)?;
+    standings.extend_from_slice(&last)?;
+    step(place, declared, standings)?;
+    declared.innermost = outside;
+    Ok(())
+}
+
+/// The steps of a `foreach`.
+#[cycle(statement)]
+fn domain_steps(
+    alloc: Global,
+    body: &Stmt,
+    place: Place,
+    dims: &[Dim],
+    declared: &mut Declared,
+    standings: &mut Vec<Standing>,
+) -> Result<(), SourceFault>
+    ensures declares { OnOk result ((is_tiled : Bool) → Declares declared.old.declarations.items declared.new.declarations.items
+        (bindings_in (ParsedForEach place is_tiled (map dim_view dims.now) (stmt_view body.now)) (length declared.old.declarations.items))) }
+    ensures stands { OnOk result ((is_tiled : Bool) → Passes (ParsedForEach place is_tiled (map dim_view dims.now) (stmt_view body.now)) declared.old declared.new standings.old.items standings.new.items) }
+    ensures memory { IfErr result (λ fault. fault ≡ Memory) }
+{
+    let outside = declared.innermost;
+    step(place, declared, standings)?;
+    declare_dims(alloc, dims, declared)?;
+    inner_steps(alloc, body, declared, standings)?;
+    declared.innermost = outside;
+    step(place, declared, standings)
+}
+
+/// The steps of a `foreach_active`, which are those of a `foreach_unique` too.
+#[cycle(statement)]
+fn rounds_steps(
+    alloc: Global,
+    body: &Stmt,
+    place: Place,
+    name: &[u8],
+    declared: &mut Declared,
+    standings: &mut Vec<Standing>,
+) -> Result<(), SourceFault>
+    ensures declares { OnOk result ((at : Place) → Declares declared.old.declarations.items declared.new.declarations.items
+        (bindings_in (ParsedForEachActive place at name.now (stmt_view body.now)) (length declared.old.declarations.items))) }
+    ensures stands { OnOk result ((at : Place) → Passes (ParsedForEachActive place at name.now (stmt_view body.now)) declared.old declared.new standings.old.items standings.new.items) }
+    ensures memory { IfErr result (λ fault. fault ≡ Memory) }
+{
+    let outside = declared.innermost;
+    step(place, declared, standings)?;
+    declare(alloc, name, declared)?;
+    inner_steps(alloc, body, declared, standings)?;
+    declared.innermost = outside;
+    step(place, declared, standings)
 }
 
 /// The steps of a statement that is a scope of its own.

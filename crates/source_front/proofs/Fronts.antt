@@ -1,24 +1,25 @@
 -- What the phases give together.
-use Rattle.std.proofs.Common.{◌≡◌, ◌⊎◌, ℕ, ◌<◌, ◌≤◌, Bool, true, false, List, [], ◌∷◌, map, length, Option, Some, None, All, refl, sym, ap, ◌∙◌, subst, inl, inr, true≢false}
-use Rattle.std.specs.Prelude.{◌&&◌, if◌then◌else◌, unwrap_or}
-use Rattle.std.proofs.lemmas.Option.{none-some}
+use Rattle.std.proofs.Common.{◌≡◌, ◌⊎◌, ℕ, ◌≤◌, List, length, Option, Some, None, refl, sym, ap, ◌∙◌, subst, inl, inr}
 use Rattle.gang_model.specs.declared.refusals.RefusalNumber.{RefusalNumber}
 use Rattle.gang_model.specs.declared.refusals.RefusalNumber.TheVariants.{S1, S2, S3, S4, S5, S6, S7, S8, S9, S10, S11, S12, S13}
 use Rattle.gang_model.specs.declared.refusals.SourceRefusal.{SourceRefusal}
-use Rattle.gang_model.specs.Entry.{entry_of, entry_from}
-use Rattle.gang_model.specs.Limits.{limit_refusal}
-use Rattle.gang_model.specs.Parsed.{ParsedFunction, ParsedFunctionItem, ParsedSource}
-use Rattle.gang_model.specs.Run.{source_refusal}
-use Rattle.gang_model.specs.SourceRefusals.{first_refusal, names_refusal, types_refusal}
-use Rattle.gang_model.specs.Sources.{IsRightRefusal, IsTreeNumber}
-use Rattle.gang_model.specs.SpellsSource.{IsTree}
+use Rattle.gang_model.specs.Entry.{entry_of}
 use Rattle.gang_model.specs.Lexes.{Lexes, max_source}
+use Rattle.gang_model.specs.Limits.{limit_refusal}
+use Rattle.gang_model.specs.Parsed.{Name, ParsedSource}
+use Rattle.gang_model.specs.Resolved.{program_of}
+use Rattle.gang_model.specs.Run.{source_refusal}
+use Rattle.gang_model.specs.SourceRefusals.{IsAccepted, first_refusal, names_refusal, types_refusal}
+use Rattle.gang_model.specs.Sources.{IsTreeNumber}
+use Rattle.gang_model.specs.SpellsSource.{IsTree}
 use Rattle.gang_model.specs.Tokens.{Lexeme}
 use Rattle.ispc_lexer.specs.declared.fault.SourceFault.{SourceFault}
 use Rattle.ispc_lexer.specs.declared.fault.SourceFault.TheVariants.{Memory, Refused}
 use Rattle.ispc_lexer.specs.Refusal.{IsRefusal as IsLexerRefusal}
 use Rattle.ispc_parser.specs.Refusals.{IsRefusal as IsParserRefusal}
 use Rattle.expression_parser.specs.Parse.{IsParserNumber}
+use Rattle.scalar_programs.proofs.ScalarPrograms.{scalar-program}
+use Rattle.typed_tree.specs.Views.{program_view}
 use Rattle.source_front.specs.declared.front.Compiled.{Compiled}
 use Rattle.source_front.specs.Front.{Compiles, CompilesTree, GivesTree, IsFault, IsRefused, ReadsKnown}
 
@@ -28,10 +29,10 @@ fault_right text source Memory known h = tt
 fault_right text source (Refused r) known h = inr (inr (inr (inr (record { source = source; reads = known.reads; known = known.known; fault = h }))))
 
 -- what a known tree gives, its text gives
-pub compiled_right : (text : List ℕ) (source : ParsedSource) (found : Option Compiled) → ReadsKnown text source → GivesTree source found → Compiles text found
-compiled_right text source None known (sound, none) =
+pub compiled_right : (text : List ℕ) (source : ParsedSource) (asked : Option Name) (found : Option Compiled) → ReadsKnown text source → GivesTree source asked found → Compiles text asked found
+compiled_right text source asked None known (sound, none) =
     record { source = source; accepted = record { reads = known.reads; known = known.known; sound = sound }; none = none }
-compiled_right text source (Some c) known g =
+compiled_right text source asked (Some c) known g =
     (record { source = source; accepted = record { reads = known.reads; known = known.known; sound = g.sound }; program_is = g.program; entry_is = g.entry }, g.ready)
 
 -- the tokens' refusals
@@ -63,6 +64,11 @@ parser_right text tokens Memory few spelled (inr h) = tt
 parser_right text tokens (Refused r) few spelled (inr (number, none)) =
     inr (inr (inl (record { few = few; tokens = tokens; spelled = spelled; none = none; number = tree_number r.number number })))
 
+-- a fault that a phase answers is the one that it finds
+pub found_fault : (found : Option SourceRefusal) (fault : SourceFault) → (fault ≡ Memory) ⊎ ((refusal : SourceRefusal) × (fault ≡ Refused refusal) × (found ≡ Some refusal)) → IsFault found fault
+found_fault found fault (inl is) = subst (IsFault found) (sym is) tt
+found_fault found fault (inr (refusal, is, h)) = subst (IsFault found) (sym is) h
+
 -- a fault of names refuses the tree
 pub by_names : (source : ParsedSource) (fault : SourceFault) → IsFault (names_refusal source) fault → IsFault (source_refusal source) fault
 by_names source Memory h = tt
@@ -79,10 +85,19 @@ pub by_limits : (source : ParsedSource) → names_refusal source ≡ None → ty
 by_limits source n t =
     ap (λ n. first_refusal (first_refusal n (types_refusal source)) (limit_refusal source)) n ∙ ap (λ t. first_refusal t (limit_refusal source)) t
 
-only_first : (exported : Bool) (e : ℕ) → (if exported && true then Some 0 else None) ≡ Some e → e ≡ 0
-only_first true e h = sym (ap (λ o. unwrap_or o 0) h)
-only_first false e h = absurd (none-some e h)
+-- and the limits' refusal is the tree's
+pub by_limits_fault : (source : ParsedSource) (fault : SourceFault) → names_refusal source ≡ None → types_refusal source ≡ None → IsFault (limit_refusal source) fault → IsFault (source_refusal source) fault
+by_limits_fault source fault n t h = subst (λ found. IsFault found fault) (sym (by_limits source n t)) h
 
--- of one function the run begins with the first
-pub first_entry : (f : ParsedFunction) (source : ParsedSource) (e : ℕ) → source ≡ ParsedFunctionItem f ∷ [] → entry_of source None ≡ Some e → e ≡ 0
-first_entry f source e is h = only_first f.spec.is_exported e (subst (λ s. entry_of s None ≡ Some e) is h)
+accepted : (source : ParsedSource) → names_refusal source ≡ None → types_refusal source ≡ None → IsAccepted source
+accepted source n t = ap (λ n. first_refusal n (types_refusal source)) n ∙ t
+
+-- the program of a tree without a fault
+pub tree_compiles : (text : List ℕ) (source : ParsedSource) (asked : Option Name) (compiled : Compiled) → ReadsKnown text source → names_refusal source ≡ None → types_refusal source ≡ None
+    → limit_refusal source ≡ None → program_of source ≡ Some (program_view compiled.program) → entry_of source asked ≡ Some compiled.entry.0 → CompilesTree source asked compiled
+tree_compiles text source asked compiled known n t l program entry = record {
+  sound = by_limits source n t ∙ l;
+  program = program;
+  entry = entry;
+  ready = scalar-program source known.reads.tokens (program_view compiled.program) asked compiled.entry.0 known.reads.tree known.known (accepted source n t) program entry;
+}

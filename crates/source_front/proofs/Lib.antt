@@ -1,3 +1,2 @@
-mod SameTexts
 mod Fronts
-mod Named
+mod KnownForms

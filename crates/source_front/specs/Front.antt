@@ -3,43 +3,41 @@ use Rattle.std.specs.Prelude.{◌≡◌, ℕ, true, List, Option, Some, None}
 use Rattle.gang_model.specs.declared.refusals.SourceRefusal.{SourceRefusal}
 use Rattle.gang_model.specs.Entry.{entry_of}
 use Rattle.gang_model.specs.Known.{is_known, today}
-use Rattle.gang_model.specs.Parsed.{ParsedSource}
+use Rattle.gang_model.specs.Parsed.{Name, ParsedSource}
 use Rattle.gang_model.specs.Resolved.{program_of}
 use Rattle.gang_model.specs.Run.{source_refusal}
 use Rattle.gang_model.specs.Sources.{HasNoEntry, IsProgramOf, IsRightRefusal, ReadsAs}
+use Rattle.scalar_programs.specs.Scalars.{IsScalarProgram}
 use Rattle.typed_tree.specs.Views.{program_view}
-use Rattle.typed_tree.specs.Plain.{IsPlainProgram}
-use Rattle.gang_machine.specs.Standings.{AreNamed}
 use Rattle.ispc_lexer.specs.declared.fault.SourceFault.{SourceFault}
 use Rattle.ispc_lexer.specs.declared.fault.SourceFault.TheVariants.{Memory, Refused}
 use Rattle.source_front.specs.declared.front.Compiled.{Compiled}
 
--- a program that the machine runs, from its first function on
-pub record IsReady (compiled : Compiled) : Type 0 where
-  pub plain : IsPlainProgram (program_view compiled.program)
-  pub named : AreNamed compiled.program
-  pub first : compiled.entry.0 ≡ 0
+-- a program that the machine runs from its entry on
+abbrev pub IsReady : Compiled → Type 0
+IsReady compiled = IsScalarProgram (program_view compiled.program) compiled.entry.0
 
 -- a text reads as a tree of which all forms are let through
 pub record ReadsKnown (text : List ℕ) (source : ParsedSource) : Type 0 where
   pub reads : ReadsAs text source
   pub known : is_known today source ≡ true
 
--- the program of a tree without a fault, or none where it has no function to begin with
-pub record CompilesTree (source : ParsedSource) (compiled : Compiled) : Type 0 where
+-- the program and the entry of a tree without a fault
+pub record CompilesTree (source : ParsedSource) (asked : Option Name) (compiled : Compiled) : Type 0 where
   pub sound : source_refusal source ≡ None
   pub program : program_of source ≡ Some (program_view compiled.program)
-  pub entry : entry_of source None ≡ Some compiled.entry.0
+  pub entry : entry_of source asked ≡ Some compiled.entry.0
   pub ready : IsReady compiled
 
-abbrev pub GivesTree : ParsedSource → Option Compiled → Type 0
-GivesTree source None = (source_refusal source ≡ None) × (entry_of source None ≡ None)
-GivesTree source (Some compiled) = CompilesTree source compiled
+-- the same, or nothing where the tree has no fault and no function to begin with
+abbrev pub GivesTree : ParsedSource → (asked : Option Name) → Option Compiled → Type 0
+GivesTree source asked None = (source_refusal source ≡ None) × (entry_of source asked ≡ None)
+GivesTree source asked (Some compiled) = CompilesTree source asked compiled
 
--- the program of a text, or none where it has no function to begin with
-abbrev pub Compiles : List ℕ → Option Compiled → Type 0
-Compiles text None = HasNoEntry text None
-Compiles text (Some compiled) = IsProgramOf text None (program_view compiled.program) compiled.entry.0 × IsReady compiled
+-- the program of a text and its entry, or nothing where it has no function to begin with
+abbrev pub Compiles : List ℕ → (asked : Option Name) → Option Compiled → Type 0
+Compiles text asked None = HasNoEntry text asked
+Compiles text asked (Some compiled) = IsProgramOf text asked (program_view compiled.program) compiled.entry.0 × IsReady compiled
 
 -- want of memory, or the refusal that is found
 abbrev pub IsFault : Option SourceRefusal → SourceFault → Type 0

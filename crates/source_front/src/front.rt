@@ -1,21 +1,19 @@
 //! The phases from a text to a program, each of which may refuse it.
-ghost use Rattle.std.specs.Prelude.{◌≡◌, true, None, IfErr, IfOk, IfSome, IsOk, OnOk};
-ghost use Rattle.gang_model.specs.Known.{is_known, today};
+ghost use Rattle.std.specs.Prelude.{◌≡◌, ℕ, List, None, IfErr, IfOk, OnOk, option_map};
+ghost use Rattle.gang_model.specs.Limits as limits;
 ghost use Rattle.gang_model.specs.Run.{source_refusal};
-ghost use Rattle.gang_model.specs.SourceRefusals.{names_refusal};
 ghost use Rattle.ispc_parser.specs.Tree.{tree_view};
 ghost use Rattle.source_front.specs.Front.{Compiles, GivesTree, IsFault, IsRefused, ReadsKnown};
 
-use crate::not_yet::not_yet;
+use crate::forms::check_forms;
 use gang_model::{RefusalNumber, SourceRefusal};
 use gang_types::{FuncId, Place};
 use ispc_lexer::{SourceFault, source_end, tokens};
 use ispc_parser::{Tree, parse};
-use name_faults::names_fault;
-use named_steps::steps_of;
-use plain_program::{only_function, plain_program};
-use source_limits::{entry_of, limit_refusal};
+use name_resolution::resolve;
+use source_limits::limit_refusal;
 use std::alloc::Global;
+use type_check::{check, entry_of};
 use typed_tree::Program;
 
 /// A program, and the function that its run begins with.
@@ -25,18 +23,23 @@ pub struct Compiled {
     pub entry: FuncId,
 }
 
-/// The program of a source; none where it has no function to begin with.
+/// The program of a source with its entry, the first exported function, of the given name if one is asked for; none where
+/// the source has no such function.
 ///
 /// # Errors
 ///
 /// Want of memory, or the refusal of the first phase that finds a fault: S1, S2 or S13 by the tokens, S3, S4 or S13 by the
 /// tree, S3 at a form that is not let through yet, then S5, S6, S11 or S12 by names, S7 to S10 by types, and S13 by the limits.
-pub fn compile_source(alloc: Global, source: &[u8]) -> Result<Option<Compiled>, SourceFault>
-    ensures compiled { IfOk result (Compiles source.now) }
+pub fn compile_source(
+    alloc: Global,
+    source: &[u8],
+    asked: Option<&[u8]>,
+) -> Result<Option<Compiled>, SourceFault>
+    ensures compiled { IfOk result (Compiles source.now (option_map (λ n. n.now) asked.entry)) }
     ensures refused { IfErr result (IsRefused source.now) }
 {
     let tree = read_tree(alloc, source)?;
-    compile_tree(alloc, &tree)
+    compile_tree(alloc, tree, asked)
 }
 
 /// The tree of a text all of whose forms are let through.
@@ -46,9 +49,9 @@ fn read_tree(alloc: Global, source: &[u8]) -> Result<Tree, SourceFault>
 {
     let tokens = tokens(alloc, source)?;
     let tree = parse(alloc, tokens.as_slice(), source_end(source))?;
-    match not_yet(&tree, tokens.as_slice()) {
-        None => Ok(tree),
-        Some(place) => Err(refused(RefusalNumber::S3, place)),
+    match check_forms(&tree) {
+        Ok(()) => Ok(tree),
+        Err(place) => Err(refused(RefusalNumber::S3, place)),
     }
 }
 
@@ -60,33 +63,31 @@ fn refused(number: RefusalNumber, place: Place) -> SourceFault
 }
 
 /// The program of a tree all of whose forms are let through.
-fn compile_tree(alloc: Global, tree: &Tree) -> Result<Option<Compiled>, SourceFault>
-    requires known { is_known today (tree_view tree.now) ≡ true }
-    ensures compiled { IfOk result (GivesTree (tree_view tree.now)) }
-    ensures refused { IfErr result (IsFault (source_refusal (tree_view tree.now))) }
+fn compile_tree(
+    alloc: Global,
+    tree: Tree,
+    asked: Option<&[u8]>,
+) -> Result<Option<Compiled>, SourceFault>
+    requires reads { (text : List ℕ) × ReadsKnown text (tree_view tree) }
+    ensures compiled { IfOk result (GivesTree (tree_view tree) (option_map (λ n. n.now) asked.entry)) }
+    ensures refused { IfErr result (IsFault (source_refusal (tree_view tree))) }
 {
-    check_names(alloc, tree)?;
-    if tree.items.is_empty() {
-        return Ok(None);
-    }
-    let function = only_function(tree);
-    let scopes = steps_of(alloc, function)?;
-    let program = plain_program(alloc, tree, scopes)?;
-    if let Some(refusal) = limit_refusal(tree) {
-        return Err(SourceFault::Refused(refusal));
-    }
-    let Some(entry) = entry_of(tree, None) else {
+    let named = resolve(alloc, tree)?;
+    let checked = check(alloc, named)?;
+    check_limits(checked.tree())?;
+    let Some(entry) = entry_of(&checked, asked) else {
         return Ok(None);
     };
+    let program = checked.into_program();
     Ok(Some(Compiled { program, entry }))
 }
 
-/// Whether a tree has no fault of names.
-fn check_names(alloc: Global, tree: &Tree) -> Result<(), SourceFault>
-    ensures sound { OnOk result (names_refusal (tree_view tree.now) ≡ None) }
-    ensures refused { IfErr result (IsFault (names_refusal (tree_view tree.now))) }
+/// Whether a tree passes no limit.
+fn check_limits(tree: &Tree) -> Result<(), SourceFault>
+    ensures sound { OnOk result (limits.limit_refusal (tree_view tree.now) ≡ None) }
+    ensures refused { IfErr result (IsFault (limits.limit_refusal (tree_view tree.now))) }
 {
-    match names_fault(alloc, tree)? {
+    match limit_refusal(tree) {
         None => Ok(()),
         Some(refusal) => Err(SourceFault::Refused(refusal)),
     }

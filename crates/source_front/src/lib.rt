@@ -1,7 +1,9 @@
 //! From the text of a source to its program.
 #![tactic(auto)]
 
+mod forms;
 mod front;
-mod not_yet;
+#[cfg(test)]
+mod tests;
 
 pub use front::{Compiled, compile_source};

@@ -1,3 +1,2 @@
 pub mod RoomLaws
 pub mod StmtRooms
-pub mod SameTexts

@@ -6,8 +6,6 @@ mod entries;
 mod judged;
 mod passings;
 mod scope;
-#[cfg(test)]
-mod tests;
 
 pub use entries::{Declared, Entry, built_in, declared_with, index_variable};
 pub use judged::{both, refuse};

@@ -4,8 +4,6 @@
 mod conversions;
 mod operations;
 mod rates;
-#[cfg(test)]
-mod tests;
 mod typed;
 mod types;
 

@@ -1,49 +1,49 @@
-use Rattle.std.proofs.Common.{◌≡◌, ◌-◌, ◌^◌, ◌∷◌, [], length, replicate, sym, ap, subst, ◌∙◌, arith}
+use Rattle.std.proofs.Common.{◌≡◌, ◌+◌, [], length, refl, ap, subst, ◌∙◌, arith}
 use Rattle.std.proofs.lemmas.List.{length-replicate}
-use Rattle.std.specs.List.{count_by}
-use Rattle.std.specs.Prelude.{All}
-use Rattle.gang_model.specs.Debugger.{fresh}
-use Rattle.gang_model.specs.Transcript.{setting}
-use Rattle.gang_model.specs.Tree.{Function}
-use Rattle.gang_machine.specs.Layout.{is_declaration, words_needed}
-use Rattle.undo_log.specs.History.{new_history}
-use Rattle.typed_tree.specs.Plain.{IsPlainBody}
-use Rattle.typed_tree.specs.Views.{function_view, program_view}
-use Rattle.gang_machine.specs.Standings.{IsMachine, IsNamed, Stands, view_of}
-use Rattle.gang_machine.proofs.Advancing.{some_lanes}
-use Rattle.gang_machine.proofs.Starting.{one_function, opened_stands, program_is}
-use Rattle.gang_machine.proofs.TreeSteps.{count_declared}
+use Rattle.undo_log.specs.History.{History}
+use Rattle.typed_tree.specs.Views.{function_view, program_view, stmts_view}
+use Rattle.scalar_programs.specs.Scalars.{steps_in_line}
+use Rattle.scalar_steps.specs.Performed.{PerformAll}
+use Rattle.gang_machine.specs.Layout.{words_needed}
+use Rattle.gang_machine.specs.Standings.{file_of}
+use Rattle.gang_machine.specs.Stored.{AreFirst}
+use Rattle.gang_machine.proofs.Codes.{AreBelow}
+use Rattle.gang_machine.proofs.Gangs.{some_lanes}
+use Rattle.gang_machine.proofs.Lines.{straight_line}
+use Rattle.gang_machine.proofs.Openings.{entry_is, entry_straight, opens}
+use Rattle.gang_machine.proofs.Starting.{opened_stands}
 use Rattle.gang_machine.proofs.opening.open.Goals as goal
 
 pub invariant_of-result : goal.invariant_of-result
 invariant_of-result g c =
-    let p = c.requires.plain in
-    let f = c.unwrap-function.result in
-    let items = rw c.unwrap-function.ensures at c.pop.ensures.items in
-    let (all, same) = one_function c.args.program.functions.items c.pop.new.self.items f p.function p.functions items in
-    let named = subst (All IsNamed) all c.requires.named in
-    let plain = subst (λ (m : Function). IsPlainBody 0 0 m.body m.standings) (sym same) p.body in
-    let words = c.in-Some.words in
-    let long : length (replicate words 0) ≡ words = length-replicate words 0 in
-    let small = c.in-Some.ensures.small in
-    let limit = c.requires.range in
-    let is_machine : IsMachine g.row.W f (new_history words c.args.history (2 ^ 64 - 1)) = record {
-      width_is = c.requires.width;
-      plain = plain;
-      named = named 0 f (omega arith);
-      long = long ∙ c.in-Some.ensures.count ∙ ap (words_needed g.row.W) (c.declaration_count.ensures ∙ ap (count_by is_declaration) c.deref.ensures.value ∙ count_declared f.body.items (function_view f).standings plain);
-      small = omega (arith, long, small);
-      room = omega (arith, long, small);
-      limit = omega (arith, limit);
-    } in
-    subst (IsMachine g.row.W f) (sym c.in_ok-timeline.ensures) is_machine
+    let w = g.row.W in
+    let p = c.args.program in
+    let f = c.remove-function.result in
+    let code = c.in_ok-code.code.items in
+    let locals = c.in-Some.locals in
+    let words = c.in-Some-word_count.words in
+    let h = c.store_globals.new.timeline in
+    let performs = subst (λ b. PerformAll code (steps_in_line (stmts_view b))) c.deref.ensures.value c.in_ok-code.ensures in
+    let below = subst (AreBelow locals) c.deref-2.ensures.value c.in-Some.ensures in
+    let globals_long : c.len.result ≡ length p.globals.items = omega (arith, c.len.ensures) in
+    let count = c.in-Some-word_count.ensures.count ∙ ap (λ n. words_needed w (n + locals)) globals_long in
+    let long = c.store_globals.ensures.long ∙ ap (λ (t : History). length t.words) c.in_ok-timeline.ensures ∙ length-replicate words 0 in
+    let room = c.store_globals.ensures.size ∙ ap (λ (t : History). t.room) c.in_ok-timeline.ensures in
+    let limit = c.store_globals.ensures.limit ∙ ap (λ (t : History). t.limit) c.in_ok-timeline.ensures in
+    record {
+      running = opens p c.args.entry.0 c.requires.scalars f c.remove-function.ensures.value w locals words code h c.requires.width c.requires.numbered performs below count c.in-Some-word_count.ensures.small long room (omega (arith, limit, c.requires.range.0));
+      performs = performs;
+    }
 
 pub returns : goal.returns
 returns g c steps =
-    let p = c.requires.plain in
-    let f = c.unwrap-function.result in
-    let items = rw c.unwrap-function.ensures at c.pop.ensures.items in
-    let (all, same) = one_function c.args.program.functions.items c.pop.new.self.items f p.function p.functions items in
-    let is = program_is (program_view c.args.program) (function_view f) (p.functions ∙ ap (λ m. m ∷ []) (sym same)) p.globals in
-    let stands = opened_stands g.row.W (program_view c.args.program) f c.in-Some.words c.args.history (2 ^ 64 - 1) steps (some_lanes g.row.W c.requires.width) is in
-    subst (λ h. Stands (view_of g.row.W f h) (setting (program_view c.args.program) 0 [] (record { width = g.row.W; history = c.args.history; steps = steps })) (fresh c.args.history)) (sym c.in_ok-timeline.ensures) stands
+    let w = g.row.W in
+    let p = c.args.program in
+    let f = c.remove-function.result in
+    let h = c.store_globals.new.timeline in
+    let straight = entry_straight p c.args.entry.0 c.requires.scalars f c.remove-function.ensures.value in
+    let line = straight_line (file_of p.globals.items) [] (function_view f).body straight.body in
+    let first = subst (λ gs. AreFirst w gs h.words) c.deref-3.ensures.value c.store_globals.ensures.words in
+    let limit = c.store_globals.ensures.limit ∙ ap (λ (t : History). t.limit) c.in_ok-timeline.ensures in
+    opened_stands w c.args.entry.0 c.args.history steps (program_view p) f p.globals.items h (some_lanes w c.requires.width) c.requires.scalars.globals line
+    (entry_is p c.args.entry.0 c.requires.scalars f c.remove-function.ensures.value) refl first c.store_globals.ensures.past limit

@@ -1,17 +1,17 @@
-use Rattle.std.proofs.Common.{sym, ◌∙◌}
 use Rattle.gang_types.specs.declared.types.IntType.TheVariants.{Int32}
 use Rattle.gang_types.specs.declared.types.Rate.TheVariants.{Uniform}
 use Rattle.typed_tree.specs.declared.program.Function.{Function}
 use Rattle.typed_tree.specs.declared.program.Program.{Program}
-use Rattle.gang_machine.proofs.HandMade.{IsMade, named_made, plain_made}
+use Rattle.gang_machine.proofs.HandMade.{IsMade, numbered_made, scalar_made}
 use Rattle.gang_machine.proofs.tests.program.Goals as goal
 
 pub returns : goal.returns
 returns c =
-    let d = c.in_ok-name.field-0 in
-    let v = c.in_ok-name-2.field-0 in
+    let d = c.in_ok-text.field-0 in
+    let v = c.in_ok-text-2.field-0 in
+    let n = c.in_ok-text-3.field-0 in
     let f : Function = record {
-      name = c.in_ok-name-3.field-0;
+      name = c.in_ok-text-4.field-0;
       result = Uniform;
       result_type = Int32;
       body = c.in_ok-statements.field-0;
@@ -19,14 +19,15 @@ returns c =
       scopes = record { declarations = c.in_ok-vec-2.field-0; standings = c.in_ok-standings.field-0 };
     } in
     let p : Program = record { functions = c.in_ok-vec-3.field-0; globals = c.in_ok-vec-4.field-0 } in
-    let made : IsMade f v d = record {
+    let made : IsMade p f v d n = record {
+      functions = c.in_ok-vec-3.ensures.items;
+      globals = c.in_ok-vec-4.ensures.items;
       body_is = c.in_ok-statements.ensures;
       variables = c.in_ok-vec.ensures.items;
       declarations = c.in_ok-vec-2.ensures.items;
       standings = c.in_ok-standings.ensures;
-      names = c.in_ok-name-2.ensures ∙ sym c.in_ok-name.ensures;
     } in
     record {
-      plain = plain_made p f v d c.in_ok-vec-3.ensures.items c.in_ok-vec-4.ensures.items made;
-      named = named_made p f v d c.in_ok-vec-3.ensures.items made;
+      scalars = scalar_made p f v d n made;
+      numbered = numbered_made p f v d n made;
     }

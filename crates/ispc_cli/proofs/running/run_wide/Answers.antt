@@ -7,7 +7,7 @@ use Rattle.ispc_cli.proofs.running.run_wide.Goals as goal
 pub returns-in-Ok-clause-transcript : goal.returns-in-Ok-clause-transcript
 returns-in-Ok-clause-transcript g c =
     let options = c.args.options.now in
-    let s = setting (program_view c.args.program) 0 [] (record { width = g.row.W; history = options.history; steps = options.steps }) in
+    let s = setting (program_view c.args.compiled.program) c.args.compiled.entry.0 [] (record { width = g.row.W; history = options.history; steps = options.steps }) in
     let d = fresh options.history in
     rw c.end_of.ensures (c.answer_lines.ensures.transcript s d
     (c.open-session.ensures s d (c.in-Ok.ensures options.steps) (record { no_stops = refl; only_steps = refl }) refl))

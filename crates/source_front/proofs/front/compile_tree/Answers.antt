@@ -1,24 +1,22 @@
-use Rattle.std.proofs.Common.{◌∙◌, ap, sym, None}
-use Rattle.std.specs.Prelude.{option_map}
-use Rattle.ispc_parser.specs.Tree.{function_view, tree_view}
-use Rattle.source_front.proofs.Fronts.{by_limits, first_entry}
-use Rattle.source_front.proofs.Named.{are_named}
+use Rattle.std.proofs.Common.{◌≡◌, ◌∙◌, ap, sym}
+use Rattle.std.specs.Prelude.{None, option_map}
+use Rattle.gang_model.specs.Entry.{entry_of}
+use Rattle.gang_model.specs.Limits.{limit_refusal}
+use Rattle.gang_model.specs.Resolved.{program_of}
+use Rattle.gang_model.specs.SourceRefusals.{types_refusal}
+use Rattle.ispc_parser.specs.Tree.{tree_view}
+use Rattle.source_front.proofs.Fronts.{tree_compiles}
 use Rattle.source_front.proofs.front.compile_tree.Goals as goal
 
 pub returns-clause-compiled : goal.returns-clause-compiled
 returns-clause-compiled c =
-    let source = tree_view c.args.tree.now in
-    let function = function_view c.only_function-function.result.now in
-    let only = c.only_function-function.ensures in
-    let made = c.in_ok-program.ensures in
-    let entry = sym c.entry_of.ensures ∙ ap (option_map (λ f. f.0)) c.in-Some-entry_of.is in
-    record {
-      sound = by_limits source c.in_ok-check_names.ensures.sound made.accepted ∙ (sym c.limit_refusal.ensures ∙ c.in_default.is);
-      program = made.program;
-      entry = entry;
-      ready = record {
-        plain = made.plain;
-        named = are_named source function c.in_ok-program.program c.in_ok-scopes.scopes only made.program made.scopes c.in_ok-scopes.ensures.steps;
-        first = first_entry function source c.in-Some-entry_of.entry.0 only entry;
-      };
-    }
+    let source = tree_view c.args.tree in
+    let asked = option_map (λ n. n.now) c.args.asked in
+    let named = ap tree_view c.in_ok-named.ensures.named.0 in
+    let checked = ap tree_view c.in_ok-checked.ensures.checked.0 ∙ named in
+    tree_compiles c.requires.reads.0 source asked _ c.requires.reads.1
+    c.in_ok-named.ensures.named.1
+    (sym (ap types_refusal named) ∙ c.in_ok-checked.ensures.checked.1)
+    (sym (ap limit_refusal (ap tree_view c.tree.ensures.value ∙ checked)) ∙ c.in_ok-check_limits.ensures.sound)
+    (sym (ap program_of checked) ∙ c.into_program-program.ensures)
+    (sym (ap (λ s. entry_of s asked) checked) ∙ (sym c.entry_of.ensures ∙ ap (option_map (λ f. f.0)) c.in-Some.is))

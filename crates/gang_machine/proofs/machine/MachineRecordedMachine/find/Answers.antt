@@ -1,46 +1,37 @@
-use Rattle.std.proofs.Common.{◌≡◌, sym, ap, subst, ◌∙◌}
-use Rattle.std.specs.Prelude.{None, Some, slice_get}
-use Rattle.gang_types.specs.declared.places.VarId.TheVariants.{Local}
-use Rattle.gang_model.specs.Debugger.{found, now}
-use Rattle.gang_model.specs.Scope.{declaration, names_at}
-use Rattle.step_scopes.specs.Scopes.{standings_view}
+use Rattle.std.proofs.Common.{subst, sym, Some, None}
+use Rattle.std.specs.Prelude.{slice_get}
+use Rattle.gang_model.specs.Names.{named}
+use Rattle.gang_model.specs.Positions.{scope_of}
 use Rattle.typed_tree.specs.Views.{function_view}
-use Rattle.debug_interface.specs.Machines.{Finds}
-use Rattle.gang_machine.specs.Layout.{position}
-use Rattle.gang_machine.specs.Standings.{Holds, Stands}
-use Rattle.gang_machine.proofs.Scopes.{declared_found, named_there, nothing_found, variable_found}
+use Rattle.gang_machine.specs.Found.{SeesFound}
+use Rattle.gang_machine.specs.Standings.{Holds, Stands, file_variables}
+use Rattle.gang_machine.proofs.Reading.{all_held, finds_global, finds_local, holds_local}
 use Rattle.gang_machine.proofs.machine.MachineRecordedMachine.find.Goals as goal
 
-pub returns-in_err-number-clause-found : goal.returns-in_err-number-clause-found
-returns-in_err-number-clause-found g c s d stands =
-    let f = c.self.inside.function in
-    let h = g.T.Timeline.history c.self.inside.timeline in
-    let name = c.args.name.now in
+pub returns-in-Some-clause-found : goal.returns-in-Some-clause-found
+returns-in-Some-clause-found g c s d stands =
+    let m = c.self.inside in
     let here = subst (λ m. Stands m s d) (sym c.self.view_is) stands in
-    let asked : None ≡ declaration (names_at (slice_get (standings_view f.scopes) (position h.words))) name = subst (λ i. None ≡ declaration (names_at (slice_get (standings_view f.scopes) i)) name) c.word-at.ensures c.in_err-number.ensures in
-    let none = named_there (function_view f) (standings_view f.scopes) (position h.words) name None c.self.invariant.named asked in
-    let found_is : found s.program (now s d) name ≡ None = ap (λ p. found p (now s d) name) here.program ∙ nothing_found g.row.W (function_view f) c.self.invariant.plain h.words (now s d) here.words name none in
-    subst (Finds s d name) (sym c.from_residual.ensures) found_is
+    let seen = subst (λ i. SeesFound g.row.W (named c.args.name.now (scope_of (slice_get (function_view m.function).standings i))) (Some c.in-Some.shown)) c.word-at.ensures c.in-Some.ensures in
+    finds_local g.row.W m.entry m.locals m.function m.globals.items (g.T.Timeline.history m.timeline) c.self.invariant.running s d here c.args.name.now c.in-Some.shown seen
 
-pub returns-clause-found : goal.returns-clause-found
-returns-clause-found g c s d stands =
-    let f = c.self.inside.function in
-    let h = g.T.Timeline.history c.self.inside.timeline in
-    let name = c.args.name.now in
-    let n = c.in_ok-number.number in
+pub returns-in-Some-clause-held : goal.returns-in-Some-clause-held
+returns-in-Some-clause-held g c k below =
+    let m = c.self.inside in
+    let seen = subst (λ i. SeesFound g.row.W (named c.args.name.now (scope_of (slice_get (function_view m.function).standings i))) (Some c.in-Some.shown)) c.word-at.ensures c.in-Some.ensures in
+    subst (λ m. Holds m c.in-Some.shown.id k) c.self.view_is
+    (holds_local g.row.W m.entry m.locals m.function m.globals.items (g.T.Timeline.history m.timeline) c.self.invariant.running c.args.name.now c.in-Some.shown k seen below)
+
+pub returns-in-None-clause-found : goal.returns-in-None-clause-found
+returns-in-None-clause-found g c s d stands =
+    let m = c.self.inside in
     let here = subst (λ m. Stands m s d) (sym c.self.view_is) stands in
-    let asked = subst (λ i. Some (Local n) ≡ declaration (names_at (slice_get (standings_view f.scopes) i)) name) c.word-at.ensures c.in_ok-number.ensures in
-    let some = named_there (function_view f) (standings_view f.scopes) (position h.words) name (Some n) c.self.invariant.named asked in
-    let (v, is, id, type, scalar, count) = variable_found g.row.W (function_view f) c.self.invariant.plain h.words (now s d) here.words name n some in
-    (v, ap (λ p. found p (now s d) name) here.program ∙ is, record { id = id; type = type; is_scalar = scalar; count = count })
+    let none = subst (λ i. SeesFound g.row.W (named c.args.name.now (scope_of (slice_get (function_view m.function).standings i))) None) c.word-at.ensures c.in-None.ensures in
+    let seen = subst (λ gs. SeesFound g.row.W (named c.args.name.now (file_variables gs)) c.global_named.result) c.deref.ensures.value c.global_named.ensures in
+    finds_global g.row.W m.entry m.locals m.function m.globals.items (g.T.Timeline.history m.timeline) c.self.invariant.running s d here c.args.name.now c.global_named.result none seen
 
-pub returns-clause-held : goal.returns-clause-held
-returns-clause-held g c k below =
-    let f = c.self.inside.function in
-    let h = g.T.Timeline.history c.self.inside.timeline in
-    let name = c.args.name.now in
-    let n = c.in_ok-number.number in
-    let asked = subst (λ i. Some (Local n) ≡ declaration (names_at (slice_get (standings_view f.scopes) i)) name) c.word-at.ensures c.in_ok-number.ensures in
-    let some = named_there (function_view f) (standings_view f.scopes) (position h.words) name (Some n) c.self.invariant.named asked in
-    let (running, declared) = declared_found g.row.W (function_view f) c.self.invariant.plain (position h.words) name n some in
-    subst (λ m. Holds m (Local n) k) c.self.view_is (running, declared, below)
+pub returns-in-None-clause-held : goal.returns-in-None-clause-held
+returns-in-None-clause-held g c =
+    let m = c.self.inside in
+    let seen = subst (λ gs. SeesFound g.row.W (named c.args.name.now (file_variables gs)) c.global_named.result) c.deref.ensures.value c.global_named.ensures in
+    all_held g.row.W m.entry m.locals m.function m.globals.items (g.T.Timeline.history m.timeline) c.self.invariant.running c.args.self.now c.self.view_is c.args.name.now c.global_named.result seen

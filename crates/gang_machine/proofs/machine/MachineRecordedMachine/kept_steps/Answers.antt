@@ -5,5 +5,6 @@ use Rattle.gang_machine.proofs.machine.MachineRecordedMachine.kept_steps.Goals a
 
 pub returns : goal.returns
 returns g c s d stands =
+    let m = c.self.inside in
     c.kept_steps.ensures
-    ∙ steps_kept g.row.W c.self.inside.function (g.T.Timeline.history c.self.inside.timeline) s d (subst (λ m. Stands m s d) (sym c.self.view_is) stands)
+    ∙ steps_kept g.row.W m.entry m.function m.globals.items (g.T.Timeline.history m.timeline) s d (subst (λ m. Stands m s d) (sym c.self.view_is) stands)

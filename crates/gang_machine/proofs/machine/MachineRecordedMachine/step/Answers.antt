@@ -1,78 +1,118 @@
-use Rattle.std.proofs.Common.{◌≡◌, ◌+◌, length, set, slice_index, sym, ap, subst, ◌∙◌, arith}
+use Rattle.std.proofs.Common.{◌≡◌, ◌+◌, ◌≤◌, length, set, slice_index, true, replicate, sym, ap, subst, ◌∙◌, arith}
 use Rattle.std.proofs.lemmas.Bool.Decides.{nat_tests}
+use Rattle.std.specs.Prelude.{Some, Ok, Err, slice_get}
 use Rattle.undo_log.specs.History.{History}
-use Rattle.gang_machine.specs.Assigned.{assignment_view}
-use Rattle.gang_machine.specs.Layout.{Stored}
+use Rattle.cross_lane.specs.Calls.{fault_of}
+use Rattle.typed_tree.specs.Views.{function_view, var_view}
+use Rattle.scalar_programs.specs.Scalars.{steps_in_line}
+use Rattle.scalar_steps.specs.Written.{written_words}
+use Rattle.scalar_steps.proofs.RunLaws.{line_fault, line_step}
+use Rattle.gang_machine.specs.Layout.{Stored, all_lanes, place_of, rate_words, slot_of}
 use Rattle.gang_machine.specs.Standings.{Stands}
-use Rattle.gang_machine.proofs.Advancing.{advanced, assignable, ended, enough, few_lanes, left_behind, plain_step, read_at, room_left}
+use Rattle.gang_machine.specs.Stored.{AreThoseOf}
+use Rattle.gang_machine.proofs.Advancing.{Next, advanced, ended, faults, had_words, left_behind, shown_next, state_next, target_lies}
+use Rattle.gang_machine.proofs.Alterations.{rate_within}
+use Rattle.gang_machine.proofs.Codes.{perform_length, performed, written_long}
+use Rattle.gang_machine.proofs.FirstNamed.{read_at}
+use Rattle.gang_machine.proofs.Gangs.{few_lanes, some_lanes}
 use Rattle.gang_machine.proofs.machine.MachineRecordedMachine.step.Goals as goal
 
-pub returns-then-at-statements : goal.returns-then-at-statements
-returns-then-at-statements g c s d stands =
-    let f = c.self.inside.function in
-    let long : length c.as_slice-statements.result.now ≡ length f.body.items = ap length c.as_slice-statements.ensures.value in (
-      ended g.row.W f (g.T.Timeline.history c.self.inside.timeline) c.self.invariant s d (subst (λ m. Stands m s d) (sym c.self.view_is) stands) c.word-at.result c.word-at.ensures (omega (arith, long, c.if-at-statements.true)),
+pub returns-then-at-len : goal.returns-then-at-len
+returns-then-at-len g c s d stands =
+    let m = c.self.inside in
+    let here = subst (λ m. Stands m s d) (sym c.self.view_is) stands in
+    let count = perform_length m.code.items (steps_in_line (function_view m.function).body) c.self.invariant.performs in (
+      ended g.row.W m.entry m.locals m.function m.globals.items (g.T.Timeline.history m.timeline) c.self.invariant.running s d here c.word-at.result c.word-at.ensures (omega (arith, count, c.len.ensures, c.if-at-len.true)),
       stands,
     )
 
 pub returns-in_default : goal.returns-in_default
 returns-in_default g c s d stands =
-    let f = c.self.inside.function in
-    let h = g.T.Timeline.history c.self.inside.timeline in
-    let long : length c.as_slice-statements.result.now ≡ length f.body.items = ap length c.as_slice-statements.ensures.value in
+    let m = c.self.inside in
+    let here = subst (λ m. Stands m s d) (sym c.self.view_is) stands in
+    let count = perform_length m.code.items (steps_in_line (function_view m.function).body) c.self.invariant.performs in
+    let long : length c.deref.result.now ≡ length m.code.items = ap length c.deref.ensures.value in
     let past_all = c.in_default.ensures.lookup in
-    let close = c.if-at-statements.false in
-    let last : c.word-at.result ≡ length f.body.items = grind (arith, nat_tests) in
-    left_behind g.row.W f h c.self.invariant s d (subst (λ m. Stands m s d) (sym c.self.view_is) stands) (g.T.Timeline.history c.set.new.self) c.word-at.result c.word-at.ensures last
-    (ap (λ (n : History). n.words) c.set.ensures.history ∙ ap (λ (n : History). set n.words 0 (c.word-at.result + 1)) c.mark.ensures.history) (ap (λ (n : History). n.past) c.set.ensures.history ∙ ap (λ (n : History). n.past) c.mark.ensures.history) (ap (λ (n : History). n.limit) c.set.ensures.history ∙ ap (λ (n : History). n.limit) c.mark.ensures.history)
+    let close = c.if-at-len.false in
+    let all = c.len.ensures in
+    let past : length c.deref.result.now ≤ c.word-at.result = grind (arith, nat_tests) in
+    let last : c.word-at.result ≡ length (steps_in_line (function_view m.function).body) = omega (arith, count, long, past, close, all) in
+    left_behind g.row.W m.entry m.locals m.function m.globals.items (g.T.Timeline.history m.timeline) c.self.invariant.running s d here (g.T.Timeline.history c.set.new.self) c.word-at.result c.word-at.ensures last
+    (ap (λ (n : History). n.words) c.set.ensures.history ∙ ap (λ (n : History). set n.words 0 (c.word-at.result + 1)) c.mark.ensures.history)
+    (ap (λ (n : History). n.past) c.set.ensures.history ∙ ap (λ (n : History). n.past) c.mark.ensures.history)
+    (ap (λ (n : History). n.limit) c.set.ensures.history ∙ ap (λ (n : History). n.limit) c.mark.ensures.history)
 
-pub assignment_of-assignment-requires : goal.assignment_of-assignment-requires
-assignment_of-assignment-requires g c =
+pub returns-in-Err : goal.returns-in-Err
+returns-in-Err g c s d stands =
+    let w = g.row.W in
+    let m = c.self.inside in
+    let h = g.T.Timeline.history m.timeline in
+    let running = c.self.invariant.running in
+    let a = c.in-Some.assignment.now in
     let l = c.in-Some.ensures.lookup in
-    plain_step g.row.W c.self.inside.function (g.T.Timeline.history c.self.inside.timeline) c.self.invariant c.word-at.result c.in-Some.statement.now
-    (read_at c.self.inside.function.body.items c.as_slice-statements.result.now c.word-at.result c.in-Some.statement.now c.as_slice-statements.ensures.value l.3.0 l.1)
+    let here = subst (λ m. Stands m s d) (sym c.self.view_is) stands in
+    let item = subst (λ i. slice_get m.code.items i ≡ Some a) c.word-at.ensures (read_at m.code.items c.deref.result.now c.word-at.result a c.deref.ensures.value l.3.0 l.1) in
+    let (x, get, performs) = performed m.code.items (steps_in_line (function_view m.function).body) _ a c.self.invariant.performs item in
+    let globals_long : c.len-globals.result ≡ length m.globals.items = omega (arith, c.len-globals.ensures) in
+    let state = state_next w m.entry m.locals m.function m.globals.items h running s d here x get in
+    let shown = subst (λ n. AreThoseOf w n h.words state) (sym globals_long) (shown_next w m.entry m.locals m.function m.globals.items h running s d here x get) in
+    let fault = fault_of (c.in-Err.lane, c.in-Err.name) in
+    let is : Err fault ≡ written_words x (replicate w true) state = c.in-Err.ensures x state performs shown in
+    let ran = line_fault s.program x (var_view a.variable) (all_lanes w) state fault performs.writes.variable_is is in
+    (faults w m.entry m.locals m.function m.globals.items h running s d here x get fault ran, stands)
 
-pub assigned-words-requires : goal.assigned-words-requires
-assigned-words-requires g c =
+pub place_of-place-requires : goal.place_of-place-requires
+place_of-place-requires g c =
+    let w = g.row.W in
+    let m = c.self.inside in
+    let a = c.in-Some.assignment.now in
     let l = c.in-Some.ensures.lookup in
-    let few = few_lanes g.row.W c.self.invariant.width_is in
-    let (target, read) = assignable g.row.W c.self.inside.function (g.T.Timeline.history c.self.inside.timeline) c.self.invariant c.word-at.result c.in-Some.statement.now (assignment_view c.assignment_of-assignment.result)
-    (read_at c.self.inside.function.body.items c.as_slice-statements.result.now c.word-at.result c.in-Some.statement.now c.as_slice-statements.ensures.value l.3.0 l.1) c.assignment_of-assignment.ensures in
-    (omega (arith, few), (c.self.invariant.width_is, (c.self.invariant.small, (target, read))))
+    let item = subst (λ i. slice_get m.code.items i ≡ Some a) c.word-at.ensures (read_at m.code.items c.deref.result.now c.word-at.result a c.deref.ensures.value l.3.0 l.1) in
+    let (x, get, performs) = performed m.code.items (steps_in_line (function_view m.function).body) _ a c.self.invariant.performs item in
+    let there = target_lies w m.entry m.locals m.function m.globals.items (g.T.Timeline.history m.timeline) c.self.invariant.running x (var_view a.variable) (record { get = get; writes = performs.writes.variable_is }) in
+    let globals_long : c.len-globals.result ≡ length m.globals.items = omega (arith, c.len-globals.ensures) in
+    let same = ap (λ n. place_of n a.variable.id) globals_long in
+    omega (arith, same, there.0)
 
-pub store-requires : goal.store-requires
-store-requires g c =
+pub record_step-requires : goal.record_step-requires
+record_step-requires g c =
+    let w = g.row.W in
+    let m = c.self.inside in
+    let running = c.self.invariant.running in
+    let a = c.in-Some.assignment.now in
     let l = c.in-Some.ensures.lookup in
-    let h = g.T.Timeline.history c.self.inside.timeline in
-    let few = few_lanes g.row.W c.self.invariant.width_is in
-    let a = assignment_view c.assignment_of-assignment.result in
-    let (target, read) = assignable g.row.W c.self.inside.function h c.self.invariant c.word-at.result c.in-Some.statement.now a
-    (read_at c.self.inside.function.body.items c.as_slice-statements.result.now c.word-at.result c.in-Some.statement.now c.as_slice-statements.ensures.value l.3.0 l.1) c.assignment_of-assignment.ensures in
-    let room = enough g.row.W a.variable (length h.words) h.room (g.T.Timeline.left c.mark-2.new.self) target c.self.invariant.room c.mark-2.ensures.left in
-    rw c.mark-2.ensures.history (omega (arith, few), (c.self.invariant.width_is, (target, (c.self.invariant.small, omega (arith, room)))))
-
-pub set-requires-2-clause-room : goal.set-requires-2-clause-room
-set-requires-2-clause-room g c =
-    let l = c.in-Some.ensures.lookup in
-    let h = g.T.Timeline.history c.self.inside.timeline in
-    let a = assignment_view c.assignment_of-assignment.result in
-    let (target, read) = assignable g.row.W c.self.inside.function h c.self.invariant c.word-at.result c.in-Some.statement.now a
-    (read_at c.self.inside.function.body.items c.as_slice-statements.result.now c.word-at.result c.in-Some.statement.now c.as_slice-statements.ensures.value l.3.0 l.1) c.assignment_of-assignment.ensures in
-    let room = enough g.row.W a.variable (length h.words) h.room (g.T.Timeline.left c.mark-2.new.self) target c.self.invariant.room c.mark-2.ensures.left in
-    λ some. room_left g.row.W (g.T.Timeline.left c.mark-2.new.self) (g.T.Timeline.left c.store.new.timeline) room c.store.ensures.left
+    let item = subst (λ i. slice_get m.code.items i ≡ Some a) c.word-at.ensures (read_at m.code.items c.deref.result.now c.word-at.result a c.deref.ensures.value l.3.0 l.1) in
+    let (x, get, performs) = performed m.code.items (steps_in_line (function_view m.function).body) _ a c.self.invariant.performs item in
+    let there = target_lies w m.entry m.locals m.function m.globals.items (g.T.Timeline.history m.timeline) running x (var_view a.variable) (record { get = get; writes = performs.writes.variable_is }) in
+    let few = few_lanes w running.width_is in
+    let count = rate_within w a.variable.rate (some_lanes w running.width_is) in
+    let globals_long : c.len-globals.result ≡ length m.globals.items = omega (arith, c.len-globals.ensures) in
+    let same = ap (λ p. slot_of w (p + 1) 0) (c.place_of-place.ensures ∙ ap (λ n. place_of n a.variable.id) globals_long) in
+    (omega (arith, few), (running.width_is, (omega (arith, count, c.count_of-count.ensures), (omega (arith, same, there.1), (running.small, running.room)))))
 
 pub returns : goal.returns
 returns g c s d stands =
+    let w = g.row.W in
+    let m = c.self.inside in
+    let h = g.T.Timeline.history m.timeline in
+    let running = c.self.invariant.running in
+    let some = some_lanes w running.width_is in
+    let a = c.in-Some.assignment.now in
+    let v = var_view a.variable in
     let l = c.in-Some.ensures.lookup in
-    let h = g.T.Timeline.history c.self.inside.timeline in
-    let a = assignment_view c.assignment_of-assignment.result in
-    let values = c.assigned-words.result in
-    let before : (g.T.Timeline.history c.mark-2.new.self).words ≡ h.words = ap (λ (n : History). n.words) c.mark-2.ensures.history in
-    let stored = subst (λ words. Stored g.row.W a.variable g.row.W (λ lane. slice_index values lane) words (g.T.Timeline.history c.store.new.timeline).words) before c.store.ensures.words in
-    advanced g.row.W c.self.inside.function h c.self.invariant s d (subst (λ m. Stands m s d) (sym c.self.view_is) stands) (g.T.Timeline.history c.set-2.new.self)
-    (g.T.Timeline.history c.store.new.timeline).words values c.word-at.result c.in-Some.statement.now a c.word-at.ensures
-    (read_at c.self.inside.function.body.items c.as_slice-statements.result.now c.word-at.result c.in-Some.statement.now c.as_slice-statements.ensures.value l.3.0 l.1)
-    c.assignment_of-assignment.ensures c.assigned-words.ensures stored
-    (ap (λ (n : History). n.words) c.set-2.ensures.history)
-    (ap (λ (n : History). n.past) c.set-2.ensures.history ∙ c.store.ensures.past ∙ ap (λ (n : History). n.past) c.mark-2.ensures.history)
-    (ap (λ (n : History). n.limit) c.set-2.ensures.history ∙ c.store.ensures.limit ∙ ap (λ (n : History). n.limit) c.mark-2.ensures.history)
+    let here = subst (λ m. Stands m s d) (sym c.self.view_is) stands in
+    let item = subst (λ i. slice_get m.code.items i ≡ Some a) c.word-at.ensures (read_at m.code.items c.deref.result.now c.word-at.result a c.deref.ensures.value l.3.0 l.1) in
+    let (x, get, performs) = performed m.code.items (steps_in_line (function_view m.function).body) _ a c.self.invariant.performs item in
+    let next : Next w m.entry m.locals m.function m.globals.items h running x v = record { get = get; writes = performs.writes.variable_is } in
+    let globals_long : c.len-globals.result ≡ length m.globals.items = omega (arith, c.len-globals.ensures) in
+    let state = state_next w m.entry m.locals m.function m.globals.items h running s d here x get in
+    let shown = subst (λ n. AreThoseOf w n h.words state) (sym globals_long) (shown_next w m.entry m.locals m.function m.globals.items h running s d here x get) in
+    let is : Ok c.in-Ok.words ≡ written_words x (replicate w true) state = c.in-Ok.ensures x state performs shown in
+    let long : length c.in-Ok.words ≡ w = written_long w x v state c.in-Ok.words performs.writes.variable_is is in
+    let ran = line_step s.program x v w state c.in-Ok.words some performs.writes.variable_is (had_words w m.entry m.locals m.function m.globals.items h running s d here x v next) long is in
+    let (mid, stored, words) = c.record_step.ensures.words in
+    let place = c.place_of-place.ensures ∙ ap (λ n. place_of n a.variable.id) globals_long in
+    let there = subst (λ p. Stored w p (rate_words w v.rate) (λ lane. slice_index c.in-Ok.words lane) h.words mid) place
+    (subst (λ n. Stored w c.place_of-place.result n (λ lane. slice_index c.in-Ok.words lane) h.words mid) c.count_of-count.ensures stored) in
+    advanced w m.entry m.locals m.function m.globals.items h running s d here (g.T.Timeline.history c.record_step.new.timeline) mid c.in-Ok.words c.word-at.result x v next c.word-at.ensures long ran there words
+    c.record_step.ensures.past c.record_step.ensures.limit

@@ -5,6 +5,7 @@ use Rattle.gang_machine.proofs.machine.MachineRecordedMachine.undo.Goals as goal
 
 pub returns : goal.returns
 returns g c s d stands =
+    let m = c.self.inside in
     let (past, long, limit, room) = c.in_ok-back.ensures.answer in
-    stands_undone g.row.W c.self.inside.function (g.T.Timeline.history c.self.inside.timeline) (g.T.Timeline.history c.back.new.self) c.in_ok-back.back.event s d
-    (subst (λ m. Stands m s d) (sym c.self.view_is) stands) past limit
+    stands_undone g.row.W m.entry m.function m.globals.items (g.T.Timeline.history m.timeline) s d (subst (λ m. Stands m s d) (sym c.self.view_is) stands)
+    (g.T.Timeline.history c.back.new.self) c.in_ok-back.back.event past limit

@@ -1,34 +1,43 @@
-use Rattle.std.proofs.Common.{◌≡◌, slice_index, sym, ap, subst, ◌∙◌, arith}
-use Rattle.gang_types.specs.declared.places.VarId.TheVariants.{Local}
-use Rattle.gang_model.specs.State.{words_in}
-use Rattle.gang_model.specs.Debugger.{now}
-use Rattle.typed_tree.specs.Views.{function_view}
-use Rattle.gang_machine.specs.Layout.{slot_of}
+use Rattle.std.proofs.Common.{◌≡◌, ◌+◌, slice_index, sym, ap, subst, ◌∙◌, length, arith}
+use Rattle.gang_machine.specs.Layout.{place_of, slot_of}
 use Rattle.gang_machine.specs.Standings.{Holds, Stands}
-use Rattle.gang_machine.proofs.Advancing.{held_slot}
-use Rattle.gang_machine.proofs.Scopes.{word_shown}
+use Rattle.gang_machine.proofs.Reading.{lies, word_shown}
 use Rattle.gang_machine.proofs.machine.MachineRecordedMachine.word.Goals as goal
-
-pub slot-requires-clause-small : goal.slot-requires-clause-small
-slot-requires-clause-small g c =
-    let held = subst (λ m. Holds m (Local c.in-Local.number) c.args.index) (sym c.self.view_is) (rw c.in-Local.is at c.requires) in
-    let inside = held_slot g.row.W c.self.inside.function (g.T.Timeline.history c.self.inside.timeline) c.self.invariant c.in-Local.number c.args.index held in
-    inside.0
-
-pub word-requires : goal.word-requires
-word-requires g c =
-    let held = subst (λ m. Holds m (Local c.in-Local.number) c.args.index) (sym c.self.view_is) (rw c.in-Local.is at c.requires) in
-    let inside = held_slot g.row.W c.self.inside.function (g.T.Timeline.history c.self.inside.timeline) c.self.invariant c.in-Local.number c.args.index held in
-    omega (arith, inside.1, c.slot.ensures)
 
 pub returns : goal.returns
 returns g c s d stands =
-    let h = g.T.Timeline.history c.self.inside.timeline in
-    let (running, declared, below) = subst (λ m. Holds m (Local c.in-Local.number) c.args.index) (sym c.self.view_is) (rw c.in-Local.is at c.requires) in
+    let m = c.self.inside in
+    let h = g.T.Timeline.history m.timeline in
+    let globals_long : c.len.result ≡ length m.globals.items = omega (arith, c.len.ensures) in
+    let held = subst (λ m. Holds m c.args.variable c.args.index) (sym c.self.view_is) c.requires in
     let here = subst (λ m. Stands m s d) (sym c.self.view_is) stands in
-    let named : words_in (now s d) c.args.variable ≡ words_in (now s d) (Local c.in-Local.number) = ap (words_in (now s d)) c.in-Local.is in
-    let shown : slice_index (words_in (now s d) (Local c.in-Local.number)) c.args.index ≡ slice_index h.words (slot_of g.row.W c.in-Local.number c.args.index) =
-    word_shown g.row.W (function_view c.self.inside.function) c.self.invariant.plain h.words (now s d) here.words c.in-Local.number c.args.index running declared below in
-    let there : c.word.result ≡ slice_index h.words (slot_of g.row.W c.in-Local.number c.args.index) = c.word.ensures ∙ ap (slice_index h.words) c.slot.ensures in
-    let asked : slice_index (words_in (now s d) c.args.variable) c.args.index ≡ slice_index h.words (slot_of g.row.W c.in-Local.number c.args.index) = ap (λ ws. slice_index ws c.args.index) named ∙ shown in
-    there ∙ sym asked
+    c.word.ensures
+    ∙ ap (slice_index h.words) (c.slot.ensures ∙ ap (λ p. slot_of g.row.W p c.args.index) c.place_of-place.ensures ∙ ap (λ n. slot_of g.row.W (place_of n c.args.variable) c.args.index) globals_long)
+    ∙ word_shown g.row.W m.entry m.locals m.function m.globals.items h c.self.invariant.running s d here c.args.variable c.args.index held
+
+pub place_of-place-requires : goal.place_of-place-requires
+place_of-place-requires g c =
+    let m = c.self.inside in
+    let globals_long : c.len.result ≡ length m.globals.items = omega (arith, c.len.ensures) in
+    let held = subst (λ m. Holds m c.args.variable c.args.index) (sym c.self.view_is) c.requires in
+    let there = lies g.row.W m.entry m.locals m.function m.globals.items (g.T.Timeline.history m.timeline) c.self.invariant.running c.args.variable c.args.index held in
+    let same = ap (λ n. place_of n c.args.variable) globals_long in
+    omega (arith, same, there.place)
+
+pub slot-requires-clause-small : goal.slot-requires-clause-small
+slot-requires-clause-small g c =
+    let m = c.self.inside in
+    let globals_long : c.len.result ≡ length m.globals.items = omega (arith, c.len.ensures) in
+    let held = subst (λ m. Holds m c.args.variable c.args.index) (sym c.self.view_is) c.requires in
+    let there = lies g.row.W m.entry m.locals m.function m.globals.items (g.T.Timeline.history m.timeline) c.self.invariant.running c.args.variable c.args.index held in
+    let same = ap (λ p. slot_of g.row.W (p + 1) 0) (c.place_of-place.ensures ∙ ap (λ n. place_of n c.args.variable) globals_long) in
+    omega (arith, same, there.slots, c.self.invariant.running.small)
+
+pub word-requires : goal.word-requires
+word-requires g c =
+    let m = c.self.inside in
+    let globals_long : c.len.result ≡ length m.globals.items = omega (arith, c.len.ensures) in
+    let held = subst (λ m. Holds m c.args.variable c.args.index) (sym c.self.view_is) c.requires in
+    let there = lies g.row.W m.entry m.locals m.function m.globals.items (g.T.Timeline.history m.timeline) c.self.invariant.running c.args.variable c.args.index held in
+    let same = c.slot.ensures ∙ ap (λ p. slot_of g.row.W p c.args.index) (c.place_of-place.ensures ∙ ap (λ n. place_of n c.args.variable) globals_long) in
+    omega (arith, same, there.slots, there.lane)

@@ -1,9 +1,0 @@
-pub mod ExprLaws
-pub mod ExprParts
-pub mod StmtLaws
-pub mod StmtParts
-pub mod FaultSteps
-pub mod BodyLaws
-pub mod BodySteps
-pub mod SourceLaws
-pub mod SourceParts

@@ -1,0 +1,12 @@
+pub mod KnownForms
+pub mod LightSources
+pub mod Lists
+pub mod ScalarExprs
+pub mod ScalarFunctions
+pub mod ScalarPrograms
+pub mod SourceRow
+pub mod StepNames
+pub mod StepsInLine
+pub mod StraightStatements
+pub mod StraightSteps
+pub mod TypedRows

@@ -1,0 +1,5 @@
+pub mod Rooms
+pub mod Rows
+pub mod Sequences
+pub mod RunLaws
+pub mod StepValues

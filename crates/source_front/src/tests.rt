@@ -1,0 +1,98 @@
+//! Sources that are refused, each at its place, and programs with their entries. The place is a column of line 1.
+use crate::compile_source;
+use gang_model::{RefusalNumber, SourceRefusal};
+use gang_types::{FuncId, Place};
+use ispc_lexer::SourceFault;
+use std::alloc::Global;
+use std::test::*;
+
+/// The number of functions and of file-scope variables of a source's program, with its entry.
+fn compiled(
+    alloc: Global,
+    source: &[u8],
+    asked: Option<&[u8]>,
+) -> Result<Option<(usize, usize, FuncId)>, SourceFault> {
+    let Some(compiled) = compile_source(alloc, source, asked)? else {
+        return Ok(None);
+    };
+    let program = &compiled.program;
+    Ok(Some((
+        program.functions.len(),
+        program.globals.len(),
+        compiled.entry,
+    )))
+}
+
+fn is_refused(alloc: Global, source: &[u8], number: RefusalNumber, col: u32) -> bool {
+    let place = Place { line: 1, col };
+    let refused = SourceFault::Refused(SourceRefusal { number, place });
+    compiled(alloc, source, None) == Err(refused)
+}
+
+fn is_not_yet(alloc: Global, source: &[u8], col: u32) -> bool {
+    is_refused(alloc, source, RefusalNumber::S3, col)
+}
+
+#[test]
+fn arrays_are_no_form_yet(rt: HostRuntime) {
+    assert!(rt; is_not_yet(rt.alloc(), b"int g; uniform int a[4];", 20));
+    assert!(rt; is_not_yet(rt.alloc(), b"void f() { a[1] = 2; }", 12));
+    assert!(rt; is_not_yet(rt.alloc(), b"void f() { ++a[1]; }", 14));
+    assert!(rt; is_not_yet(rt.alloc(), b"void f() { int x = 1 + (a[1]); }", 25));
+}
+
+#[test]
+fn calls_are_no_form_yet(rt: HostRuntime) {
+    assert!(rt; is_not_yet(rt.alloc(), b"void f(int x) { }", 6));
+    assert!(rt; is_not_yet(rt.alloc(), b"void f() { { } g(); }", 16));
+    assert!(rt; is_not_yet(rt.alloc(), b"void f() { x += true ? 1 : g(); }", 28));
+    assert!(rt; is_not_yet(rt.alloc(), b"int f() { return 1; }", 11));
+}
+
+#[test]
+fn control_is_no_form_yet(rt: HostRuntime) {
+    assert!(rt; is_not_yet(rt.alloc(), b"void f() { { if (true) ; } }", 14));
+    assert!(rt; is_not_yet(rt.alloc(), b"void f() { while (true) ; }", 12));
+    assert!(rt; is_not_yet(rt.alloc(), b"void f() { do ; while (true); }", 17));
+    assert!(rt; is_not_yet(rt.alloc(), b"void f() { for (;;) ; }", 12));
+    assert!(rt; is_not_yet(rt.alloc(), b"void f() { break; }", 12));
+    assert!(rt; is_not_yet(rt.alloc(), b"void f() { continue; }", 12));
+}
+
+#[test]
+fn rounds_are_no_form_yet(rt: HostRuntime) {
+    assert!(rt; is_not_yet(rt.alloc(), b"void f() { foreach (i = 0 ... 4) ; }", 12));
+    assert!(rt;
+        is_not_yet(
+            rt.alloc(),
+            b"void f() { foreach_tiled (i = 0 ... 4) ; }",
+            12
+        )
+    );
+    assert!(rt; is_not_yet(rt.alloc(), b"void f() { foreach_active (i) ; }", 12));
+    assert!(rt; is_not_yet(rt.alloc(), b"void f() { foreach_unique (v in 1) ; }", 12));
+}
+
+#[test]
+fn the_first_phase_that_finds_a_fault_names_it(rt: HostRuntime) {
+    assert!(rt; is_refused(rt.alloc(), b"void f() { ` }", RefusalNumber::S1, 12));
+    assert!(rt; is_refused(rt.alloc(), b"void f() { x = 1 }", RefusalNumber::S3, 18));
+    assert!(rt;
+        is_refused(
+            rt.alloc(),
+            b"void f() { uniform int u = programIndex; x = 1; }",
+            RefusalNumber::S5,
+            42
+        )
+    );
+    assert!(rt; is_refused(rt.alloc(), b"void v; void f() { }", RefusalNumber::S8, 6));
+}
+
+#[test]
+fn a_program_has_its_entry(rt: HostRuntime) {
+    let source =
+        b"int g; void f() { } export void e() { int8 x = g; { x++; ; } } export void l() { g /= 2; }";
+    assert!(rt; compiled(rt.alloc(), source, None) == Ok(Some((3, 1, FuncId(1)))));
+    assert!(rt; compiled(rt.alloc(), source, Some(b"l")) == Ok(Some((3, 1, FuncId(2)))));
+    assert!(rt; compiled(rt.alloc(), source, Some(b"f")) == Ok(None));
+}

@@ -1,0 +1,7 @@
+pub mod Counted
+pub mod Declaring
+pub mod InRows
+pub mod Judging
+pub mod Named
+pub mod TypedBlocks
+pub mod Wanted

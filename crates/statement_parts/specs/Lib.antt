@@ -1,0 +1,5 @@
+pub mod Makes
+pub mod Typed
+pub mod Changes
+pub mod Rows
+pub mod Sequences

@@ -1,0 +1,251 @@
+//! Statements of their parts.
+ghost use Rattle.std.specs.Prelude.{◌≡◌, IfErr, IfOk, if◌then◌else◌, map};
+ghost use Rattle.gang_model.specs.Tree as tree;
+ghost use Rattle.ispc_lexer.specs.declared.fault.SourceFault.TheVariants.{Memory};
+ghost use Rattle.typed_tree.specs.Views.{dimension_view, expr_view, rounds_view, stmt_view, stmts_view, var_view};
+ghost use Rattle.typed_values.specs.Views.{typed_view};
+ghost use Rattle.type_scopes.specs.Answers.{Answers};
+ghost use Rattle.call_types.specs.Calls.{context_view, whole_call_view};
+ghost use Rattle.statement_parts.specs.Typed.{seen};
+ghost use Rattle.statement_parts.specs.Sequences.{call_statement, one_more, type_or_int32, value_rounds};
+
+use crate::answers::{Answer, both_answers};
+use call_types::{Context, WholeCall, call_of};
+use gang_types::IntType;
+use ispc_lexer::SourceFault;
+use std::alloc::Global;
+use type_scopes::TypeScope;
+use typed_tree::{Dimension, Expr, ResultFor, Rounds, Stmt, Var};
+use typed_values::Typed;
+
+/// A call that stands as a statement.
+pub fn called(
+    alloc: Global,
+    context: &Context,
+    scope: &TypeScope,
+    call: &WholeCall,
+    step: usize,
+) -> Result<Stmt, SourceFault>
+    ensures { Answers stmt_view result (call_statement (context_view context.now) scope.now.entries (whole_call_view call.now) step) }
+{
+    let called = call_of(alloc, context, scope, call, ResultFor::Nothing, step)?;
+    Ok(called.stmt)
+}
+
+/// The statements with one more after them.
+pub fn more_statements(
+    first: Answer<Vec<Stmt>>,
+    next: Answer<Stmt>,
+) -> Result<Answer<Vec<Stmt>>, SourceFault>
+    ensures more { IfOk result (λ answer. seen (λ stmts. stmts.items) answer ≡ one_more (seen (λ stmts. stmts.items) first) next) }
+    ensures memory { IfErr result (λ fault. fault ≡ Memory) }
+{
+    match both_answers(first, next) {
+        Ok((mut stmts, next)) => {
+            stmts.push(next)?;
+            Ok(Ok(stmts))
+        }
+        Err(fault) => Ok(Err(fault)),
+    }
+}
+
+/// The statements as one.
+pub fn block(stmts: Answer<Vec<Stmt>>) -> Answer<Stmt>
+    ensures { seen stmt_view result ≡ seen (λ stmts. stmts_view stmts.items) stmts }
+{
+    match stmts {
+        Ok(stmts) => Ok(Stmt::Block(stmts)),
+        Err(fault) => Err(fault),
+    }
+}
+
+/// `if` without `else`.
+pub fn conditional(
+    alloc: Global,
+    step: usize,
+    parts: Answer<(Expr, Stmt)>,
+) -> Result<Answer<Stmt>, SourceFault>
+    ensures form { IfOk result (λ answer. seen stmt_view answer ≡ seen (λ parts. tree.If step (expr_view parts.0) (stmt_view parts.1) tree.Empty) parts) }
+    ensures memory { IfErr result (λ fault. fault ≡ Memory) }
+{
+    match parts {
+        Ok((test, first)) => Ok(Ok(Stmt::If {
+            step,
+            test,
+            first: Box::new(alloc, first)?,
+            other: Box::new(alloc, Stmt::Empty)?,
+        })),
+        Err(fault) => Ok(Err(fault)),
+    }
+}
+
+/// `if` with `else`.
+pub fn choice(
+    alloc: Global,
+    step: usize,
+    parts: Answer<(Expr, (Stmt, Stmt))>,
+) -> Result<Answer<Stmt>, SourceFault>
+    ensures form { IfOk result (λ answer. seen stmt_view answer ≡ seen (λ parts. tree.If step (expr_view parts.0) (stmt_view parts.1.0) (stmt_view parts.1.1)) parts) }
+    ensures memory { IfErr result (λ fault. fault ≡ Memory) }
+{
+    match parts {
+        Ok((test, (first, other))) => Ok(Ok(Stmt::If {
+            step,
+            test,
+            first: Box::new(alloc, first)?,
+            other: Box::new(alloc, other)?,
+        })),
+        Err(fault) => Ok(Err(fault)),
+    }
+}
+
+/// `while`.
+pub fn repeated(
+    alloc: Global,
+    step: usize,
+    parts: Answer<(Expr, Stmt)>,
+) -> Result<Answer<Stmt>, SourceFault>
+    ensures form { IfOk result (λ answer. seen stmt_view answer ≡ seen (λ parts. tree.Loop step (expr_view parts.0) tree.Empty (stmt_view parts.1)) parts) }
+    ensures memory { IfErr result (λ fault. fault ≡ Memory) }
+{
+    match parts {
+        Ok((test, body)) => Ok(Ok(Stmt::Loop {
+            step,
+            test,
+            update: Box::new(alloc, Stmt::Empty)?,
+            body: Box::new(alloc, body)?,
+        })),
+        Err(fault) => Ok(Err(fault)),
+    }
+}
+
+/// `do`.
+pub fn body_first(
+    alloc: Global,
+    step: usize,
+    parts: Answer<(Stmt, Expr)>,
+) -> Result<Answer<Stmt>, SourceFault>
+    ensures form { IfOk result (λ answer. seen stmt_view answer ≡ seen (λ parts. tree.BodyFirst step (expr_view parts.1) (stmt_view parts.0)) parts) }
+    ensures memory { IfErr result (λ fault. fault ≡ Memory) }
+{
+    match parts {
+        Ok((body, test)) => Ok(Ok(Stmt::BodyFirst {
+            step,
+            test,
+            body: Box::new(alloc, body)?,
+        })),
+        Err(fault) => Ok(Err(fault)),
+    }
+}
+
+/// `for`: its start and its test, its update and its body.
+pub fn started(
+    alloc: Global,
+    step: usize,
+    parts: Answer<((Stmt, Expr), (Stmt, Stmt))>,
+) -> Result<Answer<Stmt>, SourceFault>
+    ensures form { IfOk result (λ answer. seen stmt_view answer ≡ seen (λ parts. tree.Then (stmt_view parts.0.0) (tree.Loop step (expr_view parts.0.1) (stmt_view parts.1.0) (stmt_view parts.1.1))) parts) }
+    ensures memory { IfErr result (λ fault. fault ≡ Memory) }
+{
+    match parts {
+        Ok(((start, test), (update, body))) => {
+            let rest = Stmt::Loop {
+                step,
+                test,
+                update: Box::new(alloc, update)?,
+                body: Box::new(alloc, body)?,
+            };
+            Ok(Ok(Stmt::Then {
+                first: Box::new(alloc, start)?,
+                rest: Box::new(alloc, rest)?,
+            }))
+        },
+        Err(fault) => Ok(Err(fault)),
+    }
+}
+
+/// The rounds of `foreach_tiled` or of `foreach`.
+fn rows_or_tiles(is_tiled: bool, dimensions: Vec<Dimension>) -> Rounds
+    ensures { rounds_view result ≡ (if is_tiled then tree.Tiles (map dimension_view dimensions.items) else tree.Rows (map dimension_view dimensions.items)) }
+{
+    if is_tiled {
+        Rounds::Tiles(dimensions)
+    } else {
+        Rounds::Rows(dimensions)
+    }
+}
+
+/// `foreach` and `foreach_tiled`.
+pub fn over_rows(
+    alloc: Global,
+    step: usize,
+    is_tiled: bool,
+    parts: Answer<(Vec<Dimension>, Stmt)>,
+) -> Result<Answer<Stmt>, SourceFault>
+    ensures form { IfOk result (λ answer. seen stmt_view answer ≡ seen (λ parts. tree.ForEach step (if is_tiled then tree.Tiles (map dimension_view parts.0.items) else tree.Rows (map dimension_view parts.0.items)) (stmt_view parts.1)) parts) }
+    ensures memory { IfErr result (λ fault. fault ≡ Memory) }
+{
+    match parts {
+        Ok((dimensions, body)) => Ok(Ok(Stmt::ForEach {
+            step,
+            rounds: rows_or_tiles(is_tiled, dimensions),
+            body: Box::new(alloc, body)?,
+        })),
+        Err(fault) => Ok(Err(fault)),
+    }
+}
+
+/// `foreach_active`.
+pub fn over_lanes(
+    alloc: Global,
+    step: usize,
+    index: Var,
+    body: Answer<Stmt>,
+) -> Result<Answer<Stmt>, SourceFault>
+    ensures form { IfOk result (λ answer. seen stmt_view answer ≡ seen (λ body. tree.ForEach step (tree.EachLane (var_view index)) (stmt_view body)) body) }
+    ensures memory { IfErr result (λ fault. fault ≡ Memory) }
+{
+    match body {
+        Ok(body) => Ok(Ok(Stmt::ForEach {
+            step,
+            rounds: Rounds::EachLane(index),
+            body: Box::new(alloc, body)?,
+        })),
+        Err(fault) => Ok(Err(fault)),
+    }
+}
+
+/// The type of a value, which is any where it has a fault.
+pub fn type_of(value: &Answer<Typed>) -> IntType
+    ensures { result ≡ type_or_int32 value.now }
+{
+    match value {
+        Ok(value) => value.value_type,
+        Err(_) => IntType::Int32,
+    }
+}
+
+/// `foreach_unique`, where a fault of the value hides those of the body.
+pub fn over_values(
+    alloc: Global,
+    step: usize,
+    index: Var,
+    value: Answer<Typed>,
+    body: Answer<Stmt>,
+) -> Result<Answer<Stmt>, SourceFault>
+    ensures form { IfOk result (λ answer. seen stmt_view answer ≡ value_rounds step (var_view index) (seen typed_view value) (seen stmt_view body)) }
+    ensures memory { IfErr result (λ fault. fault ≡ Memory) }
+{
+    let value = match value {
+        Ok(value) => value.expr,
+        Err(fault) => return Ok(Err(fault)),
+    };
+    match body {
+        Ok(body) => Ok(Ok(Stmt::ForEach {
+            step,
+            rounds: Rounds::EachValue { index, value },
+            body: Box::new(alloc, body)?,
+        })),
+        Err(fault) => Ok(Err(fault)),
+    }
+}

@@ -1,0 +1,25 @@
+//! The parts of statements in their typed form, and their faults S7 to S10: targets, conditions, declarations, results, rounds.
+#![tactic(auto)]
+
+mod answers;
+mod assignments;
+mod conditions;
+mod declarations;
+mod forms;
+mod numbering;
+mod results;
+mod rounds;
+mod targets;
+
+pub use answers::{Answer, both_answers, joined, set_apart};
+pub use assignments::{assignment, change, increment};
+pub use conditions::{some_test, test_of};
+pub use declarations::declare;
+pub use forms::{
+    block, body_first, called, choice, conditional, more_statements, over_lanes, over_rows,
+    over_values, repeated, started, type_of,
+};
+pub use numbering::{advanced, one_step, steps_in};
+pub use results::returning;
+pub use rounds::{declare_indices, dimensions};
+pub use targets::variable_of;

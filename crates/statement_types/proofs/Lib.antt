@@ -1,0 +1,5 @@
+pub mod Judging
+pub mod ScopeSteps
+pub mod InSequence
+pub mod Compound
+pub mod SingleSteps

@@ -1,0 +1,49 @@
+-- The body of a function, from what its statements make.
+use Rattle.std.proofs.Common.{◌≡◌, ℕ, suc, refl, sym, ap, ◌∙◌, List, [], ◌∷◌, ◌++◌, length}
+use Rattle.std.specs.Prelude.{Ok, Err}
+use Rattle.gang_model.specs.declared.refusals.SourceRefusal.{SourceRefusal}
+use Rattle.gang_model.specs.Tree as tree
+use Rattle.gang_model.specs.Parsed.{ParsedFunction, ParsedParam, ParsedStmts}
+use Rattle.gang_model.specs.Calls.{Context}
+use Rattle.gang_model.specs.Judged.{Judged, Sound, ◌>>=◌, answer_of}
+use Rattle.gang_model.specs.Signatures.{result_of}
+use Rattle.gang_model.specs.Typing.{Scope}
+use Rattle.gang_model.specs.Statements.{Made, statements}
+use Rattle.gang_model.specs.Resolved.{param_entries, param_variables}
+use Rattle.ispc_lexer.specs.declared.fault.SourceFault.TheVariants.{Refused}
+use Rattle.type_scopes.specs.Answers.{Answers}
+use Rattle.type_scopes.proofs.Answered.{answers-refused}
+use Rattle.statement_parts.specs.Makes.{Makes}
+use Rattle.type_check.specs.Bodies.{WithVariables, judged_body}
+
+count-params : (k : ℕ) (params : List ParsedParam) → length (param_variables k params) ≡ length params
+count-params k [] = refl
+count-params k (p ∷ params) = ap suc (count-params (suc k) params)
+
+-- what the statements of a function's body are judged to be
+abbrev pub judged_statements : (functions : List ParsedFunction) → ParsedFunction → (file : Scope) → Judged Made
+judged_statements functions f file =
+    statements f.body (record { functions = functions; result = result_of f.spec }) (param_entries 0 f.params file) (length f.params) 0
+
+pub statements-of_body : (functions : List ParsedFunction) (f : ParsedFunction) (file : Scope) (body : ParsedStmts) (context : Context) (entries : Scope) (locals : List tree.Variable)
+    → body ≡ f.body → context ≡ record { functions = functions; result = result_of f.spec } → entries ≡ param_entries 0 f.params file → locals ≡ param_variables 0 f.params
+    → statements body context entries (length locals) 0 ≡ judged_statements functions f file
+statements-of_body functions f file body context entries locals b c e l =
+    ap (λ x. statements x context entries (length locals) 0) b
+    ∙ (ap (λ x. statements f.body x entries (length locals) 0) c
+    ∙ (ap (λ x. statements f.body (record { functions = functions; result = result_of f.spec }) x (length locals) 0) e
+    ∙ ap (λ n. statements f.body (record { functions = functions; result = result_of f.spec }) (param_entries 0 f.params file) n 0) (ap length l ∙ count-params 0 f.params)))
+
+-- the statements are made
+pub body-made : {A : Type 0} (view : A → tree.Stmt) (functions : List ParsedFunction) (f : ParsedFunction) (file : Scope) (body : A) (locals after variables : List tree.Variable) (j : Judged Made)
+    → Makes view (Ok body) locals after j → j ≡ judged_statements functions f file → locals ≡ param_variables 0 f.params → variables ≡ after
+    → judged_body functions f file ≡ Sound (view body, variables)
+body-made view functions f file body locals after variables j h is l v =
+    ap (λ (x : Judged Made). x >>= (λ m. Sound (m.stmt, param_variables 0 f.params ++ m.variables))) (sym is ∙ h.2)
+    ∙ ap (λ (ls : List tree.Variable). Sound (view body, ls)) (sym (v ∙ (h.1 ∙ ap (λ (ls : List tree.Variable). ls ++ h.0) l)))
+
+-- the statements have a fault
+pub body-refused : {B : Type 0} (view : B → WithVariables) (functions : List ParsedFunction) (f : ParsedFunction) (file : Scope) (fault : SourceRefusal) (j : Judged Made)
+    → answer_of j ≡ Err fault → j ≡ judged_statements functions f file → Answers view (Err (Refused fault)) (judged_body functions f file)
+body-refused view functions f file fault j h is =
+    answers-refused (λ (m : Made). m) view (Refused fault) (judged_statements functions f file) (λ m. Sound (m.stmt, param_variables 0 f.params ++ m.variables)) (ap answer_of (sym is) ∙ h)

@@ -1,0 +1,167 @@
+-- Functions, one after another.
+use Rattle.std.proofs.Common.{◌≡◌, ℕ, ◌+◌, ◌<◌, ◌≤◌, refl, sym, ap, ◌∙◌, List, [], ◌∷◌, ◌++◌, arith, length, get_or, take, map, append-nil, Bor}
+use Rattle.std.specs.Prelude.{Option, Some, Err, option_map, slice_get}
+use Rattle.std.specs.List.{zip}
+use Rattle.std.proofs.Math.ListN.{drop_of_length-le}
+use Rattle.std.proofs.lemmas.List.{map-append, take_more, take-append-drop, length-map}
+use Rattle.std.proofs.lemmas.Option.{slice_get-map, slice_get-get_or}
+use Rattle.std.proofs.lemmas.Slice.Zip.{length-zip, get_or-zip}
+use Rattle.gang_model.specs.declared.refusals.SourceRefusal.{SourceRefusal}
+use Rattle.gang_model.specs.Tree as tree
+use Rattle.gang_model.specs.Parsed.{ParsedSource, ParsedFunction, functions_in, globals_in}
+use Rattle.gang_model.specs.Scope.{NameStanding, file_scope, standings_of}
+use Rattle.gang_model.specs.Judged.{Judged, Sound, Faulty, unless, both, ◌>>=◌, answer_of}
+use Rattle.gang_model.specs.Signatures.{result_of}
+use Rattle.gang_model.specs.Typing.{Scope}
+use Rattle.gang_model.specs.Statements.{Made, statements}
+use Rattle.gang_model.specs.TypeFaults.{signature_faults}
+use Rattle.gang_model.specs.Resolved.{global_entries, judged_function, judged_functions, param_entries, param_variables}
+use Rattle.gang_model.proofs.JudgedLaws.{merged}
+use Rattle.ispc_parser.specs.declared.tree.Function.{Function}
+use Rattle.ispc_parser.specs.Tree.{function_view}
+use Rattle.name_resolution.specs.Tables.{AreTablesOf}
+use Rattle.step_scopes.specs.declared.table.StepScopes.{StepScopes}
+use Rattle.step_scopes.specs.Scopes.{standings_view}
+use Rattle.type_check.specs.Bodies.{WithVariables, judged_body, with_body}
+use Rattle.type_check.proofs.Collecting.{all_of, Collects, collects-fault, collects-sound}
+
+-- ---- a function from its signature and its body
+
+-- the body's variables are put together with the parameters, before or after the signature is judged
+abbrev with_params : Judged Made → List tree.Variable → Judged WithVariables
+with_params body params = do
+  made ← body
+  Sound (made.stmt, params ++ made.variables)
+
+abbrev before : {C : Type 0} → Judged ParsedFunction → Judged Made → List tree.Variable → (tree.Stmt → List tree.Variable → C) → Judged C
+before signature body params next = do
+  parts ← both signature (with_params body params)
+  Sound (next parts.1.0 parts.1.1)
+
+abbrev after : {C : Type 0} → Judged ParsedFunction → Judged Made → List tree.Variable → (tree.Stmt → List tree.Variable → C) → Judged C
+after signature body params next = do
+  parts ← both signature body
+  Sound (next parts.1.stmt (params ++ parts.1.variables))
+
+regrouped : {C : Type 0} (signature : Judged ParsedFunction) (body : Judged Made) (params : List tree.Variable) (next : tree.Stmt → List tree.Variable → C)
+    → before signature body params next ≡ after signature body params next
+regrouped (Sound g) (Sound m) params next = refl
+regrouped (Sound g) (Faulty first others) params next = refl
+regrouped (Faulty a more) (Sound m) params next = refl
+regrouped (Faulty a more) (Faulty first others) params next = refl
+
+-- the function's signature and body, each judged by itself
+abbrev pub judged_parts : (functions : List ParsedFunction) → ParsedFunction → (file : Scope) → Judged (ParsedFunction × WithVariables)
+judged_parts functions f file = both (unless (signature_faults f) f) (judged_body functions f file)
+
+-- the function that they stand for
+abbrev pub from_parts : (functions : List ParsedFunction) → ParsedFunction → (file : Scope) → List NameStanding → Judged tree.Function
+from_parts functions f file standings = do
+  parts ← judged_parts functions f file
+  Sound (with_body f parts.1 standings)
+
+pub function-of_parts : (source : ParsedSource) (f : ParsedFunction) (functions : List ParsedFunction) (file : Scope) (standings : List NameStanding)
+    → functions ≡ functions_in source → file ≡ global_entries 0 (globals_in source) → standings ≡ standings_of (file_scope source) f
+    → from_parts functions f file standings ≡ judged_function source f
+function-of_parts source f functions file standings fs gs ss =
+    ap (λ x. from_parts x f file standings) fs
+    ∙ (ap (λ x. from_parts (functions_in source) f x standings) gs
+    ∙ (ap (from_parts (functions_in source) f (global_entries 0 (globals_in source))) ss
+    ∙ regrouped (unless (signature_faults f) f)
+    (statements f.body (record { functions = functions_in source; result = result_of f.spec }) (param_entries 0 f.params (global_entries 0 (globals_in source))) (length f.params) 0)
+    (param_variables 0 f.params) (λ s variables. with_body f (s, variables) (standings_of (file_scope source) f))))
+
+-- ---- functions in order
+
+pub all-functions : (source : ParsedSource) (functions : List ParsedFunction) → all_of (map (judged_function source) functions) ≡ judged_functions source functions
+all-functions source [] = refl
+all-functions source (f ∷ functions) = ap (λ x. both (judged_function source f) x >>= (λ parts. Sound (parts.0 ∷ parts.1))) (all-functions source functions)
+
+map-twice : {A B C : Type 0} (f : A → B) (g : B → C) (xs : List A) → map g (map f xs) ≡ map (λ x. g (f x)) xs
+map-twice f g [] = refl
+map-twice f g (x ∷ xs) = ap (λ ys. g (f x) ∷ ys) (map-twice f g xs)
+
+some : {A : Type 0} {x y : A} → Some x ≡ Some y → x ≡ y
+some e = cc
+
+-- two lists that are mapped to one list agree at each place
+same-at : {A B C : Type 0} (f : A → C) (g : B → C) (xs : List A) (ys : List B) (i : ℕ) (x : A) (y : B) → map f xs ≡ map g ys
+    → i < length xs → x ≡ get_or xs i x → i < length ys → y ≡ get_or ys i y → f x ≡ g y
+same-at f g xs ys i x y e lt is lt' is' =
+    let left : slice_get (map f xs) i ≡ Some (f x) = slice_get-map f xs i ∙ ap (option_map f) (slice_get-get_or xs i x lt ∙ ap (λ z. Some z) (sym is)) in
+    let right : slice_get (map g ys) i ≡ Some (g y) = slice_get-map g ys i ∙ ap (option_map g) (slice_get-get_or ys i y lt' ∙ ap (λ z. Some z) (sym is')) in
+    some (sym left ∙ (ap (λ zs. slice_get zs i) e ∙ right))
+
+-- the functions of a tree, as they are read there
+abbrev pub views : List (Bor Function) → List ParsedFunction
+views fs = map (λ (f : Bor Function). function_view f.now) fs
+
+-- a pair of two lists
+pub record ArePaired {A B : Type 0} (xs : List A) (ys : List B) (i : ℕ) (x : A) (y : B) : Type 0 where
+  pub in_left : i < length xs
+  pub left_is : x ≡ get_or xs i x
+  pub in_right : i < length ys
+  pub right_is : y ≡ get_or ys i y
+
+pub pair-at : {A B : Type 0} (xs : List A) (ys : List B) (i : ℕ) (x : A) (y : B) → i < length (zip xs ys) → (x, y) ≡ get_or (zip xs ys) i (x, y) → ArePaired xs ys i x y
+pair-at {A} {B} xs ys i x y lt is =
+    let left : i < length xs = omega (arith, length-zip xs ys) in
+    let right : i < length ys = omega (arith, length-zip xs ys) in
+    let here = is ∙ get_or-zip xs ys i (x, y) left right in
+    record {
+      in_left = left;
+      left_is = ap (λ (p : A × B). p.0) here;
+      in_right = right;
+      right_is = ap (λ (p : A × B). p.1) here;
+    }
+
+pub take_all : {A : Type 0} (xs : List A) (n : ℕ) → length xs ≤ n → take n xs ≡ xs
+take_all xs n h = sym (append-nil (take n xs)) ∙ (ap (λ ys. take n xs ++ ys) (sym (drop_of_length-le xs h)) ∙ take-append-drop n xs)
+
+module _ (source : ParsedSource) (fs : List (Bor Function)) (tables : List StepScopes) (are : views fs ≡ functions_in source) (stand : AreTablesOf source tables) where
+  in_step : map standings_view tables ≡ map (λ (f : Bor Function). standings_of (file_scope source) (function_view f.now)) fs
+  in_step = stand ∙ (ap (map (standings_of (file_scope source))) (sym are) ∙ map-twice (λ (f : Bor Function). function_view f.now) (standings_of (file_scope source)) fs)
+
+  -- a function's steps are those of its table
+  pub steps-of : (i : ℕ) (f : Bor Function) (t : StepScopes) → ArePaired fs tables i f t → standings_view t ≡ standings_of (file_scope source) (function_view f.now)
+  steps-of i f t p = same-at standings_view (λ (g : Bor Function). standings_of (file_scope source) (function_view g.now)) tables fs i t f in_step p.in_right p.right_is p.in_left p.left_is
+
+  same-length : length tables ≡ length fs
+  same-length = sym (length-map tables standings_view) ∙ (ap length in_step ∙ length-map fs (λ (f : Bor Function). standings_of (file_scope source) (function_view f.now)))
+
+  -- so many pairs are all functions
+  pub all-paired : (n : ℕ) → n ≡ length (zip fs tables) → take n fs ≡ fs
+  all-paired n e = take_all fs n (omega (arith, length-zip fs tables, same-length))
+
+-- the functions so far, each judged by itself
+abbrev pub function_parts : ParsedSource → List (Bor Function) → ℕ → List (Judged tree.Function)
+function_parts source fs n = map (judged_function source) (views (take n fs))
+
+parts-last : (source : ParsedSource) (fs : List (Bor Function)) (n : ℕ) (f : Bor Function) → n < length fs → f ≡ get_or fs n f
+    → function_parts source fs (n + 1) ≡ function_parts source fs n ++ judged_function source (function_view f.now) ∷ []
+parts-last source fs n f lt is =
+    ap (λ gs. map (judged_function source) (views gs)) (take_more fs n f lt ∙ ap (λ g. take n fs ++ g ∷ []) (sym is))
+    ∙ (ap (map (judged_function source)) (map-append (λ (g : Bor Function). function_view g.now) (take n fs) (f ∷ []))
+    ∙ map-append (judged_function source) (views (take n fs)) (function_view f.now ∷ []))
+
+-- one more function that stands for something
+pub functions-sound : (source : ParsedSource) (fs : List (Bor Function)) (n m : ℕ) (f : Bor Function) (fault : Option SourceRefusal) (items : List tree.Function) (made : tree.Function)
+    → n < length fs → f ≡ get_or fs n f → m ≡ n + 1 → Collects fault items (all_of (function_parts source fs n)) → judged_function source (function_view f.now) ≡ Sound made
+    → Collects fault (items ++ made ∷ []) (all_of (function_parts source fs m))
+functions-sound source fs n m f fault items made lt is next h e =
+    ap (λ js. answer_of (all_of js)) (ap (function_parts source fs) next ∙ parts-last source fs n f lt is)
+    ∙ collects-sound fault items made (function_parts source fs n) (judged_function source (function_view f.now)) h e
+
+-- one more function with a fault
+pub functions-fault : (source : ParsedSource) (fs : List (Bor Function)) (n m : ℕ) (f : Bor Function) (fault : Option SourceRefusal) (g : SourceRefusal) (items : List tree.Function)
+    → n < length fs → f ≡ get_or fs n f → m ≡ n + 1 → Collects fault items (all_of (function_parts source fs n)) → answer_of (judged_function source (function_view f.now)) ≡ Err g
+    → Collects (merged fault (Some g)) items (all_of (function_parts source fs m))
+functions-fault source fs n m f fault g items lt is next h e =
+    ap (λ js. answer_of (all_of js)) (ap (function_parts source fs) next ∙ parts-last source fs n f lt is)
+    ∙ collects-fault fault g items (function_parts source fs n) (judged_function source (function_view f.now)) h e
+
+-- every function is judged
+pub functions-done : (source : ParsedSource) (fs : List (Bor Function)) (n : ℕ) (fault : Option SourceRefusal) (items : List tree.Function)
+    → views fs ≡ functions_in source → take n fs ≡ fs → Collects fault items (all_of (function_parts source fs n)) → Collects fault items (judged_functions source (functions_in source))
+functions-done source fs n fault items are whole h =
+    ap answer_of (sym (all-functions source (functions_in source))) ∙ (ap (λ gs. answer_of (all_of (map (judged_function source) gs))) (sym are ∙ ap views (sym whole)) ∙ h)

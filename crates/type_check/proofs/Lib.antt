@@ -1,0 +1,5 @@
+pub mod Collecting
+pub mod FunctionBodies
+pub mod FunctionParts
+pub mod GlobalParts
+pub mod Parameters

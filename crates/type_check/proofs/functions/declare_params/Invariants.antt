@@ -1,0 +1,8 @@
+use Rattle.std.proofs.Common.{drop, map}
+use Rattle.ispc_parser.specs.Tree.{param_view}
+use Rattle.type_check.proofs.Parameters.{AreDeclared}
+use Rattle.type_check.proofs.functions.declare_params.Given as goal
+
+abbrev pub invariant-loop-param : goal.invariant-loop-param
+invariant-loop-param l =
+    AreDeclared (map param_view l.fn.params) l.fn.scope.entries (map param_view (drop l.param-index l.params)) l.scope.entries l.scope.locals l.param-index

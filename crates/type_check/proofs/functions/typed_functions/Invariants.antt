@@ -1,0 +1,15 @@
+use Rattle.std.proofs.Common.{◌≡◌, length, map}
+use Rattle.gang_model.specs.Parsed.{ParsedSource, functions_in, globals_in}
+use Rattle.gang_model.specs.Resolved.{global_entries}
+use Rattle.name_resolution.specs.Tables.{AreTablesOf}
+use Rattle.typed_tree.specs.Views as typed
+use Rattle.type_check.proofs.Collecting.{all_of, Collects}
+use Rattle.type_check.proofs.FunctionParts.{function_parts, views}
+use Rattle.type_check.proofs.functions.typed_functions.Given as goal
+
+abbrev pub invariant-loop-function : goal.invariant-loop-function
+invariant-loop-function l = record {
+  entries : l.scope.entries ≡ l.fn.scope.entries;
+  collects : (source : ParsedSource) → views l.fn.functions ≡ functions_in source → l.fn.scope.entries ≡ global_entries 0 (globals_in source)
+      → AreTablesOf source l.fn.tables.items → Collects l.first (map typed.function_view l.typed.items) (all_of (function_parts source l.fn.functions (length l.yielded)));
+}

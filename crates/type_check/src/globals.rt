@@ -1,0 +1,151 @@
+//! File-scope variables.
+ghost use Rattle.std.specs.Prelude.{◌≡◌, IfErr, IfOk, map};
+ghost use Rattle.gang_model.specs.declared.forms.GlobalForm.TheVariants.{Initial};
+ghost use Rattle.gang_model.specs.Judged.{least_fault};
+ghost use Rattle.gang_model.specs.Resolved as model;
+ghost use Rattle.gang_model.specs.TypeFaults as faults;
+ghost use Rattle.ispc_lexer.specs.declared.fault.SourceFault.TheVariants.{Memory};
+ghost use Rattle.ispc_parser.specs.Tree as parsed;
+ghost use Rattle.typed_tree.specs.Views as typed;
+ghost use Rattle.type_scopes.specs.Answers.{Answers};
+
+use crate::signatures::{variable_fault, varying_fault};
+use gang_model::{GlobalForm, Literal, SourceRefusal};
+use gang_types::{IntType, UnaryOp, VarId, convert, unary};
+use ispc_lexer::SourceFault;
+use ispc_names::least;
+use ispc_parser::GlobalVariable;
+use std::alloc::Global;
+use type_scopes::{TypeScope, declared_with, refuse};
+use typed_tree::{Global as TypedGlobal, Variable};
+use typed_values::{declared_rate, declared_type, literal_type};
+
+/// Whether a file-scope variable is an array.
+fn is_array_form(form: GlobalForm) -> bool
+    ensures { result ≡ faults.is_array_form form }
+{
+    match form {
+        GlobalForm::Array(_) => true,
+        GlobalForm::Plain | GlobalForm::Initial(_) => false,
+    }
+}
+
+/// A literal's value as a word of a type, converted from the type that it has by itself.
+fn literal_word(value_type: IntType, literal: Literal) -> u64
+    ensures { result ≡ model.first_word value_type (Initial literal) }
+{
+    match literal {
+        Literal::Number {
+            is_negative,
+            value,
+            is_unsigned,
+            is_long,
+        } => {
+            let own = literal_type(value, is_unsigned, is_long);
+            let word = if is_negative {
+                unary(UnaryOp::Negate, own, value)
+            } else {
+                value
+            };
+            convert(own, value_type, word)
+        }
+        Literal::Truth(truth) => convert(IntType::Bool, value_type, u64::from(truth)),
+    }
+}
+
+/// The first word of a file-scope variable.
+fn first_word(value_type: IntType, form: GlobalForm) -> u64
+    ensures { result ≡ model.first_word value_type form }
+{
+    match form {
+        GlobalForm::Initial(literal) => literal_word(value_type, literal),
+        GlobalForm::Plain | GlobalForm::Array(_) => 0,
+    }
+}
+
+/// How many elements a file-scope variable has, none unless it is an array.
+fn length_of(form: GlobalForm) -> u64
+    ensures { result ≡ model.length_of form }
+{
+    match form {
+        GlobalForm::Array(length) => length,
+        GlobalForm::Plain | GlobalForm::Initial(_) => 0,
+    }
+}
+
+/// S7 at a varying array, S8 at a `void` variable.
+fn global_fault(global: &GlobalVariable) -> Option<SourceRefusal>
+    ensures { result ≡ least_fault (faults.global_faults (parsed.global_view global.now)) }
+{
+    let is_array = is_array_form(global.form);
+    least(
+        varying_fault(global.place, global.spec, is_array),
+        variable_fault(global.place, global.spec),
+    )
+}
+
+/// The file-scope variable of a number, as its declaration says.
+fn typed_global(
+    alloc: Global,
+    number: usize,
+    global: &GlobalVariable,
+) -> Result<TypedGlobal, SourceFault>
+    ensures typed { IfOk result (λ made. typed.global_view made ≡ model.global_of number (parsed.global_view global.now)) }
+    ensures memory { IfErr result (λ fault. fault ≡ Memory) }
+{
+    let value_type = declared_type(global.spec.value_type);
+    let variable = Variable {
+        name: global.name.to_vec(alloc)?,
+        id: VarId::File(number),
+        value_type,
+        rate: declared_rate(global.spec.rate),
+        is_array: is_array_form(global.form),
+        is_parameter: false,
+        is_constant: global.spec.is_constant,
+    };
+    Ok(TypedGlobal {
+        variable,
+        word: first_word(value_type, global.form),
+        length: length_of(global.form),
+    })
+}
+
+/// The file-scope variables in the typed tree.
+///
+/// # Errors
+///
+/// The first of their faults. Want of memory.
+pub(crate) fn typed_globals(
+    alloc: Global,
+    globals: &[&GlobalVariable],
+) -> Result<Vec<TypedGlobal>, SourceFault>
+    ensures { Answers (λ made. map typed.global_view made.items) result (model.judged_globals 0 (map (λ g. parsed.global_view g.now) globals.now)) }
+{
+    let mut typed = Vec::new(alloc);
+    let mut first = None;
+    for global in globals {
+        first = least(first, global_fault(global));
+        typed.push(typed_global(alloc, typed.len(), global)?)?;
+    }
+    refuse(first)?;
+    Ok(typed)
+}
+
+/// The file-scope variables in scope.
+pub(crate) fn declared_globals(
+    alloc: Global,
+    globals: &[&GlobalVariable],
+) -> Result<TypeScope, SourceFault>
+    ensures entries { IfOk result (λ scope. scope.entries ≡ model.global_entries 0 (map (λ g. parsed.global_view g.now) globals.now)) }
+    ensures memory { IfErr result (λ fault. fault ≡ Memory) }
+{
+    let mut scope = TypeScope::new(alloc);
+    for later in 0..globals.len() {
+        let number = globals.len() - 1 - later;
+        let global = globals[number];
+        let is_array = is_array_form(global.form);
+        let declared = declared_with(VarId::File(number), global.spec, is_array, false);
+        scope.declare_in_file(alloc, &global.name, declared)?;
+    }
+    Ok(scope)
+}

@@ -1,0 +1,38 @@
+//! The typed program of a tree.
+ghost use Rattle.gang_model.specs.Resolved.{judged_program};
+ghost use Rattle.ispc_parser.specs.Tree.{tree_view};
+ghost use Rattle.name_resolution.specs.Tables.{AreTablesOf};
+ghost use Rattle.typed_tree.specs.Views.{program_view};
+ghost use Rattle.type_scopes.specs.Answers.{Answers};
+
+use crate::functions::typed_functions;
+use crate::globals::{declared_globals, typed_globals};
+use ispc_lexer::SourceFault;
+use ispc_parser::Tree;
+use name_faults::{functions_of, globals_of};
+use std::alloc::Global;
+use step_scopes::StepScopes;
+use type_scopes::both;
+use typed_tree::Program;
+
+/// The typed program of a tree, whose functions have these steps.
+///
+/// # Errors
+///
+/// The first of the faults S7 to S10 of its types. Want of memory.
+pub fn typed_program(
+    alloc: Global,
+    tree: &Tree,
+    tables: Vec<StepScopes>,
+) -> Result<Program, SourceFault>
+    requires { AreTablesOf (tree_view tree.now) tables.items }
+    ensures { Answers program_view result (judged_program (tree_view tree.now)) }
+{
+    let functions = functions_of(alloc, tree)?;
+    let globals = globals_of(alloc, tree)?;
+    let scope = declared_globals(alloc, &globals)?;
+    let globals = typed_globals(alloc, &globals);
+    let functions = typed_functions(alloc, &functions, tables, scope);
+    let (globals, functions) = both(globals, functions)?;
+    Ok(Program { functions, globals })
+}

@@ -1,0 +1,15 @@
+//! Types of values, names, library calls, expressions, calls and whole sources.
+#![tactic(auto)]
+
+#[cfg(test)]
+mod calls;
+#[cfg(test)]
+mod expressions;
+#[cfg(test)]
+mod library;
+#[cfg(test)]
+mod scopes;
+#[cfg(test)]
+mod sources;
+#[cfg(test)]
+mod values;
