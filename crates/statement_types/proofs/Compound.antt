@@ -55,14 +55,14 @@ if-else p e a b context entries entries1 entries2 before between after step at1 
     let k = length before in
     let x = typed-at stmt_view first a context entries1 entries k k at1 (step + 1) before between (locals_in a) h1 n1 refl s1 in
     let y = typed-at stmt_view other b context entries2 entries (length between) (k + locals_in a) at2 (step + 1 + steps_in a) between after (locals_in b) h2 n2
-        (next-number stmt_view first (statement a context entries1 k at1) before between (locals_in a) h1) (s2 ∙ ap (λ m. m + steps_in a) s1) in
+    (next-number stmt_view first (statement a context entries1 k at1) before between (locals_in a) h1) (s2 ∙ ap (λ m. m + steps_in a) s1) in
     let first_of = statement a context entries k (step + 1) in
     let other_of = statement b context entries (k + locals_in a) (step + 1 + steps_in a) in
     typed-parts stmt_view (pair_view expr_view (pair_view (statement_view x.declared) (statement_view y.declared))) parts (both (test_of entries (Some e)) (both first_of other_of))
     (λ q. Sound (made (tree.If step q.0 q.1.0.stmt q.1.1.stmt) (q.1.0.variables ++ q.1.1.variables))) (λ q. tree.If step (expr_view q.0) (stmt_view q.1.0) (stmt_view q.1.1)) answer
     before after (x.declared ++ y.declared) (locals_in a + locals_in b)
     (seen-both expr_view (pair_view (statement_view x.declared) (statement_view y.declared)) test pair parts (test_of entries (Some e)) (both first_of other_of) w t
-      (seen-both (statement_view x.declared) (statement_view y.declared) first other pair first_of other_of v x.answered y.answered))
+    (seen-both (statement_view x.declared) (statement_view y.declared) first other pair first_of other_of v x.answered y.answered))
     f (λ q. refl) (variables-two before between after x.declared y.declared x.variables y.variables) (length-two x.declared y.declared (locals_in a) (locals_in b) x.counted y.counted)
 
 pub while-loop : (p : Place) (e : ParsedExpr) (a : ParsedStmt) (context : Context) (entries entries' : Scope) (before after : List Variable) (step at : ℕ)
@@ -121,14 +121,14 @@ for-loop p s u b e context entries entries1 entries2 before l1 l2 after step ste
     let test_is : answer_of (test_of inner e) ≡ seen expr_view test = subst (λ m. answer_of (test_of m e) ≡ seen expr_view test) e1 t in
     let declared = x.declared ++ (y.declared ++ z.declared) in
     let many : length declared ≡ locals_in s + (locals_in u + locals_in b) =
-        length-two x.declared (y.declared ++ z.declared) (locals_in s) (locals_in u + locals_in b) x.counted (length-two y.declared z.declared (locals_in u) (locals_in b) y.counted z.counted) in
+    length-two x.declared (y.declared ++ z.declared) (locals_in s) (locals_in u + locals_in b) x.counted (length-two y.declared z.declared (locals_in u) (locals_in b) y.counted z.counted) in
     typed-parts stmt_view (pair_view (pair_view (statement_view x.declared) expr_view) (pair_view (statement_view y.declared) (statement_view z.declared))) parts
     (both (both start_of (test_of inner e)) (both update_of body_of))
     (λ q. Sound (made (tree.Then q.0.0.stmt (tree.Loop (update_step + steps_in u) q.0.1 q.1.0.stmt q.1.1.stmt)) (q.0.0.variables ++ (q.1.0.variables ++ q.1.1.variables))))
     (λ q. tree.Then (stmt_view q.0.0) (tree.Loop at (expr_view q.0.1) (stmt_view q.1.0) (stmt_view q.1.1))) answer before after declared (locals_in s + locals_in u + locals_in b)
     (seen-both (pair_view (statement_view x.declared) expr_view) (pair_view (statement_view y.declared) (statement_view z.declared)) head tail parts (both start_of (test_of inner e)) (both update_of body_of) w
-      (seen-both (statement_view x.declared) expr_view start test head start_of (test_of inner e) hw x.answered test_is)
-      (seen-both (statement_view y.declared) (statement_view z.declared) update body tail update_of body_of tw y.answered z.answered))
+    (seen-both (statement_view x.declared) expr_view start test head start_of (test_of inner e) hw x.answered test_is)
+    (seen-both (statement_view y.declared) (statement_view z.declared) update body tail update_of body_of tw y.answered z.answered))
     f (λ q. ap (λ m. Sound (made (tree.Then (stmt_view q.0.0) (tree.Loop m (expr_view q.0.1) (stmt_view q.1.0) (stmt_view q.1.1))) declared)) (sym last_number))
     (variables-two before l1 after x.declared (y.declared ++ z.declared) x.variables (variables-two l1 l2 after y.declared z.declared y.variables z.variables))
     (omega (arith, many))
@@ -191,7 +191,7 @@ pub for-each-active : (p at : Place) (name : Name) (b : ParsedStmt) (context : C
     → IsTyped stmt_view answer (statement (ParsedForEachActive p at name b) context entries (length before) step) before after (1 + locals_in b)
 for-each-active p at name b context entries before after step n v body answer e w h f =
     subst (λ m. IsTyped stmt_view answer (statement b context (m ∷ entries) (suc (length before)) (step + 1)
-        >>= (λ inner. Sound (made (tree.ForEach step (tree.EachLane (var_of m.variable)) inner.stmt) (m.variable ∷ inner.variables)))) before after (1 + locals_in b)) e
+    >>= (λ inner. Sound (made (tree.ForEach step (tree.EachLane (var_of m.variable)) inner.stmt) (m.variable ∷ inner.variables)))) before after (1 + locals_in b)) e
     (subst (λ j. IsTyped stmt_view answer j before after (1 + locals_in b)) (sym (with_index_then n (statement b context (n ∷ entries) (suc (length before)) (step + 1)) (tree.ForEach step (tree.EachLane (var_of n.variable)))))
     (typed-parts stmt_view (statement_view h.declared) body (with_index n (statement b context (n ∷ entries) (suc (length before)) (step + 1)))
     (λ m. Sound (made (tree.ForEach step (tree.EachLane (var_of n.variable)) m.stmt) m.variables)) (λ s. tree.ForEach step (tree.EachLane v) (stmt_view s)) answer before after h.declared (1 + locals_in b)
@@ -207,12 +207,12 @@ unique_sound : {V : Type 0} (view : V → conversions.Typed) (p at : Place) (nam
 unique_sound view p at name e b context entries before after step n v x body answer he hn hv h f =
     let is = sound_of (expression e entries) (view x) he in
     subst (λ j. IsTyped stmt_view answer (j >>= (λ y. statement b context (index_entry name (Local (length before)) y.type Uniform ∷ entries) (suc (length before)) (step + 1)
-        >>= (λ inner. Sound (made (tree.ForEach step (tree.EachValue (var_of (index_entry name (Local (length before)) y.type Uniform).variable) y.expr) inner.stmt)
-            ((index_entry name (Local (length before)) y.type Uniform).variable ∷ inner.variables))))) before after (1 + locals_in b)) (sym is)
+    >>= (λ inner. Sound (made (tree.ForEach step (tree.EachValue (var_of (index_entry name (Local (length before)) y.type Uniform).variable) y.expr) inner.stmt)
+    ((index_entry name (Local (length before)) y.type Uniform).variable ∷ inner.variables))))) before after (1 + locals_in b)) (sym is)
     (subst (λ m. IsTyped stmt_view answer (statement b context (m ∷ entries) (suc (length before)) (step + 1)
-        >>= (λ inner. Sound (made (tree.ForEach step (tree.EachValue (var_of m.variable) (view x).expr) inner.stmt) (m.variable ∷ inner.variables)))) before after (1 + locals_in b)) hn
+    >>= (λ inner. Sound (made (tree.ForEach step (tree.EachValue (var_of m.variable) (view x).expr) inner.stmt) (m.variable ∷ inner.variables)))) before after (1 + locals_in b)) hn
     (subst (λ j. IsTyped stmt_view answer j before after (1 + locals_in b))
-      (sym (with_index_then n (statement b context (n ∷ entries) (suc (length before)) (step + 1)) (tree.ForEach step (tree.EachValue (var_of n.variable) (view x).expr))))
+    (sym (with_index_then n (statement b context (n ∷ entries) (suc (length before)) (step + 1)) (tree.ForEach step (tree.EachValue (var_of n.variable) (view x).expr))))
     (typed-parts stmt_view (statement_view h.declared) body (with_index n (statement b context (n ∷ entries) (suc (length before)) (step + 1)))
     (λ m. Sound (made (tree.ForEach step (tree.EachValue (var_of n.variable) (view x).expr) m.stmt) m.variables)) (λ s. tree.ForEach step (tree.EachValue v (view x).expr) (stmt_view s)) answer
     before after h.declared (1 + locals_in b)
@@ -221,6 +221,7 @@ unique_sound view p at name e b context entries before after step n v x body ans
     sound_of : {A : Type 0} (j : Judged A) (a : A) → answer_of j ≡ Ok a → j ≡ Sound a
     sound_of (Sound c) a q = let same : c ≡ a = cc in ap Sound same
     sound_of (Faulty first others) a q = let none : ⊥ = cc in absurd none
+
     rounds_seen : (r : Result Stmt SourceRefusal) → value_rounds step v (Ok (view x)) (seen stmt_view r) ≡ seen (λ s. tree.ForEach step (tree.EachValue v (view x).expr) (stmt_view s)) r
     rounds_seen (Ok s) = refl
     rounds_seen (Err fault) = refl
@@ -238,10 +239,11 @@ unique_faulty p at name e b context entries before after declared step count fau
   where
     by : (j : Judged conversions.Typed) → answer_of j ≡ Err fault
         → answer_of (j >>= (λ y. statement b context (index_entry name (Local (length before)) y.type Uniform ∷ entries) (suc (length before)) (step + 1)
-            >>= (λ inner. Sound (made (tree.ForEach step (tree.EachValue (var_of (index_entry name (Local (length before)) y.type Uniform).variable) y.expr) inner.stmt)
-                ((index_entry name (Local (length before)) y.type Uniform).variable ∷ inner.variables))))) ≡ Err fault
+        >>= (λ inner. Sound (made (tree.ForEach step (tree.EachValue (var_of (index_entry name (Local (length before)) y.type Uniform).variable) y.expr) inner.stmt)
+        ((index_entry name (Local (length before)) y.type Uniform).variable ∷ inner.variables))))) ≡ Err fault
     by (Sound y) q = let none : ⊥ = cc in absurd none
     by (Faulty first others) q = let least : least_of first others ≡ fault = cc in ap Err least
+
     same : (r : Result Stmt SourceRefusal) → seen stmt_view r ≡ Err fault → Err fault ≡ seen (statement_view declared) r
     same (Ok s) q = let none : ⊥ = cc in absurd none
     same (Err g) q = let is : g ≡ fault = cc in ap Err (sym is)

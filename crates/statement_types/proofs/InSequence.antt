@@ -46,7 +46,7 @@ begun declared (Err first) (Err fault) = Err (lesser first fault)
 
 begun_next : (declared more : List Variable) (typed : Result (List Stmt) SourceRefusal) (answer : Result Stmt SourceRefusal) (later : Result Made SourceRefusal)
     → begun declared typed (then_answer (both_answers (seen (λ s. made (stmt_view s) more) answer) later) (λ parts. Ok (in_order parts)))
-      ≡ begun (declared ++ more) (one_more typed answer) later
+    ≡ begun (declared ++ more) (one_more typed answer) later
 begun_next declared more (Ok ss) (Ok s) (Ok m) =
     ap (λ x. Ok (made x (declared ++ (more ++ m.variables)))) (chained_one ss s m.stmt)
     ∙ ap (λ x. Ok (made (chained (ss ++ s ∷ []) m.stmt) x)) (sym (append_assoc declared more m.variables))
@@ -60,7 +60,7 @@ begun_next declared more (Err h) (Err f) (Err g) = sym (ap Err (lesser-assoc h f
 
 next_answer : (s : ParsedStmt) (ss : ParsedStmts) (context : Context) (e : Scope) (k n : ℕ)
     → answer_of (statements (ParsedNext s ss) context e k n)
-      ≡ then_answer (both_answers (answer_of (statement s context e k n)) (answer_of (statements ss context (scope_after s e k) (k + locals_in s) (n + steps_in s)))) (λ parts. Ok (in_order parts))
+    ≡ then_answer (both_answers (answer_of (statement s context e k n)) (answer_of (statements ss context (scope_after s e k) (k + locals_in s) (n + steps_in s)))) (λ parts. Ok (in_order parts))
 next_answer s ss context e k n =
     let a = statement s context e k n in
     let b = statements ss context (scope_after s e k) (k + locals_in s) (n + steps_in s) in
@@ -111,7 +111,7 @@ begun-next context ss rest later s typed typed' answer outer entries entries' be
   answered =
       h.answered ∙ (ap (λ r. begun h.declared typed (answer_of (statements r context entries (length locals) step))) split
       ∙ (ap (begun h.declared typed) (next_answer s later context entries (length locals) step
-         ∙ (ap (λ a. then_answer (both_answers a (answer_of (statements later context (scope_after s entries (length locals)) (length locals + locals_in s) (step + steps_in s)))) (λ parts. Ok (in_order parts))) x.answered))
+      ∙ (ap (λ a. then_answer (both_answers a (answer_of (statements later context (scope_after s entries (length locals)) (length locals + locals_in s) (step + steps_in s)))) (λ parts. Ok (in_order parts))) x.answered))
       ∙ (begun_next h.declared x.declared typed answer (answer_of (statements later context (scope_after s entries (length locals)) (length locals + locals_in s) (step + steps_in s)))
       ∙ (ap (λ y. begun (h.declared ++ x.declared) y (answer_of (statements later context (scope_after s entries (length locals)) (length locals + locals_in s) (step + steps_in s)))) (sym more)
       ∙ (ap (λ y. begun (h.declared ++ x.declared) typed' (answer_of (statements later context y (length locals + locals_in s) (step + steps_in s)))) (sym after)

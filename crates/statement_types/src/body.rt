@@ -6,12 +6,11 @@ ghost use Rattle.typed_tree.specs.Views.{stmts_view};
 ghost use Rattle.call_types.specs.Calls.{context_view};
 ghost use Rattle.statement_parts.specs.Makes.{IfAnswered, Makes};
 
-use statement_parts::joined;
-use statement_parts::more_statements;
 use crate::statements::statement;
 use call_types::Context;
 use ispc_lexer::SourceFault;
 use ispc_parser::Stmt as ParsedStmt;
+use statement_parts::{joined, more_statements};
 use std::alloc::Global;
 use type_scopes::TypeScope;
 use typed_tree::Stmt;

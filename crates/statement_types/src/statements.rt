@@ -14,24 +14,18 @@ ghost use Rattle.call_types.specs.Calls.{context_view};
 ghost use Rattle.type_scopes.specs.Entries.{declared_view};
 ghost use Rattle.statement_parts.specs.Typed.{IsTyped, with_index};
 
-use statement_parts::{Answer, both_answers, set_apart};
-use statement_parts::{assignment, change, increment};
-use statement_parts::{some_test, test_of};
-use statement_parts::declare;
-use statement_parts::{
-    block, body_first, called, choice, conditional, more_statements, over_lanes, over_rows,
-    over_values, repeated, started, type_of,
-};
-use statement_parts::{advanced, one_step, steps_in};
-use statement_parts::returning;
-use statement_parts::{declare_indices, dimensions};
-use statement_parts::variable_of;
 use call_types::{Context, WholeCall};
 use expression_parser::Expr;
 use expression_types::expression;
 use gang_types::{IntType, Rate, VarId};
 use ispc_lexer::SourceFault;
 use ispc_parser::{Dim, Stmt as ParsedStmt};
+use statement_parts::{
+    Answer, advanced, assignment, block, body_first, both_answers, called, change, choice,
+    conditional, declare, declare_indices, dimensions, increment, more_statements, one_step,
+    over_lanes, over_rows, over_values, repeated, returning, set_apart, some_test, started,
+    steps_in, test_of, type_of, variable_of,
+};
 use std::alloc::Global;
 use type_scopes::{Declared, TypeScope, index_variable};
 use typed_tree::Stmt;
@@ -82,7 +76,9 @@ pub(crate) fn statement(
             ..
         } => one_step(change(alloc, scope, target, *operator, value, *step), step),
         ParsedStmt::Increment {
-            target, operator, ..
+            target,
+            operator,
+            ..
         } => one_step(increment(alloc, scope, target, *operator, *step), step),
         ParsedStmt::Call { place, name, args } => {
             let call = WholeCall {
@@ -99,7 +95,10 @@ pub(crate) fn statement(
             step,
         ),
         ParsedStmt::If {
-            test, first, other, ..
+            test,
+            first,
+            other,
+            ..
         } => match other {
             Some(other) => if_else(alloc, test, first, other, context, scope, step),
             None => if_only(alloc, test, first, context, scope, step),
@@ -125,7 +124,10 @@ pub(crate) fn statement(
             for_each_active(alloc, name, body, context, scope, step)
         }
         ParsedStmt::ForEachUnique {
-            name, value, body, ..
+            name,
+            value,
+            body,
+            ..
         } => for_each_unique(alloc, name, value, body, context, scope, step),
     }
 }

@@ -36,7 +36,7 @@ leave-requires c =
     let items = c.args.stmts.now in
     let i = c.loop-stmt.stmt-index in
     let whole = begun-all (context_view c.args.context.now) (stmts_view items) (stmts_view (drop i items)) (seen (λ v. v.items) c.loop-stmt.typed) scope.entries c.loop-stmt.scope.entries
-        scope.locals c.loop-stmt.scope.locals 0 c.loop-stmt.step c.loop-stmt.invariant (ap stmts_view (drop_all i items c.loop-stmt-test.false)) in
+    scope.locals c.loop-stmt.scope.locals 0 c.loop-stmt.step c.loop-stmt.invariant (ap stmts_view (drop_all i items c.loop-stmt-test.false)) in
     extends-marked scope.entries c.loop-stmt.scope.entries c.mark-mark.result.declared c.mark-mark.ensures whole.extends
 
 pub returns-clause-makes : goal.returns-clause-makes
@@ -46,7 +46,7 @@ returns-clause-makes c =
     let i = c.loop-stmt.stmt-index in
     let context = context_view c.args.context.now in
     let whole = begun-all context (stmts_view items) (stmts_view (drop i items)) (seen (λ v. v.items) c.loop-stmt.typed) scope.entries c.loop-stmt.scope.entries
-        scope.locals c.loop-stmt.scope.locals 0 c.loop-stmt.step c.loop-stmt.invariant (ap stmts_view (drop_all i items c.loop-stmt-test.false)) in
+    scope.locals c.loop-stmt.scope.locals 0 c.loop-stmt.step c.loop-stmt.invariant (ap stmts_view (drop_all i items c.loop-stmt-test.false)) in
     subst (λ l. Makes (λ v. typed.stmts_view v.items) c.joined.result scope.locals l (statements (stmts_view items) context scope.entries (length scope.locals) 0)) (sym c.leave.ensures.locals)
     (whole-body context (stmts_view items) c.loop-stmt.typed c.joined.result scope.entries c.loop-stmt.scope.entries scope.locals c.loop-stmt.scope.locals 0 c.loop-stmt.step whole c.joined.ensures)
 
@@ -56,5 +56,5 @@ returns-clause-entries c =
     let items = c.args.stmts.now in
     let i = c.loop-stmt.stmt-index in
     let whole = begun-all (context_view c.args.context.now) (stmts_view items) (stmts_view (drop i items)) (seen (λ v. v.items) c.loop-stmt.typed) scope.entries c.loop-stmt.scope.entries
-        scope.locals c.loop-stmt.scope.locals 0 c.loop-stmt.step c.loop-stmt.invariant (ap stmts_view (drop_all i items c.loop-stmt-test.false)) in
+    scope.locals c.loop-stmt.scope.locals 0 c.loop-stmt.step c.loop-stmt.invariant (ap stmts_view (drop_all i items c.loop-stmt-test.false)) in
     unless-memory c.joined.result (extends-left scope.entries c.loop-stmt.scope.entries c.leave.new.self.entries c.mark-mark.result.declared c.mark-mark.ensures whole.extends c.leave.ensures.entries)
