@@ -94,6 +94,5 @@ pub(crate) fn pair<'a>(given: Vec<Passing<'a>>) -> Option<(Passing<'a>, Passing<
         return None;
     }
     let second = given.pop()?;
-    let first = given.pop()?;
-    Some((first, second))
+    given.pop().map(|first| (first, second))
 }

@@ -6,7 +6,7 @@ ghost use Rattle.expression_parser.specs.Tree.{expr_view, arg_view, args_view, O
 use crate::tree::{Arg, Expr};
 use gang_model::Infix;
 use gang_types::{IntType, Place, Rate, UnaryOp};
-use ispc_lexer::SourceFault;
+use ispc_lexer::{SourceFault, boxed};
 use std::alloc::Global;
 
 pub(crate) fn name(alloc: Global, place: Place, name: &[u8]) -> Result<Expr, SourceFault>
@@ -27,7 +27,7 @@ pub(crate) fn index(
     ensures memory { IfErr result (λ e. e ≡ SourceFault.Memory) }
 {
     let name = name.to_vec(alloc)?;
-    let index = Box::new(alloc, index)?;
+    let index = boxed(alloc, index)?;
     Ok(Expr::Index { place, name, index })
 }
 
@@ -54,7 +54,7 @@ pub(crate) fn paren(alloc: Global, place: Place, inner: Expr) -> Result<Expr, So
     ensures value { IfOk result (λ e. expr_view e ≡ ParsedParen place (expr_view inner)) }
     ensures memory { IfErr result (λ e. e ≡ SourceFault.Memory) }
 {
-    let inner = Box::new(alloc, inner)?;
+    let inner = boxed(alloc, inner)?;
     Ok(Expr::Paren { place, inner })
 }
 
@@ -67,7 +67,7 @@ pub(crate) fn unary(
     ensures value { IfOk result (λ e. expr_view e ≡ ParsedUnary place operator (expr_view operand)) }
     ensures memory { IfErr result (λ e. e ≡ SourceFault.Memory) }
 {
-    let operand = Box::new(alloc, operand)?;
+    let operand = boxed(alloc, operand)?;
     Ok(Expr::Unary {
         place,
         operator,
@@ -85,7 +85,7 @@ pub(crate) fn cast(
     ensures value { IfOk result (λ e. expr_view e ≡ ParsedCast place rate value_type (expr_view operand)) }
     ensures memory { IfErr result (λ e. e ≡ SourceFault.Memory) }
 {
-    let operand = Box::new(alloc, operand)?;
+    let operand = boxed(alloc, operand)?;
     Ok(Expr::Cast {
         place,
         rate,
@@ -103,8 +103,8 @@ pub(crate) fn binary(
     ensures value { IfOk result (λ e. expr_view e ≡ ParsedBinary operator (expr_view left) (expr_view right)) }
     ensures memory { IfErr result (λ e. e ≡ SourceFault.Memory) }
 {
-    let left = Box::new(alloc, left)?;
-    let right = Box::new(alloc, right)?;
+    let left = boxed(alloc, left)?;
+    let right = boxed(alloc, right)?;
     Ok(Expr::Binary {
         operator,
         left,
@@ -121,9 +121,9 @@ pub(crate) fn choice(
     ensures value { IfOk result (λ e. expr_view e ≡ ParsedChoice (expr_view test) (expr_view first) (expr_view second)) }
     ensures memory { IfErr result (λ e. e ≡ SourceFault.Memory) }
 {
-    let test = Box::new(alloc, test)?;
-    let first = Box::new(alloc, first)?;
-    let second = Box::new(alloc, second)?;
+    let test = boxed(alloc, test)?;
+    let first = boxed(alloc, first)?;
+    let second = boxed(alloc, second)?;
     Ok(Expr::Choice {
         test,
         first,

@@ -13,7 +13,7 @@ use crate::values::refusal;
 use expression_parser::Expr;
 use gang_model::{RefusalNumber, SourceRefusal};
 use gang_types::{IntType, Place, is_bool};
-use ispc_lexer::SourceFault;
+use ispc_lexer::{SourceFault, boxed};
 use ispc_names::{fault_if, least};
 use std::alloc::Global;
 use type_scopes::{Declared, TypeScope, refuse};
@@ -57,7 +57,7 @@ fn element_value(
     ensures memory { IfErr result (λ fault. fault ≡ Memory) }
 {
     let rate = index.rate;
-    let index = Box::new(alloc, index.expr)?;
+    let index = boxed(alloc, index.expr)?;
     Ok(Typed {
         expr: TypedExpr::Element {
             array: declared.id,

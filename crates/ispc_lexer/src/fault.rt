@@ -1,9 +1,9 @@
 //! Why a source has no program.
-ghost use Rattle.std.specs.Prelude.{◌≡◌};
+ghost use Rattle.std.specs.Prelude.{◌≡◌, IfErr, IfOk};
 ghost use Rattle.ispc_lexer.specs.declared.fault.SourceFault.TheVariants.{Memory};
 
 use gang_model::SourceRefusal;
-use std::alloc::{AllocError, AllocFailed};
+use std::alloc::{AllocError, AllocFailed, Global};
 
 /// Want of memory, or a refusal with its place.
 #[derive(Clone, Copy, Debug, PartialEq, Eq, Drop)]
@@ -26,4 +26,34 @@ impl<T: Drop> From<AllocFailed<T>> for SourceFault {
     fn from(_error: AllocFailed<T>) -> SourceFault {
         SourceFault::Memory
     }
+}
+
+/// A value in a box.
+///
+/// # Errors
+///
+/// Want of memory.
+pub fn boxed<T: Drop>(alloc: Global, value: T) -> Result<Box<T>, SourceFault>
+    ensures value { IfOk result (λ place. place.value ≡ value) }
+    ensures memory { IfErr result (λ fault. fault ≡ Memory) }
+{
+    Ok(Box::new(alloc, value)?)
+}
+
+/// Two values in boxes.
+///
+/// # Errors
+///
+/// Want of memory.
+pub fn both_boxed<A: Drop, B: Drop>(
+    alloc: Global,
+    first: A,
+    second: B,
+) -> Result<(Box<A>, Box<B>), SourceFault>
+    ensures first { IfOk result (λ places. places.0.value ≡ first) }
+    ensures second { IfOk result (λ places. places.1.value ≡ second) }
+    ensures memory { IfErr result (λ fault. fault ≡ Memory) }
+{
+    let first = boxed(alloc, first)?;
+    boxed(alloc, second).map(|second| (first, second))
 }

@@ -10,7 +10,7 @@ mod places;
 mod source;
 mod token;
 
-pub use fault::SourceFault;
+pub use fault::{SourceFault, both_boxed, boxed};
 pub use places::source_end;
 pub use source::tokens;
 pub use token::{Kind, Number, Token};

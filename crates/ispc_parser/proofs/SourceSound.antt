@@ -1,5 +1,5 @@
 -- What is read as functions and file-scope variables is spelled so.
-use Rattle.std.proofs.Common.{◌≡◌, inl, inr, ℕ, zero, suc, ◌≤◌, List, [], ◌∷◌, length, Some, Bool, true, false, ◌||◌, ◌&&◌, refl, subst, arith}
+use Rattle.std.proofs.Common.{◌≡◌, inl, inr, ℕ, zero, suc, ◌≤◌, List, [], ◌∷◌, length, Some, Bool, true, false, ◌||◌, refl, subst, arith}
 use Rattle.gang_types.specs.declared.places.Place.{Place}
 use Rattle.gang_model.specs.declared.marks.Mark.TheVariants as mark
 use Rattle.gang_model.specs.declared.forms.Spec.{Spec}

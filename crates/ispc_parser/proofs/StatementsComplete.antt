@@ -15,7 +15,7 @@ use Rattle.ispc_parser.specs.declared.words.Loop.{Loop}
 use Rattle.ispc_parser.specs.declared.words.Loop.TheVariants as loop
 use Rattle.ispc_parser.specs.Parts.{declaration_of, simple_of}
 use Rattle.ispc_parser.specs.Heads.{ParsedRounds, ParsedDistinct, ParsedHead, WhileHead, ForHead, ForEachHead, ActiveHead, UniqueHead, completed, head_of}
-use Rattle.ispc_parser.specs.Statements.{ended_of, plain_of, Below, block_of, body_of, if_of, do_of, loop_of, stmt_at, stmt_of, ends_block, stmts_of, within, parsers}
+use Rattle.ispc_parser.specs.Statements.{ended_of, plain_of, Below, block_of, body_of, else_of, if_of, do_test_of, do_of, loop_of, stmt_at, stmt_of, ends_block, stmts_of, within, parsers}
 use Rattle.ispc_parser.proofs.Tokens.{begins_next, take_at_again}
 use Rattle.ispc_parser.proofs.Lengths.{stmt_shorter}
 use Rattle.ispc_parser.proofs.PartsComplete.{BeginsSimple, declaration_complete, simple_complete, simple_first}
@@ -154,7 +154,7 @@ module _ (d : ℕ) (below : Option Below) (h : AreComplete d below) where
   loop_complete word head at x ts mid rest e p = rw (e, body_complete x mid rest p) refl
 
   pub stmt_complete : (x : ParsedStmt) (ts rest : List Lexeme) → SpellsStmt x d ts rest → stmt_of d below ts ≡ Some (x, rest)
-  unfolding plain_of ended_of if_of do_of
+  unfolding plain_of ended_of else_of if_of do_test_of do_of
   stmt_complete ParsedEmpty ts rest p = of_sort (marked mark.Semicolon) p.token.place ts rest (placed (marked mark.Semicolon) ts rest p) refl
   stmt_complete (ParsedBlock ss) ts rest p =
       of_sort (marked mark.LeftBrace) p.2.token.place ts p.0 (placed (marked mark.LeftBrace) ts p.0 p.2) refl ∙ block_complete ss ts rest p

@@ -4,7 +4,7 @@ use Rattle.gang_types.specs.declared.places.Place.{Place}
 use Rattle.gang_model.specs.declared.marks.Mark.{Mark}
 use Rattle.gang_model.specs.declared.marks.Mark.TheVariants as mark
 use Rattle.gang_model.specs.Tokens.{Sort, named, numbered, marked, Lexeme}
-use Rattle.gang_model.specs.Parsed.{ParsedStmt, ParsedEmpty, ParsedBlock, ParsedDeclare, ParsedAssign, ParsedChange, ParsedIncrement, ParsedDoCall, ParsedBreak, ParsedContinue, ParsedReturn, ParsedIf, ParsedIfElse, ParsedDo, ParsedStmts, ParsedLast, ParsedNext}
+use Rattle.gang_model.specs.Parsed.{ParsedExpr, ParsedStmt, ParsedEmpty, ParsedBlock, ParsedDeclare, ParsedAssign, ParsedChange, ParsedIncrement, ParsedDoCall, ParsedBreak, ParsedContinue, ParsedReturn, ParsedIf, ParsedIfElse, ParsedDo, ParsedStmts, ParsedLast, ParsedNext}
 use Rattle.gang_model.specs.Spells.{Takes, TakesAt, WholeExpr}
 use Rattle.gang_model.specs.SpellsStatements.{TakesEither, SpellsDeclaration, SpellsSimple, SpellsRounds, SpellsDims, SpellsDistinct, foreach_word, OpensBody, SpellsStmt, SpellsStmts}
 use Rattle.expression_parser.specs.Parse.{begins, begins_word, take, whole_expr}
@@ -19,7 +19,7 @@ use Rattle.ispc_parser.specs.declared.words.Opening.{Opening}
 use Rattle.ispc_parser.specs.declared.words.Opening.TheVariants as opening
 use Rattle.ispc_parser.specs.Parts.{Reader, take_at, name_of, in_parens, declaration_of, simple_of}
 use Rattle.ispc_parser.specs.Heads.{optional_of, rounds_of, dims_of, distinct_of, ParsedHead, WhileHead, ForHead, ForEachHead, ActiveHead, UniqueHead, completed, head_of}
-use Rattle.ispc_parser.specs.Statements.{opening_of, ended_of, plain_of, Below, block_of, body_of, if_of, do_of, loop_of, opened_of, stmt_at, stmt_of, ends_block, stmts_of, within, parsers}
+use Rattle.ispc_parser.specs.Statements.{opening_of, ended_of, plain_of, Below, block_of, body_of, else_of, if_of, do_test_of, do_of, loop_of, opened_of, stmt_at, stmt_of, ends_block, stmts_of, within, parsers}
 use Rattle.ispc_parser.proofs.Tokens.{opens_here, not_next, first_at, take_at_sound, in_parens_sound, name_sound}
 use Rattle.ispc_parser.proofs.PartsSound.{declaration_sound, simple_sound}
 use Rattle.ispc_parser.proofs.HeadsSound.{optional_sound, rounds_sound, dims_sound, distinct_sound}
@@ -157,7 +157,7 @@ module _ (d : ℕ) (below : Option Below) (sound : IsSound d below) where
       ]
 
   if_sound : (at : Place) (x : ParsedStmt) (all ts rest : List Lexeme) → TakesEither mark.If mark.Cif at all ts → if_of d below at ts ≡ Some (x, rest) → SpellsStmt x d all rest
-  unfolding if_of
+  unfolding if_of else_of
   if_sound at x all ts rest word e =
       let q1 = bind_some (in_parens whole_expr d ts) _ (x, rest) e in
       let q2 = bind_some (body_of below q1.0.1) _ (x, rest) q1.2 in
@@ -165,25 +165,27 @@ module _ (d : ℕ) (below : Option Below) (sound : IsSound d below) where
       let first = body_sound q2.0.0 q1.0.1 q2.0.1 q2.1 in
       elim (which (begins mark.Else q2.0.1) _ _ (Some (x, rest)) q2.2) [
         | inl p ↦
-            let q3 = bind_some (take mark.Else q2.0.1) _ (x, rest) p.1 in
-            let q4 = bind_some (body_of below q3.0) _ (x, rest) q3.2 in
+            let q4 = bind_some (else_of below q2.0.1) _ (x, rest) p.1 in
+            let q3 = bind_some (take mark.Else q2.0.1) _ q4.0 q4.1 in
             subst (λ (y : ParsedStmt × List Lexeme). SpellsStmt y.0 d all y.1) (some_is (ParsedIfElse at q1.0.0 q2.0.0 q4.0.0, q4.0.1) (x, rest) q4.2)
-            (ts, q1.0.1, q2.0.1, q3.0, word, t, first, take_takes mark.Else q2.0.1 q3.0 q3.1, body_sound q4.0.0 q3.0 q4.0.1 q4.1)
+            (ts, q1.0.1, q2.0.1, q3.0, word, t, first, take_takes mark.Else q2.0.1 q3.0 q3.1, body_sound q4.0.0 q3.0 q4.0.1 q3.2)
         | inr p ↦
             subst (λ (y : ParsedStmt × List Lexeme). SpellsStmt y.0 d all y.1) (some_is (ParsedIf at q1.0.0 q2.0.0, q2.0.1) (x, rest) p.1)
             (ts, q1.0.1, word, t, first, not_next mark.Else q2.0.1 p.0)
       ]
 
   do_sound : (start : Place) (x : ParsedStmt) (all ts rest : List Lexeme) → TakesEither mark.Do mark.Cdo start all ts → do_of d below ts ≡ Some (x, rest) → SpellsStmt x d all rest
-  unfolding do_of
+  unfolding do_of do_test_of
   do_sound start x all ts rest word e =
       let q1 = bind_some (body_of below ts) _ (x, rest) e in
-      let q2 = bind_some (take_at mark.While q1.0.1) _ (x, rest) q1.2 in
-      let q3 = bind_some (in_parens whole_expr d q2.0.1) _ (x, rest) q2.2 in
-      let q4 = bind_some (take mark.Semicolon q3.0.1) _ (x, rest) q3.2 in
+      let q5 = bind_some (do_test_of d q1.0.1) _ (x, rest) q1.2 in
+      let q2 = bind_some (take_at mark.While q1.0.1) _ q5.0 q5.1 in
+      let q3 = bind_some (in_parens whole_expr d q2.0.1) _ q5.0 q2.2 in
+      let q4 = bind_some (take mark.Semicolon q3.0.1) _ q5.0 q3.2 in
       let t = in_parens_sound whole_expr (λ test inner. WholeExpr inner test) whole_sound d q3.0.0 q2.0.1 q3.0.1 q3.1 in
-      subst (λ (y : ParsedStmt × List Lexeme). SpellsStmt y.0 d all y.1) (some_is (ParsedDo q1.0.0 q2.0.0 q3.0.0, q4.0) (x, rest) q4.2)
-      (start, ts, q1.0.1, q2.0.1, q3.0.1, word, body_sound q1.0.0 ts q1.0.1 q1.1, take_at_sound mark.While q2.0.0 q1.0.1 q2.0.1 q2.1, t, take_takes mark.Semicolon q3.0.1 q4.0 q4.1)
+      subst (λ (y : ParsedStmt × List Lexeme). SpellsStmt y.0 d all y.1) (some_is (ParsedDo q1.0.0 q5.0.0.0 q5.0.0.1, q5.0.1) (x, rest) q5.2)
+      (subst (λ (t : (Place × ParsedExpr) × List Lexeme). SpellsStmt (ParsedDo q1.0.0 t.0.0 t.0.1) d all t.1) (some_is ((q2.0.0, q3.0.0), q4.0) q5.0 q4.2)
+      (start, ts, q1.0.1, q2.0.1, q3.0.1, word, body_sound q1.0.0 ts q1.0.1 q1.1, take_at_sound mark.While q2.0.0 q1.0.1 q2.0.1 q2.1, t, take_takes mark.Semicolon q3.0.1 q4.0 q4.1))
 
   -- a head and a body
   abbrev Completes : ParsedStmt → (all rest : List Lexeme) → ParsedHead × List Lexeme → Type 0

@@ -4,7 +4,7 @@ use Rattle.gang_types.specs.declared.places.Place.{Place}
 use Rattle.gang_model.specs.declared.marks.Mark.{Mark}
 use Rattle.gang_model.specs.declared.marks.Mark.TheVariants as mark
 use Rattle.gang_model.specs.Tokens.{Sort, named, numbered, marked, Lexeme}
-use Rattle.gang_model.specs.Parsed.{ParsedStmt, ParsedEmpty, ParsedBlock, ParsedBreak, ParsedContinue, ParsedReturn, ParsedIf, ParsedIfElse, ParsedDo, ParsedStmts, ParsedLast, ParsedNext}
+use Rattle.gang_model.specs.Parsed.{ParsedExpr, ParsedStmt, ParsedEmpty, ParsedBlock, ParsedBreak, ParsedContinue, ParsedReturn, ParsedIf, ParsedIfElse, ParsedDo, ParsedStmts, ParsedLast, ParsedNext}
 use Rattle.expression_parser.specs.Parse.{◌>>=◌, begins, begins_word, take, is_mark, whole_expr}
 use Rattle.ispc_parser.specs.declared.words.Loop.TheVariants as loop
 use Rattle.ispc_parser.specs.declared.words.Loop.{Loop}
@@ -61,16 +61,23 @@ block_of below ts = take mark.LeftBrace ts >>= λ a. below >>= λ inner. inner.s
 unfoldable pub body_of : Option Below → Reader ParsedStmt
 body_of below ts = if begins mark.LeftBrace ts then block_of below ts else (below >>= λ inner. inner.stmt ts)
 
+-- `else` and its body
+unfoldable pub else_of : Option Below → Reader ParsedStmt
+else_of below ts = take mark.Else ts >>= λ a. body_of below a
+
 -- behind `if`
 unfoldable pub if_of : ℕ → Option Below → Place → Reader ParsedStmt
 if_of d below at ts = in_parens whole_expr d ts >>= λ e. body_of below e.1 >>= λ x.
-    if begins mark.Else x.1 then (take mark.Else x.1 >>= λ a. body_of below a >>= λ y. Some (ParsedIfElse at e.0 x.0 y.0, y.1))
+    if begins mark.Else x.1 then (else_of below x.1 >>= λ y. Some (ParsedIfElse at e.0 x.0 y.0, y.1))
     else Some (ParsedIf at e.0 x.0, x.1)
+
+-- `while ( e ) ;` behind the body of a `do`
+unfoldable pub do_test_of : ℕ → Reader (Place × ParsedExpr)
+do_test_of d ts = take_at mark.While ts >>= λ w. in_parens whole_expr d w.1 >>= λ e. take mark.Semicolon e.1 >>= λ rest. Some ((w.0, e.0), rest)
 
 -- behind `do`
 unfoldable pub do_of : ℕ → Option Below → Reader ParsedStmt
-do_of d below ts = body_of below ts >>= λ x. take_at mark.While x.1 >>= λ w. in_parens whole_expr d w.1 >>= λ e.
-    take mark.Semicolon e.1 >>= λ rest. Some (ParsedDo x.0 w.0 e.0, rest)
+do_of d below ts = body_of below ts >>= λ x. do_test_of d x.1 >>= λ t. Some (ParsedDo x.0 t.0.0 t.0.1, t.1)
 
 unfoldable pub loop_of : Loop → ℕ → Option Below → Place → Reader ParsedStmt
 loop_of word d below at ts = head_of word d at ts >>= λ h. body_of below h.1 >>= λ x. Some (completed h.0 x.0, x.1)

@@ -70,8 +70,7 @@ pub(crate) fn test(context: Context, depth: u32, tokens: &[Token]) -> Read<'_, E
 {
     let (inner, rest) = enter(Mark::LeftParen, depth, tokens, context.end)?;
     let (test, rest) = expression(context.alloc, inner, rest, context.end)?;
-    let rest = take(Mark::RightParen, rest, context.end)?;
-    Ok((test, rest))
+    take(Mark::RightParen, rest, context.end).map(|rest| (test, rest))
 }
 
 /// An expression before a `;`, which may be missing.
@@ -209,8 +208,7 @@ fn for_head(context: Context, depth: u32, place: Place, tokens: &[Token]) -> Rea
 {
     let (inner, rest) = enter(Mark::LeftParen, depth, tokens, context.end)?;
     let (rounds, rest) = rounds_of(context, inner, rest)?;
-    let rest = take(Mark::RightParen, rest, context.end)?;
-    Ok((Head::For { place, rounds }, rest))
+    take(Mark::RightParen, rest, context.end).map(|rest| (Head::For { place, rounds }, rest))
 }
 
 #[tactic(auto, unfolding(crate::specs::Heads::head_of, crate::specs::Parts::in_parens))]
@@ -255,8 +253,8 @@ fn unique_head(context: Context, depth: u32, place: Place, tokens: &[Token]) -> 
 {
     let (inner, rest) = enter(Mark::LeftParen, depth, tokens, context.end)?;
     let (distinct, rest) = distinct_of(context, inner, rest)?;
-    let rest = take(Mark::RightParen, rest, context.end)?;
-    Ok((Head::ForEachUnique { place, distinct }, rest))
+    let rest = take(Mark::RightParen, rest, context.end);
+    rest.map(|rest| (Head::ForEachUnique { place, distinct }, rest))
 }
 
 #[tactic(auto, unfolding(crate::specs::Heads::head_of))]

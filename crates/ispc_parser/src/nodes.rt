@@ -9,7 +9,7 @@ use crate::heads::Head;
 use crate::tree::Stmt;
 use expression_parser::Expr;
 use gang_types::Place;
-use ispc_lexer::SourceFault;
+use ispc_lexer::{SourceFault, both_boxed, boxed};
 use std::alloc::Global;
 
 pub(crate) fn block(stmts: Vec<Stmt>) -> Stmt
@@ -27,8 +27,7 @@ pub(crate) fn if_then(
     ensures value { IfOk result (λ s. stmt_view s ≡ ParsedIf place (expr_view test) (stmt_view first)) }
     ensures memory { IfErr result (λ e. e ≡ SourceFault.Memory) }
 {
-    let first = Box::new(alloc, first)?;
-    Ok(Stmt::If {
+    boxed(alloc, first).map(|first| Stmt::If {
         place,
         test,
         first,
@@ -46,9 +45,7 @@ pub(crate) fn if_else(
     ensures value { IfOk result (λ s. stmt_view s ≡ ParsedIfElse place (expr_view test) (stmt_view first) (stmt_view other)) }
     ensures memory { IfErr result (λ e. e ≡ SourceFault.Memory) }
 {
-    let first = Box::new(alloc, first)?;
-    let other = Box::new(alloc, other)?;
-    Ok(Stmt::If {
+    both_boxed(alloc, first, other).map(|(first, other)| Stmt::If {
         place,
         test,
         first,
@@ -59,14 +56,13 @@ pub(crate) fn if_else(
 pub(crate) fn do_while(
     alloc: Global,
     body: Stmt,
-    place: Place,
-    test: Expr,
+    tested: (Place, Expr),
 ) -> Result<Stmt, SourceFault>
-    ensures value { IfOk result (λ s. stmt_view s ≡ ParsedDo (stmt_view body) place (expr_view test)) }
+    ensures value { IfOk result (λ s. stmt_view s ≡ ParsedDo (stmt_view body) tested.0 (expr_view tested.1)) }
     ensures memory { IfErr result (λ e. e ≡ SourceFault.Memory) }
 {
-    let body = Box::new(alloc, body)?;
-    Ok(Stmt::Do { body, place, test })
+    let (place, test) = tested;
+    boxed(alloc, body).map(|body| Stmt::Do { body, place, test })
 }
 
 /// A loop or a foreach form with its body.
@@ -74,12 +70,12 @@ pub(crate) fn with_body(alloc: Global, head: Head, body: Stmt) -> Result<Stmt, S
     ensures value { IfOk result (λ s. stmt_view s ≡ completed (head_view head) (stmt_view body)) }
     ensures memory { IfErr result (λ e. e ≡ SourceFault.Memory) }
 {
-    let body = Box::new(alloc, body)?;
+    let body = boxed(alloc, body)?;
     match head {
         Head::While { place, test } => Ok(Stmt::While { place, test, body }),
         Head::For { place, rounds } => {
-            let start = Box::new(alloc, rounds.start)?;
-            let update = Box::new(alloc, rounds.update)?;
+            let start = boxed(alloc, rounds.start)?;
+            let update = boxed(alloc, rounds.update)?;
             Ok(Stmt::For {
                 place,
                 start,

@@ -140,29 +140,29 @@ fn changed<'a>(
         ));
     }
     if mark == Mark::Assign {
-        let (value, rest) = expression(context.alloc, depth, rest, context.end)?;
-        return Ok((
-            Stmt::Assign {
+        let value = expression(context.alloc, depth, rest, context.end);
+        return value.map(|(value, rest)| {
+            let stmt = Stmt::Assign {
                 place,
                 target,
                 value,
-            },
-            rest,
-        ));
+            };
+            (stmt, rest)
+        });
     }
     let Some(operator) = change_of(mark) else {
         return Err(unexpected(tokens, context.end));
     };
-    let (value, rest) = expression(context.alloc, depth, rest, context.end)?;
-    Ok((
-        Stmt::Change {
+    let value = expression(context.alloc, depth, rest, context.end);
+    value.map(|(value, rest)| {
+        let stmt = Stmt::Change {
             place,
             target,
             operator,
             value,
-        },
-        rest,
-    ))
+        };
+        (stmt, rest)
+    })
 }
 
 /// Behind a target.

@@ -2,6 +2,7 @@
 ghost use Rattle.std.specs.Prelude.{◌≡◌, ◌+◌, IfOk};
 ghost use Rattle.ispc_lexer.specs.Views.{sort_of, lexemes_of};
 ghost use Rattle.expression_parser.specs.Parse.{Gives};
+ghost use Rattle.expression_parser.specs.Tree.{expr_view};
 ghost use Rattle.ispc_parser.specs.Tree.{stmt_view, stmts_view};
 ghost use Rattle.ispc_parser.specs.Parts.{declaration_of, simple_of};
 ghost use Rattle.ispc_parser.specs.Statements as spec;
@@ -13,7 +14,7 @@ use crate::nodes;
 use crate::parts::{declaration, simple};
 use crate::tree::Stmt;
 use crate::words::{Loop, Opening, Plain, opening_of};
-use expression_parser::{begins, begins_word, take, unexpected};
+use expression_parser::{Expr, begins, begins_word, take, unexpected};
 use gang_model::{Mark, RefusalNumber};
 use gang_types::Place;
 use ispc_lexer::{Kind, SourceFault, Token};
@@ -26,8 +27,7 @@ fn ended_simple(context: Context, depth: u32, tokens: &[Token]) -> Read<'_, Stmt
         (spec.ended_of (simple_of depth) (lexemes_of tokens.now)) }
 {
     let (simple, rest) = simple(context, depth, tokens)?;
-    let rest = take(Mark::Semicolon, rest, context.end)?;
-    Ok((simple, rest))
+    take(Mark::Semicolon, rest, context.end).map(|rest| (simple, rest))
 }
 
 #[tactic(auto, unfolding(crate::specs::Statements::ended_of))]
@@ -36,8 +36,7 @@ fn ended_declaration(context: Context, depth: u32, place: Place, tokens: &[Token
         (spec.ended_of (declaration_of depth place) (lexemes_of tokens.now)) }
 {
     let (declared, rest) = declaration(context, depth, place, tokens)?;
-    let rest = take(Mark::Semicolon, rest, context.end)?;
-    Ok((declared, rest))
+    take(Mark::Semicolon, rest, context.end).map(|rest| (declared, rest))
 }
 
 /// Behind `return`, which stands at this place.
@@ -53,8 +52,7 @@ fn return_stmt<'a>(
         (spec.plain_of Plain.Return depth place (lexemes_of tokens.now) (lexemes_of rest.now)) }
 {
     let (value, rest) = optional(context, depth, rest)?;
-    let rest = take(Mark::Semicolon, rest, context.end)?;
-    Ok((Stmt::Return { place, value }, rest))
+    take(Mark::Semicolon, rest, context.end).map(|rest| (Stmt::Return { place, value }, rest))
 }
 
 /// A statement that holds no other one: all of its tokens, and those behind its first, which stands at this place.
@@ -157,6 +155,17 @@ fn body(context: Context, depth: u32, tokens: &[Token]) -> Read<'_, Stmt>
     stmt(context, inner, tokens)
 }
 
+/// `else` and its body.
+#[cycle(statement)]
+#[tactic(auto, unfolding(crate::specs::Statements::else_of))]
+fn else_body(context: Context, depth: u32, tokens: &[Token]) -> Read<'_, Stmt>
+    ensures { Gives (λ x. (stmt_view x.0, lexemes_of x.1.now)) result
+        (spec.else_of (parsers depth) (lexemes_of tokens.now)) }
+{
+    let rest = take(Mark::Else, tokens, context.end)?;
+    body(context, depth, rest)
+}
+
 /// Behind `if`, which stands at this place.
 #[cycle(statement)]
 #[tactic(auto, unfolding(crate::specs::Statements::if_of))]
@@ -167,14 +176,22 @@ fn if_stmt(context: Context, depth: u32, place: Place, tokens: &[Token]) -> Read
     let (test, rest) = test(context, depth, tokens)?;
     let (first, rest) = body(context, depth, rest)?;
     if !begins(Mark::Else, rest) {
-        return Ok((nodes::if_then(context.alloc, place, test, first)?, rest));
+        return nodes::if_then(context.alloc, place, test, first).map(|node| (node, rest));
     }
-    let rest = take(Mark::Else, rest, context.end)?;
-    let (other, rest) = body(context, depth, rest)?;
-    Ok((
-        nodes::if_else(context.alloc, place, test, first, other)?,
-        rest,
-    ))
+    else_body(context, depth, rest).and_then(|(other, rest)| {
+        nodes::if_else(context.alloc, place, test, first, other).map(|node| (node, rest))
+    })
+}
+
+/// `while ( e ) ;` behind the body of a `do`: the place of its word, and the test.
+#[tactic(auto, unfolding(crate::specs::Statements::do_test_of))]
+fn do_test(context: Context, depth: u32, tokens: &[Token]) -> Read<'_, (Place, Expr)>
+    ensures { Gives (λ x. ((x.0.0, expr_view x.0.1), lexemes_of x.1.now)) result
+        (spec.do_test_of depth (lexemes_of tokens.now)) }
+{
+    let (place, rest) = take_at(Mark::While, tokens, context.end)?;
+    let (test, rest) = test(context, depth, rest)?;
+    take(Mark::Semicolon, rest, context.end).map(|rest| ((place, test), rest))
 }
 
 /// Behind `do`.
@@ -185,10 +202,9 @@ fn do_stmt(context: Context, depth: u32, tokens: &[Token]) -> Read<'_, Stmt>
         (spec.do_of depth (parsers depth) (lexemes_of tokens.now)) }
 {
     let (body, rest) = body(context, depth, tokens)?;
-    let (place, rest) = take_at(Mark::While, rest, context.end)?;
-    let (test, rest) = test(context, depth, rest)?;
-    let rest = take(Mark::Semicolon, rest, context.end)?;
-    Ok((nodes::do_while(context.alloc, body, place, test)?, rest))
+    do_test(context, depth, rest).and_then(|(tested, rest)| {
+        nodes::do_while(context.alloc, body, tested).map(|node| (node, rest))
+    })
 }
 
 /// Behind the word of a loop or a foreach form, which stands at this place.
@@ -205,8 +221,9 @@ fn loop_stmt(
         (spec.loop_of word depth (parsers depth) place (lexemes_of tokens.now)) }
 {
     let (head, rest) = head_of(context, depth, word, place, tokens)?;
-    let (body, rest) = body(context, depth, rest)?;
-    Ok((nodes::with_body(context.alloc, head, body)?, rest))
+    body(context, depth, rest).and_then(|(body, rest)| {
+        nodes::with_body(context.alloc, head, body).map(|node| (node, rest))
+    })
 }
 
 /// A statement with this opening: all of its tokens, and those behind its first, which stands at this place.

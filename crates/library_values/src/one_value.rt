@@ -9,21 +9,21 @@ ghost use Rattle.library_values.specs.Calls.{call_of_one_view};
 use crate::calls::CallOfOne;
 use crate::types::{reduced_type, truths_type};
 use gang_types::{IntType, Rate, is_bool};
-use ispc_lexer::SourceFault;
+use ispc_lexer::{SourceFault, boxed};
 use std::alloc::Global;
 use typed_tree::{Expr, OneCall, Reduction, Scan};
-use typed_values::{Typed, as_bool, as_type, promoted};
+use typed_values::{Typed, boxed_as_type, promoted};
 
 fn truths_reduced(alloc: Global, function: Reduction, value: Typed) -> Result<Typed, SourceFault>
     ensures reduced { IfOk result (λ e. typed_view e ≡ table.truths_reduced (reduction_view function) (typed_view value)) }
     ensures memory { IfErr result (λ fault. fault ≡ Memory) }
 {
-    let value = as_bool(alloc, value)?;
+    let value = boxed_as_type(alloc, IntType::Bool, value)?;
     Ok(Typed {
         expr: Expr::Reduce {
             function,
             value_type: IntType::Bool,
-            value: Box::new(alloc, value)?,
+            value,
         },
         value_type: truths_type(function),
         rate: Rate::Uniform,
@@ -35,12 +35,12 @@ fn numbers_reduced(alloc: Global, function: Reduction, value: Typed) -> Result<T
     ensures memory { IfErr result (λ fault. fault ≡ Memory) }
 {
     let value_type = promoted(value.value_type);
-    let value = as_type(alloc, value_type, value)?;
+    let value = boxed_as_type(alloc, value_type, value)?;
     Ok(Typed {
         expr: Expr::Reduce {
             function,
             value_type,
-            value: Box::new(alloc, value)?,
+            value,
         },
         value_type: reduced_type(function, value_type),
         rate: Rate::Uniform,
@@ -55,7 +55,7 @@ fn lanes_compared(alloc: Global, value: Typed) -> Result<Typed, SourceFault>
         expr: Expr::Reduce {
             function: Reduction::ReduceEqual,
             value_type: value.value_type,
-            value: Box::new(alloc, value.expr)?,
+            value: boxed(alloc, value.expr)?,
         },
         value_type: IntType::Bool,
         rate: Rate::Uniform,
@@ -67,12 +67,12 @@ fn lanes_scanned(alloc: Global, function: Scan, value: Typed) -> Result<Typed, S
     ensures memory { IfErr result (λ fault. fault ≡ Memory) }
 {
     let value_type = promoted(value.value_type);
-    let value = as_type(alloc, value_type, value)?;
+    let value = boxed_as_type(alloc, value_type, value)?;
     Ok(Typed {
         expr: Expr::ScanLanes {
             function,
             value_type,
-            value: Box::new(alloc, value)?,
+            value,
         },
         value_type,
         rate: Rate::Varying,
@@ -90,7 +90,7 @@ fn ones_counted(alloc: Global, value: Typed) -> Result<Typed, SourceFault>
         expr: Expr::OfOne {
             function: OneCall::PopCount,
             value_type: value.value_type,
-            value: Box::new(alloc, value.expr)?,
+            value: boxed(alloc, value.expr)?,
         },
         value_type: IntType::Int32,
         rate: value.rate,
@@ -103,12 +103,12 @@ fn magnitude(alloc: Global, value: Typed) -> Result<Typed, SourceFault>
 {
     let value_type = promoted(value.value_type);
     let rate = value.rate;
-    let value = as_type(alloc, value_type, value)?;
+    let value = boxed_as_type(alloc, value_type, value)?;
     Ok(Typed {
         expr: Expr::OfOne {
             function: OneCall::Absolute,
             value_type,
-            value: Box::new(alloc, value)?,
+            value,
         },
         value_type,
         rate,

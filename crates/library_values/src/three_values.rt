@@ -6,13 +6,13 @@ ghost use Rattle.typed_values.specs.Views.{typed_view};
 ghost use Rattle.library_values.specs.Calls.{call_of_three_view};
 
 use crate::calls::CallOfThree;
-use crate::two_values::{as_index, converted, one_of_two};
+use crate::two_values::{as_index, one_of_two};
 use crate::types::number_type;
 use gang_types::{IntType, Rate};
-use ispc_lexer::SourceFault;
+use ispc_lexer::{SourceFault, boxed};
 use std::alloc::Global;
 use typed_tree::{Expr, TwoCall};
-use typed_values::{Typed, joined, joined_rate, promoted};
+use typed_values::{Typed, boxed_as_type, joined, joined_rate, promoted};
 
 fn inserted(
     alloc: Global,
@@ -26,9 +26,9 @@ fn inserted(
     let value_type = value.value_type;
     Ok(Typed {
         expr: Expr::Insert {
-            value: Box::new(alloc, value.expr)?,
+            value: boxed(alloc, value.expr)?,
             index: as_index(alloc, index)?,
-            new_value: converted(alloc, value_type, new_value)?,
+            new_value: boxed_as_type(alloc, value_type, new_value)?,
         },
         value_type,
         rate: Rate::Varying,
@@ -47,8 +47,8 @@ fn shuffled_two(
     let value_type = promoted(joined(first.value_type, second.value_type));
     Ok(Typed {
         expr: Expr::ShuffleTwo {
-            value: converted(alloc, value_type, first)?,
-            second: converted(alloc, value_type, second)?,
+            value: boxed_as_type(alloc, value_type, first)?,
+            second: boxed_as_type(alloc, value_type, second)?,
             places: as_index(alloc, places)?,
         },
         value_type,
@@ -67,8 +67,8 @@ fn clamped(alloc: Global, value: Typed, low: Typed, high: Typed) -> Result<Typed
         expr: Expr::OfTwo {
             function: TwoCall::Lesser,
             value_type,
-            left: Box::new(alloc, at_least_low)?,
-            right: converted(alloc, value_type, high)?,
+            left: boxed(alloc, at_least_low)?,
+            right: boxed_as_type(alloc, value_type, high)?,
         },
         value_type,
         rate,
@@ -83,9 +83,9 @@ fn selected(alloc: Global, test: Typed, first: Typed, second: Typed) -> Result<T
     let rate = joined_rate(test.rate, joined_rate(first.rate, second.rate));
     Ok(Typed {
         expr: Expr::Select {
-            test: converted(alloc, IntType::Bool, test)?,
-            first: converted(alloc, value_type, first)?,
-            second: converted(alloc, value_type, second)?,
+            test: boxed_as_type(alloc, IntType::Bool, test)?,
+            first: boxed_as_type(alloc, value_type, first)?,
+            second: boxed_as_type(alloc, value_type, second)?,
         },
         value_type,
         rate,

@@ -12,23 +12,10 @@ ghost use Rattle.library_values.specs.Calls.{call_of_two_view};
 use crate::calls::CallOfTwo;
 use crate::types::number_type;
 use gang_types::{IntType, Rate};
-use ispc_lexer::SourceFault;
+use ispc_lexer::{SourceFault, boxed};
 use std::alloc::Global;
 use typed_tree::{Expr, TwoCall};
-use typed_values::{Typed, as_type, joined_rate};
-
-/// The expression, converted to a type, in a box.
-///
-/// # Errors
-///
-/// Want of memory.
-pub(crate) fn converted(alloc: Global, to: IntType, value: Typed) -> Result<Box<Expr>, SourceFault>
-    ensures converted { IfOk result (λ e. expr_view e.value ≡ model.as_type to (typed_view value)) }
-    ensures memory { IfErr result (λ fault. fault ≡ Memory) }
-{
-    let value = as_type(alloc, to, value)?;
-    Ok(Box::new(alloc, value)?)
-}
+use typed_values::{Typed, boxed_as_type, joined_rate};
 
 /// The lesser or the larger of two numbers, in a type.
 ///
@@ -48,8 +35,8 @@ pub(crate) fn one_of_two(
     Ok(Expr::OfTwo {
         function,
         value_type,
-        left: converted(alloc, value_type, left)?,
-        right: converted(alloc, value_type, right)?,
+        left: boxed_as_type(alloc, value_type, left)?,
+        right: boxed_as_type(alloc, value_type, right)?,
     })
 }
 
@@ -80,7 +67,7 @@ pub(crate) fn as_index(alloc: Global, index: Typed) -> Result<Box<Expr>, SourceF
     ensures index { IfOk result (λ e. expr_view e.value ≡ model.as_type Int32 (typed_view index)) }
     ensures memory { IfErr result (λ fault. fault ≡ Memory) }
 {
-    converted(alloc, IntType::Int32, index)
+    boxed_as_type(alloc, IntType::Int32, index)
 }
 
 fn extracted(alloc: Global, rate: Rate, value: Typed, index: Typed) -> Result<Typed, SourceFault>
@@ -89,7 +76,7 @@ fn extracted(alloc: Global, rate: Rate, value: Typed, index: Typed) -> Result<Ty
 {
     Ok(Typed {
         expr: Expr::Extract {
-            value: Box::new(alloc, value.expr)?,
+            value: boxed(alloc, value.expr)?,
             index: as_index(alloc, index)?,
         },
         value_type: value.value_type,
@@ -103,7 +90,7 @@ fn rotated(alloc: Global, value: Typed, by: Typed) -> Result<Typed, SourceFault>
 {
     Ok(Typed {
         expr: Expr::Rotate {
-            value: Box::new(alloc, value.expr)?,
+            value: boxed(alloc, value.expr)?,
             by: as_index(alloc, by)?,
         },
         value_type: value.value_type,
@@ -117,7 +104,7 @@ fn shifted(alloc: Global, value: Typed, by: Typed) -> Result<Typed, SourceFault>
 {
     Ok(Typed {
         expr: Expr::Shift {
-            value: Box::new(alloc, value.expr)?,
+            value: boxed(alloc, value.expr)?,
             by: as_index(alloc, by)?,
         },
         value_type: value.value_type,
@@ -131,7 +118,7 @@ fn shuffled(alloc: Global, value: Typed, places: Typed) -> Result<Typed, SourceF
 {
     Ok(Typed {
         expr: Expr::Shuffle {
-            value: Box::new(alloc, value.expr)?,
+            value: boxed(alloc, value.expr)?,
             places: as_index(alloc, places)?,
         },
         value_type: value.value_type,

@@ -1,5 +1,5 @@
 //! Statements of their parts.
-ghost use Rattle.std.specs.Prelude.{◌≡◌, IfErr, IfOk, if◌then◌else◌, map};
+ghost use Rattle.std.specs.Prelude.{◌≡◌, IfErr, IfOk, Ok, if◌then◌else◌, map};
 ghost use Rattle.gang_model.specs.Tree as tree;
 ghost use Rattle.ispc_lexer.specs.declared.fault.SourceFault.TheVariants.{Memory};
 ghost use Rattle.typed_tree.specs.Views.{dimension_view, expr_view, rounds_view, stmt_view, stmts_view, var_view};
@@ -12,7 +12,7 @@ ghost use Rattle.statement_parts.specs.Sequences.{call_statement, one_more, type
 use crate::answers::{Answer, both_answers};
 use call_types::{Context, WholeCall, call_of};
 use gang_types::IntType;
-use ispc_lexer::SourceFault;
+use ispc_lexer::{SourceFault, both_boxed, boxed};
 use std::alloc::Global;
 use type_scopes::TypeScope;
 use typed_tree::{Dimension, Expr, ResultFor, Rounds, Stmt, Var};
@@ -59,6 +59,27 @@ pub fn block(stmts: Answer<Vec<Stmt>>) -> Answer<Stmt>
     }
 }
 
+/// `if`, with both of its statements.
+fn if_of(
+    alloc: Global,
+    step: usize,
+    test: Expr,
+    first: Stmt,
+    other: Stmt,
+) -> Result<Answer<Stmt>, SourceFault>
+    ensures form { IfOk result (λ answer. seen stmt_view answer ≡ Ok (tree.If step (expr_view test) (stmt_view first) (stmt_view other))) }
+    ensures memory { IfErr result (λ fault. fault ≡ Memory) }
+{
+    both_boxed(alloc, first, other).map(|(first, other)| {
+        Ok(Stmt::If {
+            step,
+            test,
+            first,
+            other,
+        })
+    })
+}
+
 /// `if` without `else`.
 pub fn conditional(
     alloc: Global,
@@ -69,12 +90,7 @@ pub fn conditional(
     ensures memory { IfErr result (λ fault. fault ≡ Memory) }
 {
     match parts {
-        Ok((test, first)) => Ok(Ok(Stmt::If {
-            step,
-            test,
-            first: Box::new(alloc, first)?,
-            other: Box::new(alloc, Stmt::Empty)?,
-        })),
+        Ok((test, first)) => if_of(alloc, step, test, first, Stmt::Empty),
         Err(fault) => Ok(Err(fault)),
     }
 }
@@ -89,14 +105,28 @@ pub fn choice(
     ensures memory { IfErr result (λ fault. fault ≡ Memory) }
 {
     match parts {
-        Ok((test, (first, other))) => Ok(Ok(Stmt::If {
-            step,
-            test,
-            first: Box::new(alloc, first)?,
-            other: Box::new(alloc, other)?,
-        })),
+        Ok((test, (first, other))) => if_of(alloc, step, test, first, other),
         Err(fault) => Ok(Err(fault)),
     }
+}
+
+/// A loop whose test comes first.
+fn loop_of(
+    alloc: Global,
+    step: usize,
+    test: Expr,
+    update: Stmt,
+    body: Stmt,
+) -> Result<Stmt, SourceFault>
+    ensures form { IfOk result (λ stmt. stmt_view stmt ≡ tree.Loop step (expr_view test) (stmt_view update) (stmt_view body)) }
+    ensures memory { IfErr result (λ fault. fault ≡ Memory) }
+{
+    both_boxed(alloc, update, body).map(|(update, body)| Stmt::Loop {
+        step,
+        test,
+        update,
+        body,
+    })
 }
 
 /// `while`.
@@ -109,12 +139,7 @@ pub fn repeated(
     ensures memory { IfErr result (λ fault. fault ≡ Memory) }
 {
     match parts {
-        Ok((test, body)) => Ok(Ok(Stmt::Loop {
-            step,
-            test,
-            update: Box::new(alloc, Stmt::Empty)?,
-            body: Box::new(alloc, body)?,
-        })),
+        Ok((test, body)) => loop_of(alloc, step, test, Stmt::Empty, body).map(|stmt| Ok(stmt)),
         Err(fault) => Ok(Err(fault)),
     }
 }
@@ -129,13 +154,17 @@ pub fn body_first(
     ensures memory { IfErr result (λ fault. fault ≡ Memory) }
 {
     match parts {
-        Ok((body, test)) => Ok(Ok(Stmt::BodyFirst {
-            step,
-            test,
-            body: Box::new(alloc, body)?,
-        })),
+        Ok((body, test)) => boxed(alloc, body).map(|body| Ok(Stmt::BodyFirst { step, test, body })),
         Err(fault) => Ok(Err(fault)),
     }
+}
+
+/// A statement, and the rest of what it begins.
+fn then_of(alloc: Global, first: Stmt, rest: Stmt) -> Result<Answer<Stmt>, SourceFault>
+    ensures form { IfOk result (λ answer. seen stmt_view answer ≡ Ok (tree.Then (stmt_view first) (stmt_view rest))) }
+    ensures memory { IfErr result (λ fault. fault ≡ Memory) }
+{
+    both_boxed(alloc, first, rest).map(|(first, rest)| Ok(Stmt::Then { first, rest }))
 }
 
 /// `for`: its start and its test, its update and its body.
@@ -149,17 +178,9 @@ pub fn started(
 {
     match parts {
         Ok(((start, test), (update, body))) => {
-            let rest = Stmt::Loop {
-                step,
-                test,
-                update: Box::new(alloc, update)?,
-                body: Box::new(alloc, body)?,
-            };
-            Ok(Ok(Stmt::Then {
-                first: Box::new(alloc, start)?,
-                rest: Box::new(alloc, rest)?,
-            }))
-        },
+            let rest = loop_of(alloc, step, test, update, body);
+            rest.and_then(|rest| then_of(alloc, start, rest))
+        }
         Err(fault) => Ok(Err(fault)),
     }
 }
@@ -175,6 +196,19 @@ fn rows_or_tiles(is_tiled: bool, dimensions: Vec<Dimension>) -> Rounds
     }
 }
 
+/// A body that is run in rounds.
+fn rounds_of(
+    alloc: Global,
+    step: usize,
+    rounds: Rounds,
+    body: Stmt,
+) -> Result<Answer<Stmt>, SourceFault>
+    ensures form { IfOk result (λ answer. seen stmt_view answer ≡ Ok (tree.ForEach step (rounds_view rounds) (stmt_view body))) }
+    ensures memory { IfErr result (λ fault. fault ≡ Memory) }
+{
+    boxed(alloc, body).map(|body| Ok(Stmt::ForEach { step, rounds, body }))
+}
+
 /// `foreach` and `foreach_tiled`.
 pub fn over_rows(
     alloc: Global,
@@ -186,11 +220,9 @@ pub fn over_rows(
     ensures memory { IfErr result (λ fault. fault ≡ Memory) }
 {
     match parts {
-        Ok((dimensions, body)) => Ok(Ok(Stmt::ForEach {
-            step,
-            rounds: rows_or_tiles(is_tiled, dimensions),
-            body: Box::new(alloc, body)?,
-        })),
+        Ok((dimensions, body)) => {
+            rounds_of(alloc, step, rows_or_tiles(is_tiled, dimensions), body)
+        }
         Err(fault) => Ok(Err(fault)),
     }
 }
@@ -206,11 +238,7 @@ pub fn over_lanes(
     ensures memory { IfErr result (λ fault. fault ≡ Memory) }
 {
     match body {
-        Ok(body) => Ok(Ok(Stmt::ForEach {
-            step,
-            rounds: Rounds::EachLane(index),
-            body: Box::new(alloc, body)?,
-        })),
+        Ok(body) => rounds_of(alloc, step, Rounds::EachLane(index), body),
         Err(fault) => Ok(Err(fault)),
     }
 }
@@ -241,11 +269,7 @@ pub fn over_values(
         Err(fault) => return Ok(Err(fault)),
     };
     match body {
-        Ok(body) => Ok(Ok(Stmt::ForEach {
-            step,
-            rounds: Rounds::EachValue { index, value },
-            body: Box::new(alloc, body)?,
-        })),
+        Ok(body) => rounds_of(alloc, step, Rounds::EachValue { index, value }, body),
         Err(fault) => Ok(Err(fault)),
     }
 }

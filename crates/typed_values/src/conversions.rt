@@ -8,7 +8,7 @@ ghost use Rattle.typed_values.specs.Views.{typed_view};
 use crate::typed::Typed;
 use crate::types::same_type;
 use gang_types::{BinaryOp, IntType};
-use ispc_lexer::SourceFault;
+use ispc_lexer::{SourceFault, boxed};
 use std::alloc::Global;
 use typed_tree::Expr;
 
@@ -24,12 +24,24 @@ pub fn as_type(alloc: Global, to: IntType, value: Typed) -> Result<Expr, SourceF
     if same_type(value.value_type, to) {
         return Ok(value.expr);
     }
-    let operand = Box::new(alloc, value.expr)?;
+    let operand = boxed(alloc, value.expr)?;
     Ok(Expr::Convert {
         from: value.value_type,
         to,
         operand,
     })
+}
+
+/// The expression, converted to a type, in a box.
+///
+/// # Errors
+///
+/// Want of memory.
+pub fn boxed_as_type(alloc: Global, to: IntType, value: Typed) -> Result<Box<Expr>, SourceFault>
+    ensures converted { IfOk result (λ e. expr_view e.value ≡ model.as_type to (typed_view value)) }
+    ensures memory { IfErr result (λ fault. fault ≡ Memory) }
+{
+    boxed(alloc, as_type(alloc, to, value)?)
 }
 
 /// The expression, converted to bool.

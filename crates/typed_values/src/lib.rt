@@ -7,7 +7,7 @@ mod rates;
 mod typed;
 mod types;
 
-pub use conversions::{as_bool, as_type, right_operand};
+pub use conversions::{as_bool, as_type, boxed_as_type, right_operand};
 pub use operations::{chosen_by, infixed, prefixed};
 pub use rates::{is_varying, joined_rate, may_become, same_rate};
 pub use typed::Typed;

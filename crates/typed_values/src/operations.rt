@@ -4,13 +4,13 @@ ghost use Rattle.gang_model.specs.Conversions as model;
 ghost use Rattle.ispc_lexer.specs.declared.fault.SourceFault.TheVariants.{Memory};
 ghost use Rattle.typed_values.specs.Views.{typed_view};
 
-use crate::conversions::{as_bool, as_type, right_operand};
+use crate::conversions::{boxed_as_type, right_operand};
 use crate::rates::joined_rate;
 use crate::typed::Typed;
 use crate::types::{given_type, joined, operation_type, promoted};
 use gang_model::Infix;
 use gang_types::{BinaryOp, IntType, UnaryOp};
-use ispc_lexer::SourceFault;
+use ispc_lexer::{SourceFault, boxed};
 use std::alloc::Global;
 use typed_tree::Expr;
 
@@ -25,14 +25,15 @@ fn operated(
 {
     let made_in = operation_type(operator, left.value_type, right.value_type);
     let rate = joined_rate(left.rate, right.rate);
-    let left = as_type(alloc, made_in, left)?;
+    let left = boxed_as_type(alloc, made_in, left)?;
     let right = right_operand(alloc, operator, made_in, right)?;
+    let right = boxed(alloc, right)?;
     Ok(Typed {
         expr: Expr::Binary {
             operator,
             value_type: made_in,
-            left: Box::new(alloc, left)?,
-            right: Box::new(alloc, right)?,
+            left,
+            right,
         },
         value_type: given_type(operator, made_in),
         rate,
@@ -57,10 +58,8 @@ pub fn infixed(
         return operated(alloc, operator, left, right);
     }
     let rate = joined_rate(left.rate, right.rate);
-    let left = as_bool(alloc, left)?;
-    let left = Box::new(alloc, left)?;
-    let right = as_bool(alloc, right)?;
-    let right = Box::new(alloc, right)?;
+    let left = boxed_as_type(alloc, IntType::Bool, left)?;
+    let right = boxed_as_type(alloc, IntType::Bool, right)?;
     let expr = match operator {
         Infix::OrElse => Expr::OrElse { left, right },
         _ => Expr::AndAlso { left, right },
@@ -86,12 +85,12 @@ pub fn prefixed(alloc: Global, operator: UnaryOp, value: Typed) -> Result<Typed,
         _ => promoted(value.value_type),
     };
     let rate = value.rate;
-    let operand = as_type(alloc, value_type, value)?;
+    let operand = boxed_as_type(alloc, value_type, value)?;
     Ok(Typed {
         expr: Expr::Unary {
             operator,
             value_type,
-            operand: Box::new(alloc, operand)?,
+            operand,
         },
         value_type,
         rate,
@@ -114,14 +113,14 @@ pub fn chosen_by(
 {
     let value_type = joined(first.value_type, second.value_type);
     let rate = joined_rate(test.rate, joined_rate(first.rate, second.rate));
-    let test = as_bool(alloc, test)?;
-    let first = as_type(alloc, value_type, first)?;
-    let second = as_type(alloc, value_type, second)?;
+    let test = boxed_as_type(alloc, IntType::Bool, test)?;
+    let first = boxed_as_type(alloc, value_type, first)?;
+    let second = boxed_as_type(alloc, value_type, second)?;
     Ok(Typed {
         expr: Expr::Choice {
-            test: Box::new(alloc, test)?,
-            first: Box::new(alloc, first)?,
-            second: Box::new(alloc, second)?,
+            test,
+            first,
+            second,
         },
         value_type,
         rate,

@@ -11,8 +11,11 @@ decreases-block l = 8 * l.depth + 1
 abbrev pub decreases-body : goal.decreases-body
 decreases-body l = 8 * l.depth + 2
 
+abbrev pub decreases-else_body : goal.decreases-else_body
+decreases-else_body l = 8 * l.depth + 3
+
 abbrev pub decreases-if_stmt : goal.decreases-if_stmt
-decreases-if_stmt l = 8 * l.depth + 3
+decreases-if_stmt l = 8 * l.depth + 4
 
 abbrev pub decreases-do_stmt : goal.decreases-do_stmt
 decreases-do_stmt l = 8 * l.depth + 3
@@ -21,13 +24,13 @@ abbrev pub decreases-loop_stmt : goal.decreases-loop_stmt
 decreases-loop_stmt l = 8 * l.depth + 3
 
 abbrev pub decreases-opened_stmt : goal.decreases-opened_stmt
-decreases-opened_stmt l = 8 * l.depth + 4
+decreases-opened_stmt l = 8 * l.depth + 5
 
 abbrev pub decreases-stmt : goal.decreases-stmt
-decreases-stmt l = 8 * l.depth + 5
+decreases-stmt l = 8 * l.depth + 6
 
 abbrev pub decreases-stmts : goal.decreases-stmts
-decreases-stmts l = 8 * l.depth + 6
+decreases-stmts l = 8 * l.depth + 7
 
 abbrev pub invariant-stmts-loop : goal.invariant-stmts-loop
 invariant-stmts-loop l = after_front (stmts_view l.stmts.items) (stmts_of (stmt_of l.depth (parsers l.depth)) (length l.tokens - l.counter) (lexemes_of l.rest))
