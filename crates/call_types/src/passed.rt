@@ -94,5 +94,8 @@ pub(crate) fn pair<'a>(given: Vec<Passing<'a>>) -> Option<(Passing<'a>, Passing<
         return None;
     }
     let second = given.pop()?;
-    given.pop().map(|first| (first, second))
+    match given.pop() {
+        Some(first) => Some((first, second)),
+        None => None,
+    }
 }

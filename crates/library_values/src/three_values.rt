@@ -6,7 +6,7 @@ ghost use Rattle.typed_values.specs.Views.{typed_view};
 ghost use Rattle.library_values.specs.Calls.{call_of_three_view};
 
 use crate::calls::CallOfThree;
-use crate::two_values::{as_index, one_of_two};
+use crate::two_values::{as_index, both_as_type, one_of_two, with_index};
 use crate::types::number_type;
 use gang_types::{IntType, Rate};
 use ispc_lexer::{SourceFault, boxed};
@@ -24,11 +24,12 @@ fn inserted(
     ensures memory { IfErr result (λ fault. fault ≡ Memory) }
 {
     let value_type = value.value_type;
-    Ok(Typed {
+    let (value, index) = with_index(alloc, value.expr, index)?;
+    boxed_as_type(alloc, value_type, new_value).map(|new_value| Typed {
         expr: Expr::Insert {
-            value: boxed(alloc, value.expr)?,
-            index: as_index(alloc, index)?,
-            new_value: boxed_as_type(alloc, value_type, new_value)?,
+            value,
+            index,
+            new_value,
         },
         value_type,
         rate: Rate::Varying,
@@ -45,11 +46,12 @@ fn shuffled_two(
     ensures memory { IfErr result (λ fault. fault ≡ Memory) }
 {
     let value_type = promoted(joined(first.value_type, second.value_type));
-    Ok(Typed {
+    let (value, second) = both_as_type(alloc, value_type, first, second)?;
+    as_index(alloc, places).map(|places| Typed {
         expr: Expr::ShuffleTwo {
-            value: boxed_as_type(alloc, value_type, first)?,
-            second: boxed_as_type(alloc, value_type, second)?,
-            places: as_index(alloc, places)?,
+            value,
+            second,
+            places,
         },
         value_type,
         rate: Rate::Varying,
@@ -63,12 +65,14 @@ fn clamped(alloc: Global, value: Typed, low: Typed, high: Typed) -> Result<Typed
     let value_type = joined(number_type(&value, &low), promoted(high.value_type));
     let rate = joined_rate(value.rate, joined_rate(low.rate, high.rate));
     let at_least_low = one_of_two(alloc, TwoCall::Larger, value_type, value, low)?;
+    let left = boxed(alloc, at_least_low)?;
+    let right = boxed_as_type(alloc, value_type, high)?;
     Ok(Typed {
         expr: Expr::OfTwo {
             function: TwoCall::Lesser,
             value_type,
-            left: boxed(alloc, at_least_low)?,
-            right: boxed_as_type(alloc, value_type, high)?,
+            left,
+            right,
         },
         value_type,
         rate,
@@ -81,11 +85,12 @@ fn selected(alloc: Global, test: Typed, first: Typed, second: Typed) -> Result<T
 {
     let value_type = joined(first.value_type, second.value_type);
     let rate = joined_rate(test.rate, joined_rate(first.rate, second.rate));
-    Ok(Typed {
+    let (first, second) = both_as_type(alloc, value_type, first, second)?;
+    boxed_as_type(alloc, IntType::Bool, test).map(|test| Typed {
         expr: Expr::Select {
-            test: boxed_as_type(alloc, IntType::Bool, test)?,
-            first: boxed_as_type(alloc, value_type, first)?,
-            second: boxed_as_type(alloc, value_type, second)?,
+            test,
+            first,
+            second,
         },
         value_type,
         rate,

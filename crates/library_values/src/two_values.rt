@@ -17,6 +17,25 @@ use std::alloc::Global;
 use typed_tree::{Expr, TwoCall};
 use typed_values::{Typed, boxed_as_type, joined_rate};
 
+/// Two values, converted to a type, in boxes.
+///
+/// # Errors
+///
+/// Want of memory.
+pub(crate) fn both_as_type(
+    alloc: Global,
+    to: IntType,
+    first: Typed,
+    second: Typed,
+) -> Result<(Box<Expr>, Box<Expr>), SourceFault>
+    ensures first { IfOk result (λ both. expr_view both.0.value ≡ model.as_type to (typed_view first)) }
+    ensures second { IfOk result (λ both. expr_view both.1.value ≡ model.as_type to (typed_view second)) }
+    ensures memory { IfErr result (λ fault. fault ≡ Memory) }
+{
+    let first = boxed_as_type(alloc, to, first)?;
+    boxed_as_type(alloc, to, second).map(|second| (first, second))
+}
+
 /// The lesser or the larger of two numbers, in a type.
 ///
 /// # Errors
@@ -32,11 +51,11 @@ pub(crate) fn one_of_two(
     ensures one { IfOk result (λ e. expr_view e ≡ tree.OfTwo (two_view function) value_type (model.as_type value_type (typed_view left)) (model.as_type value_type (typed_view right))) }
     ensures memory { IfErr result (λ fault. fault ≡ Memory) }
 {
-    Ok(Expr::OfTwo {
+    both_as_type(alloc, value_type, left, right).map(|(left, right)| Expr::OfTwo {
         function,
         value_type,
-        left: boxed_as_type(alloc, value_type, left)?,
-        right: boxed_as_type(alloc, value_type, right)?,
+        left,
+        right,
     })
 }
 
@@ -51,8 +70,8 @@ fn compared(
 {
     let value_type = number_type(&left, &right);
     let rate = joined_rate(left.rate, right.rate);
-    Ok(Typed {
-        expr: one_of_two(alloc, function, value_type, left, right)?,
+    one_of_two(alloc, function, value_type, left, right).map(|expr| Typed {
+        expr,
         value_type,
         rate,
     })
@@ -70,16 +89,32 @@ pub(crate) fn as_index(alloc: Global, index: Typed) -> Result<Box<Expr>, SourceF
     boxed_as_type(alloc, IntType::Int32, index)
 }
 
+/// An expression and a lane's number, in boxes.
+///
+/// # Errors
+///
+/// Want of memory.
+pub(crate) fn with_index(
+    alloc: Global,
+    value: Expr,
+    index: Typed,
+) -> Result<(Box<Expr>, Box<Expr>), SourceFault>
+    ensures value { IfOk result (λ both. expr_view both.0.value ≡ expr_view value) }
+    ensures index { IfOk result (λ both. expr_view both.1.value ≡ model.as_type Int32 (typed_view index)) }
+    ensures memory { IfErr result (λ fault. fault ≡ Memory) }
+{
+    let value = boxed(alloc, value)?;
+    as_index(alloc, index).map(|index| (value, index))
+}
+
 fn extracted(alloc: Global, rate: Rate, value: Typed, index: Typed) -> Result<Typed, SourceFault>
     ensures extracted { IfOk result (λ e. typed_view e ≡ model.typed (tree.Extract (expr_view value.expr) (model.as_type Int32 (typed_view index))) value.value_type rate) }
     ensures memory { IfErr result (λ fault. fault ≡ Memory) }
 {
-    Ok(Typed {
-        expr: Expr::Extract {
-            value: boxed(alloc, value.expr)?,
-            index: as_index(alloc, index)?,
-        },
-        value_type: value.value_type,
+    let value_type = value.value_type;
+    with_index(alloc, value.expr, index).map(|(value, index)| Typed {
+        expr: Expr::Extract { value, index },
+        value_type,
         rate,
     })
 }
@@ -88,12 +123,10 @@ fn rotated(alloc: Global, value: Typed, by: Typed) -> Result<Typed, SourceFault>
     ensures rotated { IfOk result (λ e. Some (typed_view e) ≡ table.library_value table.Rotates (typed_view value ∷ typed_view by ∷ [])) }
     ensures memory { IfErr result (λ fault. fault ≡ Memory) }
 {
-    Ok(Typed {
-        expr: Expr::Rotate {
-            value: boxed(alloc, value.expr)?,
-            by: as_index(alloc, by)?,
-        },
-        value_type: value.value_type,
+    let value_type = value.value_type;
+    with_index(alloc, value.expr, by).map(|(value, by)| Typed {
+        expr: Expr::Rotate { value, by },
+        value_type,
         rate: Rate::Varying,
     })
 }
@@ -102,12 +135,10 @@ fn shifted(alloc: Global, value: Typed, by: Typed) -> Result<Typed, SourceFault>
     ensures shifted { IfOk result (λ e. Some (typed_view e) ≡ table.library_value table.Shifts (typed_view value ∷ typed_view by ∷ [])) }
     ensures memory { IfErr result (λ fault. fault ≡ Memory) }
 {
-    Ok(Typed {
-        expr: Expr::Shift {
-            value: boxed(alloc, value.expr)?,
-            by: as_index(alloc, by)?,
-        },
-        value_type: value.value_type,
+    let value_type = value.value_type;
+    with_index(alloc, value.expr, by).map(|(value, by)| Typed {
+        expr: Expr::Shift { value, by },
+        value_type,
         rate: Rate::Varying,
     })
 }
@@ -116,12 +147,10 @@ fn shuffled(alloc: Global, value: Typed, places: Typed) -> Result<Typed, SourceF
     ensures shuffled { IfOk result (λ e. Some (typed_view e) ≡ table.library_value table.Shuffles (typed_view value ∷ typed_view places ∷ [])) }
     ensures memory { IfErr result (λ fault. fault ≡ Memory) }
 {
-    Ok(Typed {
-        expr: Expr::Shuffle {
-            value: boxed(alloc, value.expr)?,
-            places: as_index(alloc, places)?,
-        },
-        value_type: value.value_type,
+    let value_type = value.value_type;
+    with_index(alloc, value.expr, places).map(|(value, places)| Typed {
+        expr: Expr::Shuffle { value, places },
+        value_type,
         rate: Rate::Varying,
     })
 }
