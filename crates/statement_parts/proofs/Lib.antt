@@ -1,5 +1,6 @@
 pub mod Counted
 pub mod Declaring
+pub mod InOrder
 pub mod InRows
 pub mod Judging
 pub mod Named

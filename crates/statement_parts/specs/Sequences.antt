@@ -31,6 +31,12 @@ abbrev pub type_or_int32 : Result Typed SourceRefusal → IntType
 type_or_int32 (Ok e) = e.value_type
 type_or_int32 (Err fault) = Int32
 
+-- what both parts stand for, or the fault of the first of them that has one
+abbrev pub in_order : {A B : Type 0} → Result A SourceRefusal → Result B SourceRefusal → Result (A × B) SourceRefusal
+in_order (Ok a) (Ok b) = Ok (a, b)
+in_order (Ok a) (Err fault) = Err fault
+in_order (Err fault) b = Err fault
+
 -- the answer for a `foreach_unique`, where a fault of the value hides those of the body
 abbrev pub value_rounds : ℕ → tree.Var → Result model.Typed SourceRefusal → Result tree.Stmt SourceRefusal → Result tree.Stmt SourceRefusal
 value_rounds step v (Ok x) (Ok body) = Ok (tree.ForEach step (tree.EachValue v x.expr) body)

@@ -2,6 +2,7 @@
 ghost use Rattle.std.specs.Prelude.{◌≡◌};
 ghost use Rattle.gang_model.specs.Judged as judged;
 ghost use Rattle.gang_model.proofs.JudgedLaws as laws;
+ghost use Rattle.statement_parts.specs.Sequences.{in_order};
 ghost use Rattle.statement_parts.specs.Typed.{apart, joined};
 
 use gang_model::SourceRefusal;
@@ -29,6 +30,16 @@ pub fn joined<A: Drop>(answer: Answer<A>) -> Result<A, SourceFault>
     match answer {
         Ok(value) => Ok(value),
         Err(fault) => Err(SourceFault::Refused(fault)),
+    }
+}
+
+/// What both parts stand for, or the fault of the first of them that has one.
+pub(crate) fn in_order<A: Drop, B: Drop>(first: Answer<A>, second: Answer<B>) -> Answer<(A, B)>
+    ensures { result ≡ in_order first second }
+{
+    match (first, second) {
+        (Ok(first), Ok(second)) => Ok((first, second)),
+        (Err(fault), _) | (Ok(_), Err(fault)) => Err(fault),
     }
 }
 

@@ -1,5 +1,5 @@
 //! Declarations.
-ghost use Rattle.std.specs.Prelude.{◌≡◌, ◌+◌, ◌∷◌, IfErr, IfOk, OnOk, false, length};
+ghost use Rattle.std.specs.Prelude.{◌≡◌, ◌+◌, ◌++◌, ◌∷◌, [], IfErr, IfOk, OnOk, false, length};
 ghost use Rattle.gang_types.specs.declared.places.Place.{Place};
 ghost use Rattle.gang_types.specs.declared.places.VarId.TheVariants.{Local};
 ghost use Rattle.expression_parser.specs.Tree.{expr_view};
@@ -11,6 +11,7 @@ ghost use Rattle.gang_model.specs.Statements as model;
 ghost use Rattle.ispc_parser.specs.Tree as parsed;
 ghost use Rattle.typed_tree.specs.Views.{stmt_view, var_view};
 ghost use Rattle.type_scopes.specs.Answers.{Answers, both_answers};
+ghost use Rattle.type_scopes.specs.Entries.{declared_view};
 ghost use Rattle.call_types.specs.Calls.{context_view};
 ghost use Rattle.statement_parts.specs.Sequences.{second_part};
 ghost use Rattle.statement_parts.specs.Typed.{IsTyped};
@@ -26,7 +27,7 @@ use gang_types::{Place, VarId};
 use ispc_lexer::SourceFault;
 use ispc_names::fault_if;
 use std::alloc::Global;
-use type_scopes::{TypeScope, both, declared_with, refuse};
+use type_scopes::{Declared, TypeScope, both, declared_with, refuse};
 use typed_tree::{ResultFor, Stmt, Var};
 
 /// A declaration with a first value: a call's result, or a value.
@@ -96,6 +97,23 @@ fn beside(
     Ok(stmt)
 }
 
+/// Declares the function's next variable, and gives on what was made before.
+fn then_declare<A: Drop>(
+    alloc: Global,
+    name: &[u8],
+    declared: Declared,
+    scope: &mut TypeScope,
+    made: A,
+) -> Result<A, SourceFault>
+    requires next { declared.id ≡ Local (length scope.old.locals) }
+    ensures made { IfOk result (λ kept. (kept ≡ made) × (scope.new.locals ≡ scope.old.locals ++ (declared_view name.now declared).variable ∷ [])) }
+    ensures entries { OnOk result (scope.new.entries ≡ declared_view name.now declared ∷ scope.old.entries) }
+    ensures memory { IfErr result (λ fault. fault ≡ Memory) }
+{
+    scope.declare(alloc, name, declared)?;
+    Ok(made)
+}
+
 /// A declaration. Its value is typed before the name is in scope.
 pub fn declare(
     alloc: Global,
@@ -117,6 +135,5 @@ pub fn declare(
     let in_name = refuse(fault_if(spec.value_type.is_none(), RefusalNumber::S8, place));
     let stmt = declaration(alloc, context, scope, variable_of(declared), value, *step);
     let answer = one_step(beside(in_name, stmt), step)?;
-    scope.declare(alloc, name, declared)?;
-    Ok(answer)
+    then_declare(alloc, name, declared, scope, answer)
 }

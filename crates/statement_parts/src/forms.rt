@@ -9,7 +9,7 @@ ghost use Rattle.call_types.specs.Calls.{context_view, whole_call_view};
 ghost use Rattle.statement_parts.specs.Typed.{seen};
 ghost use Rattle.statement_parts.specs.Sequences.{call_statement, one_more, type_or_int32, value_rounds};
 
-use crate::answers::{Answer, both_answers};
+use crate::answers::{Answer, both_answers, in_order};
 use call_types::{Context, WholeCall, call_of};
 use gang_types::IntType;
 use ispc_lexer::{SourceFault, both_boxed, boxed};
@@ -254,6 +254,7 @@ pub fn type_of(value: &Answer<Typed>) -> IntType
 }
 
 /// `foreach_unique`, where a fault of the value hides those of the body.
+#[tactic(auto, using(crate::proofs::InOrder::rounds_in_order, crate::proofs::InOrder::fault_in_order))]
 pub fn over_values(
     alloc: Global,
     step: usize,
@@ -264,12 +265,11 @@ pub fn over_values(
     ensures form { IfOk result (λ answer. seen stmt_view answer ≡ value_rounds step (var_view index) (seen typed_view value) (seen stmt_view body)) }
     ensures memory { IfErr result (λ fault. fault ≡ Memory) }
 {
-    let value = match value {
-        Ok(value) => value.expr,
-        Err(fault) => return Ok(Err(fault)),
-    };
-    match body {
-        Ok(body) => rounds_of(alloc, step, Rounds::EachValue { index, value }, body),
+    match in_order(value, body) {
+        Ok((value, body)) => {
+            let value = value.expr;
+            rounds_of(alloc, step, Rounds::EachValue { index, value }, body)
+        }
         Err(fault) => Ok(Err(fault)),
     }
 }

@@ -8,7 +8,6 @@ ghost use Rattle.statement_parts.specs.Typed.{apart};
 use crate::answers::{Answer, set_apart};
 use ispc_lexer::SourceFault;
 use ispc_parser::Stmt;
-use typed_tree::Stmt as TypedStmt;
 
 /// The number that comes so many steps later; one that is too large counts as want of memory.
 pub fn advanced(step: usize, steps: usize) -> Result<usize, SourceFault>
@@ -21,17 +20,17 @@ pub fn advanced(step: usize, steps: usize) -> Result<usize, SourceFault>
     }
 }
 
-/// The answer for a statement of one step, after which the next one is numbered.
-pub fn one_step(
-    stmt: Result<TypedStmt, SourceFault>,
+/// The answer for what has one step, after which the next one is numbered.
+pub fn one_step<A: Drop>(
+    made: Result<A, SourceFault>,
     step: &mut usize,
-) -> Result<Answer<TypedStmt>, SourceFault>
-    ensures answer { OnOk result (result ≡ apart stmt) }
+) -> Result<Answer<A>, SourceFault>
+    ensures answer { OnOk result (result ≡ apart made) }
     ensures steps { OnOk result (step.new ≡ step.old + 1) }
     ensures memory { IfErr result (λ fault. fault ≡ Memory) }
 {
     *step = advanced(*step, 1)?;
-    set_apart(stmt)
+    set_apart(made)
 }
 
 /// How many steps a statement has.

@@ -41,11 +41,12 @@ fn meant(alloc: Global, source: &[u8]) -> Result<Option<usize>, SourceFault> {
         args,
     };
     let scope = TypeScope::new(alloc);
-    let called = call_of(alloc, &context, &scope, &call, ResultFor::Nothing, 0)?;
-    match called.stmt {
-        TypedStmt::Call { function, .. } => Ok(Some(function)),
-        _ => Ok(None),
-    }
+    call_of(alloc, &context, &scope, &call, ResultFor::Nothing, 0).map(|called| {
+        match &called.stmt {
+            TypedStmt::Call { function, .. } => Some(*function),
+            _ => None,
+        }
+    })
 }
 
 fn refused(number: RefusalNumber, col: u32) -> Result<Option<usize>, SourceFault> {

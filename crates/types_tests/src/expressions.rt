@@ -30,33 +30,29 @@ fn scope_with_variables(alloc: Global) -> Result<TypeScope, SourceFault> {
 
 fn read(alloc: Global, source: &[u8]) -> Result<Expr, SourceFault> {
     let tokens = tokens(alloc, source)?;
-    let (expr, _) = read_expression(alloc, 64, &tokens, source_end(source))?;
-    Ok(expr)
+    read_expression(alloc, 64, &tokens, source_end(source)).map(|(expr, _)| expr)
 }
 
 /// The type and the rate of an expression.
 fn typed(alloc: Global, source: &[u8]) -> Result<(IntType, Rate), SourceFault> {
-    let expr = read(alloc, source)?;
     let scope = scope_with_variables(alloc)?;
-    let value = expression(alloc, &expr, &scope)?;
-    Ok((value.value_type, value.rate))
+    let expr = read(alloc, source)?;
+    expression(alloc, &expr, &scope).map(|value| (value.value_type, value.rate))
 }
 
 /// Whether an expression may be given to a uniform int8.
 fn given(alloc: Global, source: &[u8]) -> Result<bool, SourceFault> {
-    let expr = read(alloc, source)?;
     let scope = scope_with_variables(alloc)?;
-    given_value(alloc, &expr, &scope, IntType::Int8, Rate::Uniform)?;
-    Ok(true)
+    let expr = read(alloc, source)?;
+    given_value(alloc, &expr, &scope, IntType::Int8, Rate::Uniform).map(|_| true)
 }
 
 /// How many arguments are passed.
 fn passed(alloc: Global, source: &[u8]) -> Result<usize, SourceFault> {
+    let scope = scope_with_variables(alloc)?;
     let tokens = tokens(alloc, source)?;
     let (args, _) = read_arguments(alloc, 64, &tokens, source_end(source))?;
-    let scope = scope_with_variables(alloc)?;
-    let given = arguments(alloc, &args, &scope)?;
-    Ok(given.len())
+    arguments(alloc, &args, &scope).map(|given| given.len())
 }
 
 fn refusal(number: RefusalNumber, col: u32) -> SourceFault {

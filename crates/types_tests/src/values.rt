@@ -15,10 +15,25 @@ fn number(value_type: IntType, rate: Rate) -> Typed {
     }
 }
 
-fn sum(alloc: Global, left: IntType, right: IntType) -> Result<Typed, SourceFault> {
+/// The type and the rate of a value.
+fn kind(made: Result<Typed, SourceFault>) -> Result<(IntType, Rate), SourceFault> {
+    made.map(|made| (made.value_type, made.rate))
+}
+
+/// The type and the rate of a sum of a uniform and a varying value.
+fn sum(
+    alloc: Global,
+    left: IntType,
+    right: IntType,
+) -> Result<(IntType, Rate), SourceFault> {
     let left = number(left, Rate::Uniform);
     let right = number(right, Rate::Varying);
-    infixed(alloc, Infix::Op(BinaryOp::Add), left, right)
+    kind(infixed(alloc, Infix::Op(BinaryOp::Add), left, right))
+}
+
+/// Whether a value of the first type is converted when it is given the second.
+fn is_converted(alloc: Global, from: IntType, to: IntType) -> Result<bool, SourceFault> {
+    as_type(alloc, to, number(from, Rate::Uniform)).map(|made| matches!(made, Expr::Convert { .. }))
 }
 
 #[test]
@@ -30,9 +45,7 @@ fn a_sum_has_the_joined_type(rt: HostRuntime) {
         (IntType::Bool, IntType::Bool, IntType::Int32),
         (IntType::Bool, IntType::Int8, IntType::Int8),
     ] {
-        let made = sum(rt.alloc(), left, right);
-        assert!(rt; matches!(&made, Ok(made) if made.value_type == wanted));
-        assert!(rt; matches!(&made, Ok(made) if made.rate == Rate::Varying));
+        assert!(rt; sum(rt.alloc(), left, right) == Ok((wanted, Rate::Varying)));
     }
 }
 
@@ -49,91 +62,31 @@ fn literals_have_the_first_type_that_holds_them(rt: HostRuntime) {
 
 #[test]
 fn a_value_of_the_type_is_not_converted(rt: HostRuntime) {
-    let kept = as_type(
-        rt.alloc(),
-        IntType::Int8,
-        number(IntType::Int8, Rate::Uniform),
-    );
-    assert!(rt; matches!(kept, Ok(Expr::Number(1))));
-    let converted = as_type(
-        rt.alloc(),
-        IntType::Int8,
-        number(IntType::Bool, Rate::Uniform),
-    );
-    assert!(rt;
-        matches!(
-            converted,
-            Ok(Expr::Convert {
-                from: IntType::Bool,
-                to: IntType::Int8,
-                ..
-            })
-        )
-    );
+    assert!(rt; is_converted(rt.alloc(), IntType::Int8, IntType::Int8) == Ok(false));
+    assert!(rt; is_converted(rt.alloc(), IntType::Bool, IntType::Int8) == Ok(true));
 }
 
 #[test]
 fn operators_succeed_with_ample_memory(rt: HostRuntime) {
-    let negated = prefixed(
-        rt.alloc(),
-        UnaryOp::Negate,
-        number(IntType::Bool, Rate::Uniform),
-    );
-    assert!(rt;
-        matches!(
-            negated,
-            Ok(Typed {
-                value_type: IntType::Int32,
-                ..
-            })
-        )
-    );
-    let shifted = infixed(
-        rt.alloc(),
-        Infix::Op(BinaryOp::Shl),
-        number(IntType::Int8, Rate::Uniform),
-        number(IntType::Int64, Rate::Uniform),
-    );
-    assert!(rt;
-        matches!(
-            shifted,
-            Ok(Typed {
-                value_type: IntType::Int8,
-                ..
-            })
-        )
-    );
-    let both = infixed(
-        rt.alloc(),
-        Infix::AndAlso,
-        number(IntType::Int8, Rate::Uniform),
-        number(IntType::Int8, Rate::Varying),
-    );
-    assert!(rt;
-        matches!(
-            both,
-            Ok(Typed {
-                value_type: IntType::Bool,
-                rate: Rate::Varying,
-                ..
-            })
-        )
-    );
-    let chosen = chosen_by(
-        rt.alloc(),
-        number(IntType::Bool, Rate::Varying),
-        number(IntType::Uint8, Rate::Uniform),
-        number(IntType::Int16, Rate::Uniform),
-    );
-    assert!(rt;
-        matches!(
-            chosen,
-            Ok(Typed {
-                value_type: IntType::Int16,
-                rate: Rate::Varying,
-                ..
-            })
-        )
-    );
+    let truth = number(IntType::Bool, Rate::Uniform);
+    let negated = prefixed(rt.alloc(), UnaryOp::Negate, truth);
+    assert!(rt; kind(negated) == Ok((IntType::Int32, Rate::Uniform)));
+    let byte = number(IntType::Int8, Rate::Uniform);
+    let by = number(IntType::Int64, Rate::Uniform);
+    let shifted = infixed(rt.alloc(), Infix::Op(BinaryOp::Shl), byte, by);
+    assert!(rt; kind(shifted) == Ok((IntType::Int8, Rate::Uniform)));
+    let left = number(IntType::Int8, Rate::Uniform);
+    let right = number(IntType::Int8, Rate::Varying);
+    let both = infixed(rt.alloc(), Infix::AndAlso, left, right);
+    assert!(rt; kind(both) == Ok((IntType::Bool, Rate::Varying)));
+}
+
+#[test]
+fn a_choice_has_the_joined_type_of_its_arms(rt: HostRuntime) {
+    let test = number(IntType::Bool, Rate::Varying);
+    let first = number(IntType::Uint8, Rate::Uniform);
+    let second = number(IntType::Int16, Rate::Uniform);
+    let chosen = chosen_by(rt.alloc(), test, first, second);
+    assert!(rt; kind(chosen) == Ok((IntType::Int16, Rate::Varying)));
     assert!(rt; joined(IntType::Uint32, IntType::Int32) == IntType::Uint32);
 }
