@@ -21,11 +21,7 @@ fn kind(made: Result<Typed, SourceFault>) -> Result<(IntType, Rate), SourceFault
 }
 
 /// The type and the rate of a sum of a uniform and a varying value.
-fn sum(
-    alloc: Global,
-    left: IntType,
-    right: IntType,
-) -> Result<(IntType, Rate), SourceFault> {
+fn sum(alloc: Global, left: IntType, right: IntType) -> Result<(IntType, Rate), SourceFault> {
     let left = number(left, Rate::Uniform);
     let right = number(right, Rate::Varying);
     kind(infixed(alloc, Infix::Op(BinaryOp::Add), left, right))
