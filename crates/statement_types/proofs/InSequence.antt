@@ -9,7 +9,7 @@ use Rattle.gang_model.specs.Numbering.{steps_in, steps_in_all}
 use Rattle.gang_model.specs.Scope.{locals_in, locals_in_all}
 use Rattle.gang_model.specs.Calls.{Context}
 use Rattle.gang_model.specs.Typing.{Scope}
-use Rattle.gang_model.specs.Judged.{Judged, Sound, Faulty, both, ◌>>=◌, answer_of, lesser}
+use Rattle.gang_model.specs.Judged.{Judged, Sound, Faulty, both, answer_of, lesser}
 use Rattle.gang_model.specs.Statements.{Made, made, scope_after, statement, statements}
 use Rattle.gang_model.proofs.JudgedLaws.{both_answers, then_answer, lesser-assoc, answer_of-both, answer_of-then}
 use Rattle.ispc_lexer.specs.declared.fault.SourceFault.{SourceFault}

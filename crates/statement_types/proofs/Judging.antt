@@ -1,16 +1,15 @@
 -- How the answers for the parts of a statement make up what is known of the statement.
-use Rattle.std.proofs.Common.{◌≡◌, ℕ, ◌+◌, List, [], ◌∷◌, ◌++◌, length, refl, sym, ap, subst, ◌∙◌, arith, append_assoc, append-nil, length-append}
+use Rattle.std.proofs.Common.{◌≡◌, ℕ, ◌+◌, List, [], ◌++◌, length, refl, sym, ap, subst, ◌∙◌, append_assoc, append-nil, length-append}
 use Rattle.std.specs.Prelude.{Result, Ok, Err}
 use Rattle.gang_model.specs.declared.refusals.SourceRefusal.{SourceRefusal}
 use Rattle.gang_model.specs.Tree.{Stmt, Variable}
 use Rattle.gang_model.specs.Parsed.{ParsedStmt}
 use Rattle.gang_model.specs.Calls.{Context}
 use Rattle.gang_model.specs.Typing.{Scope}
-use Rattle.gang_model.specs.Judged.{Judged, Sound, Faulty, both, ◌>>=◌, answer_of}
+use Rattle.gang_model.specs.Judged.{Judged, Sound, both, ◌>>=◌, answer_of}
 use Rattle.gang_model.specs.Statements.{Made, made, alone, statement}
 use Rattle.gang_model.proofs.JudgedLaws as laws
 use Rattle.ispc_lexer.specs.declared.fault.SourceFault.{SourceFault}
-use Rattle.ispc_lexer.specs.declared.fault.SourceFault.TheVariants.{Memory, Refused}
 use Rattle.type_scopes.specs.Answers.{Answers, pair_view}
 use Rattle.statement_parts.specs.Typed.{apart, seen, IsTyped}
 use Rattle.statement_parts.proofs.Judging.{answers-apart}

@@ -1,4 +1,4 @@
-use Rattle.std.proofs.Common.{◌≡◌, ◌∙◌, ◌+◌, ap, drop, length, refl, subst, sym}
+use Rattle.std.proofs.Common.{◌+◌, ap, drop, length, subst, sym}
 use Rattle.std.proofs.lemmas.List.{drop_all}
 use Rattle.std.specs.Prelude.{Ok}
 use Rattle.gang_model.specs.Statements.{statements}

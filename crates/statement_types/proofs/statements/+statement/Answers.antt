@@ -1,6 +1,6 @@
-use Rattle.std.proofs.Common.{◌≡◌, ◌∙◌, ◌+◌, ◌∷◌, [], ap, drop, length, map, refl, subst, sym, arith}
+use Rattle.std.proofs.Common.{◌≡◌, ◌∙◌, ◌+◌, ap, drop, length, map, refl, subst, sym}
 use Rattle.std.proofs.lemmas.List.{drop_all, length-map}
-use Rattle.std.proofs.lemmas.Result.{IfOk-weaker, on_ok_weaker}
+use Rattle.std.proofs.lemmas.Result.{IfOk-weaker}
 use Rattle.std.specs.Prelude.{Some, Ok}
 use Rattle.gang_types.specs.declared.places.VarId.TheVariants.{Local}
 use Rattle.gang_types.specs.declared.types.IntType.TheVariants as int_type
@@ -29,8 +29,8 @@ use Rattle.statement_parts.specs.Sequences.{call_statement, type_or_int32}
 use Rattle.statement_parts.specs.Typed.{seen}
 use Rattle.statement_parts.proofs.Judging.{answers-apart}
 use Rattle.statement_parts.proofs.Counted.{next_item}
-use Rattle.statement_parts.proofs.Named.{index-named, index-id}
-use Rattle.statement_types.proofs.SingleSteps.{then-alone, typed-form, after-form, steps-form, single-step, typed-as, counted-as, ends-at, empty-statement, in-any-case}
+use Rattle.statement_parts.proofs.Named.{index-named}
+use Rattle.statement_types.proofs.SingleSteps.{then-alone, typed-form, single-step, typed-as, counted-as, ends-at, empty-statement, in-any-case}
 use Rattle.statement_types.proofs.InSequence.{begun-none, begun-next, begun-all, whole-block}
 use Rattle.statement_types.proofs.Compound.{if-only, if-else, while-loop, do-loop, for-loop, for-each, in-rounds, for-each-active, for-each-unique}
 use Rattle.statement_types.proofs.ScopeSteps.{extends-after, extends-indices, extends-one, extends-same, extends-next, extends-marked, extends-left}
