@@ -1,5 +1,5 @@
-use Rattle.std.proofs.Common.{◌≡◌, ◌∙◌, ap, sym}
-use Rattle.std.specs.Prelude.{None, option_map}
+use Rattle.std.proofs.Common.{◌∙◌, ap, sym}
+use Rattle.std.specs.Prelude.{option_map}
 use Rattle.gang_model.specs.Entry.{entry_of}
 use Rattle.gang_model.specs.Limits.{limit_refusal}
 use Rattle.gang_model.specs.Resolved.{program_of}
