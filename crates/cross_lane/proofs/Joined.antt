@@ -9,9 +9,9 @@ use Rattle.gang_types.specs.declared.types.IntType.TheVariants as t
 use Rattle.gang_types.specs.Lanes.{Lanes, has, no_lane}
 use Rattle.gang_types.specs.Values.{is_bool, is_signed, value_of, value_in, word_of, wrapped, converted}
 use Rattle.gang_types.specs.Laws.{narrow_word, biased, bias, less_biased, word_of-add, word_of-pos, word_of-value_of, convert_any, wrapped_integer, wrapped_bool, word_of-lt}
-use Rattle.gang_model.specs.Lanes.{words_from, each}
-use Rattle.gang_model.specs.Library.{sum_type, active, sum_of, least_from, least, scanned, before_lane}
-use Rattle.gang_model.specs.Tree.{ScanAdd, ScanAnd, ScanOr}
+use Rattle.gang_model.specs.Running.Lanes.{words_from, each}
+use Rattle.gang_model.specs.Running.Library.{sum_type, active, sum_of, least_from, least, scanned, before_lane}
+use Rattle.gang_model.specs.Types.Tree.{ScanAdd, ScanAnd, ScanOr}
 use Rattle.cross_lane.specs.declared.folds.Fold.{Fold}
 use Rattle.cross_lane.specs.declared.folds.Fold.TheVariants.{Add, And, Or, Min, Max}
 use Rattle.cross_lane.specs.Folds.{combined, neutral, fold_below}

@@ -9,8 +9,8 @@ use lib.Lanes.{mask_l}
 use Rattle.gang_types.specs.Lanes.{Lanes, has, no_lane, lowest, without, lanes_where}
 use Rattle.gang_types.specs.LaneLaws.{same_lanes, length-lanes_where, has-lanes_where}
 use Rattle.gang_types.specs.Masks.{word_of_lanes}
-use Rattle.gang_model.specs.Lanes.{words_from, each}
-use Rattle.gang_model.specs.Library.{active, each_is as passes, all_same, bits_from, count}
+use Rattle.gang_model.specs.Running.Lanes.{words_from, each}
+use Rattle.gang_model.specs.Running.Library.{active, each_is as passes, all_same, bits_from, count}
 
 -- ---- the lanes of a set that pass a test
 abbrev tested : ℕ → Lanes → (ℕ → Bool) → Lanes

@@ -4,7 +4,7 @@ use Rattle.std.specs.Prelude.{replicate, slice_set}
 use Rattle.std.proofs.lemmas.List.{append_assoc, append-nil, length-append}
 use Rattle.std.proofs.Math.Seq.{take-length}
 use Rattle.gang_types.specs.Lanes.{Lanes, has}
-use Rattle.gang_model.specs.Lanes.{members_from, members}
+use Rattle.gang_model.specs.Running.Lanes.{members_from, members}
 
 members_more_from : (k : ℕ) (lanes : Lanes) (n : ℕ) → n < length lanes → members_from k (take (suc n) lanes) ≡ members_from k (take n lanes) ++ cond (has lanes n) ((k + n) ∷ []) []
 members_more_from k [] n h = absurd (omega arith)

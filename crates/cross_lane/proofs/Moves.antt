@@ -10,7 +10,7 @@ use Rattle.gang_types.specs.declared.types.IntType.TheVariants.{Int32}
 use Rattle.gang_types.specs.Values.{value_of, residue}
 use Rattle.gang_types.specs.Laws.{residue_is}
 use Rattle.gang_types.specs.Masks.{IsGangWidth}
-use Rattle.gang_model.specs.Library.{value_at}
+use Rattle.gang_model.specs.Running.Library.{value_at}
 use Rattle.cross_lane.specs.Folds.{windowed}
 use Rattle.cross_lane.proofs.Rows.{not_le}
 

@@ -4,10 +4,10 @@ use Rattle.std.specs.Prelude.{Result, Ok, Err, nat_lt}
 use Rattle.std.proofs.lemmas.Bool.Decides.{nat_tests}
 use Rattle.gang_types.specs.declared.faults.FaultName.{FaultName}
 use Rattle.gang_types.specs.declared.faults.FaultName.TheVariants.{LaneIndex}
-use Rattle.gang_model.specs.Library.{lane_value}
+use Rattle.gang_model.specs.Running.Library.{lane_value}
 use Rattle.gang_types.specs.Lanes.{Lanes, has, no_lane, lowest}
 use Rattle.gang_types.specs.LaneLaws.{lowest_has, below_lowest}
-use Rattle.gang_model.specs.Lanes.{Fault, ◌>>=◌, words_from, each, one_lane, tried_from, try_each}
+use Rattle.gang_model.specs.Running.Lanes.{Fault, ◌>>=◌, words_from, each, one_lane, tried_from, try_each}
 
 ok_from : (k : ℕ) (lanes : Lanes) (f : ℕ → Result ℕ FaultName) (g : ℕ → ℕ) → ((i : ℕ) → i < length lanes → has lanes i ≡ true → f (k + i) ≡ Ok (g (k + i)))
     → tried_from k lanes f ≡ Ok (words_from k lanes g)

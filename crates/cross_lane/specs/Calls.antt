@@ -2,8 +2,8 @@
 use Rattle.std.specs.Prelude.{ℕ, List, Result, Ok, Err, ◌==◌, if◌then◌else◌}
 use Rattle.gang_types.specs.declared.faults.FaultName.{FaultName}
 use Rattle.gang_types.specs.Lanes.{Lanes}
-use Rattle.gang_model.specs.Lanes.{Fault, each, try_each, at, ◌>>=◌}
-use Rattle.gang_model.specs.Library.{lane_value}
+use Rattle.gang_model.specs.Running.Lanes.{Fault, each, try_each, at, ◌>>=◌}
+use Rattle.gang_model.specs.Running.Library.{lane_value}
 
 -- the values of the lanes of the set, and 0 in the others
 abbrev pub values_in : Lanes → List ℕ → List ℕ

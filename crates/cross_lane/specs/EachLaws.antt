@@ -5,7 +5,7 @@ use Rattle.std.proofs.lemmas.Bool.Decides.{nat_tests}
 use Rattle.std.proofs.lemmas.List.{get_or-set_same, get_or-set_other}
 use Rattle.std.proofs.lemmas.Bool.{cases_eq}
 use Rattle.gang_types.specs.Lanes.{Lanes, has}
-use Rattle.gang_model.specs.Lanes.{words_from, each}
+use Rattle.gang_model.specs.Running.Lanes.{words_from, each}
 
 -- two lists with the same words
 pub same_words : (xs ys : List ℕ) → length xs ≡ length ys → ((i : ℕ) → i < length xs → slice_index xs i ≡ slice_index ys i) → xs ≡ ys

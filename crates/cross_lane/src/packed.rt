@@ -1,7 +1,7 @@
 //! The lanes of a mask, one after the other.
 ghost use Rattle.std.specs.Prelude.{◌≡◌, ℕ, ◌-◌, ◌≤◌, ◌++◌, length, replicate};
 ghost use Rattle.gang_types.specs.Masks.{IsGangWidth, lanes_of};
-ghost use Rattle.gang_model.specs.Lanes.{members};
+ghost use Rattle.gang_model.specs.Running.Lanes.{members};
 
 use gang_types::Mask;
 

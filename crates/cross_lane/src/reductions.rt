@@ -4,9 +4,9 @@ ghost use Rattle.gang_types.specs.declared.types.IntType.{IntType};
 ghost use Rattle.gang_types.specs.Laws.{biased, bias};
 ghost use Rattle.gang_types.specs.Lanes.{no_lane, has};
 ghost use Rattle.gang_types.specs.Masks.{IsGangWidth, lanes_of};
-ghost use Rattle.gang_model.specs.Lanes.{each, truth_word};
-ghost use Rattle.gang_model.specs.Library.{reduced, bits_from, sum_type};
-ghost use Rattle.gang_model.specs.Tree.{AnyLane, AllLanes, NoLane, ReduceAdd, ReduceMin, ReduceMax, ReduceEqual, PopCountLanes, PackMask};
+ghost use Rattle.gang_model.specs.Running.Lanes.{each, truth_word};
+ghost use Rattle.gang_model.specs.Running.Library.{reduced, bits_from, sum_type};
+ghost use Rattle.gang_model.specs.Types.Tree.{AnyLane, AllLanes, NoLane, ReduceAdd, ReduceMin, ReduceMax, ReduceEqual, PopCountLanes, PackMask};
 ghost use Rattle.cross_lane.specs.Calls.{values_in};
 ghost use Rattle.cross_lane.specs.Folds.{combined, neutral, fold_below};
 

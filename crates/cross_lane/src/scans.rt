@@ -3,9 +3,9 @@ ghost use Rattle.std.specs.Prelude.{◌≡◌, ℕ, ◌<◌, false, slice_index,
 ghost use Rattle.gang_types.specs.declared.types.IntType.{IntType};
 ghost use Rattle.gang_types.specs.Lanes.{no_lane, has};
 ghost use Rattle.gang_types.specs.Masks.{IsGangWidth, lanes_of};
-ghost use Rattle.gang_model.specs.Lanes.{each};
-ghost use Rattle.gang_model.specs.Library.{scanned, before_lane};
-ghost use Rattle.gang_model.specs.Tree.{ScanAdd, ScanAnd, ScanOr};
+ghost use Rattle.gang_model.specs.Running.Lanes.{each};
+ghost use Rattle.gang_model.specs.Running.Library.{scanned, before_lane};
+ghost use Rattle.gang_model.specs.Types.Tree.{ScanAdd, ScanAnd, ScanOr};
 ghost use Rattle.cross_lane.specs.Calls.{values_in};
 ghost use Rattle.cross_lane.specs.Folds.{combined, neutral, fold_below};
 

@@ -4,8 +4,8 @@ ghost use Rattle.gang_types.specs.declared.types.IntType.TheVariants.{Int32};
 ghost use Rattle.gang_types.specs.Values.{value_of};
 ghost use Rattle.gang_types.specs.Lanes.{no_lane, lowest};
 ghost use Rattle.gang_types.specs.Masks.{IsGangWidth, lanes_of};
-ghost use Rattle.gang_model.specs.Lanes.{at, each, try_each, in_lane};
-ghost use Rattle.gang_model.specs.Library.{lane_value, turned, value_at};
+ghost use Rattle.gang_model.specs.Running.Lanes.{at, each, try_each, in_lane};
+ghost use Rattle.gang_model.specs.Running.Library.{lane_value, turned, value_at};
 ghost use Rattle.cross_lane.specs.Calls.{values_in, answer_of, inserted, one_answer, spread_answer};
 
 use crate::active::active_words;

@@ -2,9 +2,9 @@
 use Rattle.std.proofs.Common.{◌≡◌, ℕ, suc, ◌-◌, ◌<◌, ◌≤◌, List, [], ◌∷◌, length, take, get_or, Option, None, Bool, true, false, refl, sym, ap, ◌∙◌, arith}
 use Rattle.std.specs.Prelude.{ℤ, codes, if◌then◌else◌}
 use Rattle.std.specs.Borrow.{Bor}
-use Rattle.gang_model.specs.Names.{same_text}
-use Rattle.gang_model.specs.Debugger.{Target, Command}
-use Rattle.gang_model.specs.CommandText.{with_value, target_of, set_of, value_word}
+use Rattle.gang_model.specs.Source.Names.{same_text}
+use Rattle.gang_model.specs.Debugger.Debugger.{Target, Command}
+use Rattle.gang_model.specs.Texts.CommandText.{with_value, target_of, set_of, value_word}
 use Rattle.debug_commands.specs.LineWords.{texts}
 
 abbrev nothing : Option Command

@@ -2,7 +2,7 @@
 use Rattle.std.proofs.Common.{◌≡◌, ℕ, ◌+◌, ◌-◌, ◌*◌, ◌^◌, ◌<◌, ◌≤◌, List, [], ◌∷◌, length, drop, get_or, Some, None, sym, ap, ◌∙◌, arith}
 use Rattle.std.proofs.lemmas.Bool.Decides.{nat_tests}
 use Rattle.std.proofs.lemmas.List.{at_drop_more, at_drop_all}
-use Rattle.gang_model.specs.Spellings.{digit_value, number_after, in_range}
+use Rattle.gang_model.specs.Texts.Spellings.{digit_value, number_after, in_range}
 use Rattle.debug_commands.specs.declared.numbers.Radix.{Radix}
 use Rattle.debug_commands.specs.declared.numbers.Radix.TheVariants.{Decimal, Hexadecimal}
 use Rattle.debug_commands.specs.Digits.{base}

@@ -3,10 +3,10 @@ use Rattle.std.proofs.Common.{◌≡◌, ℕ, ◌<◌, ◌≤◌, List, [], ◌�
 use Rattle.std.specs.Prelude.{nat_lt, if◌then◌else◌}
 use Rattle.std.proofs.lemmas.Bool.{false≢true}
 use Rattle.std.proofs.lemmas.Bool.Decides.{nat_tests}
-use Rattle.gang_model.specs.Names.{same_text}
-use Rattle.gang_model.specs.Debugger.{Command, DoNothing}
-use Rattle.gang_model.specs.Spellings.{Word, is_blank, all_are, words_of_line}
-use Rattle.gang_model.specs.CommandText.{is_mark, Form, Alone, Counted, Numbered, MaybeNumbered, Targeted, Assigned, Entry, command_in, words_behind, command_or, command_by, commands, begins_blank, command_of}
+use Rattle.gang_model.specs.Source.Names.{same_text}
+use Rattle.gang_model.specs.Debugger.Debugger.{Command, DoNothing}
+use Rattle.gang_model.specs.Texts.Spellings.{Word, is_blank, all_are, words_of_line}
+use Rattle.gang_model.specs.Texts.CommandText.{is_mark, Form, Alone, Counted, Numbered, MaybeNumbered, Targeted, Assigned, Entry, command_in, words_behind, command_or, command_by, commands, begins_blank, command_of}
 
 -- no form has more than six words
 long_form : (form : Form) (a b c d e f g : Word) (ws : List Word) → command_in form (a ∷ b ∷ c ∷ d ∷ e ∷ f ∷ g ∷ ws) ≡ None

@@ -2,8 +2,8 @@
 use Rattle.std.proofs.Common.{◌≡◌, ℕ, List, [], ◌∷◌, Bool, true, false, ◌&&◌, refl, ap, ◌∙◌}
 use Rattle.std.specs.Prelude.{bytes_eq, nat_eq, if◌then◌else◌}
 use Rattle.std.specs.List.{list_all}
-use Rattle.gang_model.specs.Names.{same_text}
-use Rattle.gang_model.specs.Spellings.{all_are}
+use Rattle.gang_model.specs.Source.Names.{same_text}
+use Rattle.gang_model.specs.Texts.Spellings.{all_are}
 
 both : (b t : Bool) → (b && t) ≡ (if b then t else false)
 both true t = refl

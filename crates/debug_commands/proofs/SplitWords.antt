@@ -3,8 +3,8 @@ use Rattle.std.proofs.Common.{◌≡◌, ℕ, ◌+◌, ◌-◌, ◌<◌, ◌≤�
 use Rattle.std.specs.Prelude.{not, if◌then◌else◌}
 use Rattle.std.specs.List.{prefix_len}
 use Rattle.std.proofs.lemmas.Grind.{common_steps}
-use Rattle.gang_model.specs.Spellings.{Word, is_blank, before, words_after, words_of_line}
-use Rattle.gang_model.specs.CommandText.{is_mark}
+use Rattle.gang_model.specs.Texts.Spellings.{Word, is_blank, before, words_after, words_of_line}
+use Rattle.gang_model.specs.Texts.CommandText.{is_mark}
 use Rattle.debug_commands.specs.LineWords.{is_plain}
 
 -- the words behind one that has begun, at a next byte of which it is known whether it is blank or a mark

@@ -1,8 +1,8 @@
 -- The words read so far.
 use Rattle.std.proofs.Common.{◌≡◌, ℕ, zero, suc, ◌+◌, ◌<◌, ◌≤◌, List, [], ◌∷◌, ◌++◌, length, take, drop, set, Option, None, refl, sym, ap, ◌∙◌, arith, add-one, append-nil}
 use Rattle.std.specs.Borrow.{Bor}
-use Rattle.gang_model.specs.Spellings.{Word}
-use Rattle.gang_model.specs.CommandText.{words_behind}
+use Rattle.gang_model.specs.Texts.Spellings.{Word}
+use Rattle.gang_model.specs.Texts.CommandText.{words_behind}
 use Rattle.debug_commands.specs.LineWords.{texts}
 
 word_placed : (items : List (Bor (List ℕ))) (n : ℕ) (w : Bor (List ℕ)) (after : List Word) → n < length items → texts (take (suc n) (set items n w)) ++ after ≡ texts (take n items) ++ (w.now ∷ after)

@@ -1,7 +1,7 @@
 -- The table of commands, as the definitions have it.
 use Rattle.std.specs.Prelude.{ℕ}
-use Rattle.gang_model.specs.Debugger as d
-use Rattle.gang_model.specs.CommandText as text
+use Rattle.gang_model.specs.Debugger.Debugger as d
+use Rattle.gang_model.specs.Texts.CommandText as text
 use Rattle.debug_commands.specs.declared.table.Motion.{Motion}
 use Rattle.debug_commands.specs.declared.table.Motion.TheVariants as motion
 use Rattle.debug_commands.specs.declared.table.Form.{Form}

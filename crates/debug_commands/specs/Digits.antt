@@ -1,6 +1,6 @@
 -- The digits of a radix.
 use Rattle.std.specs.Prelude.{ℕ, Bool}
-use Rattle.gang_model.specs.Spellings as spelling
+use Rattle.gang_model.specs.Texts.Spellings as spelling
 use Rattle.debug_commands.specs.declared.numbers.Radix.{Radix}
 use Rattle.debug_commands.specs.declared.numbers.Radix.TheVariants.{Decimal, Hexadecimal}
 

@@ -1,8 +1,8 @@
 -- Words as slices of a line.
 use Rattle.std.specs.Prelude.{ℕ, Bool, not, ◌&&◌, List, [], ◌∷◌, map, Option, Some, None}
 use Rattle.std.specs.Borrow.{Bor}
-use Rattle.gang_model.specs.Spellings.{Word, is_blank, words_of_line}
-use Rattle.gang_model.specs.CommandText.{is_mark}
+use Rattle.gang_model.specs.Texts.Spellings.{Word, is_blank, words_of_line}
+use Rattle.gang_model.specs.Texts.CommandText.{is_mark}
 
 -- the bytes of words
 abbrev pub texts : List (Bor (List ℕ)) → List Word

@@ -1,6 +1,6 @@
 -- Commands, as the definitions have them.
 use Rattle.std.specs.Prelude.{Option, Some, None}
-use Rattle.gang_model.specs.Debugger as d
+use Rattle.gang_model.specs.Debugger.Debugger as d
 use Rattle.debug_commands.specs.declared.command.Target.{Target}
 use Rattle.debug_commands.specs.declared.command.Command.{Command}
 use Rattle.debug_commands.specs.declared.command.Command.TheVariants as command

@@ -1,8 +1,8 @@
 -- At most eight words, as a list.
 use Rattle.std.specs.Prelude.{◌≡◌, ℕ, ◌<◌, List, length, take, Option, Some, None}
 use Rattle.std.specs.Borrow.{Bor}
-use Rattle.gang_model.specs.Spellings.{words_of_line}
-use Rattle.gang_model.specs.CommandText.{is_mark}
+use Rattle.gang_model.specs.Texts.Spellings.{words_of_line}
+use Rattle.gang_model.specs.Texts.CommandText.{is_mark}
 use Rattle.debug_commands.specs.declared.words.Words.{Words}
 use Rattle.debug_commands.specs.LineWords.{texts}
 

@@ -1,7 +1,7 @@
 //! Numbers and values of command lines.
 ghost use Rattle.std.specs.Prelude.{◌≡◌, ◌-◌, ◌^◌, Some};
-ghost use Rattle.gang_model.specs.Spellings as spelling;
-ghost use Rattle.gang_model.specs.CommandText as text;
+ghost use Rattle.gang_model.specs.Texts.Spellings as spelling;
+ghost use Rattle.gang_model.specs.Texts.CommandText as text;
 ghost use Rattle.debug_commands.specs.Digits as spec;
 
 use crate::words::is_same;

@@ -1,7 +1,7 @@
 //! The command that a line spells.
 ghost use Rattle.std.specs.Prelude.{◌≡◌, map};
-ghost use Rattle.gang_model.specs.Debugger.{DoBreak, DoDelete};
-ghost use Rattle.gang_model.specs.CommandText as text;
+ghost use Rattle.gang_model.specs.Debugger.Debugger.{DoBreak, DoDelete};
+ghost use Rattle.gang_model.specs.Texts.CommandText as text;
 ghost use Rattle.debug_commands.specs.LineWords.{texts, texts_option};
 ghost use Rattle.debug_commands.specs.CommandTable.{motion_view, form_view, entry_view};
 ghost use Rattle.debug_commands.specs.Views.{command_view, option_view};

@@ -1,8 +1,8 @@
 //! A line's blanks, marks and first word.
 ghost use Rattle.std.specs.Prelude.{◌≡◌, ◌≤◌, length};
 ghost use Rattle.std.specs.List.{prefix_len};
-ghost use Rattle.gang_model.specs.Spellings as spelling;
-ghost use Rattle.gang_model.specs.CommandText as text;
+ghost use Rattle.gang_model.specs.Texts.Spellings as spelling;
+ghost use Rattle.gang_model.specs.Texts.CommandText as text;
 ghost use Rattle.debug_commands.specs.LineWords as spec;
 
 /// Space, tab and CR.

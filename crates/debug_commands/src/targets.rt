@@ -1,7 +1,7 @@
 //! What a command prints, watches or sets.
 ghost use Rattle.std.specs.Prelude.{◌≡◌, ◌||◌};
-ghost use Rattle.gang_model.specs.Spellings as spelling;
-ghost use Rattle.gang_model.specs.CommandText as text;
+ghost use Rattle.gang_model.specs.Texts.Spellings as spelling;
+ghost use Rattle.gang_model.specs.Texts.CommandText as text;
 ghost use Rattle.debug_commands.specs.LineWords.{texts};
 ghost use Rattle.debug_commands.specs.Views.{option_view};
 ghost use Rattle.debug_commands.specs.TargetViews.{target_option};

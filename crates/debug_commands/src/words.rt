@@ -1,6 +1,6 @@
 //! The words of a line.
 ghost use Rattle.std.specs.Prelude.{◌≡◌, ◌≤◌};
-ghost use Rattle.gang_model.specs.Names.{same_text};
+ghost use Rattle.gang_model.specs.Source.Names.{same_text};
 
 use crate::splitting::next_word;
 

@@ -5,7 +5,7 @@ use Rattle.gang_types.specs.declared.masks.Mask.{Mask}
 use Rattle.gang_types.specs.Lanes.{Lanes, has}
 use Rattle.gang_types.specs.Masks.{IsGangWidth, lanes_of}
 use Rattle.gang_types.specs.MaskLaws.{has-lanes_of_word}
-use Rattle.gang_model.specs.Text.{bits}
+use Rattle.gang_model.specs.Texts.Text.{bits}
 use Rattle.debug_session.proofs.Pieces.{flat_more, flat_at}
 
 -- the digit of one lane

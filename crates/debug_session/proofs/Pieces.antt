@@ -5,9 +5,9 @@ use Rattle.std.proofs.lemmas.List.Folds.{concat-append}
 use Rattle.std.specs.Prelude.{flat_map}
 use Rattle.std.specs.List.{concat}
 use Rattle.gang_types.specs.Masks.{lanes_of}
-use Rattle.gang_model.specs.Text.{Bytes, bits, line}
-use Rattle.debug_interface.specs.declared.machine.Position.{Position}
-use Rattle.debug_interface.specs.Machines.{position_text}
+use Rattle.gang_model.specs.Texts.Text.{Bytes, bits, line}
+use Rattle.debug_machine.specs.declared.machine.Position.{Position}
+use Rattle.debug_machine.specs.Machines.{position_text}
 use Rattle.debug_session.specs.Wording.{place_front}
 
 module _ {X : Type 0} (f : X → List ℕ) where

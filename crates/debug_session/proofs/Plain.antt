@@ -4,9 +4,9 @@ use Rattle.std.proofs.lemmas.Bool.{false≢true}
 use Rattle.std.specs.Prelude.{filter, min, is_err}
 use Rattle.undo_log.specs.declared.timeline.Undone.{Undone}
 use Rattle.undo_log.specs.declared.timeline.NoHistory.{NoHistory}
-use Rattle.gang_model.specs.Events.{Event, Step, Poke}
-use Rattle.gang_model.specs.Debugger.{Debugger, Setting, is_step, moved, stepped_back, taken_back, to_last_step}
-use Rattle.debug_interface.specs.Machines.{Undoes}
+use Rattle.gang_model.specs.Debugger.Events.{Event, Step, Poke}
+use Rattle.gang_model.specs.Debugger.Debugger.{Debugger, Setting, is_step, moved, stepped_back, taken_back, to_last_step}
+use Rattle.debug_machine.specs.Machines.{Undoes}
 use Rattle.debug_session.specs.Sessions.{IsPlain}
 
 -- how many of the newest events are steps

@@ -3,16 +3,16 @@ use Rattle.std.proofs.Common.{◌≡◌, refl, sym, subst, ap, ◌∙◌, ℕ, s
 use Rattle.std.specs.Prelude.{◌==◌, nat_le, is_none, if◌then◌else◌, slice_get}
 use Rattle.std.proofs.lemmas.Bool.Decides.{nat_tests}
 use Rattle.gang_types.specs.Lanes.{Lanes}
-use Rattle.gang_model.specs.Tree.{Program, Standing, Function}
-use Rattle.gang_model.specs.Lanes.{Fault}
-use Rattle.gang_model.specs.State.{Frame, State}
-use Rattle.gang_model.specs.Step.{Goes, Fails, Over, step}
-use Rattle.gang_model.specs.Events.{Step, gone}
-use Rattle.gang_model.specs.Positions.{frame_spot, frame_lanes, standing_at}
-use Rattle.gang_model.specs.Debugger.{Debugger, Answer, Here, HistoryEnd, AtFault, Ended, NoHistory, Setting, Reply, reply, refused, now, has_ended, kept_steps, moved, stepped_back, Goal, Moves, AfterMove, Ends, GoesOn, ends_or_goes_on, after_move, or_next, attempted, forward, backward, unless_refused, do_forward, do_backward}
-use Rattle.gang_model.specs.Text.{Bytes, frames_text, standing_text}
-use Rattle.debug_interface.specs.declared.machine.Position.{Position}
-use Rattle.debug_interface.specs.Machines.{position_text}
+use Rattle.gang_model.specs.Types.Tree.{Program, Standing, Function}
+use Rattle.gang_model.specs.Running.Lanes.{Fault}
+use Rattle.gang_model.specs.Running.State.{Frame, State}
+use Rattle.gang_model.specs.Running.Step.{Goes, Fails, Over, step}
+use Rattle.gang_model.specs.Debugger.Events.{Step, gone}
+use Rattle.gang_model.specs.Debugger.Positions.{frame_spot, frame_lanes, standing_at}
+use Rattle.gang_model.specs.Debugger.Debugger.{Debugger, Answer, Here, HistoryEnd, AtFault, Ended, NoHistory, Setting, Reply, reply, refused, now, has_ended, kept_steps, moved, stepped_back, Goal, Moves, AfterMove, Ends, GoesOn, ends_or_goes_on, after_move, or_next, attempted, forward, backward, unless_refused, do_forward, do_backward}
+use Rattle.gang_model.specs.Texts.Text.{Bytes, frames_text, standing_text}
+use Rattle.debug_machine.specs.declared.machine.Position.{Position}
+use Rattle.debug_machine.specs.Machines.{position_text}
 use Rattle.debug_session.specs.declared.answer.Answer.{Answer as Given}
 use Rattle.debug_session.specs.Sessions.{IsPlain, Replied}
 

@@ -5,7 +5,7 @@ use Rattle.std.proofs.Math.Seq.{take-append-add}
 use Rattle.std.proofs.KnownBytes.{Appends-trans}
 use Rattle.std.specs.Io.KnownBytes.{Appends}
 use Rattle.std.proofs.lemmas.Bool.Decides.{nat_tests}
-use Rattle.debug_interface.specs.Devices.{Writes}
+use Rattle.debug_machine.specs.Devices.{Writes}
 
 -- some of the text was written, and then the writer failed
 abbrev pub Broke : List ℕ → Option (List ℕ) → Option (List ℕ) → Bool → Type 0

@@ -1,11 +1,11 @@
 -- What a session stands for, and what its commands come to.
 use Rattle.std.specs.Prelude.{◌≡◌, ℕ, ◌<◌, [], Option, Some, None, if◌then◌else◌}
 use Rattle.gang_types.specs.declared.places.VarId.{VarId}
-use Rattle.gang_model.specs.Tree.{Variable}
-use Rattle.gang_model.specs.Debugger as model
-use Rattle.gang_model.specs.Debugger.{Debugger, Command, Reply, Setting, kept_steps}
-use Rattle.gang_model.specs.Known.{known_command}
-use Rattle.debug_interface.specs.Machines.{IsShown, fault_view}
+use Rattle.gang_model.specs.Types.Tree.{Variable}
+use Rattle.gang_model.specs.Debugger.Debugger as model
+use Rattle.gang_model.specs.Debugger.Debugger.{Debugger, Command, Reply, Setting, kept_steps}
+use Rattle.gang_model.specs.Source.Known.{known_command}
+use Rattle.debug_machine.specs.Machines.{IsShown, fault_view}
 use Rattle.debug_session.specs.declared.answer.Answer.{Answer}
 use Rattle.debug_session.specs.declared.answer.Answer.TheVariants as answer
 use Rattle.debug_session.specs.declared.answer.Refusal.{Refusal}

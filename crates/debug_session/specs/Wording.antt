@@ -2,8 +2,8 @@
 use Rattle.std.specs.Prelude.{ℕ, List, [], ◌∷◌, ◌++◌, codes, decimal, flat_map}
 use Rattle.std.specs.List.{concat}
 use Rattle.gang_types.specs.declared.types.IntType.{IntType}
-use Rattle.gang_model.specs.Text.{Bytes, word_text}
-use Rattle.debug_interface.specs.declared.machine.Position.{Position}
+use Rattle.gang_model.specs.Texts.Text.{Bytes, word_text}
+use Rattle.debug_machine.specs.declared.machine.Position.{Position}
 
 -- the text of a position up to its lanes
 abbrev pub place_front : Position → Bytes

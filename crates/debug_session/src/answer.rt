@@ -1,5 +1,5 @@
 //! Answers to commands.
-use debug_interface::{Fault, Shown};
+use debug_machine::{Fault, Shown};
 
 /// Why a command is refused.
 #[derive(Clone, Copy, Debug, PartialEq, Eq)]

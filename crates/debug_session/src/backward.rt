@@ -1,10 +1,10 @@
 //! Moves backward.
 ghost use Rattle.std.specs.Prelude.{◌≡◌, ℕ, suc, ◌-◌, ◌<◌, false, None, IfSome};
-ghost use Rattle.gang_model.specs.Debugger.{Debugger, Setting, Moves, backward, do_backward};
+ghost use Rattle.gang_model.specs.Debugger.Debugger.{Debugger, Setting, Moves, backward, do_backward};
 ghost use Rattle.debug_session.specs.Sessions.{HoldsWords, IsPlain, MovedBack, Replied};
 
 use crate::answer::{Answer, Refusal};
-use debug_interface::RecordedMachine;
+use debug_machine::RecordedMachine;
 
 /// Takes so many steps back; fewer where no step is kept any more.
 pub(crate) fn step_backward<'a, M: RecordedMachine>(machine: &mut M, count: u32) -> Answer<'a>

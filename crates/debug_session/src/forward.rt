@@ -1,10 +1,10 @@
 //! Moves forward.
 ghost use Rattle.std.specs.Prelude.{◌≡◌, ℕ, suc, ◌-◌, ◌<◌, false, None, IfSome};
-ghost use Rattle.gang_model.specs.Debugger.{Debugger, Setting, Moves, do_forward, forward, has_ended, now};
+ghost use Rattle.gang_model.specs.Debugger.Debugger.{Debugger, Setting, Moves, do_forward, forward, has_ended, now};
 ghost use Rattle.debug_session.specs.Sessions.{HoldsWords, IsPlain, Moved, Replied};
 
 use crate::answer::{Answer, Refusal};
-use debug_interface::{RecordedMachine, StepEnd};
+use debug_machine::{RecordedMachine, StepEnd};
 
 /// Does so many steps; fewer at the program's end, at a fault or at the most steps of a command.
 pub(crate) fn step_forward<'a, M: RecordedMachine>(

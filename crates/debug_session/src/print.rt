@@ -1,10 +1,10 @@
 //! What is printed.
 ghost use Rattle.std.specs.Prelude.{◌≡◌, None};
-ghost use Rattle.gang_model.specs.Debugger.{Debugger, Setting, do_print};
+ghost use Rattle.gang_model.specs.Debugger.Debugger.{Debugger, Setting, do_print};
 ghost use Rattle.debug_session.specs.Sessions.{HoldsWords, IsPlain, Replied};
 
 use crate::answer::{Answer, Refusal};
-use debug_interface::RecordedMachine;
+use debug_machine::RecordedMachine;
 
 /// Shows the scalar of a name.
 pub(crate) fn print<'a, M: RecordedMachine>(machine: &M, name: &'a [u8]) -> Answer<'a>

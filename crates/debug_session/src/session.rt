@@ -1,12 +1,12 @@
 //! A debugger over a recorded machine.
 ghost use Rattle.std.specs.Prelude.{◌≡◌, ◌≤◌, false, Some};
-ghost use Rattle.gang_model.specs.CommandText.{command_of};
-ghost use Rattle.gang_model.specs.Debugger.{Debugger, Setting};
-ghost use Rattle.gang_model.specs.Known.{as_known};
-ghost use Rattle.gang_model.specs.Text.{Bytes};
-ghost use Rattle.gang_model.specs.Transcript.{replied};
+ghost use Rattle.gang_model.specs.Texts.CommandText.{command_of};
+ghost use Rattle.gang_model.specs.Debugger.Debugger.{Debugger, Setting};
+ghost use Rattle.gang_model.specs.Source.Known.{as_known};
+ghost use Rattle.gang_model.specs.Texts.Text.{Bytes};
+ghost use Rattle.gang_model.specs.Texts.Transcript.{replied};
 ghost use Rattle.debug_commands.specs.Views.{command_view, option_view};
-ghost use Rattle.debug_interface.specs.Lines.{Says, fails};
+ghost use Rattle.debug_machine.specs.Lines.{Says, fails};
 ghost use Rattle.debug_session.specs.Sessions.{HoldsWords, IsPlain, Replied, StandsFor, let_through};
 
 use crate::answer::{Answer, Refusal};
@@ -15,7 +15,7 @@ use crate::forward::step_forward;
 use crate::print::print;
 use crate::write_answer::write_answer;
 use debug_commands::{Command, Target, read_command};
-use debug_interface::{AnswerWriter, LineDebugger, RecordedMachine, Turn};
+use debug_machine::{AnswerWriter, LineDebugger, RecordedMachine, Turn};
 
 /// A debugger over a machine. It does at most so many moves for one forward command.
 #[derive(Drop)]

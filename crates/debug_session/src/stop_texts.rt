@@ -2,13 +2,13 @@
 ghost use Rattle.std.specs.Prelude.{◌≡◌, [], ◌∷◌, ◌++◌, false, IfSome, map};
 ghost use Rattle.std.specs.List.{concat};
 ghost use Rattle.gang_types.specs.Masks.{IsGangWidth, lanes_of};
-ghost use Rattle.gang_model.specs.Text.{bits, line};
-ghost use Rattle.debug_interface.specs.Devices.{Writes};
-ghost use Rattle.debug_interface.specs.Machines.{position_text};
+ghost use Rattle.gang_model.specs.Texts.Text.{bits, line};
+ghost use Rattle.debug_machine.specs.Devices.{Writes};
+ghost use Rattle.debug_machine.specs.Machines.{position_text};
 ghost use Rattle.debug_session.specs.Wording.{place_front};
 
 use crate::texts::{write_all, write_pieces};
-use debug_interface::{AnswerWriter, Position, WriteFault};
+use debug_machine::{AnswerWriter, Position, WriteFault};
 use gang_types::Mask;
 use itoa::Buffer;
 

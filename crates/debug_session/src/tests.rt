@@ -5,7 +5,7 @@ ghost use Rattle.std.specs.Prelude.{◌≤◌};
 
 use crate::session::Session;
 use crate::stop_texts::write_stop;
-use debug_interface::{LineDebugger, Position, Turn};
+use debug_machine::{LineDebugger, Position, Turn};
 use devices::{LineMachine, Sink};
 use gang_types::{Mask, Place};
 use std::test::Fail;

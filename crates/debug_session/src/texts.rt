@@ -1,9 +1,9 @@
 //! Texts, written whole or up to where the writer fails.
 ghost use Rattle.std.specs.Prelude.{◌≡◌, false, map};
 ghost use Rattle.std.specs.List.{concat};
-ghost use Rattle.debug_interface.specs.Devices.{Writes};
+ghost use Rattle.debug_machine.specs.Devices.{Writes};
 
-use debug_interface::{AnswerWriter, WriteFault};
+use debug_machine::{AnswerWriter, WriteFault};
 
 /// Writes these bytes and no others, or the front of them where the writer fails.
 pub fn write_all<O: AnswerWriter>(writer: &mut O, bytes: &[u8]) -> Result<(), WriteFault>

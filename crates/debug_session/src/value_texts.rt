@@ -1,13 +1,13 @@
 //! Scalars, as answers show them.
 ghost use Rattle.std.specs.Prelude.{◌≡◌, ◌++◌, ℕ, ◌<◌, false, codes, is_err, length};
-ghost use Rattle.gang_model.specs.Debugger.{Debugger, Setting, now};
-ghost use Rattle.gang_model.specs.State.{words_in};
-ghost use Rattle.gang_model.specs.Text.{line, word_text};
-ghost use Rattle.debug_interface.specs.Devices.{Writes};
+ghost use Rattle.gang_model.specs.Debugger.Debugger.{Debugger, Setting, now};
+ghost use Rattle.gang_model.specs.Running.State.{words_in};
+ghost use Rattle.gang_model.specs.Texts.Text.{line, word_text};
+ghost use Rattle.debug_machine.specs.Devices.{Writes};
 ghost use Rattle.debug_session.specs.Wording.{value_text, values_text};
 
 use crate::texts::{write_all, write_pieces};
-use debug_interface::{AnswerWriter, RecordedMachine, Shown, WriteFault};
+use debug_machine::{AnswerWriter, RecordedMachine, Shown, WriteFault};
 use gang_types::{IntType, value};
 use itoa::Buffer;
 

@@ -1,17 +1,17 @@
 //! The texts of answers.
 ghost use Rattle.std.specs.Prelude.{◌≡◌, false, is_err};
-ghost use Rattle.gang_model.specs.Debugger as model;
-ghost use Rattle.gang_model.specs.Debugger.{Debugger, Setting};
-ghost use Rattle.gang_model.specs.Text.{fault_text, line, refusal_text, text};
-ghost use Rattle.debug_interface.specs.Devices.{Writes};
-ghost use Rattle.debug_interface.specs.Machines.{fault_view};
+ghost use Rattle.gang_model.specs.Debugger.Debugger as model;
+ghost use Rattle.gang_model.specs.Debugger.Debugger.{Debugger, Setting};
+ghost use Rattle.gang_model.specs.Texts.Text.{fault_text, line, refusal_text, text};
+ghost use Rattle.debug_machine.specs.Devices.{Writes};
+ghost use Rattle.debug_machine.specs.Machines.{fault_view};
 ghost use Rattle.debug_session.specs.Sessions.{HoldsWords, Means, refusal_view};
 
 use crate::answer::{Answer, Refusal};
 use crate::stop_texts::write_stop;
 use crate::texts::write_all;
 use crate::value_texts::write_values;
-use debug_interface::{AnswerWriter, Fault, RecordedMachine, WriteFault};
+use debug_machine::{AnswerWriter, Fault, RecordedMachine, WriteFault};
 use gang_types::FaultName;
 use itoa::Buffer;
 

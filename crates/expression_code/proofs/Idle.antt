@@ -6,10 +6,10 @@ use Rattle.gang_types.specs.declared.types.Rate.{Rate}
 use Rattle.gang_types.specs.declared.types.Rate.TheVariants.{Uniform, Varying}
 use Rattle.gang_types.specs.Lanes.{Lanes, has, no_lane, lanes_where}
 use Rattle.gang_types.specs.LaneLaws.{has-lanes_where, no_lane_has}
-use Rattle.gang_model.specs.Lanes.{Fault, ◌>>=◌, words_from, each, tried_from, try_each}
-use Rattle.gang_model.specs.State.{State, seen}
-use Rattle.gang_model.specs.Tree.{Expr, Number, ProgramIndex, ProgramCount, LaneMask, Read, Element, Unary, Binary, Convert, And, Or, Choice, Reduce, Scan, OfOne, OfTwo, Extract, Insert, Rotate, Shift, Shuffle, ShuffleTwo, Select}
-use Rattle.gang_model.specs.Value.{value}
+use Rattle.gang_model.specs.Running.Lanes.{Fault, ◌>>=◌, words_from, each, tried_from, try_each}
+use Rattle.gang_model.specs.Running.State.{State, seen}
+use Rattle.gang_model.specs.Types.Tree.{Expr, Number, ProgramIndex, ProgramCount, LaneMask, Read, Element, Unary, Binary, Convert, And, Or, Choice, Reduce, Scan, OfOne, OfTwo, Extract, Insert, Rotate, Shift, Shuffle, ShuffleTwo, Select}
+use Rattle.gang_model.specs.Running.Value.{value}
 use Rattle.gang_types.specs.LaneLaws.{lowest_has}
 use Rattle.gang_types.specs.Lanes.{lowest}
 

@@ -3,9 +3,9 @@ use Rattle.std.proofs.Common.{◌≡◌, ℕ, suc, ◌+◌, ◌<◌, ◌≤◌, 
 use Rattle.std.specs.Prelude.{◌&&◌}
 use Rattle.std.proofs.lemmas.Bool.{lt-ltb}
 use Rattle.gang_types.specs.Lanes.{Lanes, no_lane}
-use Rattle.gang_model.specs.Lanes.{Fault, ◌>>=◌}
-use Rattle.gang_model.specs.State.{State}
-use Rattle.gang_model.specs.Value.{value}
+use Rattle.gang_model.specs.Running.Lanes.{Fault, ◌>>=◌}
+use Rattle.gang_model.specs.Running.State.{State}
+use Rattle.gang_model.specs.Running.Value.{value}
 use Rattle.typed_tree.specs.declared.expressions.Expr.{Expr, Number, ProgramIndex, ProgramCount, LaneMask, Read, Unary', Binary', Convert', AndAlso', OrElse', Choice', OfOne', OfTwo', Select'}
 use Rattle.typed_tree.specs.Views.{expr_view}
 use Rattle.expression_code.specs.declared.code.Leaf.{Leaf}

@@ -3,8 +3,8 @@ use Rattle.std.proofs.Common.{ℕ, ◌<◌, ◌≡◌, List, length, slice_index
 use Rattle.gang_types.specs.declared.types.Rate.{Rate}
 use Rattle.gang_types.specs.declared.types.Rate.TheVariants.{Uniform, Varying}
 use Rattle.gang_types.specs.Lanes.{Lanes}
-use Rattle.gang_model.specs.Lanes.{each, at}
-use Rattle.gang_model.specs.State.{seen}
+use Rattle.gang_model.specs.Running.Lanes.{each, at}
+use Rattle.gang_model.specs.Running.State.{seen}
 use Rattle.cross_lane.specs.EachLaws.{each_same}
 use Rattle.expression_code.specs.Read.{place_in}
 

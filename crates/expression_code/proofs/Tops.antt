@@ -2,7 +2,7 @@
 use Rattle.std.proofs.Common.{◌≡◌, ℕ, zero, suc, ◌-◌, ◌≤◌, List, [], ◌∷◌, length, drop, reverse, get_or, refl, sym, ap, ◌∙◌, arith}
 use Rattle.std.proofs.lemmas.List.{get_or-reverse, length-reverse}
 use Rattle.expression_code.specs.declared.code.Instruction.{Instruction}
-use Rattle.gang_model.specs.State.{State}
+use Rattle.gang_model.specs.Running.State.{State}
 use Rattle.expression_code.specs.Machine.{Vectors, Masks, Goes, Outcome, act, follow, exec}
 
 second_by : {A : Type 0} (xs rs : List A) (c : A) → reverse xs ≡ rs → 2 ≤ length xs → c ≡ get_or xs (length xs - 2) c → (x : A) × (rest : List A) × (reverse xs ≡ x ∷ (c ∷ rest))

@@ -2,9 +2,9 @@
 use Rattle.std.proofs.Common.{◌≡◌, ℕ, true, List, [], ◌∷◌, Result, Ok, Err, refl, sym, ap, ◌∙◌, arith}
 use Rattle.std.proofs.lemmas.List.{append-nil}
 use Rattle.gang_types.specs.Lanes.{Lanes}
-use Rattle.gang_model.specs.Lanes.{Fault}
-use Rattle.gang_model.specs.State.{State}
-use Rattle.gang_model.specs.Value.{value}
+use Rattle.gang_model.specs.Running.Lanes.{Fault}
+use Rattle.gang_model.specs.Running.State.{State}
+use Rattle.gang_model.specs.Running.Value.{value}
 use Rattle.typed_tree.specs.declared.expressions.Expr.{Expr}
 use Rattle.typed_tree.specs.Views.{expr_view}
 use Rattle.expression_code.specs.Code.{is_scalar, code_of}

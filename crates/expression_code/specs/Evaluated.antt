@@ -1,6 +1,6 @@
 -- What an evaluation's answer says of the value.
 use Rattle.std.specs.Prelude.{◌≡◌, ℕ, List, Result, Ok, Err}
-use Rattle.gang_model.specs.Lanes.{Fault}
+use Rattle.gang_model.specs.Running.Lanes.{Fault}
 use Rattle.cross_lane.specs.Calls.{fault_of}
 use Rattle.expression_code.specs.declared.evaluation.Refusal.{Refusal}
 use Rattle.expression_code.specs.declared.evaluation.Refusal.TheVariants as refusal

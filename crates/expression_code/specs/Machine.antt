@@ -1,8 +1,8 @@
 -- What the machine does with a list of instructions: vectors on a stack and masks on another, the top of each first.
 use Rattle.std.specs.Prelude.{ℕ, zero, suc, Bool, true, false, cond, nat_lt, List, [], ◌∷◌, length, Result, Ok, Err}
 use Rattle.gang_types.specs.Lanes.{Lanes, no_lane}
-use Rattle.gang_model.specs.Lanes.{Fault, each}
-use Rattle.gang_model.specs.State.{State}
+use Rattle.gang_model.specs.Running.Lanes.{Fault, each}
+use Rattle.gang_model.specs.Running.State.{State}
 use Rattle.expression_code.specs.declared.code.Leaf.{Leaf}
 use Rattle.expression_code.specs.declared.code.OneOperand.{OneOperand}
 use Rattle.expression_code.specs.declared.code.TwoOperands.{TwoOperands}

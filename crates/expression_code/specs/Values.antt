@@ -2,9 +2,9 @@
 use Rattle.std.specs.Prelude.{ℕ, Bool, true, false, not, ◌&&◌, ◌||◌, List, length, Result, Ok, if◌then◌else◌}
 use Rattle.gang_types.specs.Values.{unary_of, binary_result, converted}
 use Rattle.gang_types.specs.Lanes.{Lanes, lanes_where}
-use Rattle.gang_model.specs.Lanes.{Fault, each, try_each, at, holds, truth_word}
-use Rattle.gang_model.specs.Library.{bits_from, of_one, of_two}
-use Rattle.gang_model.specs.State.{State, words_in, seen}
+use Rattle.gang_model.specs.Running.Lanes.{Fault, each, try_each, at, holds, truth_word}
+use Rattle.gang_model.specs.Running.Library.{bits_from, of_one, of_two}
+use Rattle.gang_model.specs.Running.State.{State, words_in, seen}
 use Rattle.typed_tree.specs.Views.{one_view, two_view}
 use Rattle.expression_code.specs.declared.code.Leaf.{Leaf}
 use Rattle.expression_code.specs.declared.code.Leaf.TheVariants.{Number, ProgramIndex, ProgramCount, LaneMask, Read}

@@ -1,8 +1,8 @@
 //! The value of an expression for some lanes of a gang, by its code.
 ghost use Rattle.std.specs.Prelude.{◌≤◌, ℕ, suc};
 ghost use Rattle.gang_types.specs.Masks.{IsGangWidth, lanes_of};
-ghost use Rattle.gang_model.specs.State.{State};
-ghost use Rattle.gang_model.specs.Value.{value};
+ghost use Rattle.gang_model.specs.Running.State.{State};
+ghost use Rattle.gang_model.specs.Running.Value.{value};
 ghost use Rattle.typed_tree.specs.declared.expressions.Expr.{Expr};
 ghost use Rattle.typed_tree.specs.Views.{expr_view};
 ghost use Rattle.expression_code.specs.Room.{depth, nesting};

@@ -3,7 +3,7 @@ ghost use Rattle.std.specs.Prelude.{◌≡◌, ◌<◌, ◌≤◌, ℕ, List, []
 ghost use Rattle.arrayvec.specs.ArrayVec.{array_vec_len};
 ghost use Rattle.gang_types.specs.Lanes.{Lanes};
 ghost use Rattle.gang_types.specs.Masks.{IsGangWidth, lanes_of};
-ghost use Rattle.gang_model.specs.State.{State};
+ghost use Rattle.gang_model.specs.Running.State.{State};
 ghost use Rattle.cross_lane.specs.Calls.{answer_of};
 ghost use Rattle.expression_code.specs.declared.code.Joining.TheVariants.{Both, Either, Choice};
 ghost use Rattle.expression_code.specs.Machine.{act, apply_one, apply_two, deeper, enter, exec, give, join, open_gate, open_otherwise, open_where, push, push_leaf, select};

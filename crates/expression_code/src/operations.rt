@@ -1,9 +1,9 @@
 //! What the instructions compute.
 ghost use Rattle.std.specs.Prelude.{◌≡◌, ℕ};
 ghost use Rattle.gang_types.specs.Masks.{IsGangWidth, lanes_of};
-ghost use Rattle.gang_model.specs.Lanes.{each};
-ghost use Rattle.gang_model.specs.Library.{bits_from};
-ghost use Rattle.gang_model.specs.State.{State, words_in, seen};
+ghost use Rattle.gang_model.specs.Running.Lanes.{each};
+ghost use Rattle.gang_model.specs.Running.Library.{bits_from};
+ghost use Rattle.gang_model.specs.Running.State.{State, words_in, seen};
 ghost use Rattle.cross_lane.specs.Calls.{answer_of};
 ghost use Rattle.expression_code.specs.Values.{leaf_value, one_value, two_value};
 ghost use Rattle.expression_code.specs.declared.code.Leaf.TheVariants.{ProgramCount};

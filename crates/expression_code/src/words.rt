@@ -1,15 +1,15 @@
 //! Where the words of variables come from.
 ghost use Rattle.std.specs.Prelude.{◌≡◌, ℕ, ◌<◌, slice_index};
 ghost use Rattle.gang_types.specs.Masks.{IsGangWidth};
-ghost use Rattle.gang_model.specs.Lanes.{at};
-ghost use Rattle.gang_model.specs.State.{State, words_in};
+ghost use Rattle.gang_model.specs.Running.Lanes.{at};
+ghost use Rattle.gang_model.specs.Running.State.{State, words_in};
 ghost use Rattle.expression_code.specs.Read.{place_in};
 
 use typed_tree::Var;
 
 /// A store with the words of variables.
 pub trait Words<const W: usize> {
-    ghost use Rattle.gang_model.specs.State.{State};
+    ghost use Rattle.gang_model.specs.Running.State.{State};
 
     // Whether its words are those of the state.
     ghost shows: { Self → State → Type 0 };

@@ -8,8 +8,8 @@ use Rattle.gang_types.specs.declared.places.VarId.{VarId}
 use Rattle.gang_types.specs.declared.places.VarId.TheVariants.{File, Local}
 use Rattle.gang_types.specs.declared.types.Rate.{Rate}
 use Rattle.gang_types.specs.declared.types.Rate.TheVariants.{Uniform, Varying}
-use Rattle.gang_model.specs.Lanes.{at}
-use Rattle.gang_model.specs.State.{State, words_in}
+use Rattle.gang_model.specs.Running.Lanes.{at}
+use Rattle.gang_model.specs.Running.State.{State, words_in}
 use Rattle.expression_code.specs.Read.{place_in}
 use Rattle.gang_machine.specs.Layout.{slot_of, words_needed}
 use Rattle.gang_machine.specs.Stored.{AreThoseOf, place_among}

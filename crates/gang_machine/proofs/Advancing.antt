@@ -9,12 +9,12 @@ use Rattle.gang_types.specs.declared.types.Rate.{Rate}
 use Rattle.gang_types.specs.declared.types.Rate.TheVariants.{Uniform, Varying}
 use Rattle.undo_log.specs.declared.timeline.Undone.TheVariants as undone
 use Rattle.undo_log.specs.History.{History, moment}
-use Rattle.gang_model.specs.Lanes.{Fault}
-use Rattle.gang_model.specs.Tree.{Stmt, Var}
-use Rattle.gang_model.specs.State.{State, with_words_in, words_in}
-use Rattle.gang_model.specs.Step.{run, step, stepped, Goes, Fails, Over}
-use Rattle.gang_model.specs.Events.{Step}
-use Rattle.gang_model.specs.Debugger.{Debugger, Setting, moved, now}
+use Rattle.gang_model.specs.Running.Lanes.{Fault}
+use Rattle.gang_model.specs.Types.Tree.{Stmt, Var}
+use Rattle.gang_model.specs.Running.State.{State, with_words_in, words_in}
+use Rattle.gang_model.specs.Running.Step.{run, step, stepped, Goes, Fails, Over}
+use Rattle.gang_model.specs.Debugger.Events.{Step}
+use Rattle.gang_model.specs.Debugger.Debugger.{Debugger, Setting, moved, now}
 use Rattle.scalar_programs.specs.Scalars.{declared_before, declared_by, steps_in_line, var_at}
 use Rattle.typed_tree.specs.declared.program.Function.{Function as TreeFunction}
 use Rattle.typed_tree.specs.declared.program.Global.{Global as TreeGlobal}

@@ -10,7 +10,7 @@ use Rattle.gang_types.specs.declared.places.VarId.{VarId}
 use Rattle.gang_types.specs.declared.places.VarId.TheVariants.{File, Local}
 use Rattle.gang_types.specs.declared.types.Rate.{Rate}
 use Rattle.gang_types.specs.declared.types.Rate.TheVariants.{Uniform, Varying}
-use Rattle.gang_model.specs.Tree.{Var, Stmt, Declare, Assign, Change, Scalar}
+use Rattle.gang_model.specs.Types.Tree.{Var, Stmt, Declare, Assign, Change, Scalar}
 use Rattle.scalar_programs.specs.Scalars.{IsStraight, declared_by, var_at}
 use Rattle.scalar_steps.specs.Written.{kept_words, written_var}
 use Rattle.gang_machine.specs.Layout.{StandsAt, Stored, place_of, position, rate_words, slot_of, words_count}

@@ -4,11 +4,11 @@ use Rattle.std.proofs.lemmas.List.{length-replicate}
 use Rattle.std.specs.Prelude.{IfOk, Ok, flat_map, slice_get}
 use Rattle.gang_types.specs.declared.places.VarId.TheVariants.{Local}
 use Rattle.gang_types.specs.Lanes.{Lanes}
-use Rattle.gang_model.specs.Lanes.{try_each}
-use Rattle.gang_model.specs.State.{State}
-use Rattle.gang_model.specs.Value.{value}
+use Rattle.gang_model.specs.Running.Lanes.{try_each}
+use Rattle.gang_model.specs.Running.State.{State}
+use Rattle.gang_model.specs.Running.Value.{value}
 use Rattle.gang_model.proofs.LaneWords.{Fills, if_ok_after, length-each, length-value}
-use Rattle.gang_model.specs.Tree.{Var, Stmt, Declare, Assign, Change, Scalar}
+use Rattle.gang_model.specs.Types.Tree.{Var, Stmt, Declare, Assign, Change, Scalar}
 use Rattle.scalar_programs.specs.Scalars.{IsStraight, declared_by, steps_in_line}
 use Rattle.scalar_steps.specs.declared.assignment.Assignment.{Assignment}
 use Rattle.scalar_steps.specs.Performed.{PerformAll, Performs}

@@ -5,15 +5,15 @@ use Rattle.std.proofs.lemmas.List.{length-map}
 use Rattle.std.proofs.Math.ListN.{drop_of_length-le}
 use Rattle.std.specs.Prelude.{bytes_eq, filter, map, option_map, slice_get, if◌then◌else◌}
 use Rattle.gang_types.specs.declared.places.VarId.TheVariants.{Local}
-use Rattle.gang_model.specs.Names.{named, same_text}
-use Rattle.gang_model.specs.Positions.{scope_of}
-use Rattle.gang_model.specs.Resolved.{local_at, no_variable, standing_with}
-use Rattle.gang_model.specs.Scope.{Binding, Environment, NameStanding, bound, names_at, unhidden}
-use Rattle.gang_model.specs.Tree.{Variable}
-use Rattle.step_scopes.specs.declared.table.Declaration.{Declaration}
-use Rattle.step_scopes.specs.declared.table.Standing.{Standing}
-use Rattle.step_scopes.specs.Scopes.{in_scope, linked, newest_first, standing_view}
-use Rattle.step_scopes.proofs.Texts.{bytes_same}
+use Rattle.gang_model.specs.Source.Names.{named, same_text}
+use Rattle.gang_model.specs.Debugger.Positions.{scope_of}
+use Rattle.gang_model.specs.Types.Resolved.{local_at, no_variable, standing_with}
+use Rattle.gang_model.specs.Names.Scope.{Binding, Environment, NameStanding, bound, names_at, unhidden}
+use Rattle.gang_model.specs.Types.Tree.{Variable}
+use Rattle.ispc_names_table.specs.declared.table.Declaration.{Declaration}
+use Rattle.ispc_names_table.specs.declared.table.Standing.{Standing}
+use Rattle.ispc_names_table.specs.Scopes.{in_scope, linked, newest_first, standing_view}
+use Rattle.ispc_names_table.proofs.Texts.{bytes_same}
 use Rattle.gang_machine.proofs.Lines.{drop_first}
 
 -- the test of a name, as the definitions name it

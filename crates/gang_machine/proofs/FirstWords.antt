@@ -4,7 +4,7 @@ use Rattle.std.proofs.lemmas.List.{get_or-replicate}
 use Rattle.std.specs.Prelude.{Some, slice_get}
 use Rattle.gang_types.specs.declared.types.Rate.{Rate}
 use Rattle.gang_types.specs.declared.types.Rate.TheVariants.{Uniform, Varying}
-use Rattle.gang_model.specs.Events.{scalar_words}
+use Rattle.gang_model.specs.Debugger.Events.{scalar_words}
 use Rattle.typed_tree.specs.declared.program.Global.{Global}
 use Rattle.gang_machine.specs.Layout.{StandsAt, Stored, rate_words, slot_of}
 use Rattle.gang_machine.proofs.Alterations.{apart_slots, rate_within, same_or_not}

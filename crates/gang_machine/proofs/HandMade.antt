@@ -6,12 +6,12 @@ use Rattle.gang_types.specs.declared.types.IntType.TheVariants.{Int32}
 use Rattle.gang_types.specs.declared.types.Rate.TheVariants.{Uniform, Varying}
 use Rattle.gang_types.specs.declared.operators.BinaryOp.TheVariants.{Add, Div}
 use Rattle.gang_types.specs.declared.places.VarId.TheVariants.{File, Local}
-use Rattle.gang_model.specs.Resolved.{standing_with}
-use Rattle.gang_model.specs.RunningOrder.{IsNumberedProgram, IsNumbered}
-use Rattle.gang_model.specs.Tree.{Standing as ModelStanding, Variable as ModelVariable, Function as ModelFunction}
-use Rattle.step_scopes.specs.declared.table.Declaration.{Declaration}
-use Rattle.step_scopes.specs.declared.table.Standing.{Standing}
-use Rattle.step_scopes.specs.Scopes.{standing_view}
+use Rattle.gang_model.specs.Types.Resolved.{standing_with}
+use Rattle.gang_model.specs.Running.RunningOrder.{IsNumberedProgram, IsNumbered}
+use Rattle.gang_model.specs.Types.Tree.{Standing as ModelStanding, Variable as ModelVariable, Function as ModelFunction}
+use Rattle.ispc_names_table.specs.declared.table.Declaration.{Declaration}
+use Rattle.ispc_names_table.specs.declared.table.Standing.{Standing}
+use Rattle.ispc_names_table.specs.Scopes.{standing_view}
 use Rattle.typed_tree.specs.declared.expressions.Expr.{ProgramIndex, Number}
 use Rattle.typed_tree.specs.declared.expressions.Var.{Var}
 use Rattle.typed_tree.specs.declared.program.Function.{Function}

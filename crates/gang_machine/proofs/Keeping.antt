@@ -5,12 +5,12 @@ use Rattle.std.specs.Prelude.{cond, filter, fold}
 use Rattle.undo_log.specs.declared.timeline.Undone.{Undone}
 use Rattle.undo_log.specs.declared.timeline.Undone.TheVariants as undone
 use Rattle.undo_log.specs.History.{History, Moment, moment, steps_in, is_step as is_kept_step}
-use Rattle.debug_interface.specs.Machines.{kind_of}
-use Rattle.gang_model.specs.Tree.{Var, Function}
-use Rattle.gang_model.specs.State.{State}
-use Rattle.gang_model.specs.Step.{step, Goes}
-use Rattle.gang_model.specs.Events.{Event, Step, Poke, gone}
-use Rattle.gang_model.specs.Debugger.{Debugger, Setting, is_step, kept_steps, moved, now, taken_back}
+use Rattle.debug_machine.specs.Machines.{kind_of}
+use Rattle.gang_model.specs.Types.Tree.{Var, Function}
+use Rattle.gang_model.specs.Running.State.{State}
+use Rattle.gang_model.specs.Running.Step.{step, Goes}
+use Rattle.gang_model.specs.Debugger.Events.{Event, Step, Poke, gone}
+use Rattle.gang_model.specs.Debugger.Debugger.{Debugger, Setting, is_step, kept_steps, moved, now, taken_back}
 use Rattle.typed_tree.specs.declared.program.Function.{Function as TreeFunction}
 use Rattle.typed_tree.specs.declared.program.Global.{Global as TreeGlobal}
 use Rattle.typed_tree.specs.Views.{function_view}

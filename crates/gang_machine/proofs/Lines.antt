@@ -2,10 +2,10 @@
 use Rattle.std.proofs.Common.{◌≡◌, refl, sym, ap, subst, ◌∙◌, ℕ, zero, suc, ◌+◌, ◌≤◌, List, [], ◌∷◌, ◌++◌, append-nil, append_assoc, length, length-append, take, drop, arith}
 use Rattle.std.proofs.lemmas.List.Concat.{flat_map-append}
 use Rattle.std.specs.Prelude.{Some, flat_map, slice_get}
-use Rattle.gang_model.specs.Tree.{Var, Stmt, Empty, Then, Declare, Assign, Change}
-use Rattle.gang_model.specs.Step.{steps_of}
-use Rattle.gang_model.specs.Positions.{number_of}
-use Rattle.gang_model.specs.RunningOrder.{IsNumbered}
+use Rattle.gang_model.specs.Types.Tree.{Var, Stmt, Empty, Then, Declare, Assign, Change}
+use Rattle.gang_model.specs.Running.Step.{steps_of}
+use Rattle.gang_model.specs.Debugger.Positions.{number_of}
+use Rattle.gang_model.specs.Running.RunningOrder.{IsNumbered}
 use Rattle.scalar_programs.specs.Scalars.{IsStraight, declared_before, declared_by, steps_in_line}
 use Rattle.gang_machine.specs.Remaining.{IsLine, IsSimple}
 

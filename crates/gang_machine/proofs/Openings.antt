@@ -6,7 +6,7 @@ use Rattle.std.proofs.Math.Nat.{mul-le-mul_right}
 use Rattle.std.specs.Prelude.{map, slice_get}
 use Rattle.gang_types.specs.Masks.{IsGangWidth}
 use Rattle.undo_log.specs.History.{History}
-use Rattle.gang_model.specs.RunningOrder.{IsNumberedProgram}
+use Rattle.gang_model.specs.Running.RunningOrder.{IsNumberedProgram}
 use Rattle.scalar_programs.specs.Scalars.{IsScalarProgram, IsStraightFunction, file_vars, steps_in_line}
 use Rattle.scalar_steps.specs.declared.assignment.Assignment.{Assignment}
 use Rattle.scalar_steps.specs.Performed.{PerformAll}

@@ -6,18 +6,18 @@ use Rattle.std.specs.Prelude.{IfSome, map, slice_get}
 use Rattle.gang_types.specs.declared.places.VarId.{VarId}
 use Rattle.gang_types.specs.declared.places.VarId.TheVariants.{File, Local}
 use Rattle.undo_log.specs.History.{History}
-use Rattle.gang_model.specs.Debugger.{Debugger, Setting, found, global_named, now, or_else}
-use Rattle.gang_model.specs.Names.{named}
-use Rattle.gang_model.specs.Positions.{scope_of}
-use Rattle.gang_model.specs.State.{State, local_words, words_in}
-use Rattle.gang_model.specs.Tree.{Function, Var, Variable}
-use Rattle.gang_model.specs.Typing.{var_of}
+use Rattle.gang_model.specs.Debugger.Debugger.{Debugger, Setting, found, global_named, now, or_else}
+use Rattle.gang_model.specs.Source.Names.{named}
+use Rattle.gang_model.specs.Debugger.Positions.{scope_of}
+use Rattle.gang_model.specs.Running.State.{State, local_words, words_in}
+use Rattle.gang_model.specs.Types.Tree.{Function, Var, Variable}
+use Rattle.gang_model.specs.Types.Typing.{var_of}
 use Rattle.scalar_programs.specs.Scalars.{declared_before, var_at}
 use Rattle.typed_tree.specs.declared.program.Function.{Function as TreeFunction}
 use Rattle.typed_tree.specs.declared.program.Global.{Global as TreeGlobal}
 use Rattle.typed_tree.specs.Views.{function_view, global_view}
-use Rattle.debug_interface.specs.Machines.{Finds}
-use Rattle.debug_interface.specs.declared.machine.Shown.{Shown}
+use Rattle.debug_machine.specs.Machines.{Finds}
+use Rattle.debug_machine.specs.declared.machine.Shown.{Shown}
 use Rattle.gang_machine.specs.Found.{IsSeen, SeesFound}
 use Rattle.gang_machine.specs.Layout.{place_of, position, rate_words, slot_of, words_count}
 use Rattle.gang_machine.specs.Standings.{AreFileScalars, Holds, IsRunning, Shows, Stands, View, file_of, file_variables, step_count, view_of}

@@ -4,9 +4,9 @@ use Rattle.std.proofs.lemmas.List.{map-append}
 use Rattle.std.proofs.lemmas.List.Concat.{flat_map-append}
 use Rattle.std.specs.Prelude.{flat_map, if◌then◌else◌}
 use Rattle.gang_types.specs.Lanes.{Lanes, no_lane}
-use Rattle.gang_model.specs.Tree.{Stmt, Empty, Then, Declare, Assign, Change}
-use Rattle.gang_model.specs.State.{Run, Task}
-use Rattle.gang_model.specs.Step.{task, opened, opened_before, settled}
+use Rattle.gang_model.specs.Types.Tree.{Stmt, Empty, Then, Declare, Assign, Change}
+use Rattle.gang_model.specs.Running.State.{Run, Task}
+use Rattle.gang_model.specs.Running.Step.{task, opened, opened_before, settled}
 use Rattle.scalar_programs.specs.Scalars.{steps_in_line}
 use Rattle.gang_machine.specs.Layout.{all_lanes}
 use Rattle.gang_machine.specs.Remaining.{AreLines, AreRemaining, BeginWithStep, IsLine, IsSimple, tasks_of}

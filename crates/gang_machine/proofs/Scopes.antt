@@ -6,12 +6,12 @@ use Rattle.std.proofs.Math.ListN.{drop_of_length-le}
 use Rattle.std.specs.Prelude.{All, codes, decimal, slice_get}
 use Rattle.gang_types.specs.declared.places.Place.{Place}
 use Rattle.gang_types.specs.Lanes.{Lanes}
-use Rattle.gang_model.specs.Names.{named}
-use Rattle.gang_model.specs.Positions.{frame_lanes, next_lanes, next_number, scope_now, scope_of, spot_in, standing_at, standing_in, standing_of, top_spot}
-use Rattle.gang_model.specs.State.{Frame, State}
-use Rattle.gang_model.specs.Text.{Bytes, bits, frames_text, line_and_column, standing_text, where_text}
-use Rattle.gang_model.specs.Tree.{Function, Program, Standing, Var, Variable}
-use Rattle.gang_model.specs.RunningOrder.{IsNumbered}
+use Rattle.gang_model.specs.Source.Names.{named}
+use Rattle.gang_model.specs.Debugger.Positions.{frame_lanes, next_lanes, next_number, scope_now, scope_of, spot_in, standing_at, standing_in, standing_of, top_spot}
+use Rattle.gang_model.specs.Running.State.{Frame, State}
+use Rattle.gang_model.specs.Texts.Text.{Bytes, bits, frames_text, line_and_column, standing_text, where_text}
+use Rattle.gang_model.specs.Types.Tree.{Function, Program, Standing, Var, Variable}
+use Rattle.gang_model.specs.Running.RunningOrder.{IsNumbered}
 use Rattle.scalar_programs.specs.Scalars.{IsScalarName, IsStraightFunction, declared_before, steps_in_line}
 use Rattle.gang_machine.specs.Layout.{all_lanes, position}
 use Rattle.gang_machine.specs.Remaining.{AreRemaining}

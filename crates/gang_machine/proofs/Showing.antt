@@ -6,9 +6,9 @@ use Rattle.std.specs.Prelude.{Ok, Some, flat_map, slice_get}
 use Rattle.gang_types.specs.declared.places.VarId.{VarId}
 use Rattle.gang_types.specs.declared.places.VarId.TheVariants.{File, Local}
 use Rattle.gang_types.specs.Lanes.{Lanes}
-use Rattle.gang_model.specs.Tree.{Var, Stmt, Declare, Assign, Change, Function, Program}
-use Rattle.gang_model.specs.State.{Run, Frame, State, Store, Task, words_of, with_words, with_words_in, seen}
-use Rattle.gang_model.specs.Step.{deliver, left, run, settle, settled, step, step_frame, step_task, stepped, task, Goes, Over}
+use Rattle.gang_model.specs.Types.Tree.{Var, Stmt, Declare, Assign, Change, Function, Program}
+use Rattle.gang_model.specs.Running.State.{Run, Frame, State, Store, Task, words_of, with_words, with_words_in, seen}
+use Rattle.gang_model.specs.Running.Step.{deliver, left, run, settle, settled, step, step_frame, step_task, stepped, task, Goes, Over}
 use Rattle.scalar_programs.specs.Scalars.{declared_before, declared_by, steps_in_line, var_at}
 use Rattle.scalar_steps.specs.Written.{kept_words}
 use Rattle.gang_machine.specs.Layout.{StandsAt, all_lanes, place_of, position, rate_words, slot_of, words_count}

@@ -9,13 +9,13 @@ use Rattle.gang_types.specs.declared.places.VarId.TheVariants.{File}
 use Rattle.gang_types.specs.declared.types.Rate.{Rate}
 use Rattle.gang_types.specs.declared.types.Rate.TheVariants.{Uniform, Varying}
 use Rattle.undo_log.specs.History.{History}
-use Rattle.gang_model.specs.Debugger.{fresh}
-use Rattle.gang_model.specs.Events.{global_words, initial_memory, scalar_words, started}
-use Rattle.gang_model.specs.State.{words_of}
-use Rattle.gang_model.specs.Step.{settled}
-use Rattle.gang_model.specs.Transcript.{setting}
-use Rattle.gang_model.specs.Tree.{Function, Global, Program}
-use Rattle.gang_model.specs.Typing.{var_of}
+use Rattle.gang_model.specs.Debugger.Debugger.{fresh}
+use Rattle.gang_model.specs.Debugger.Events.{global_words, initial_memory, scalar_words, started}
+use Rattle.gang_model.specs.Running.State.{words_of}
+use Rattle.gang_model.specs.Running.Step.{settled}
+use Rattle.gang_model.specs.Texts.Transcript.{setting}
+use Rattle.gang_model.specs.Types.Tree.{Function, Global, Program}
+use Rattle.gang_model.specs.Types.Typing.{var_of}
 use Rattle.scalar_programs.specs.Scalars.{declared_before, steps_in_line}
 use Rattle.typed_tree.specs.declared.program.Function.{Function as TreeFunction}
 use Rattle.typed_tree.specs.declared.program.Global.{Global as TreeGlobal}

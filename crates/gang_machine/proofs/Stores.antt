@@ -4,7 +4,7 @@ use Rattle.std.proofs.lemmas.Bool.Decides.{nat_tests}
 use Rattle.std.specs.Prelude.{if◌then◌else◌}
 use Rattle.gang_types.specs.declared.places.VarId.{VarId}
 use Rattle.gang_types.specs.declared.places.VarId.TheVariants.{File, Local}
-use Rattle.gang_model.specs.State.{Store, same_id, words_of, with_words}
+use Rattle.gang_model.specs.Running.State.{Store, same_id, words_of, with_words}
 
 same_number : (k : ℕ) → nat_eq k k ≡ true
 same_number k = grind (arith, nat_tests)

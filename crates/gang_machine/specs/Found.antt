@@ -1,7 +1,7 @@
 -- What is shown of a variable that is found.
 use Rattle.std.specs.Prelude.{◌≡◌, ℕ, Option, Some, None}
-use Rattle.debug_interface.specs.declared.machine.Shown.{Shown}
-use Rattle.gang_model.specs.Tree.{Variable}
+use Rattle.debug_machine.specs.declared.machine.Shown.{Shown}
+use Rattle.gang_model.specs.Types.Tree.{Variable}
 use Rattle.gang_machine.specs.Layout.{rate_words}
 
 -- what is shown is the variable, with its type and as many words as it has

@@ -5,7 +5,7 @@ use Rattle.gang_types.specs.declared.places.VarId.TheVariants.{File, Local}
 use Rattle.gang_types.specs.declared.types.Rate.{Rate}
 use Rattle.gang_types.specs.declared.types.Rate.TheVariants.{Uniform, Varying}
 use Rattle.gang_types.specs.Lanes.{Lanes}
-use Rattle.gang_model.specs.Tree.{Var}
+use Rattle.gang_model.specs.Types.Tree.{Var}
 
 -- where a word of the variable at a place lies
 abbrev pub slot_of : (width place lane : ℕ) → ℕ

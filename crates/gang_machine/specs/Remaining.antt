@@ -1,9 +1,9 @@
 -- What a frame has still to do on a straight line.
 use Rattle.std.specs.Prelude.{◌≡◌, List, [], ◌∷◌, map, flat_map}
 use Rattle.gang_types.specs.Lanes.{Lanes}
-use Rattle.gang_model.specs.Tree.{Stmt, Empty, Then, Declare, Assign, Change}
-use Rattle.gang_model.specs.State.{Run, Task}
-use Rattle.gang_model.specs.Step.{task}
+use Rattle.gang_model.specs.Types.Tree.{Stmt, Empty, Then, Declare, Assign, Change}
+use Rattle.gang_model.specs.Running.State.{Run, Task}
+use Rattle.gang_model.specs.Running.Step.{task}
 use Rattle.scalar_programs.specs.Scalars.{steps_in_line}
 
 -- a declaration or an assignment

@@ -4,13 +4,13 @@ use Rattle.gang_types.specs.declared.places.VarId.{VarId}
 use Rattle.gang_types.specs.declared.places.VarId.TheVariants.{File, Local}
 use Rattle.gang_types.specs.Masks.{IsGangWidth}
 use Rattle.undo_log.specs.History.{History, Moment}
-use Rattle.debug_interface.specs.Machines.{kind_of}
-use Rattle.gang_model.specs.Tree.{Var, Variable, Function, Nothing}
-use Rattle.gang_model.specs.State.{Frame, State, Store, words_of}
-use Rattle.gang_model.specs.Typing.{var_of}
-use Rattle.gang_model.specs.Events.{Event, after}
-use Rattle.gang_model.specs.Debugger.{Debugger, Setting, now}
-use Rattle.gang_model.specs.RunningOrder.{IsNumbered}
+use Rattle.debug_machine.specs.Machines.{kind_of}
+use Rattle.gang_model.specs.Types.Tree.{Var, Variable, Function, Nothing}
+use Rattle.gang_model.specs.Running.State.{Frame, State, Store, words_of}
+use Rattle.gang_model.specs.Types.Typing.{var_of}
+use Rattle.gang_model.specs.Debugger.Events.{Event, after}
+use Rattle.gang_model.specs.Debugger.Debugger.{Debugger, Setting, now}
+use Rattle.gang_model.specs.Running.RunningOrder.{IsNumbered}
 use Rattle.typed_tree.specs.declared.program.Function.{Function as TreeFunction}
 use Rattle.typed_tree.specs.declared.program.Global.{Global as TreeGlobal}
 use Rattle.typed_tree.specs.Views.{function_view, global_view}

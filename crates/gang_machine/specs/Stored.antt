@@ -2,8 +2,8 @@
 use Rattle.std.specs.Prelude.{◌≡◌, ℕ, ◌+◌, ◌<◌, ◌≤◌, ◌⊎◌, nat_lt, List, length, slice_get, slice_index, Option, Some, None, if◌then◌else◌}
 use Rattle.gang_types.specs.declared.places.VarId.{VarId}
 use Rattle.gang_types.specs.declared.places.VarId.TheVariants.{File, Local}
-use Rattle.gang_model.specs.Events.{scalar_words}
-use Rattle.gang_model.specs.State.{State, words_in}
+use Rattle.gang_model.specs.Debugger.Events.{scalar_words}
+use Rattle.gang_model.specs.Running.State.{State, words_in}
 use Rattle.typed_tree.specs.declared.program.Global.{Global as TreeGlobal}
 use Rattle.gang_machine.specs.Layout.{StandsAt, slot_of}
 

@@ -1,15 +1,15 @@
 //! The machine: a function, the code of its steps, and words that lie in a timeline.
 ghost use Rattle.std.specs.Prelude.{◌≡◌, ℕ, ◌<◌, length, slice_index, IfSome};
-ghost use Rattle.gang_model.specs.Debugger.{Debugger, Setting, kept_steps, now};
-ghost use Rattle.gang_model.specs.State.{words_in};
-ghost use Rattle.gang_model.specs.Text.{where_text};
-ghost use Rattle.debug_interface.specs.Machines.{Finds, Steps, Undoes, position_text};
+ghost use Rattle.gang_model.specs.Debugger.Debugger.{Debugger, Setting, kept_steps, now};
+ghost use Rattle.gang_model.specs.Running.State.{words_in};
+ghost use Rattle.gang_model.specs.Texts.Text.{where_text};
+ghost use Rattle.debug_machine.specs.Machines.{Finds, Steps, Undoes, position_text};
 ghost use Rattle.gang_machine.specs.Standings.{Holds, Stands};
 
 use crate::names::{global_named, local_named};
 use crate::slots::{count_of, place_of, record_step, slot};
 use crate::variables::Variables;
-use debug_interface::{Fault, Position, RecordedMachine, Shown, StepEnd};
+use debug_machine::{Fault, Position, RecordedMachine, Shown, StepEnd};
 use gang_types::{Mask, VarId};
 use scalar_steps::{Assignment, values};
 use std::marker::Model;

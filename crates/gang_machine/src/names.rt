@@ -1,15 +1,15 @@
 //! The variables that names stand for.
 ghost use Rattle.std.specs.Prelude.{◌≡◌, map, slice_get};
-ghost use Rattle.gang_model.specs.Names.{named, same_text};
-ghost use Rattle.gang_model.specs.Positions.{scope_of};
-ghost use Rattle.gang_model.specs.Resolved.{local_at};
+ghost use Rattle.gang_model.specs.Source.Names.{named, same_text};
+ghost use Rattle.gang_model.specs.Debugger.Positions.{scope_of};
+ghost use Rattle.gang_model.specs.Types.Resolved.{local_at};
 ghost use Rattle.gang_types.specs.declared.places.VarId.TheVariants.{Local};
 ghost use Rattle.typed_tree.specs.Views.{function_view, variable_view};
 ghost use Rattle.gang_machine.specs.Found.{IsSeen, SeesFound};
 ghost use Rattle.gang_machine.specs.Standings.{file_variables};
 
 use crate::slots::count_of;
-use debug_interface::Shown;
+use debug_machine::Shown;
 use gang_types::{IntType, VarId};
 use typed_tree::{Function, Global, Variable};
 

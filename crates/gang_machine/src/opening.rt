@@ -2,9 +2,9 @@
 ghost use Rattle.std.specs.Prelude.{◌≡◌, ℕ, ◌+◌, ◌^◌, ◌<◌, ◌≤◌, [], Some, length, slice_get, IfOk, IfSome};
 ghost use Rattle.gang_types.specs.Masks.{IsGangWidth};
 ghost use Rattle.gang_types.specs.declared.places.VarId.TheVariants.{Local};
-ghost use Rattle.gang_model.specs.Debugger.{fresh};
-ghost use Rattle.gang_model.specs.RunningOrder.{IsNumberedProgram};
-ghost use Rattle.gang_model.specs.Transcript.{setting};
+ghost use Rattle.gang_model.specs.Debugger.Debugger.{fresh};
+ghost use Rattle.gang_model.specs.Running.RunningOrder.{IsNumberedProgram};
+ghost use Rattle.gang_model.specs.Texts.Transcript.{setting};
 ghost use Rattle.scalar_programs.specs.Scalars.{IsScalarProgram};
 ghost use Rattle.scalar_steps.specs.declared.assignment.Assignment.{Assignment as Made};
 ghost use Rattle.typed_tree.specs.Views.{program_view};

@@ -5,7 +5,7 @@ ghost use Rattle.gang_types.specs.declared.operators.BinaryOp.TheVariants.{Add, 
 ghost use Rattle.gang_types.specs.declared.places.VarId.TheVariants.{File, Local};
 ghost use Rattle.gang_types.specs.declared.types.IntType.TheVariants.{Int32};
 ghost use Rattle.gang_types.specs.declared.types.Rate.TheVariants.{Uniform, Varying};
-ghost use Rattle.gang_model.specs.RunningOrder.{IsNumberedProgram};
+ghost use Rattle.gang_model.specs.Running.RunningOrder.{IsNumberedProgram};
 ghost use Rattle.scalar_programs.specs.Scalars.{IsScalarProgram};
 ghost use Rattle.typed_tree.specs.Views.{program_view};
 ghost use Rattle.typed_tree.specs.declared.expressions.Expr.{Number, ProgramIndex};
@@ -13,11 +13,11 @@ ghost use Rattle.typed_tree.specs.declared.statements.Stmt.{Change, Declare};
 ghost use Rattle.typed_tree.specs.declared.statements.Target.TheVariants.{Scalar};
 
 use crate::open;
-use debug_interface::{Fault, RecordedMachine, StepEnd};
+use debug_machine::{Fault, RecordedMachine, StepEnd};
 use gang_types::{BinaryOp, FaultName, FuncId, IntType, Place, Rate, VarId};
+use ispc_names_table::{Declaration, Standing, StepScopes};
 use std::alloc::{AllocError, Global as Memory};
 use std::test::*;
-use step_scopes::{Declaration, Standing, StepScopes};
 use typed_tree::{Expr, Function, Global, Program, Stmt, Target, Var, Variable};
 use undo_log::{NoHistory, Undone};
 

@@ -1,10 +1,10 @@
 -- In the program of a source, the tasks of each frame stand in running order, after all events from the start.
 use Rattle.std.specs.Prelude.{◌≡◌, ℕ, List, Some}
-use Rattle.gang_model.specs.Tree.{Program}
-use Rattle.gang_model.specs.Parsed.{ParsedSource}
-use Rattle.gang_model.specs.Resolved.{program_of}
-use Rattle.gang_model.specs.Events.{Event, Row, start, after}
-use Rattle.gang_model.specs.RunningOrder.{FramesInOrder}
+use Rattle.gang_model.specs.Types.Tree.{Program}
+use Rattle.gang_model.specs.Source.Parsed.{ParsedSource}
+use Rattle.gang_model.specs.Types.Resolved.{program_of}
+use Rattle.gang_model.specs.Debugger.Events.{Event, Row, start, after}
+use Rattle.gang_model.specs.Running.RunningOrder.{FramesInOrder}
 use Rattle.gang_model.proofs.VariableLaws.{program_of-numbered}
 use Rattle.gang_model.proofs.TaskOrder.{in_start, in_after}
 

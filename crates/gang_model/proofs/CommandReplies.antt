@@ -4,10 +4,10 @@ use Rattle.std.proofs.Common.{◌≡◌, refl, sym, ◌∙◌, subst, ℕ, zero,
 use Rattle.std.specs.Prelude.{min, drop, ◌==◌, ◌||◌, not, nat_lt, nat_le, is_some, find, if◌then◌else◌}
 use Rattle.std.proofs.lemmas.List.{length-drop}
 use Rattle.gang_types.specs.Values.{wrapped}
-use Rattle.gang_model.specs.Tree.{Variable}
-use Rattle.gang_model.specs.Step.{Stepped, Goes, Fails, Over, step}
-use Rattle.gang_model.specs.Events.{Event, Step, Poke}
-use Rattle.gang_model.specs.Debugger.{Target, Stop, Line, Watch, Debugger, Command, DoStep, DoNext, DoReverseStep, DoReverseNext, DoFinish, DoContinue, DoReverseFinish, DoReverseContinue, DoUndo, DoPrint, DoSet, DoBreak, DoWatch, DoDelete, DoInfoBreakpoints, DoInfoLocals, DoBacktrace, DoNothing, DoQuit, DoSetHistory, Refusal, Answer, Here, HistoryEnd, BreaksAt, Watches, Refused, Reply, reply, Setting, now, depth, has_ended, global_named, found, Goal, Moves, Groups, Above, NoGoal, towards, moved, taken_back, to_last_step, stepped_back, kept_steps, AfterMove, Ends, GoesOn, ends_or_goes_on, after_move, or_next, attempted, forward, backward, unless_refused, forward_refusal, backward_refusal, do_forward, do_backward, undone, with_target, is_value, poked_by, least_from, step_lines, add_stop, break_on, do_delete, do_command}
+use Rattle.gang_model.specs.Types.Tree.{Variable}
+use Rattle.gang_model.specs.Running.Step.{Stepped, Goes, Fails, Over, step}
+use Rattle.gang_model.specs.Debugger.Events.{Event, Step, Poke}
+use Rattle.gang_model.specs.Debugger.Debugger.{Target, Stop, Line, Watch, Debugger, Command, DoStep, DoNext, DoReverseStep, DoReverseNext, DoFinish, DoContinue, DoReverseFinish, DoReverseContinue, DoUndo, DoPrint, DoSet, DoBreak, DoWatch, DoDelete, DoInfoBreakpoints, DoInfoLocals, DoBacktrace, DoNothing, DoQuit, DoSetHistory, Refusal, Answer, Here, HistoryEnd, BreaksAt, Watches, Refused, Reply, reply, Setting, now, depth, has_ended, global_named, found, Goal, Moves, Groups, Above, NoGoal, towards, moved, taken_back, to_last_step, stepped_back, kept_steps, AfterMove, Ends, GoesOn, ends_or_goes_on, after_move, or_next, attempted, forward, backward, unless_refused, forward_refusal, backward_refusal, do_forward, do_backward, undone, with_target, is_value, poked_by, least_from, step_lines, add_stop, break_on, do_delete, do_command}
 
 -- whether an answer is a refusal
 abbrev pub is_refusal : Answer → Bool

@@ -7,14 +7,14 @@ use Rattle.gang_types.specs.declared.places.VarId.{VarId}
 use Rattle.gang_types.specs.declared.places.VarId.TheVariants.{File, Local}
 use Rattle.gang_types.specs.declared.faults.FaultName.TheVariants.{CallDepth}
 use Rattle.gang_types.specs.Lanes.{Lanes, lowest}
-use Rattle.gang_model.specs.Lanes.{Fault, ◌>>=◌, each, try_each, members}
-use Rattle.gang_model.specs.Tree.{ResultFor, Nothing, Declares, Assigns, Returns, Stmt, Declare, Assign, Change, If, Break, Continue, Return, Switch, ForEach, Call, Check, PackedStore, PackedLoad, Function, Program}
-use Rattle.gang_model.specs.State.{Store, Doing, Run, LoopTest, LoopUpdate, Round, RoundEnd, SwitchEnd, Task, Frame, State, with_words_in, with_first, on_top}
-use Rattle.gang_model.specs.Rounds.{rounds}
-use Rattle.gang_model.specs.Value.{value}
-use Rattle.gang_model.specs.Library.{rank}
-use Rattle.gang_model.specs.Step.{deliver, left, leave, Passed, new_frame, entered, with_store, run, perform, Stepped, Goes, Fails, Over, stepped, step_task, step_frame, step, Written, ToVar, ToElements, write, packed, initial, reached, old_values, passed, part}
-use Rattle.gang_model.specs.Events.{Event, Step, Poke, Poked, WholeOf, LaneOf, ElementAt, Given, started, start, with_rows, initial_memory, poked, gone, happen, after}
+use Rattle.gang_model.specs.Running.Lanes.{Fault, ◌>>=◌, each, try_each, members}
+use Rattle.gang_model.specs.Types.Tree.{ResultFor, Nothing, Declares, Assigns, Returns, Stmt, Declare, Assign, Change, If, Break, Continue, Return, Switch, ForEach, Call, Check, PackedStore, PackedLoad, Function, Program}
+use Rattle.gang_model.specs.Running.State.{Store, Doing, Run, LoopTest, LoopUpdate, Round, RoundEnd, SwitchEnd, Task, Frame, State, with_words_in, with_first, on_top}
+use Rattle.gang_model.specs.Running.Rounds.{rounds}
+use Rattle.gang_model.specs.Running.Value.{value}
+use Rattle.gang_model.specs.Running.Library.{rank}
+use Rattle.gang_model.specs.Running.Step.{deliver, left, leave, Passed, new_frame, entered, with_store, run, perform, Stepped, Goes, Fails, Over, stepped, step_task, step_frame, step, Written, ToVar, ToElements, write, packed, initial, reached, old_values, passed, part}
+use Rattle.gang_model.specs.Debugger.Events.{Event, Step, Poke, Poked, WholeOf, LaneOf, ElementAt, Given, started, start, with_rows, initial_memory, poked, gone, happen, after}
 use Rattle.gang_model.proofs.LaneWords.{if_ok_after}
 
 -- a state has at most 64 frames

@@ -6,7 +6,7 @@ use Rattle.std.specs.Prelude.{nat_lt, is_some, Option, Some, None, Result, Ok, E
 use Rattle.gang_model.specs.declared.refusals.RefusalNumber.{RefusalNumber}
 use Rattle.gang_types.specs.declared.places.Place.{Place}
 use Rattle.gang_model.specs.declared.refusals.SourceRefusal.{SourceRefusal}
-use Rattle.gang_model.specs.Judged.{Judged, Sound, Faulty, faults_of, unless, both, ◌>>=◌, or_own, rank, is_less, lesser, least_of, least_fault, answer_of, fault_if}
+use Rattle.gang_model.specs.Source.Judged.{Judged, Sound, Faulty, faults_of, unless, both, ◌>>=◌, or_own, rank, is_less, lesser, least_of, least_fault, answer_of, fault_if}
 
 -- the order on a line, a column and a number
 abbrev below : (l c n l' c' n' : ℕ) → Bool

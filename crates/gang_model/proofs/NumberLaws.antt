@@ -8,22 +8,22 @@ use Rattle.gang_types.specs.declared.types.Rate.{Rate}
 use Rattle.gang_types.specs.declared.types.Rate.TheVariants.{Uniform, Varying}
 use Rattle.gang_types.specs.declared.places.Place.{Place}
 use Rattle.gang_types.specs.declared.places.VarId.TheVariants.{Local}
-use Rattle.gang_model.specs.Tree.{Var, ResultFor, Nothing, Assigns, Returns, StepNumber, Stmt, Variable}
-use Rattle.gang_model.specs.Step.{steps_of}
-use Rattle.gang_model.specs.RunningOrder.{IsNumbered}
-use Rattle.gang_model.specs.Parsed.{Name, ParsedExpr, ParsedArgs, ParsedDim, ParsedTarget, ParsedStmt, ParsedEmpty, ParsedBlock, ParsedDeclare, ParsedAssign, ParsedChange, ParsedIncrement, ParsedDoCall, ParsedBreak, ParsedContinue, ParsedReturn, ParsedIf, ParsedIfElse, ParsedWhile, ParsedDo, ParsedFor, ParsedSwitch, ParsedForEach, ParsedForEachActive, ParsedForEachUnique, ParsedStmts, ParsedLast, ParsedNext, ParsedSegments, ParsedNoMore, ParsedSegment}
-use Rattle.gang_model.specs.Numbering.{steps_in, steps_in_all, steps_in_segments}
-use Rattle.gang_model.specs.Bindings.{dim_bindings, bindings_in, bindings_in_all, bindings_in_segments, variable_bindings}
-use Rattle.gang_model.specs.Scope.{Binding, bound, locals_in, locals_in_all}
-use Rattle.gang_model.specs.Judged.{unless, both}
+use Rattle.gang_model.specs.Types.Tree.{Var, ResultFor, Nothing, Assigns, Returns, StepNumber, Stmt, Variable}
+use Rattle.gang_model.specs.Running.Step.{steps_of}
+use Rattle.gang_model.specs.Running.RunningOrder.{IsNumbered}
+use Rattle.gang_model.specs.Source.Parsed.{Name, ParsedExpr, ParsedArgs, ParsedDim, ParsedTarget, ParsedStmt, ParsedEmpty, ParsedBlock, ParsedDeclare, ParsedAssign, ParsedChange, ParsedIncrement, ParsedDoCall, ParsedBreak, ParsedContinue, ParsedReturn, ParsedIf, ParsedIfElse, ParsedWhile, ParsedDo, ParsedFor, ParsedSwitch, ParsedForEach, ParsedForEachActive, ParsedForEachUnique, ParsedStmts, ParsedLast, ParsedNext, ParsedSegments, ParsedNoMore, ParsedSegment}
+use Rattle.gang_model.specs.Running.Numbering.{steps_in, steps_in_all, steps_in_segments}
+use Rattle.gang_model.specs.Names.Bindings.{dim_bindings, bindings_in, bindings_in_all, bindings_in_segments, variable_bindings}
+use Rattle.gang_model.specs.Names.Scope.{Binding, bound, locals_in, locals_in_all}
+use Rattle.gang_model.specs.Source.Judged.{unless, both}
 use Rattle.gang_model.proofs.JudgedLaws.{OnSound, on_any, on_then, on_both, on_unless, on_pair, on_if}
-use Rattle.gang_model.specs.LibraryTable.{StatementCall, Asserts, PackedStores, PackedLoads, statement_call}
-use Rattle.gang_model.specs.Signatures.{ResultType}
-use Rattle.gang_model.specs.Typing.{Scope, Passing, Scalar, View, Reference, arguments, expression, given_value, first_of, var_of, declared, index_entry}
-use Rattle.gang_model.specs.Overloads.{candidates, overload}
-use Rattle.gang_model.specs.Calls.{Context, whole_call, Called, stored_to, takes_elements, library_statement, call_of_kind, call_of, WholeCall, right_call, result_faults}
-use Rattle.gang_model.specs.Statements.{first_value, declaration, operand_for, empty_return, returned_value, returned, value_return, returning, test_of, dimensions, selector, label_word, Made, made, index_entries, index_variables, scope_after, statement, statements, segments_of, assigned_by, assigned_type, rate_of, target_of, variable_of, call_for, scalar_target}
-use Rattle.gang_model.specs.TypeFaults.{variable_faults}
+use Rattle.gang_model.specs.Types.LibraryTable.{StatementCall, Asserts, PackedStores, PackedLoads, statement_call}
+use Rattle.gang_model.specs.Types.Signatures.{ResultType}
+use Rattle.gang_model.specs.Types.Typing.{Scope, Passing, Scalar, View, Reference, arguments, expression, given_value, first_of, var_of, declared, index_entry}
+use Rattle.gang_model.specs.Types.Overloads.{candidates, overload}
+use Rattle.gang_model.specs.Types.Calls.{Context, whole_call, Called, stored_to, takes_elements, library_statement, call_of_kind, call_of, WholeCall, right_call, result_faults}
+use Rattle.gang_model.specs.Types.Statements.{first_value, declaration, operand_for, empty_return, returned_value, returned, value_return, returning, test_of, dimensions, selector, label_word, Made, made, index_entries, index_variables, scope_after, statement, statements, segments_of, assigned_by, assigned_type, rate_of, target_of, variable_of, call_for, scalar_target}
+use Rattle.gang_model.specs.Types.TypeFaults.{variable_faults}
 
 -- one step with this number
 abbrev pub OneStep : StepNumber → Stmt → Type 0

@@ -3,20 +3,20 @@ use Rattle.std.proofs.Common.{List, [], ◌∷◌, ◌++◌, ◌≡◌, length}
 use Rattle.std.specs.Prelude.{◌||◌, map, is_some, Some}
 use Rattle.std.specs.List.{flat_map}
 use Rattle.gang_model.specs.declared.refusals.RefusalNumber.TheVariants.{S6}
-use Rattle.gang_model.specs.Tree.{Program}
-use Rattle.gang_model.specs.WellPlaced.{StmtPlaced, FunctionsPlaced}
-use Rattle.gang_model.specs.Parsed.{Name, ParsedFunction, ParsedSource, functions_in, globals_in}
-use Rattle.gang_model.specs.Scope.{function_site, file_scope}
-use Rattle.gang_model.specs.Judged.{unless, fault_if}
+use Rattle.gang_model.specs.Types.Tree.{Program}
+use Rattle.gang_model.specs.Types.WellPlaced.{StmtPlaced, FunctionsPlaced}
+use Rattle.gang_model.specs.Source.Parsed.{Name, ParsedFunction, ParsedSource, functions_in, globals_in}
+use Rattle.gang_model.specs.Names.Scope.{function_site, file_scope}
+use Rattle.gang_model.specs.Source.Judged.{unless, fault_if}
 use Rattle.gang_model.proofs.JudgedLaws.{OnSound, on_any, on_pair}
-use Rattle.gang_model.specs.LibraryTable.{is_library_name, statement_call}
-use Rattle.gang_model.specs.Signatures.{result_of}
-use Rattle.gang_model.specs.Calls.{Context}
-use Rattle.gang_model.specs.TypeFaults.{signature_faults}
-use Rattle.gang_model.specs.Statements.{statements}
-use Rattle.gang_model.specs.NameFaults.{in_function, stmts_names, params_twice, function_names, globals_twice, functions_twice}
-use Rattle.gang_model.specs.Resolved.{param_entries, global_entries, judged_globals, judged_function, judged_functions, judged_program, program_of}
-use Rattle.gang_model.specs.SourceRefusals.{IsAccepted}
+use Rattle.gang_model.specs.Types.LibraryTable.{is_library_name, statement_call}
+use Rattle.gang_model.specs.Types.Signatures.{result_of}
+use Rattle.gang_model.specs.Types.Calls.{Context}
+use Rattle.gang_model.specs.Types.TypeFaults.{signature_faults}
+use Rattle.gang_model.specs.Types.Statements.{statements}
+use Rattle.gang_model.specs.Names.NameFaults.{in_function, stmts_names, params_twice, function_names, globals_twice, functions_twice}
+use Rattle.gang_model.specs.Types.Resolved.{param_entries, global_entries, judged_globals, judged_function, judged_functions, judged_program, program_of}
+use Rattle.gang_model.specs.Types.SourceRefusals.{IsAccepted}
 use Rattle.gang_model.proofs.RefusalLaws.{accepted-names}
 use Rattle.gang_model.proofs.VariableLaws.{on_some}
 use Rattle.gang_model.proofs.PlacedStmts.{MadePlaced, left_none, right_none, statements_placed}

@@ -11,21 +11,21 @@ use Rattle.gang_types.specs.declared.places.VarId.TheVariants.{Local}
 use Rattle.gang_model.specs.declared.forms.Label.{Label}
 use Rattle.gang_model.specs.declared.refusals.RefusalNumber.{RefusalNumber}
 use Rattle.gang_model.specs.declared.refusals.RefusalNumber.TheVariants.{S6, S9, S11}
-use Rattle.gang_model.specs.Tree.{Var, ResultFor, Nothing, Declares, Assigns, Returns, Dimension, Rows, Tiles, StepNumber, Stmt, PackedLoad}
-use Rattle.gang_model.specs.WellPlaced.{ResultPlaced, RoundsPlaced, inside_rounds, StmtPlaced}
-use Rattle.gang_model.specs.Parsed.{Name, ParsedExpr, ParsedArgs, ParsedTarget, ParsedStmt, ParsedEmpty, ParsedBlock, ParsedDeclare, ParsedAssign, ParsedChange, ParsedIncrement, ParsedDoCall, ParsedBreak, ParsedContinue, ParsedReturn, ParsedIf, ParsedIfElse, ParsedWhile, ParsedDo, ParsedFor, ParsedSwitch, ParsedForEach, ParsedForEachActive, ParsedForEachUnique, ParsedStmts, ParsedLast, ParsedNext, ParsedSegments, ParsedNoMore, ParsedSegment}
-use Rattle.gang_model.specs.Numbering.{steps_in, steps_in_all}
-use Rattle.gang_model.specs.Scope.{Site, enclosed, past, locals_in, locals_in_all, after, after_all, at_test, in_for, in_rounds, in_domain}
-use Rattle.gang_model.specs.Judged.{Judged, Sound, unless, both, ◌>>=◌, fault_if, refused}
+use Rattle.gang_model.specs.Types.Tree.{Var, ResultFor, Nothing, Declares, Assigns, Returns, Dimension, Rows, Tiles, StepNumber, Stmt, PackedLoad}
+use Rattle.gang_model.specs.Types.WellPlaced.{ResultPlaced, RoundsPlaced, inside_rounds, StmtPlaced}
+use Rattle.gang_model.specs.Source.Parsed.{Name, ParsedExpr, ParsedArgs, ParsedTarget, ParsedStmt, ParsedEmpty, ParsedBlock, ParsedDeclare, ParsedAssign, ParsedChange, ParsedIncrement, ParsedDoCall, ParsedBreak, ParsedContinue, ParsedReturn, ParsedIf, ParsedIfElse, ParsedWhile, ParsedDo, ParsedFor, ParsedSwitch, ParsedForEach, ParsedForEachActive, ParsedForEachUnique, ParsedStmts, ParsedLast, ParsedNext, ParsedSegments, ParsedNoMore, ParsedSegment}
+use Rattle.gang_model.specs.Running.Numbering.{steps_in, steps_in_all}
+use Rattle.gang_model.specs.Names.Scope.{Site, enclosed, past, locals_in, locals_in_all, after, after_all, at_test, in_for, in_rounds, in_domain}
+use Rattle.gang_model.specs.Source.Judged.{Judged, Sound, unless, both, ◌>>=◌, fault_if, refused}
 use Rattle.gang_model.proofs.JudgedLaws.{OnSound, on_any, on_then, on_both, on_unless, on_pair, on_if}
-use Rattle.gang_model.specs.LibraryTable.{StatementCall, Asserts, PackedStores, PackedLoads, statement_call}
-use Rattle.gang_model.specs.Signatures.{ResultType}
-use Rattle.gang_model.specs.Typing.{Scope, Passing, Scalar, View, Reference, arguments, expression, given_value, first_of, var_of, declared, index_entry}
-use Rattle.gang_model.specs.Overloads.{candidates, overload}
-use Rattle.gang_model.specs.Calls.{Context, Called, packed, stored_to, takes_elements, library_statement, call_of_kind, call_of, WholeCall, whole_call, right_call, result_faults}
-use Rattle.gang_model.specs.TypeFaults.{variable_faults}
-use Rattle.gang_model.specs.Statements.{first_value, declaration, scalar_target, target_of, rate_of, assigned_type, variable_of, call_for, assigned_by, operand_for, empty_return, returned_value, returned, value_return, returning, test_of, dimensions, label_word, selector, Made, made, scope_after, index_entries, statement, statements, segments_of}
-use Rattle.gang_model.specs.NameFaults.{Allowed, in_loop, in_switch, in_round, in_domain_round, same_label, stmt_names, stmts_names, segments_names, names_in, names_in_some, right_names_of, dims_names, twice}
+use Rattle.gang_model.specs.Types.LibraryTable.{StatementCall, Asserts, PackedStores, PackedLoads, statement_call}
+use Rattle.gang_model.specs.Types.Signatures.{ResultType}
+use Rattle.gang_model.specs.Types.Typing.{Scope, Passing, Scalar, View, Reference, arguments, expression, given_value, first_of, var_of, declared, index_entry}
+use Rattle.gang_model.specs.Types.Overloads.{candidates, overload}
+use Rattle.gang_model.specs.Types.Calls.{Context, Called, packed, stored_to, takes_elements, library_statement, call_of_kind, call_of, WholeCall, whole_call, right_call, result_faults}
+use Rattle.gang_model.specs.Types.TypeFaults.{variable_faults}
+use Rattle.gang_model.specs.Types.Statements.{first_value, declaration, scalar_target, target_of, rate_of, assigned_type, variable_of, call_for, assigned_by, operand_for, empty_return, returned_value, returned, value_return, returning, test_of, dimensions, label_word, selector, Made, made, scope_after, index_entries, statement, statements, segments_of}
+use Rattle.gang_model.specs.Names.NameFaults.{Allowed, in_loop, in_switch, in_round, in_domain_round, same_label, stmt_names, stmts_names, segments_names, names_in, names_in_some, right_names_of, dims_names, twice}
 
 -- ---- lists without faults
 

@@ -2,13 +2,13 @@
 use Rattle.std.proofs.Common.{true≢false, List, [], ◌∷◌, ◌≡◌, refl, ap}
 use Rattle.std.specs.Prelude.{is_some, Option, Some, None}
 use Rattle.gang_model.specs.declared.refusals.SourceRefusal.{SourceRefusal}
-use Rattle.gang_model.specs.Tree.{Program}
-use Rattle.gang_model.specs.Parsed.{ParsedSource}
-use Rattle.gang_model.specs.Judged.{sound_part, least_fault}
+use Rattle.gang_model.specs.Types.Tree.{Program}
+use Rattle.gang_model.specs.Source.Parsed.{ParsedSource}
+use Rattle.gang_model.specs.Source.Judged.{sound_part, least_fault}
 use Rattle.gang_model.proofs.JudgedLaws.{sound_without_faults}
-use Rattle.gang_model.specs.NameFaults.{name_faults}
-use Rattle.gang_model.specs.Resolved.{judged_program, program_of, type_faults}
-use Rattle.gang_model.specs.SourceRefusals.{names_refusal, types_refusal, first_refusal, IsAccepted}
+use Rattle.gang_model.specs.Names.NameFaults.{name_faults}
+use Rattle.gang_model.specs.Types.Resolved.{judged_program, program_of, type_faults}
+use Rattle.gang_model.specs.Types.SourceRefusals.{names_refusal, types_refusal, first_refusal, IsAccepted}
 
 -- no least fault means no fault
 no_fault : (faults : List SourceRefusal) → least_fault faults ≡ None → faults ≡ []

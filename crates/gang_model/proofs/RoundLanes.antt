@@ -4,11 +4,11 @@ use Rattle.std.specs.Prelude.{IfOk, map, flat_map, is_some, ℤ}
 use Rattle.std.proofs.lemmas.List.{length-map}
 use Rattle.gang_types.specs.Lanes.{Lanes}
 use Rattle.gang_types.specs.LaneLaws.{length-lanes_from, length-lanes_where}
-use Rattle.gang_model.specs.Lanes.{at, members}
-use Rattle.gang_model.specs.Tree.{Dimension, RoundsOf, Rows, Tiles, EachLane, EachValue}
-use Rattle.gang_model.specs.State.{State}
-use Rattle.gang_model.specs.Value.{value}
-use Rattle.gang_model.specs.Rounds.{Turn, Slots, range, starts, product, padded, chunks, after_index, row_slots, counted, tile, tile_rows, tile_columns, tile_slots, turn, bounds_of, distinct, rounds}
+use Rattle.gang_model.specs.Running.Lanes.{at, members}
+use Rattle.gang_model.specs.Types.Tree.{Dimension, RoundsOf, Rows, Tiles, EachLane, EachValue}
+use Rattle.gang_model.specs.Running.State.{State}
+use Rattle.gang_model.specs.Running.Value.{value}
+use Rattle.gang_model.specs.Running.Rounds.{Turn, Slots, range, starts, product, padded, chunks, after_index, row_slots, counted, tile, tile_rows, tile_columns, tile_slots, turn, bounds_of, distinct, rounds}
 use Rattle.gang_model.proofs.LaneWords.{if_ok_after}
 
 -- ---- lists whose parts all have one property

@@ -1,9 +1,9 @@
 -- What follows from the definitions of `Scope`: a function has as many standings as steps, and typing finds the declaration of
 -- each name that `Scope` finds.
 use Rattle.std.proofs.Common.{ℕ, suc, ◌+◌, List, [], ◌∷◌, ◌++◌, ◌≡◌, refl, ◌∙◌, arith, length, length-append}
-use Rattle.gang_model.specs.Parsed.{ParsedStmt, ParsedEmpty, ParsedBlock, ParsedDeclare, ParsedAssign, ParsedChange, ParsedIncrement, ParsedDoCall, ParsedBreak, ParsedContinue, ParsedReturn, ParsedIf, ParsedIfElse, ParsedWhile, ParsedDo, ParsedFor, ParsedSwitch, ParsedForEach, ParsedForEachActive, ParsedForEachUnique, ParsedStmts, ParsedLast, ParsedNext, ParsedSegments, ParsedNoMore, ParsedSegment, ParsedFunction}
-use Rattle.gang_model.specs.Numbering.{steps_in, steps_in_all, steps_in_segments}
-use Rattle.gang_model.specs.Scope.{Environment, Site, enclosed, past, after, after_all, at_test, in_for, in_rounds, in_domain, locals_in, locals_in_all, standing, standings_in, standings_in_all, standings_in_segments, standings_of, function_site, before_return}
+use Rattle.gang_model.specs.Source.Parsed.{ParsedStmt, ParsedEmpty, ParsedBlock, ParsedDeclare, ParsedAssign, ParsedChange, ParsedIncrement, ParsedDoCall, ParsedBreak, ParsedContinue, ParsedReturn, ParsedIf, ParsedIfElse, ParsedWhile, ParsedDo, ParsedFor, ParsedSwitch, ParsedForEach, ParsedForEachActive, ParsedForEachUnique, ParsedStmts, ParsedLast, ParsedNext, ParsedSegments, ParsedNoMore, ParsedSegment, ParsedFunction}
+use Rattle.gang_model.specs.Running.Numbering.{steps_in, steps_in_all, steps_in_segments}
+use Rattle.gang_model.specs.Names.Scope.{Environment, Site, enclosed, past, after, after_all, at_test, in_for, in_rounds, in_domain, locals_in, locals_in_all, standing, standings_in, standings_in_all, standings_in_segments, standings_of, function_site, before_return}
 
 -- the two parts of an appended list have these lengths
 two_lengths : {A : Type 0} (xs ys : List A) (m n : ℕ) → length xs ≡ m → length ys ≡ n → length (xs ++ ys) ≡ m + n

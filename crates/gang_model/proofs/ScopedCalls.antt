@@ -8,21 +8,21 @@ use Rattle.gang_types.specs.declared.types.IntType.TheVariants as t
 use Rattle.gang_types.specs.declared.types.Rate.{Rate}
 use Rattle.gang_types.specs.declared.places.Place.{Place}
 use Rattle.gang_model.specs.declared.refusals.RefusalNumber.TheVariants.{S8, S9}
-use Rattle.gang_model.specs.Tree.{ResultFor, StepNumber, PackedLoad}
-use Rattle.gang_model.specs.WellScoped.{Table, ArgsScoped, ResultScoped, StmtScoped}
-use Rattle.gang_model.specs.Names.{same_text}
-use Rattle.gang_model.specs.Parsed.{Name, ParsedArgs, ParsedParam, ParsedFunction}
-use Rattle.gang_model.specs.Judged.{unless, refused}
+use Rattle.gang_model.specs.Types.Tree.{ResultFor, StepNumber, PackedLoad}
+use Rattle.gang_model.specs.Types.WellScoped.{Table, ArgsScoped, ResultScoped, StmtScoped}
+use Rattle.gang_model.specs.Source.Names.{same_text}
+use Rattle.gang_model.specs.Source.Parsed.{Name, ParsedArgs, ParsedParam, ParsedFunction}
+use Rattle.gang_model.specs.Source.Judged.{unless, refused}
 use Rattle.gang_model.proofs.JudgedLaws.{OnSound, on_then, on_unless, on_fault_if, and_true, not_true}
 use Rattle.gang_model.proofs.StandingLaws.{Each}
 use Rattle.gang_model.proofs.ScopedExprs.{EntryScoped, PassScoped, as_type-scoped, scalar_in, arguments-scoped}
-use Rattle.gang_model.specs.Signatures.{declared_type, declared_rate}
-use Rattle.gang_model.specs.Conversions.{Typed, may_become}
-use Rattle.gang_model.specs.LibraryTable.{StatementCall, Asserts, PackedStores, PackedLoads, statement_call}
-use Rattle.gang_model.specs.Typing.{Scope, Passing, Scalar, View, Reference, var_of, has_no_value, arguments}
-use Rattle.gang_model.specs.Overloads.{value_cost, same_elements, cost, one_more, costs, Candidate, candidate, candidates, beats, best_or_tie, overload, passed_args}
-use Rattle.gang_model.specs.Calls.{Context, Called, packed, stored_to, takes_elements, library_statement, call_of_kind, call_of, WholeCall, right_call, result_faults}
-use Rattle.gang_model.specs.Resolved.{param_variables}
+use Rattle.gang_model.specs.Types.Signatures.{declared_type, declared_rate}
+use Rattle.gang_model.specs.Types.Conversions.{Typed, may_become}
+use Rattle.gang_model.specs.Types.LibraryTable.{StatementCall, Asserts, PackedStores, PackedLoads, statement_call}
+use Rattle.gang_model.specs.Types.Typing.{Scope, Passing, Scalar, View, Reference, var_of, has_no_value, arguments}
+use Rattle.gang_model.specs.Types.Overloads.{value_cost, same_elements, cost, one_more, costs, Candidate, candidate, candidates, beats, best_or_tie, overload, passed_args}
+use Rattle.gang_model.specs.Types.Calls.{Context, Called, packed, stored_to, takes_elements, library_statement, call_of_kind, call_of, WholeCall, right_call, result_faults}
+use Rattle.gang_model.specs.Types.Resolved.{param_variables}
 
 -- a possible function is one of the source, and has these costs
 abbrev CandidateRight : List ParsedFunction → List Passing → Candidate → Type 0

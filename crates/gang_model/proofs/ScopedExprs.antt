@@ -14,17 +14,17 @@ use Rattle.gang_types.specs.Values.{is_bool}
 use Rattle.gang_model.specs.declared.forms.Infix.{Infix}
 use Rattle.gang_model.specs.declared.forms.Infix.TheVariants.{Op, AndAlso, OrElse}
 use Rattle.gang_model.specs.declared.refusals.RefusalNumber.TheVariants.{S7, S8}
-use Rattle.gang_model.specs.Tree.{Expr, Convert, ProgramIndex, ProgramCount, OfOne, PopCount, PopCountLanes}
-use Rattle.gang_model.specs.WellScoped.{Table, variable_at, IsScalar, IsArray, ExprScoped, SomeScoped}
-use Rattle.gang_model.specs.Names.{same_text}
-use Rattle.gang_model.specs.Parsed.{Name, ParsedExpr, ParsedNumber, ParsedBool, ParsedName, ParsedIndex, ParsedCall, ParsedParen, ParsedUnary, ParsedCast, ParsedBinary, ParsedChoice, ParsedArgs, ParsedEnd, ParsedValue, ParsedPart, ParsedPartFrom}
-use Rattle.gang_model.specs.Judged.{Judged, Sound, Faulty, unless, both, ◌>>=◌, fault_if, refused}
+use Rattle.gang_model.specs.Types.Tree.{Expr, Convert, ProgramIndex, ProgramCount, OfOne, PopCount, PopCountLanes}
+use Rattle.gang_model.specs.Types.WellScoped.{Table, variable_at, IsScalar, IsArray, ExprScoped, SomeScoped}
+use Rattle.gang_model.specs.Source.Names.{same_text}
+use Rattle.gang_model.specs.Source.Parsed.{Name, ParsedExpr, ParsedNumber, ParsedBool, ParsedName, ParsedIndex, ParsedCall, ParsedParen, ParsedUnary, ParsedCast, ParsedBinary, ParsedChoice, ParsedArgs, ParsedEnd, ParsedValue, ParsedPart, ParsedPartFrom}
+use Rattle.gang_model.specs.Source.Judged.{Judged, Sound, Faulty, unless, both, ◌>>=◌, fault_if, refused}
 use Rattle.gang_model.proofs.JudgedLaws.{OnSound, on_any, on_then, on_both, on_unless, on_pair, on_if, on_first, on_fault_if, or_false, not_false}
 use Rattle.gang_model.proofs.StandingLaws.{Each}
-use Rattle.gang_model.specs.Signatures.{declared_type}
-use Rattle.gang_model.specs.Conversions.{Typed, typed, joined, promoted, is_varying, may_become, same_type, as_type, operation_type, right_operand, infixed, prefixed, chosen_by}
-use Rattle.gang_model.specs.LibraryTable.{LibraryCall, GivesLanes, ReducesTruths, ReducesNumbers, ComparesLanes, Scans, CountsOnes, TakesMagnitude, ComparesTwo, Broadcasts, Extracts, Inserts, Rotates, Shifts, Shuffles, ShufflesTwo, Clamps, Selects, asked_by, library_call, library_value, truths_reduced, number_type}
-use Rattle.gang_model.specs.Typing.{Entry, Scope, entry_of, named_entry, array_of, names_no_value, has_no_value, first_of, element_faults, Passing, Scalar, View, Reference, or_built_in, built_in, built_in_entry, referred, passed, view_index, viewed, all_values, one_value, call_value, called_value, rate_faults, second_parts, typed_or_refused, built_in_value, name_value, element, cast_rate, cast_faults, cast_to, var_of, expression, arguments, given_value}
+use Rattle.gang_model.specs.Types.Signatures.{declared_type}
+use Rattle.gang_model.specs.Types.Conversions.{Typed, typed, joined, promoted, is_varying, may_become, same_type, as_type, operation_type, right_operand, infixed, prefixed, chosen_by}
+use Rattle.gang_model.specs.Types.LibraryTable.{LibraryCall, GivesLanes, ReducesTruths, ReducesNumbers, ComparesLanes, Scans, CountsOnes, TakesMagnitude, ComparesTwo, Broadcasts, Extracts, Inserts, Rotates, Shifts, Shuffles, ShufflesTwo, Clamps, Selects, asked_by, library_call, library_value, truths_reduced, number_type}
+use Rattle.gang_model.specs.Types.Typing.{Entry, Scope, entry_of, named_entry, array_of, names_no_value, has_no_value, first_of, element_faults, Passing, Scalar, View, Reference, or_built_in, built_in, built_in_entry, referred, passed, view_index, viewed, all_values, one_value, call_value, called_value, rate_faults, second_parts, typed_or_refused, built_in_value, name_value, element, cast_rate, cast_faults, cast_to, var_of, expression, arguments, given_value}
 
 module _ (table : Table) where
   -- a declared name is one of the table's variables

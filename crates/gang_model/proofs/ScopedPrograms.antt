@@ -2,23 +2,23 @@
 use Rattle.std.proofs.Common.{ℕ, suc, ◌+◌, true, List, [], ◌∷◌, ◌++◌, ◌≡◌, refl, sym, ◌∙◌, ap, subst, arith, length}
 use Rattle.std.specs.Prelude.{map, slice_get, Some}
 use Rattle.gang_types.specs.declared.places.VarId.TheVariants.{Local}
-use Rattle.gang_model.specs.Tree.{Variable, Function, Global, Program}
-use Rattle.gang_model.specs.WellScoped.{Table, variable_at, StmtScoped}
-use Rattle.gang_model.specs.Parsed.{ParsedParam, ParsedFunction, ParsedGlobal, ParsedSource, functions_in, globals_in}
-use Rattle.gang_model.specs.Numbering.{steps_in_all}
-use Rattle.gang_model.specs.Judged.{Judged, Sound, Faulty, unless}
+use Rattle.gang_model.specs.Types.Tree.{Variable, Function, Global, Program}
+use Rattle.gang_model.specs.Types.WellScoped.{Table, variable_at, StmtScoped}
+use Rattle.gang_model.specs.Source.Parsed.{ParsedParam, ParsedFunction, ParsedGlobal, ParsedSource, functions_in, globals_in}
+use Rattle.gang_model.specs.Running.Numbering.{steps_in_all}
+use Rattle.gang_model.specs.Source.Judged.{Judged, Sound, Faulty, unless}
 use Rattle.gang_model.proofs.JudgedLaws.{OnSound, on_any, on_unless, on_pair}
-use Rattle.gang_model.specs.Bindings.{function_bindings, param_bindings, bindings_in_all, variable_bindings}
+use Rattle.gang_model.specs.Names.Bindings.{function_bindings, param_bindings, bindings_in_all, variable_bindings}
 use Rattle.gang_model.proofs.NumberLaws.{Faithful, statements_faithful, two_parts}
 use Rattle.gang_model.proofs.StandingLaws.{Each, each_left, each_right}
 use Rattle.gang_model.proofs.VariableLaws.{Consecutive, function_numbers, params_bound, on_some}
 use Rattle.gang_model.proofs.ScopedStmts.{ScopeScoped, Own, AllRight, statements_scoped}
-use Rattle.gang_model.specs.Signatures.{result_of}
-use Rattle.gang_model.specs.Typing.{Scope, declared}
-use Rattle.gang_model.specs.Calls.{Context}
-use Rattle.gang_model.specs.TypeFaults.{signature_faults, global_faults}
-use Rattle.gang_model.specs.Statements.{Made, statements}
-use Rattle.gang_model.specs.Resolved.{global_entry, global_entries, global_of, judged_globals, param_variables, param_entries, judged_function, judged_functions, judged_program, program_of}
+use Rattle.gang_model.specs.Types.Signatures.{result_of}
+use Rattle.gang_model.specs.Types.Typing.{Scope, declared}
+use Rattle.gang_model.specs.Types.Calls.{Context}
+use Rattle.gang_model.specs.Types.TypeFaults.{signature_faults, global_faults}
+use Rattle.gang_model.specs.Types.Statements.{Made, statements}
+use Rattle.gang_model.specs.Types.Resolved.{global_entry, global_entries, global_of, judged_globals, param_variables, param_entries, judged_function, judged_functions, judged_program, program_of}
 
 -- the file-scope variables, by their numbers
 abbrev pub file_variables : ℕ → List ParsedGlobal → List Variable

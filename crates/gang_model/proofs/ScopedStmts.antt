@@ -10,22 +10,22 @@ use Rattle.gang_types.specs.declared.places.Place.{Place}
 use Rattle.gang_types.specs.declared.places.VarId.TheVariants.{Local}
 use Rattle.gang_types.specs.Values.{is_bool}
 use Rattle.gang_model.specs.declared.refusals.RefusalNumber.TheVariants.{S7, S8}
-use Rattle.gang_model.specs.Tree.{Var, Nothing, Declares, Assigns, Returns, Dimension, Rows, Tiles, StepNumber, Stmt, Variable}
-use Rattle.gang_model.specs.WellScoped.{Table, variable_at, IsScalar, IsArray, ExprScoped, TargetScoped, DimensionsScoped, RoundsScoped, StmtScoped}
-use Rattle.gang_model.specs.Parsed.{Name, ParsedExpr, ParsedDim, ParsedTarget, ParsedStmt, ParsedEmpty, ParsedBlock, ParsedDeclare, ParsedAssign, ParsedChange, ParsedIncrement, ParsedDoCall, ParsedBreak, ParsedContinue, ParsedReturn, ParsedIf, ParsedIfElse, ParsedWhile, ParsedDo, ParsedFor, ParsedSwitch, ParsedForEach, ParsedForEachActive, ParsedForEachUnique, ParsedStmts, ParsedLast, ParsedNext, ParsedSegments, ParsedNoMore, ParsedSegment}
-use Rattle.gang_model.specs.Numbering.{steps_in, steps_in_all}
-use Rattle.gang_model.specs.Scope.{locals_in, locals_in_all}
-use Rattle.gang_model.specs.Judged.{Judged, Sound, Faulty, unless, both, ◌>>=◌, fault_if}
+use Rattle.gang_model.specs.Types.Tree.{Var, Nothing, Declares, Assigns, Returns, Dimension, Rows, Tiles, StepNumber, Stmt, Variable}
+use Rattle.gang_model.specs.Types.WellScoped.{Table, variable_at, IsScalar, IsArray, ExprScoped, TargetScoped, DimensionsScoped, RoundsScoped, StmtScoped}
+use Rattle.gang_model.specs.Source.Parsed.{Name, ParsedExpr, ParsedDim, ParsedTarget, ParsedStmt, ParsedEmpty, ParsedBlock, ParsedDeclare, ParsedAssign, ParsedChange, ParsedIncrement, ParsedDoCall, ParsedBreak, ParsedContinue, ParsedReturn, ParsedIf, ParsedIfElse, ParsedWhile, ParsedDo, ParsedFor, ParsedSwitch, ParsedForEach, ParsedForEachActive, ParsedForEachUnique, ParsedStmts, ParsedLast, ParsedNext, ParsedSegments, ParsedNoMore, ParsedSegment}
+use Rattle.gang_model.specs.Running.Numbering.{steps_in, steps_in_all}
+use Rattle.gang_model.specs.Names.Scope.{locals_in, locals_in_all}
+use Rattle.gang_model.specs.Source.Judged.{Judged, Sound, Faulty, unless, both, ◌>>=◌, fault_if}
 use Rattle.gang_model.proofs.JudgedLaws.{OnSound, on_any, on_then, on_both, on_unless, on_pair, on_fault_if, or_false, not_false}
 use Rattle.gang_model.proofs.StandingLaws.{Each, each_left, each_right}
 use Rattle.gang_model.proofs.ScopedExprs.{EntryScoped, FoundScoped, TypedScoped, as_type-scoped, right_operand-scoped, entry_of-scoped, scalar_in, array_in, expression-scoped, given_value-scoped}
 use Rattle.gang_model.proofs.ScopedCalls.{CallScoped, CallsKnown, call_scoped, right_scoped}
-use Rattle.gang_model.specs.Signatures.{ResultType}
-use Rattle.gang_model.specs.Conversions.{Typed, may_become, operation_type}
-use Rattle.gang_model.specs.Typing.{Entry, Scope, entry_of, declared, index_entry, var_of, has_no_value, first_of, expression, given_value}
-use Rattle.gang_model.specs.Calls.{Context, call_of, WholeCall, whole_call, right_call}
-use Rattle.gang_model.specs.TypeFaults.{variable_faults}
-use Rattle.gang_model.specs.Statements.{first_value, declaration, Aimed, target_index, assigned, scalar_target, target_of, rate_of, assigned_type, variable_of, assigned_call, call_for, assigned_by, operand_for, changed, number_one, empty_return, returned_value, returned, value_return, returning, test_of, dimensions, label_word, selector, Made, made, scope_after, index_entries, index_variables, statement, statements, segments_of}
+use Rattle.gang_model.specs.Types.Signatures.{ResultType}
+use Rattle.gang_model.specs.Types.Conversions.{Typed, may_become, operation_type}
+use Rattle.gang_model.specs.Types.Typing.{Entry, Scope, entry_of, declared, index_entry, var_of, has_no_value, first_of, expression, given_value}
+use Rattle.gang_model.specs.Types.Calls.{Context, call_of, WholeCall, whole_call, right_call}
+use Rattle.gang_model.specs.Types.TypeFaults.{variable_faults}
+use Rattle.gang_model.specs.Types.Statements.{first_value, declaration, Aimed, target_index, assigned, scalar_target, target_of, rate_of, assigned_type, variable_of, assigned_call, call_for, assigned_by, operand_for, changed, number_one, empty_return, returned_value, returned, value_return, returning, test_of, dimensions, label_word, selector, Made, made, scope_after, index_entries, index_variables, statement, statements, segments_of}
 
 -- what follows with a premise
 on_given : {A : Type 0} (j : Judged A) (H : Type 0) (P : A → Type 0) → (H → OnSound j P) → OnSound j (λ a. H → P a)

@@ -4,10 +4,10 @@ use Rattle.std.proofs.Common.{ℕ, ◌+◌, Bool, true, false, cond, List, [], �
 use Rattle.std.specs.Prelude.{filter, not, Some, slice_get}
 use Rattle.gang_types.specs.declared.places.VarId.{VarId}
 use Rattle.gang_types.specs.declared.places.VarId.TheVariants.{File, Local}
-use Rattle.gang_model.specs.Names.{same_text}
-use Rattle.gang_model.specs.Parsed.{Name, ParsedDim, ParsedStmt, ParsedEmpty, ParsedBlock, ParsedDeclare, ParsedAssign, ParsedChange, ParsedIncrement, ParsedDoCall, ParsedBreak, ParsedContinue, ParsedReturn, ParsedIf, ParsedIfElse, ParsedWhile, ParsedDo, ParsedFor, ParsedSwitch, ParsedForEach, ParsedForEachActive, ParsedForEachUnique, ParsedStmts, ParsedLast, ParsedNext, ParsedSegments, ParsedNoMore, ParsedSegment}
-use Rattle.gang_model.specs.Bindings.{dim_bindings, bindings_in, bindings_in_all, bindings_in_segments}
-use Rattle.gang_model.specs.Scope.{Binding, bound, Environment, is_local, unhidden, listed, Site, with_name, enclosed, past, with_dims, locals_in, locals_in_all, after, after_all, at_test, in_for, in_rounds, in_domain, NameStanding, standing, standings_in, standings_in_all, standings_in_segments}
+use Rattle.gang_model.specs.Source.Names.{same_text}
+use Rattle.gang_model.specs.Source.Parsed.{Name, ParsedDim, ParsedStmt, ParsedEmpty, ParsedBlock, ParsedDeclare, ParsedAssign, ParsedChange, ParsedIncrement, ParsedDoCall, ParsedBreak, ParsedContinue, ParsedReturn, ParsedIf, ParsedIfElse, ParsedWhile, ParsedDo, ParsedFor, ParsedSwitch, ParsedForEach, ParsedForEachActive, ParsedForEachUnique, ParsedStmts, ParsedLast, ParsedNext, ParsedSegments, ParsedNoMore, ParsedSegment}
+use Rattle.gang_model.specs.Names.Bindings.{dim_bindings, bindings_in, bindings_in_all, bindings_in_segments}
+use Rattle.gang_model.specs.Names.Scope.{Binding, bound, Environment, is_local, unhidden, listed, Site, with_name, enclosed, past, with_dims, locals_in, locals_in_all, after, after_all, at_test, in_for, in_rounds, in_domain, NameStanding, standing, standings_in, standings_in_all, standings_in_segments}
 use Rattle.gang_model.proofs.ScopeLaws.{after-next, after_all-next}
 
 -- what holds of each element

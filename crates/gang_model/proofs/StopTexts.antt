@@ -2,12 +2,12 @@
 use Rattle.std.proofs.Common.{◌≡◌, refl, sym, ap, ◌∙◌, ℕ, List, [], ◌∷◌, length, Option, Some, None}
 use Rattle.std.specs.Prelude.{◌==◌, slice_get, if◌then◌else◌}
 use Rattle.gang_types.specs.Lanes.{Lanes}
-use Rattle.gang_model.specs.Lanes.{Fault}
-use Rattle.gang_model.specs.Tree.{Standing, Function, Program}
-use Rattle.gang_model.specs.State.{Frame}
-use Rattle.gang_model.specs.Positions.{frame_spot, frame_lanes, standing_at}
-use Rattle.gang_model.specs.Debugger.{Debugger, Answer, Here, AtBreakpoint, AtWatch, AtFault, HistoryEnd, StepLimit, UndoneStep, UndonePoke, Setting, now}
-use Rattle.gang_model.specs.Text.{Bytes, line, standing_text, frames_text, text}
+use Rattle.gang_model.specs.Running.Lanes.{Fault}
+use Rattle.gang_model.specs.Types.Tree.{Standing, Function, Program}
+use Rattle.gang_model.specs.Running.State.{Frame}
+use Rattle.gang_model.specs.Debugger.Positions.{frame_spot, frame_lanes, standing_at}
+use Rattle.gang_model.specs.Debugger.Debugger.{Debugger, Answer, Here, AtBreakpoint, AtWatch, AtFault, HistoryEnd, StepLimit, UndoneStep, UndonePoke, Setting, now}
+use Rattle.gang_model.specs.Texts.Text.{Bytes, line, standing_text, frames_text, text}
 
 -- why a command that moves stopped
 pub data Reason : Type 0 where

@@ -2,8 +2,8 @@
 -- one more.
 use Rattle.std.proofs.Common.{◌≡◌, refl, ap, ℕ, suc, ◌-◌, List, ◌∷◌, arith}
 use Rattle.std.specs.Prelude.{drop}
-use Rattle.gang_model.specs.Events.{Event, Step, Poke, Poked}
-use Rattle.gang_model.specs.Debugger.{Stop, Debugger, Setting, now, moved, taken_back, to_last_step, stepped_back}
+use Rattle.gang_model.specs.Debugger.Events.{Event, Step, Poke, Poked}
+use Rattle.gang_model.specs.Debugger.Debugger.{Stop, Debugger, Setting, now, moved, taken_back, to_last_step, stepped_back}
 
 -- after an event is taken back the state is that before it
 pub taken_back-moved : (s : Setting) (event : Event) (d : Debugger) → now s (taken_back (moved event d)) ≡ now s d

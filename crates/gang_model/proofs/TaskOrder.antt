@@ -9,15 +9,15 @@ use Rattle.gang_types.specs.declared.places.VarId.{VarId}
 use Rattle.gang_types.specs.declared.places.VarId.TheVariants.{File, Local}
 use Rattle.gang_types.specs.declared.faults.FaultName.TheVariants.{CallDepth}
 use Rattle.gang_types.specs.Lanes.{Lanes, no_lane, lanes_where, lowest}
-use Rattle.gang_model.specs.Lanes.{Fault, ◌>>=◌, each, at, try_each, holds, members}
-use Rattle.gang_model.specs.Tree.{StepNumber, ResultFor, Nothing, Declares, Assigns, Returns, Stmt, Empty, Then, Declare, Assign, Change, If, Loop, BodyFirst, Break, Continue, Return, Switch, Segment, ForEach, Call, Check, PackedStore, PackedLoad, Function, Program}
-use Rattle.gang_model.specs.State.{Store, Doing, Run, LoopTest, LoopUpdate, Round, RoundEnd, SwitchEnd, Task, Frame, State, with_words_in, with_first, on_top}
-use Rattle.gang_model.specs.Rounds.{Turn, rounds}
-use Rattle.gang_model.specs.Value.{value}
-use Rattle.gang_model.specs.Library.{rank}
-use Rattle.gang_model.specs.Step.{steps_of, task, opened_before, opened, opened_task, settled, settle, with_tasks, first_do, leaves_task, ends_break, ends_turn, broken, continued, returned, returned_on, deliver, left, leave, Passed, new_frame, entered, with_store, round_tasks, round_number, segment_tasks, or_default, labelled, default_of, run, perform, Stepped, Goes, Fails, Over, stepped, step_task, step_frame, step, Written, ToVar, ToElements, write, packed, initial, reached, old_values, passed, part}
-use Rattle.gang_model.specs.Events.{Event, Step, Poke, Poked, WholeOf, LaneOf, ElementAt, Given, started, start, with_rows, initial_memory, poked, gone, happen, after}
-use Rattle.gang_model.specs.RunningOrder.{IsNumbered, IsNumberedTask, first_number, past_number, InOrder, FrameInOrder, FramesInOrder, TopInOrder, IsNumberedProgram}
+use Rattle.gang_model.specs.Running.Lanes.{Fault, ◌>>=◌, each, at, try_each, holds, members}
+use Rattle.gang_model.specs.Types.Tree.{StepNumber, ResultFor, Nothing, Declares, Assigns, Returns, Stmt, Empty, Then, Declare, Assign, Change, If, Loop, BodyFirst, Break, Continue, Return, Switch, Segment, ForEach, Call, Check, PackedStore, PackedLoad, Function, Program}
+use Rattle.gang_model.specs.Running.State.{Store, Doing, Run, LoopTest, LoopUpdate, Round, RoundEnd, SwitchEnd, Task, Frame, State, with_words_in, with_first, on_top}
+use Rattle.gang_model.specs.Running.Rounds.{Turn, rounds}
+use Rattle.gang_model.specs.Running.Value.{value}
+use Rattle.gang_model.specs.Running.Library.{rank}
+use Rattle.gang_model.specs.Running.Step.{steps_of, task, opened_before, opened, opened_task, settled, settle, with_tasks, first_do, leaves_task, ends_break, ends_turn, broken, continued, returned, returned_on, deliver, left, leave, Passed, new_frame, entered, with_store, round_tasks, round_number, segment_tasks, or_default, labelled, default_of, run, perform, Stepped, Goes, Fails, Over, stepped, step_task, step_frame, step, Written, ToVar, ToElements, write, packed, initial, reached, old_values, passed, part}
+use Rattle.gang_model.specs.Debugger.Events.{Event, Step, Poke, Poked, WholeOf, LaneOf, ElementAt, Given, started, start, with_rows, initial_memory, poked, gone, happen, after}
+use Rattle.gang_model.specs.Running.RunningOrder.{IsNumbered, IsNumberedTask, first_number, past_number, InOrder, FrameInOrder, FramesInOrder, TopInOrder, IsNumberedProgram}
 use Rattle.gang_model.proofs.LaneWords.{if_ok_after}
 
 -- ---- lists of tasks

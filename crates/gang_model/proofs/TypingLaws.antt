@@ -6,12 +6,12 @@ use Rattle.gang_types.specs.declared.types.IntType.TheVariants as t
 use Rattle.gang_types.specs.declared.types.Rate.TheVariants.{Varying, Uniform}
 use Rattle.gang_types.specs.declared.places.VarId.{VarId}
 use Rattle.gang_types.specs.declared.places.VarId.TheVariants.{File, Local}
-use Rattle.gang_model.specs.Names.{same_text}
-use Rattle.gang_model.specs.Parsed.{Name, ParsedDim, ParsedStmt, ParsedEmpty, ParsedBlock, ParsedDeclare, ParsedAssign, ParsedChange, ParsedIncrement, ParsedDoCall, ParsedBreak, ParsedContinue, ParsedReturn, ParsedIf, ParsedIfElse, ParsedWhile, ParsedDo, ParsedFor, ParsedSwitch, ParsedForEach, ParsedForEachActive, ParsedForEachUnique, ParsedParam, ParsedGlobal, ParsedSource, globals_in}
-use Rattle.gang_model.specs.Scope.{bound, Environment, declaration, Site, with_name, with_dims, with_params, file_bindings, after, locals_in, enclosed, in_rounds, function_site, file_scope}
-use Rattle.gang_model.specs.Typing.{Entry, Scope, entry_of, declared, index_entry}
-use Rattle.gang_model.specs.Statements.{scope_after, index_entries}
-use Rattle.gang_model.specs.Resolved.{global_entries, param_entries}
+use Rattle.gang_model.specs.Source.Names.{same_text}
+use Rattle.gang_model.specs.Source.Parsed.{Name, ParsedDim, ParsedStmt, ParsedEmpty, ParsedBlock, ParsedDeclare, ParsedAssign, ParsedChange, ParsedIncrement, ParsedDoCall, ParsedBreak, ParsedContinue, ParsedReturn, ParsedIf, ParsedIfElse, ParsedWhile, ParsedDo, ParsedFor, ParsedSwitch, ParsedForEach, ParsedForEachActive, ParsedForEachUnique, ParsedParam, ParsedGlobal, ParsedSource, globals_in}
+use Rattle.gang_model.specs.Names.Scope.{bound, Environment, declaration, Site, with_name, with_dims, with_params, file_bindings, after, locals_in, enclosed, in_rounds, function_site, file_scope}
+use Rattle.gang_model.specs.Types.Typing.{Entry, Scope, entry_of, declared, index_entry}
+use Rattle.gang_model.specs.Types.Statements.{scope_after, index_entries}
+use Rattle.gang_model.specs.Types.Resolved.{global_entries, param_entries}
 use Rattle.gang_types.specs.declared.types.IntType.{IntType}
 
 -- the declarations that a scope has

@@ -12,21 +12,21 @@ use Rattle.gang_types.specs.declared.operators.UnaryOp.{UnaryOp}
 use Rattle.gang_types.specs.declared.operators.UnaryOp.TheVariants.{Negate, Plus, Not, Complement}
 use Rattle.gang_model.specs.declared.forms.Infix.{Infix}
 use Rattle.gang_model.specs.declared.forms.Infix.TheVariants.{Op, AndAlso, OrElse}
-use Rattle.gang_model.specs.Tree.{Expr, Convert, ProgramIndex, ProgramCount, OfOne, PopCount, PopCountLanes}
-use Rattle.gang_model.specs.UniformExprs.{IsUniform}
+use Rattle.gang_model.specs.Types.Tree.{Expr, Convert, ProgramIndex, ProgramCount, OfOne, PopCount, PopCountLanes}
+use Rattle.gang_model.specs.Running.UniformExprs.{IsUniform}
 use Rattle.gang_types.specs.Values.{is_bool}
 use Rattle.gang_model.specs.declared.refusals.RefusalNumber.{RefusalNumber}
 use Rattle.gang_model.specs.declared.refusals.RefusalNumber.TheVariants.{S7, S8}
 use Rattle.gang_model.specs.declared.refusals.SourceRefusal.{SourceRefusal}
-use Rattle.gang_model.specs.Names.{same_text}
-use Rattle.gang_model.specs.Parsed.{Name, ParsedExpr, ParsedNumber, ParsedBool, ParsedName, ParsedIndex, ParsedCall, ParsedParen, ParsedUnary, ParsedCast, ParsedBinary, ParsedChoice, ParsedArgs, ParsedEnd, ParsedValue, ParsedPart, ParsedPartFrom}
-use Rattle.gang_model.specs.Judged.{Judged, Sound, Faulty, unless, both, ◌>>=◌, fault_if, refused}
+use Rattle.gang_model.specs.Source.Names.{same_text}
+use Rattle.gang_model.specs.Source.Parsed.{Name, ParsedExpr, ParsedNumber, ParsedBool, ParsedName, ParsedIndex, ParsedCall, ParsedParen, ParsedUnary, ParsedCast, ParsedBinary, ParsedChoice, ParsedArgs, ParsedEnd, ParsedValue, ParsedPart, ParsedPartFrom}
+use Rattle.gang_model.specs.Source.Judged.{Judged, Sound, Faulty, unless, both, ◌>>=◌, fault_if, refused}
 use Rattle.gang_model.proofs.JudgedLaws.{OnSound, on_then, on_both, on_unless, on_pair, on_if, on_first, on_allowed}
 use Rattle.gang_model.proofs.StandingLaws.{Each}
-use Rattle.gang_model.specs.Signatures.{declared_type}
-use Rattle.gang_model.specs.LibraryTable.{LibraryCall, GivesLanes, ReducesTruths, ReducesNumbers, ComparesLanes, Scans, CountsOnes, TakesMagnitude, ComparesTwo, Broadcasts, Extracts, Inserts, Rotates, Shifts, Shuffles, ShufflesTwo, Clamps, Selects, asked_by, library_call, library_value, truths_reduced, number_type}
-use Rattle.gang_model.specs.Typing.{Entry, Scope, entry_of, named_entry, array_of, names_no_value, first_of, element_faults, Passing, Scalar, View, Reference, or_built_in, referred, passed, view_index, viewed, all_values, one_value, call_value, called_value, expression, arguments, given_value, has_no_value, built_in_value, name_value, element, cast_rate, cast_to, rate_faults, second_parts, typed_or_refused}
-use Rattle.gang_model.specs.Conversions.{joined, Typed, typed, same_type, is_varying, joined_rate, may_become, as_type, operation_type, right_operand, infixed, prefixed, chosen_by, promoted}
+use Rattle.gang_model.specs.Types.Signatures.{declared_type}
+use Rattle.gang_model.specs.Types.LibraryTable.{LibraryCall, GivesLanes, ReducesTruths, ReducesNumbers, ComparesLanes, Scans, CountsOnes, TakesMagnitude, ComparesTwo, Broadcasts, Extracts, Inserts, Rotates, Shifts, Shuffles, ShufflesTwo, Clamps, Selects, asked_by, library_call, library_value, truths_reduced, number_type}
+use Rattle.gang_model.specs.Types.Typing.{Entry, Scope, entry_of, named_entry, array_of, names_no_value, first_of, element_faults, Passing, Scalar, View, Reference, or_built_in, referred, passed, view_index, viewed, all_values, one_value, call_value, called_value, expression, arguments, given_value, has_no_value, built_in_value, name_value, element, cast_rate, cast_to, rate_faults, second_parts, typed_or_refused}
+use Rattle.gang_model.specs.Types.Conversions.{joined, Typed, typed, same_type, is_varying, joined_rate, may_become, as_type, operation_type, right_operand, infixed, prefixed, chosen_by, promoted}
 
 -- an expression that is typed as uniform is uniform
 abbrev pub RateRight : Typed → Type 0

@@ -5,12 +5,12 @@ use Rattle.gang_types.specs.declared.faults.FaultName.{FaultName}
 use Rattle.gang_types.specs.Values.{unary_of, binary_result, converted}
 use Rattle.gang_types.specs.Lanes.{Lanes, has, lanes_where}
 use Rattle.gang_types.specs.LaneLaws.{has-lanes_where}
-use Rattle.gang_model.specs.Lanes.{Fault, words_from, each, tried_from, try_each, at, holds, truth_word}
-use Rattle.gang_model.specs.Library.{lane_value, of_one, of_two}
-use Rattle.gang_model.specs.Tree.{Expr, Number, ProgramCount, LaneMask, Read, Element, Unary, Binary, Convert, And, Or, Choice, Reduce, OfOne, OfTwo, Extract, Select}
-use Rattle.gang_model.specs.State.{State, seen, view_of, words_in}
-use Rattle.gang_model.specs.Value.{value, element}
-use Rattle.gang_model.specs.UniformExprs.{IsUniform, AreAlike}
+use Rattle.gang_model.specs.Running.Lanes.{Fault, words_from, each, tried_from, try_each, at, holds, truth_word}
+use Rattle.gang_model.specs.Running.Library.{lane_value, of_one, of_two}
+use Rattle.gang_model.specs.Types.Tree.{Expr, Number, ProgramCount, LaneMask, Read, Element, Unary, Binary, Convert, And, Or, Choice, Reduce, OfOne, OfTwo, Extract, Select}
+use Rattle.gang_model.specs.Running.State.{State, seen, view_of, words_in}
+use Rattle.gang_model.specs.Running.Value.{value, element}
+use Rattle.gang_model.specs.Running.UniformExprs.{IsUniform, AreAlike}
 use Rattle.gang_model.proofs.LaneWords.{if_ok_after, if_ok_bind, TriedFrom, FaultsFrom, tries, none_true, past}
 
 -- ---- the values of lanes

@@ -4,23 +4,23 @@ use Rattle.std.proofs.Common.{true≢false, ℕ, zero, suc, ◌+◌, Bool, true,
 use Rattle.std.specs.Prelude.{is_some, map, Option, Some, None, slice_get, slice_index_or, if◌then◌else◌}
 use Rattle.gang_types.specs.declared.places.VarId.{VarId}
 use Rattle.gang_types.specs.declared.places.VarId.TheVariants.{File, Local}
-use Rattle.gang_model.specs.Tree.{Variable, Standing, Function, Program}
-use Rattle.gang_model.specs.Parsed.{ParsedDim, ParsedStmt, ParsedEmpty, ParsedBlock, ParsedDeclare, ParsedAssign, ParsedChange, ParsedIncrement, ParsedDoCall, ParsedBreak, ParsedContinue, ParsedReturn, ParsedIf, ParsedIfElse, ParsedWhile, ParsedDo, ParsedFor, ParsedSwitch, ParsedForEach, ParsedForEachActive, ParsedForEachUnique, ParsedStmts, ParsedLast, ParsedNext, ParsedSegments, ParsedNoMore, ParsedSegment, ParsedParam, ParsedFunction, ParsedGlobal, ParsedSource, functions_in, globals_in}
-use Rattle.gang_model.specs.Judged.{Judged, Sound, Faulty, sound_part, unless}
+use Rattle.gang_model.specs.Types.Tree.{Variable, Standing, Function, Program}
+use Rattle.gang_model.specs.Source.Parsed.{ParsedDim, ParsedStmt, ParsedEmpty, ParsedBlock, ParsedDeclare, ParsedAssign, ParsedChange, ParsedIncrement, ParsedDoCall, ParsedBreak, ParsedContinue, ParsedReturn, ParsedIf, ParsedIfElse, ParsedWhile, ParsedDo, ParsedFor, ParsedSwitch, ParsedForEach, ParsedForEachActive, ParsedForEachUnique, ParsedStmts, ParsedLast, ParsedNext, ParsedSegments, ParsedNoMore, ParsedSegment, ParsedParam, ParsedFunction, ParsedGlobal, ParsedSource, functions_in, globals_in}
+use Rattle.gang_model.specs.Source.Judged.{Judged, Sound, Faulty, sound_part, unless}
 use Rattle.gang_model.proofs.JudgedLaws.{OnSound, on_any, on_pair}
-use Rattle.gang_model.specs.Step.{steps_of}
-use Rattle.gang_model.specs.RunningOrder.{IsNumbered, IsNumberedProgram}
-use Rattle.gang_model.specs.Numbering.{steps_in_all}
-use Rattle.gang_model.specs.Bindings.{dim_bindings, bindings_in, bindings_in_all, bindings_in_segments, variable_bindings, param_bindings, function_bindings}
-use Rattle.gang_model.specs.Scope.{Binding, bound, is_local, Site, with_name, with_params, locals_in, locals_in_all, locals_in_segments, after, after_all, NameStanding, standing, standings_in_all, has_return, before_return, function_site, standings_of, file_bindings, file_scope}
+use Rattle.gang_model.specs.Running.Step.{steps_of}
+use Rattle.gang_model.specs.Running.RunningOrder.{IsNumbered, IsNumberedProgram}
+use Rattle.gang_model.specs.Running.Numbering.{steps_in_all}
+use Rattle.gang_model.specs.Names.Bindings.{dim_bindings, bindings_in, bindings_in_all, bindings_in_segments, variable_bindings, param_bindings, function_bindings}
+use Rattle.gang_model.specs.Names.Scope.{Binding, bound, is_local, Site, with_name, with_params, locals_in, locals_in_all, locals_in_segments, after, after_all, NameStanding, standing, standings_in_all, has_return, before_return, function_site, standings_of, file_bindings, file_scope}
 use Rattle.gang_model.proofs.ScopeLaws.{after-next}
 use Rattle.gang_model.proofs.NumberLaws.{two_parts, Faithful, statements_faithful}
 use Rattle.gang_model.proofs.StandingLaws.{Each, each_join, each_left, each_right, Placed, Found, AllFound, after_placed, moved_all, found_listed, standings_found_all}
-use Rattle.gang_model.specs.Signatures.{result_of}
-use Rattle.gang_model.specs.Calls.{Context}
-use Rattle.gang_model.specs.TypeFaults.{signature_faults}
-use Rattle.gang_model.specs.Statements.{statements}
-use Rattle.gang_model.specs.Resolved.{local_at, no_variable, standing_with, param_variables, param_entries, global_entries, judged_globals, judged_function, judged_functions, judged_program, program_of}
+use Rattle.gang_model.specs.Types.Signatures.{result_of}
+use Rattle.gang_model.specs.Types.Calls.{Context}
+use Rattle.gang_model.specs.Types.TypeFaults.{signature_faults}
+use Rattle.gang_model.specs.Types.Statements.{statements}
+use Rattle.gang_model.specs.Types.Resolved.{local_at, no_variable, standing_with, param_variables, param_entries, global_entries, judged_globals, judged_function, judged_functions, judged_program, program_of}
 
 -- ---- numbers
 

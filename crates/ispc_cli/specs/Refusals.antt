@@ -1,5 +1,5 @@
 -- Why a run is refused, as the definitions have it.
-use Rattle.gang_model.specs.RunRefusals.{RunRefusal, FromSource, NoEntry, NoScript, Memory}
+use Rattle.gang_model.specs.Texts.RunRefusals.{RunRefusal, FromSource, NoEntry, NoScript, Memory}
 use Rattle.ispc_cli.specs.declared.refusal.Refusal.{Refusal}
 use Rattle.ispc_cli.specs.declared.refusal.Refusal.TheVariants as refusal
 

@@ -1,9 +1,9 @@
 -- How a run ends.
 use Rattle.std.specs.Prelude.{ℕ, List, Option, Some, None, option_map}
-use Rattle.gang_model.specs.Endings.{Ending, AtQuit, AtEnd, AtReadFault, AtWriteFault}
-use Rattle.gang_model.specs.Parsed.{Name}
-use Rattle.gang_model.specs.Sources.{HasNoEntry, IsRightRefusal}
-use Rattle.gang_model.specs.Transcript.{Options as ModelOptions}
+use Rattle.gang_model.specs.Texts.Endings.{Ending, AtQuit, AtEnd, AtReadFault, AtWriteFault}
+use Rattle.gang_model.specs.Source.Parsed.{Name}
+use Rattle.gang_model.specs.Source.Sources.{HasNoEntry, IsRightRefusal}
+use Rattle.gang_model.specs.Texts.Transcript.{Options as ModelOptions}
 use Rattle.ispc_cli.specs.declared.options.Options.{Options}
 use Rattle.ispc_cli.specs.declared.options.Width.{Width}
 use Rattle.ispc_cli.specs.declared.options.Width.TheVariants.{Four, Eight, Sixteen}

@@ -1,10 +1,10 @@
 //! Why a run is refused, and how it is told.
 ghost use Rattle.std.specs.Prelude.{◌≡◌, false};
-ghost use Rattle.debug_interface.specs.Devices.{Writes};
-ghost use Rattle.gang_model.specs.RunRefusals.{FromSource, run_refusal_text, source_text};
+ghost use Rattle.debug_machine.specs.Devices.{Writes};
+ghost use Rattle.gang_model.specs.Texts.RunRefusals.{FromSource, run_refusal_text, source_text};
 ghost use Rattle.ispc_cli.specs.Refusals.{refusal_view};
 
-use debug_interface::{AnswerWriter, WriteFault};
+use debug_machine::{AnswerWriter, WriteFault};
 use debug_session::{write_all, write_pieces};
 use gang_model::{RefusalNumber, SourceRefusal};
 use itoa::Buffer;

@@ -2,27 +2,27 @@
 ghost use Rattle.std.specs.Prelude.{◌≡◌, ◌⊎◌, ℕ, ◌≤◌, true, false, List, [], Some, IfSome, option_map};
 ghost use Rattle.std.specs.Io.KnownBytes.{Appends};
 ghost use Rattle.gang_types.specs.Masks.{IsGangWidth};
-ghost use Rattle.gang_model.specs.Debugger.{fresh};
-ghost use Rattle.gang_model.specs.Endings.{Ends};
-ghost use Rattle.gang_model.specs.RunningOrder.{IsNumberedProgram};
-ghost use Rattle.gang_model.specs.Sources.{IsProgramOf};
-ghost use Rattle.gang_model.specs.Transcript.{setting};
-ghost use Rattle.gang_model.specs.Tree.{Program as ModelProgram};
+ghost use Rattle.gang_model.specs.Debugger.Debugger.{fresh};
+ghost use Rattle.gang_model.specs.Texts.Endings.{Ends};
+ghost use Rattle.gang_model.specs.Running.RunningOrder.{IsNumberedProgram};
+ghost use Rattle.gang_model.specs.Source.Sources.{IsProgramOf};
+ghost use Rattle.gang_model.specs.Texts.Transcript.{setting};
+ghost use Rattle.gang_model.specs.Types.Tree.{Program as ModelProgram};
 ghost use Rattle.typed_tree.specs.Views.{program_view};
-ghost use Rattle.command_loop.specs.LoopEnds.{ending_of as loop_ending};
-ghost use Rattle.source_front.specs.Front.{IsReady};
+ghost use Rattle.transcript.specs.LoopEnds.{ending_of as loop_ending};
+ghost use Rattle.ispc_compiler.specs.Front.{IsReady};
 ghost use Rattle.ispc_cli.specs.Ranges.{AreInRange};
 ghost use Rattle.ispc_cli.specs.Runs.{IsRight, asked_of, ending_of, options_view, refusal_of};
 
 use crate::options::{Options, Width};
 use crate::refusal::Refusal;
-use command_loop::{LoopEnd, answer_lines};
-use debug_interface::{AnswerWriter, CommandReader, READS};
+use debug_machine::{AnswerWriter, CommandReader, READS};
 use debug_session::Session;
 use gang_machine::open;
+use ispc_compiler::{Compiled, compile_source};
 use ispc_lexer::SourceFault;
-use source_front::{Compiled, compile_source};
 use std::alloc::Global;
+use transcript::{LoopEnd, answer_lines};
 
 /// How a run ended.
 #[derive(Clone, Copy, Debug, PartialEq, Eq, Drop)]

@@ -1,7 +1,7 @@
 //! std's readers and writers as the devices of a run.
 ghost use Rattle.std.specs.Prelude.{◌≡◌, false};
 
-use debug_interface::{AnswerWriter, CommandReader, ReadFault, WriteFault};
+use debug_machine::{AnswerWriter, CommandReader, ReadFault, WriteFault};
 use std::io::{Read, Write};
 
 /// Commands from a reader of std.

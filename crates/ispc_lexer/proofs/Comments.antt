@@ -2,7 +2,7 @@
 use Rattle.std.proofs.Common.{◌≡◌, inl, inr, ℕ, suc, ◌+◌, ◌<◌, ◌≤◌, List, [], ◌∷◌, ◌++◌, length, drop, Option, Some, None, Bool, true, false, cond, refl, sym, ap, ◌∙◌, arith, add-one, get_or, drop-cons}
 use Rattle.std.specs.Prelude.{nat_eq}
 use Rattle.std.specs.List.{starts_with}
-use Rattle.gang_model.specs.Lexes.{NoClose}
+use Rattle.gang_model.specs.Source.Lexes.{NoClose}
 use Rattle.ispc_lexer.specs.Pieces.{closed_at, one_more, begins_close}
 use Rattle.ispc_lexer.proofs.Runs.{some_is, which, starts_sound, starts_again, starts_not, drop_past}
 

@@ -2,7 +2,7 @@
 use Rattle.std.proofs.Common.{◌≡◌, ℕ, zero, suc, ◌+◌, ◌*◌, ◌^◌, ◌<◌, ◌≤◌, List, [], ◌∷◌, length, drop, Some, None, refl, sym, ap, ◌∙◌, arith, add-one, get_or, drop-cons}
 use Rattle.std.proofs.lemmas.Bool.{le-ltb, lt-ltb}
 use Rattle.std.proofs.Math.Nat.{pow-succ', pow-zero}
-use Rattle.gang_model.specs.Spelling.{Radix, decimal, hexadecimal, binary, base, digit_value, value_in}
+use Rattle.gang_model.specs.Source.Spelling.{Radix, decimal, hexadecimal, binary, base, digit_value, value_in}
 use Rattle.ispc_lexer.specs.Numbers.{fitting}
 use Rattle.ispc_lexer.proofs.Runs.{drop_past}
 

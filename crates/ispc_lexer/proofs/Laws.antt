@@ -4,8 +4,8 @@ use Rattle.std.specs.Prelude.{IfOk, IfErr}
 use Rattle.gang_types.specs.declared.places.Place.{Place}
 use Rattle.gang_model.specs.declared.refusals.RefusalNumber.{RefusalNumber}
 use Rattle.gang_model.specs.declared.refusals.SourceRefusal.{SourceRefusal}
-use Rattle.gang_model.specs.Tokens.{Lexeme}
-use Rattle.gang_model.specs.Lexes.{first_place, max_source, Lexes, IsFirstFault}
+use Rattle.gang_model.specs.Source.Tokens.{Lexeme}
+use Rattle.gang_model.specs.Source.Lexes.{first_place, max_source, Lexes, IsFirstFault}
 use Rattle.ispc_lexer.specs.declared.fault.SourceFault.{SourceFault}
 use Rattle.ispc_lexer.specs.declared.fault.SourceFault.TheVariants as fault
 use Rattle.ispc_lexer.specs.Source.{Gives, lexed}

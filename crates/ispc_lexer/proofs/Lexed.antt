@@ -6,9 +6,9 @@ use Rattle.gang_types.specs.declared.places.Place.{Place}
 use Rattle.gang_model.specs.declared.marks.Mark.{Mark}
 use Rattle.gang_model.specs.declared.marks.Mark.TheVariants as mark
 use Rattle.gang_model.specs.declared.refusals.SourceRefusal.{SourceRefusal}
-use Rattle.gang_model.specs.Tokens.{Lexeme}
-use Rattle.gang_model.specs.Spelling.{text_of}
-use Rattle.gang_model.specs.Lexes.{Piece, blank, line_comment, block_comment, word, mark as mark_at, spelling, Fits, Reads, with_lexeme, lexemes, place_after, place_of_end, IsStuck, fault_at}
+use Rattle.gang_model.specs.Source.Tokens.{Lexeme}
+use Rattle.gang_model.specs.Source.Spelling.{text_of}
+use Rattle.gang_model.specs.Source.Lexes.{Piece, blank, line_comment, block_comment, word, mark as mark_at, spelling, Fits, Reads, with_lexeme, lexemes, place_after, place_of_end, IsStuck, fault_at}
 use Rattle.ispc_lexer.specs.Numbers.{is_nil}
 use Rattle.ispc_lexer.specs.Pieces.{if_some, shape, piece_of}
 use Rattle.ispc_lexer.specs.Source.{◌>>>◌, lexeme_at, lexed}

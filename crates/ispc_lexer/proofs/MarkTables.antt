@@ -10,8 +10,8 @@ use denote.Enum.Bare.{sameb, same_true}
 use Rattle.gang_model.specs.declared.marks.Mark.{Mark}
 use Rattle.gang_model.specs.declared.marks.Mark.TheVariants as mark
 use Rattle.gang_model.specs.contracts.marks.Mark.{the_type}
-use Rattle.gang_model.specs.Spelling.{text_of}
-use Rattle.gang_model.specs.Lexes.{begins_word, NoComment, IsLongest}
+use Rattle.gang_model.specs.Source.Spelling.{text_of}
+use Rattle.gang_model.specs.Source.Lexes.{begins_word, NoComment, IsLongest}
 use Rattle.ispc_lexer.specs.declared.marks.TheConstants.{RESERVED, PUNCTUATION}
 use Rattle.ispc_lexer.specs.Pieces.{first_of, mark_of, reserved_of}
 use Rattle.ispc_lexer.proofs.Runs.{some_is, both_true, starts_sound, starts_again}

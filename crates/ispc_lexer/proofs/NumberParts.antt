@@ -6,8 +6,8 @@ use Rattle.std.proofs.lemmas.Bool.{ltb-true, lt-ltb, leb-true, le-leb, eqb-true}
 use Rattle.std.proofs.lemmas.Bool.Decides.{nat_tests}
 use Rattle.std.proofs.lemmas.List.{take-append-drop}
 use Rattle.std.proofs.Math.Seq.{take-append_seam, drop-append_seam}
-use Rattle.gang_model.specs.Tokens.{Sort, numbered}
-use Rattle.gang_model.specs.Spelling.{Radix, decimal, hexadecimal, binary, IsPrefix, is_digit, is_digit_in, value_in, NoLeadingZero, is_u, is_l, IsSuffix, IsNumber}
+use Rattle.gang_model.specs.Source.Tokens.{Sort, numbered}
+use Rattle.gang_model.specs.Source.Spelling.{Radix, decimal, hexadecimal, binary, IsPrefix, is_digit, is_digit_in, value_in, NoLeadingZero, is_u, is_l, IsSuffix, IsNumber}
 use Rattle.ispc_lexer.specs.Numbers.{radix_of, prefix_size, begins_with_zero, has_leading_zero, fitting, is_suffix, is_nil, number_in, digits_of, suffix_of, number_from, number_of}
 use Rattle.ispc_lexer.proofs.Runs.{bind_some, some_is, which, both_true, is_false, Ends, run_all, run_again, starts_sound, starts_not}
 

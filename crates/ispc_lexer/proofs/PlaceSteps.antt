@@ -2,7 +2,7 @@
 use Rattle.std.proofs.Common.{◌≡◌, ℕ, ◌+◌, ◌<◌, ◌≤◌, List, [], ◌∷◌, length, drop, Bool, true, false, cond, sym, ap, ◌∙◌, arith, get_or, add-one, drop-cons}
 use Rattle.std.specs.Prelude.{◌==◌}
 use Rattle.gang_types.specs.declared.places.Place.{Place}
-use Rattle.gang_model.specs.Lexes.{place_after, next_place}
+use Rattle.gang_model.specs.Source.Lexes.{place_after, next_place}
 use Rattle.ispc_lexer.proofs.Runs.{drop_past}
 
 pub place_step : (bs : List ℕ) (i : ℕ) (p : Place) → i < length bs → place_after p (drop i bs) ≡ place_after (next_place p (get_or bs i 0)) (drop (i + 1) bs)

@@ -5,8 +5,8 @@ use Rattle.std.proofs.lemmas.Bool.Decides.{nat_tests}
 use Rattle.std.proofs.lemmas.List.{append-nil, length-append, length-drop}
 use Rattle.gang_types.specs.declared.places.Place.{Place}
 use Rattle.gang_model.specs.declared.refusals.SourceRefusal.{SourceRefusal}
-use Rattle.gang_model.specs.Tokens.{Lexeme}
-use Rattle.gang_model.specs.Lexes.{Piece, spelling, place_after, fault_at}
+use Rattle.gang_model.specs.Source.Tokens.{Lexeme}
+use Rattle.gang_model.specs.Source.Lexes.{Piece, spelling, place_after, fault_at}
 use Rattle.ispc_lexer.specs.declared.token.Token.{Token}
 use Rattle.ispc_lexer.specs.Views.{lexemes_of}
 use Rattle.ispc_lexer.specs.Numbers.{shown, is_nil}

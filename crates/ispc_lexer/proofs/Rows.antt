@@ -5,9 +5,9 @@ use Rattle.gang_types.specs.declared.places.Place.{Place}
 use Rattle.gang_model.specs.declared.marks.Mark.TheVariants as mark
 use Rattle.gang_model.specs.declared.refusals.RefusalNumber.{RefusalNumber}
 use Rattle.gang_model.specs.declared.refusals.RefusalNumber.TheVariants.{S1, S2}
-use Rattle.gang_model.specs.Tokens.{Sort, named, numbered, marked, Lexeme}
-use Rattle.gang_model.specs.Spelling.{text_of}
-use Rattle.gang_model.specs.Lexes.{Lexes, IsFirstFault, first_place}
+use Rattle.gang_model.specs.Source.Tokens.{Sort, named, numbered, marked, Lexeme}
+use Rattle.gang_model.specs.Source.Spelling.{text_of}
+use Rattle.gang_model.specs.Source.Lexes.{Lexes, IsFirstFault, first_place}
 use Rattle.ispc_lexer.specs.Numbers.{number_in, number_of}
 use Rattle.ispc_lexer.specs.Pieces.{begins_close, closed_at, reserved_of, mark_of, word_of, mark_piece, comment_or_mark, piece_of}
 use Rattle.ispc_lexer.specs.Source.{lexed}

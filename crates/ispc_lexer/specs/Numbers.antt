@@ -1,8 +1,8 @@
 -- The number that a text is, from the left to the right.
 use Rattle.std.specs.Prelude.{ℕ, ◌^◌, Bool, true, false, not, ◌&&◌, ◌||◌, ◌==◌, nat_lt, nat_le, nat_eq, List, [], ◌∷◌, take, drop, Option, Some, None, if◌then◌else◌, codes}
 use Rattle.std.specs.List.{list_all, list_any, count_by, prefix_len, starts_with}
-use Rattle.gang_model.specs.Tokens.{Sort, numbered}
-use Rattle.gang_model.specs.Spelling.{Radix, decimal, hexadecimal, binary, is_digit_in, value_in, is_u, is_l}
+use Rattle.gang_model.specs.Source.Tokens.{Sort, numbered}
+use Rattle.gang_model.specs.Source.Spelling.{Radix, decimal, hexadecimal, binary, is_digit_in, value_in, is_u, is_l}
 use Rattle.ispc_lexer.specs.declared.numbers.Radix.{Radix as CodeRadix}
 use Rattle.ispc_lexer.specs.declared.numbers.Radix.TheVariants as radix
 use Rattle.ispc_lexer.specs.declared.token.Number.{Number}

@@ -3,9 +3,9 @@ use Rattle.std.specs.Prelude.{ℕ, ◌+◌, ◌-◌, Bool, true, false, ◌==◌
 use Rattle.std.specs.List.{prefix_len, starts_with, find}
 use lib.Pointwise.{pointwise}
 use Rattle.gang_model.specs.declared.marks.Mark.{Mark}
-use Rattle.gang_model.specs.Tokens.{Sort, named, marked}
-use Rattle.gang_model.specs.Spelling.{text_of, is_blank, is_digit, is_word}
-use Rattle.gang_model.specs.Lexes.{Piece, blank, line_comment, block_comment, word, mark}
+use Rattle.gang_model.specs.Source.Tokens.{Sort, named, marked}
+use Rattle.gang_model.specs.Source.Spelling.{text_of, is_blank, is_digit, is_word}
+use Rattle.gang_model.specs.Source.Lexes.{Piece, blank, line_comment, block_comment, word, mark}
 use Rattle.ispc_lexer.specs.declared.marks.TheConstants.{RESERVED, PUNCTUATION}
 use Rattle.ispc_lexer.specs.Numbers.{◌>>=◌, number_of}
 

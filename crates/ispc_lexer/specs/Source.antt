@@ -2,8 +2,8 @@
 use Rattle.std.specs.Prelude.{◌≡◌, ℕ, zero, suc, ◌+◌, List, [], ◌∷◌, ◌++◌, take, drop, Result, Ok, Err, if◌then◌else◌}
 use Rattle.gang_types.specs.declared.places.Place.{Place}
 use Rattle.gang_model.specs.declared.refusals.SourceRefusal.{SourceRefusal}
-use Rattle.gang_model.specs.Tokens.{Lexeme}
-use Rattle.gang_model.specs.Lexes.{place_after, fault_at}
+use Rattle.gang_model.specs.Source.Tokens.{Lexeme}
+use Rattle.gang_model.specs.Source.Lexes.{place_after, fault_at}
 use Rattle.ispc_lexer.specs.declared.fault.SourceFault.{SourceFault}
 use Rattle.ispc_lexer.specs.declared.fault.SourceFault.TheVariants as fault
 use Rattle.ispc_lexer.specs.Numbers.{is_nil}

@@ -1,6 +1,6 @@
 -- Which of gang_model's tokens a token is.
 use Rattle.std.specs.Prelude.{List, [], ◌∷◌}
-use Rattle.gang_model.specs.Tokens.{Sort, named, numbered, marked, Lexeme}
+use Rattle.gang_model.specs.Source.Tokens.{Sort, named, numbered, marked, Lexeme}
 use Rattle.ispc_lexer.specs.declared.token.Kind.{Kind}
 use Rattle.ispc_lexer.specs.declared.token.Kind.TheVariants as kind
 use Rattle.ispc_lexer.specs.declared.token.Token.{Token}

@@ -1,7 +1,7 @@
 //! What a byte may be part of.
 ghost use Rattle.std.specs.Prelude.{◌≡◌, ◌≤◌, length};
 ghost use Rattle.std.specs.List.{prefix_len};
-ghost use Rattle.gang_model.specs.Spelling as spelling;
+ghost use Rattle.gang_model.specs.Source.Spelling as spelling;
 ghost use Rattle.ispc_lexer.specs.Pieces as spec;
 
 pub fn is_blank(byte: u8) -> bool

@@ -1,6 +1,6 @@
 //! Marks and reserved words.
 ghost use Rattle.std.specs.Prelude.{◌≡◌};
-ghost use Rattle.gang_model.specs.Spelling as spelling;
+ghost use Rattle.gang_model.specs.Source.Spelling as spelling;
 ghost use Rattle.ispc_lexer.specs.Pieces as spec;
 
 use gang_model::Mark;

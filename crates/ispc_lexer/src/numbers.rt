@@ -1,7 +1,7 @@
 //! Decimal, hexadecimal and binary numbers with their suffixes.
 ghost use Rattle.std.specs.Prelude.{◌≡◌, ◌≤◌, ◌||◌, length};
 ghost use Rattle.std.specs.List.{prefix_len, count_by, list_all, list_any};
-ghost use Rattle.gang_model.specs.Spelling as spelling;
+ghost use Rattle.gang_model.specs.Source.Spelling as spelling;
 ghost use Rattle.ispc_lexer.specs.Numbers as spec;
 
 use crate::letters::is_digit;

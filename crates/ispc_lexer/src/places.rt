@@ -1,6 +1,6 @@
 //! Lines and columns.
 ghost use Rattle.std.specs.Prelude.{◌≡◌, ◌+◌, ◌≤◌, ◌<◌, ◌^◌, length};
-ghost use Rattle.gang_model.specs.Lexes as model;
+ghost use Rattle.gang_model.specs.Source.Lexes as model;
 
 use gang_types::Place;
 

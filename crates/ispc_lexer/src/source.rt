@@ -1,7 +1,7 @@
 //! A whole source, piece by piece.
 ghost use Rattle.std.specs.Prelude.{◌≡◌, ◌+◌, ◌≤◌, ◌<◌, ◌^◌, ◌++◌, [], ◌∷◌, List, length, IfOk, IfErr};
-ghost use Rattle.gang_model.specs.Tokens.{Lexeme};
-ghost use Rattle.gang_model.specs.Lexes.{Lexes, first_place, max_source, fault_at as number_of_fault};
+ghost use Rattle.gang_model.specs.Source.Tokens.{Lexeme};
+ghost use Rattle.gang_model.specs.Source.Lexes.{Lexes, first_place, max_source, fault_at as number_of_fault};
 ghost use Rattle.ispc_lexer.specs.Refusal.{IsRefusal};
 ghost use Rattle.ispc_lexer.specs.Source as spec;
 ghost use Rattle.ispc_lexer.specs.Steps.{step_view};

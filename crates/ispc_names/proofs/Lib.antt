@@ -1,5 +1,2 @@
-pub mod SameTexts
-pub mod Indexed
-pub mod ScopeSites
-pub mod ArgumentFaults
-pub mod NameIndex
+pub mod ItemSteps
+pub mod TableSteps

@@ -1,5 +1,1 @@
-pub mod Bindings
-pub mod FunctionNames
-pub mod Innermost
-pub mod Names
-pub mod Scopes
+pub mod Tables

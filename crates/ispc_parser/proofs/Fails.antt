@@ -2,7 +2,7 @@
 use Rattle.std.proofs.Common.{◌≡◌, Option, None}
 use Rattle.ispc_lexer.specs.declared.fault.SourceFault.{SourceFault}
 use Rattle.ispc_lexer.specs.declared.fault.SourceFault.TheVariants as faults
-use Rattle.expression_parser.specs.Parse.{Fails}
+use Rattle.ispc_parser_expressions.specs.Parse.{Fails}
 use Rattle.ispc_parser.specs.Refusals.{IsRefusal, IsSooner}
 
 -- a part fails, and so what needs it

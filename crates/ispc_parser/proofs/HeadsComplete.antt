@@ -3,16 +3,16 @@ use Rattle.std.proofs.Common.{◌≡◌, inl, inr, ℕ, zero, suc, ◌≤◌, Li
 use Rattle.gang_types.specs.declared.places.Place.{Place}
 use Rattle.gang_model.specs.declared.marks.Mark.{Mark}
 use Rattle.gang_model.specs.declared.marks.Mark.TheVariants as mark
-use Rattle.gang_model.specs.Tokens.{Sort, named, marked, Lexeme}
-use Rattle.gang_model.specs.Parsed.{Name, ParsedExpr, ParsedDim, ParsedStmt, ParsedEmpty, ParsedDeclare}
-use Rattle.gang_model.specs.Spells.{Takes, TakesAt, Stops, any_level, WholeExpr}
-use Rattle.gang_model.specs.SpellsStatements.{BeginsAt, Maybe, InParens, SpellsList, SpellsDeclaration, SpellsStart, SpellsUpdate, SpellsRounds, SpellsDim, max_dims, SpellsDims, SpellsDistinct}
-use Rattle.expression_parser.specs.Parse.{if_some, begins, begins_word, is_mark, spec_word, whole_expr}
-use Rattle.expression_parser.proofs.Tools.{mark_is, take_again, begins_again}
-use Rattle.expression_parser.proofs.Starts.{starts}
-use Rattle.expression_parser.proofs.SpecWords.{words_begin}
-use Rattle.expression_parser.proofs.Follows.{stops_at, take_none}
-use Rattle.expression_parser.proofs.Whole.{whole_complete}
+use Rattle.gang_model.specs.Source.Tokens.{Sort, named, marked, Lexeme}
+use Rattle.gang_model.specs.Source.Parsed.{Name, ParsedExpr, ParsedDim, ParsedStmt, ParsedEmpty, ParsedDeclare}
+use Rattle.gang_model.specs.Source.Spells.{Takes, TakesAt, Stops, any_level, WholeExpr}
+use Rattle.gang_model.specs.Source.SpellsStatements.{BeginsAt, Maybe, InParens, SpellsList, SpellsDeclaration, SpellsStart, SpellsUpdate, SpellsRounds, SpellsDim, max_dims, SpellsDims, SpellsDistinct}
+use Rattle.ispc_parser_expressions.specs.Parse.{if_some, begins, begins_word, is_mark, spec_word, whole_expr}
+use Rattle.ispc_parser_expressions.proofs.Tools.{mark_is, take_again, begins_again}
+use Rattle.ispc_parser_expressions.proofs.Starts.{starts}
+use Rattle.ispc_parser_expressions.proofs.SpecWords.{words_begin}
+use Rattle.ispc_parser_expressions.proofs.Follows.{stops_at, take_none}
+use Rattle.ispc_parser_expressions.proofs.Whole.{whole_complete}
 use Rattle.ispc_parser.specs.declared.words.Loop.TheVariants as loop
 use Rattle.ispc_parser.specs.Parts.{Reader, name_of, in_parens, list_of, declaration_of, simple_of}
 use Rattle.ispc_parser.specs.Heads.{optional_of, start_of, update_of, rounds_of, dim_of, dims_of, distinct_of, ParsedRounds, ParsedDistinct, WhileHead, ForHead, ForEachHead, ActiveHead, UniqueHead, head_of}

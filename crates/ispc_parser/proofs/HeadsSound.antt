@@ -1,13 +1,13 @@
 -- What is read as the head of a loop or a foreach form is spelled so.
 use Rattle.std.proofs.Common.{◌≡◌, inl, inr, ℕ, zero, suc, ◌≤◌, List, [], ◌∷◌, length, Option, Some, None, refl, subst, arith}
 use Rattle.gang_model.specs.declared.marks.Mark.TheVariants as mark
-use Rattle.gang_model.specs.Tokens.{marked, Lexeme}
-use Rattle.gang_model.specs.Parsed.{ParsedExpr, ParsedDim, ParsedStmt, ParsedEmpty, ParsedDeclare, ParsedAssign, ParsedChange, ParsedIncrement, ParsedDoCall}
-use Rattle.gang_model.specs.Spells.{Takes, WholeExpr}
-use Rattle.gang_model.specs.SpellsStatements.{Maybe, SpellsList, SpellsDeclaration, SpellsSimple, SpellsStart, SpellsUpdate, SpellsRounds, SpellsDim, max_dims, SpellsDims, SpellsDistinct}
-use Rattle.expression_parser.specs.Parse.{begins, begins_word, take, is_mark, whole_expr}
-use Rattle.expression_parser.proofs.Tools.{bind_some, some_is, which, chosen, take_takes}
-use Rattle.expression_parser.proofs.Whole.{whole_sound}
+use Rattle.gang_model.specs.Source.Tokens.{marked, Lexeme}
+use Rattle.gang_model.specs.Source.Parsed.{ParsedExpr, ParsedDim, ParsedStmt, ParsedEmpty, ParsedDeclare, ParsedAssign, ParsedChange, ParsedIncrement, ParsedDoCall}
+use Rattle.gang_model.specs.Source.Spells.{Takes, WholeExpr}
+use Rattle.gang_model.specs.Source.SpellsStatements.{Maybe, SpellsList, SpellsDeclaration, SpellsSimple, SpellsStart, SpellsUpdate, SpellsRounds, SpellsDim, max_dims, SpellsDims, SpellsDistinct}
+use Rattle.ispc_parser_expressions.specs.Parse.{begins, begins_word, take, is_mark, whole_expr}
+use Rattle.ispc_parser_expressions.proofs.Tools.{bind_some, some_is, which, chosen, take_takes}
+use Rattle.ispc_parser_expressions.proofs.Whole.{whole_sound}
 use Rattle.ispc_parser.specs.Parts.{Reader, name_of, list_of}
 use Rattle.ispc_parser.specs.Heads.{optional_of, start_of, update_of, ParsedRounds, rounds_of, dim_of, dims_of, ParsedDistinct, distinct_of}
 use Rattle.ispc_parser.proofs.Tokens.{name_sound}

@@ -3,12 +3,12 @@ use Rattle.std.proofs.Common.{◌≡◌, ℕ, zero, suc, List, [], ◌∷◌, �
 use Rattle.std.specs.Prelude.{◌==◌}
 use Rattle.std.proofs.lemmas.Bool.{eqb-true}
 use Rattle.std.proofs.lemmas.List.{append-nil}
-use Rattle.gang_model.specs.Tokens.{Lexeme}
-use Rattle.gang_model.specs.Parsed.{ParsedItem, ParsedSource}
+use Rattle.gang_model.specs.Source.Tokens.{Lexeme}
+use Rattle.gang_model.specs.Source.Parsed.{ParsedItem, ParsedSource}
 use Rattle.ispc_lexer.specs.declared.fault.SourceFault.{SourceFault}
 use Rattle.ispc_lexer.specs.declared.token.Token.{Token}
 use Rattle.ispc_lexer.specs.Views.{lexemes_of}
-use Rattle.expression_parser.specs.Parse.{◌>>=◌, Fails}
+use Rattle.ispc_parser_expressions.specs.Parse.{◌>>=◌, Fails}
 use Rattle.ispc_parser.specs.Source.{is_empty, item_of, items_of}
 use Rattle.ispc_parser.proofs.Fails.{fails_when}
 

@@ -4,12 +4,12 @@ use Rattle.gang_types.specs.declared.places.Place.{Place}
 use Rattle.gang_model.specs.declared.marks.Mark.{Mark}
 use Rattle.gang_model.specs.declared.marks.Mark.TheVariants as mark
 use Rattle.gang_model.specs.declared.forms.Spec.{Spec}
-use Rattle.gang_model.specs.Tokens.{named, marked, Lexeme}
-use Rattle.gang_model.specs.Parsed.{Name, ParsedExpr, ParsedDim, ParsedTarget, ParsedStmt, ParsedEmpty, ParsedBlock, ParsedDeclare, ParsedAssign, ParsedChange, ParsedIncrement, ParsedDoCall, ParsedBreak, ParsedContinue, ParsedReturn, ParsedIf, ParsedIfElse, ParsedWhile, ParsedDo, ParsedFor, ParsedSwitch, ParsedForEach, ParsedForEachActive, ParsedForEachUnique, ParsedStmts, ParsedLast, ParsedNext}
-use Rattle.gang_model.specs.Spells.{TakesAt, TakesWords, any_level, WholeExpr, WholeArgs}
-use Rattle.gang_model.specs.SpellsStatements.{TakesEither, Maybe, InParens, InBrackets, SpellsList, SpellsSpec, SpellsValue, SpellsDeclaration, SpellsTarget, SpellsSimple, SpellsStart, SpellsUpdate, SpellsRounds, SpellsDim, SpellsDims, foreach_word, SpellsDistinct, OpensBody, SpellsStmt, SpellsStmts}
-use Rattle.expression_parser.proofs.Tools.{opened}
-use Rattle.expression_parser.proofs.Starts.{takes_shorter, at_shorter, spelled_shorter, items_shorter}
+use Rattle.gang_model.specs.Source.Tokens.{named, marked, Lexeme}
+use Rattle.gang_model.specs.Source.Parsed.{Name, ParsedExpr, ParsedDim, ParsedTarget, ParsedStmt, ParsedEmpty, ParsedBlock, ParsedDeclare, ParsedAssign, ParsedChange, ParsedIncrement, ParsedDoCall, ParsedBreak, ParsedContinue, ParsedReturn, ParsedIf, ParsedIfElse, ParsedWhile, ParsedDo, ParsedFor, ParsedSwitch, ParsedForEach, ParsedForEachActive, ParsedForEachUnique, ParsedStmts, ParsedLast, ParsedNext}
+use Rattle.gang_model.specs.Source.Spells.{TakesAt, TakesWords, any_level, WholeExpr, WholeArgs}
+use Rattle.gang_model.specs.Source.SpellsStatements.{TakesEither, Maybe, InParens, InBrackets, SpellsList, SpellsSpec, SpellsValue, SpellsDeclaration, SpellsTarget, SpellsSimple, SpellsStart, SpellsUpdate, SpellsRounds, SpellsDim, SpellsDims, foreach_word, SpellsDistinct, OpensBody, SpellsStmt, SpellsStmts}
+use Rattle.ispc_parser_expressions.proofs.Tools.{opened}
+use Rattle.ispc_parser_expressions.proofs.Starts.{takes_shorter, at_shorter, spelled_shorter, items_shorter}
 
 -- ---- tokens
 

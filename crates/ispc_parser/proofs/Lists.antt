@@ -1,9 +1,9 @@
 -- Steps of the loops that read what commas separate.
 use Rattle.std.proofs.Common.{◌≡◌, ℕ, zero, suc, List, [], ◌∷◌, ◌++◌, Option, Some, None, refl, sym, ap, ◌∙◌, arith, append_assoc}
 use Rattle.gang_model.specs.declared.marks.Mark.TheVariants as mark
-use Rattle.gang_model.specs.Tokens.{Lexeme}
+use Rattle.gang_model.specs.Source.Tokens.{Lexeme}
 use Rattle.ispc_lexer.specs.declared.fault.SourceFault.{SourceFault}
-use Rattle.expression_parser.specs.Parse.{◌>>=◌, Fails, take}
+use Rattle.ispc_parser_expressions.specs.Parse.{◌>>=◌, Fails, take}
 use Rattle.ispc_parser.specs.Parts.{Reader, list_of}
 use Rattle.ispc_parser.proofs.Fails.{fails_when}
 

@@ -7,15 +7,15 @@ use Rattle.gang_model.specs.declared.marks.Mark.{Mark}
 use Rattle.gang_model.specs.declared.marks.Mark.TheVariants as mark
 use Rattle.gang_model.specs.contracts.marks.Mark.{the_type}
 use Rattle.gang_model.specs.declared.forms.Spec.{Spec}
-use Rattle.gang_model.specs.Tokens.{Sort, named, marked, Lexeme}
-use Rattle.gang_model.specs.Parsed.{Name, ParsedExpr, ParsedTarget, ParsedStmt, ParsedDeclare, ParsedAssign, ParsedChange, ParsedIncrement, ParsedDoCall}
-use Rattle.gang_model.specs.Spells.{Takes, TakesAt, Stops, any_level, WholeExpr, WholeArgs}
-use Rattle.gang_model.specs.SpellsStatements.{BeginsAt, Maybe, InBrackets, SpellsValue, SpellsDeclaration, SpellsTarget, change_of, increment_of, SpellsSimple}
-use Rattle.expression_parser.specs.Parse.{begins, is_mark, whole_args}
-use Rattle.expression_parser.proofs.Tools.{opened, take_again, begins_again}
-use Rattle.expression_parser.proofs.Starts.{takes_at}
-use Rattle.expression_parser.proofs.Follows.{stops_at, not_begins}
-use Rattle.expression_parser.proofs.Whole.{whole_complete, args_complete}
+use Rattle.gang_model.specs.Source.Tokens.{Sort, named, marked, Lexeme}
+use Rattle.gang_model.specs.Source.Parsed.{Name, ParsedExpr, ParsedTarget, ParsedStmt, ParsedDeclare, ParsedAssign, ParsedChange, ParsedIncrement, ParsedDoCall}
+use Rattle.gang_model.specs.Source.Spells.{Takes, TakesAt, Stops, any_level, WholeExpr, WholeArgs}
+use Rattle.gang_model.specs.Source.SpellsStatements.{BeginsAt, Maybe, InBrackets, SpellsValue, SpellsDeclaration, SpellsTarget, change_of, increment_of, SpellsSimple}
+use Rattle.ispc_parser_expressions.specs.Parse.{begins, is_mark, whole_args}
+use Rattle.ispc_parser_expressions.proofs.Tools.{opened, take_again, begins_again}
+use Rattle.ispc_parser_expressions.proofs.Starts.{takes_at}
+use Rattle.ispc_parser_expressions.proofs.Follows.{stops_at, not_begins}
+use Rattle.ispc_parser_expressions.proofs.Whole.{whole_complete, args_complete}
 use Rattle.ispc_parser.specs.Parts.{value_of, declaration_of, index_of, target_of, changed_of, assigned_of, call_of, named_of, incremented_of, simple_of}
 use Rattle.ispc_parser.proofs.Tokens.{other_first, begins_at, enter_again, in_parens_again, name_again, local_spec_again}
 

@@ -5,14 +5,14 @@ use Rattle.gang_types.specs.declared.places.Place.{Place}
 use Rattle.gang_model.specs.declared.marks.Mark.{Mark}
 use Rattle.gang_model.specs.declared.marks.Mark.TheVariants as mark
 use Rattle.gang_model.specs.contracts.marks.Mark.{the_type}
-use Rattle.gang_model.specs.Tokens.{Sort, named, numbered, marked, Lexeme}
-use Rattle.gang_model.specs.Parsed.{Name, ParsedExpr, ParsedTarget, ParsedStmt, ParsedDeclare, ParsedAssign, ParsedChange, ParsedIncrement, ParsedDoCall}
-use Rattle.gang_model.specs.Spells.{Takes, TakesAt, WholeExpr, WholeArgs}
-use Rattle.gang_model.specs.SpellsStatements.{BeginsAt, Maybe, InBrackets, SpellsValue, SpellsDeclaration, SpellsTarget, change_of, increment_of, SpellsSimple}
-use Rattle.expression_parser.specs.Parse.{begins, take, mark_of, whole_expr, whole_args}
-use Rattle.expression_parser.proofs.Tools.{bind_some, some_is, which, chosen, take_takes}
-use Rattle.expression_parser.proofs.Starts.{takes_at}
-use Rattle.expression_parser.proofs.Whole.{whole_sound, args_sound}
+use Rattle.gang_model.specs.Source.Tokens.{Sort, named, numbered, marked, Lexeme}
+use Rattle.gang_model.specs.Source.Parsed.{Name, ParsedExpr, ParsedTarget, ParsedStmt, ParsedDeclare, ParsedAssign, ParsedChange, ParsedIncrement, ParsedDoCall}
+use Rattle.gang_model.specs.Source.Spells.{Takes, TakesAt, WholeExpr, WholeArgs}
+use Rattle.gang_model.specs.Source.SpellsStatements.{BeginsAt, Maybe, InBrackets, SpellsValue, SpellsDeclaration, SpellsTarget, change_of, increment_of, SpellsSimple}
+use Rattle.ispc_parser_expressions.specs.Parse.{begins, take, mark_of, whole_expr, whole_args}
+use Rattle.ispc_parser_expressions.proofs.Tools.{bind_some, some_is, which, chosen, take_takes}
+use Rattle.ispc_parser_expressions.proofs.Starts.{takes_at}
+use Rattle.ispc_parser_expressions.proofs.Whole.{whole_sound, args_sound}
 use Rattle.ispc_parser.specs.Parts.{enter, name_of, in_parens, local_spec_of, value_of, declaration_of, index_of, target_of, changed_of, assigned_of, call_of, named_of, incremented_of, simple_at, simple_of}
 use Rattle.ispc_parser.proofs.Tokens.{opens_here, begins_at, first_at, mark_of_is, enter_sound, in_parens_sound, name_sound, local_spec_sound}
 

@@ -1,7 +1,7 @@
 -- Statements that lie in a Vec.
 use Rattle.std.proofs.Common.{◌≡◌, refl, ap, ◌∙◌, Vec, Global}
 use mathlib.Core.Former.{Count}
-use Rattle.gang_model.specs.Parsed.{ParsedBlock, ParsedNext}
+use Rattle.gang_model.specs.Source.Parsed.{ParsedBlock, ParsedNext}
 use Rattle.ispc_parser.specs.declared.tree.Stmt.{Stmt, Block, Block', Row_of-Stmt, end_of-Stmt, more_of-Stmt, items-the_row-Stmt, items_hidden-the_row-Stmt-0}
 use Rattle.ispc_parser.specs.Tree.{stmt_view, row_view, stmts_view}
 

@@ -1,9 +1,9 @@
 -- Steps of the loop over statements.
 use Rattle.std.proofs.Common.{◌≡◌, ℕ, zero, suc, List, [], ◌∷◌, ◌++◌, Option, Some, None, true, false, refl, sym, ap, ◌∙◌, arith}
-use Rattle.gang_model.specs.Tokens.{Lexeme}
-use Rattle.gang_model.specs.Parsed.{ParsedStmt, ParsedStmts, ParsedLast, ParsedNext}
+use Rattle.gang_model.specs.Source.Tokens.{Lexeme}
+use Rattle.gang_model.specs.Source.Parsed.{ParsedStmt, ParsedStmts, ParsedLast, ParsedNext}
 use Rattle.ispc_lexer.specs.declared.fault.SourceFault.{SourceFault}
-use Rattle.expression_parser.specs.Parse.{◌>>=◌, Fails}
+use Rattle.ispc_parser_expressions.specs.Parse.{◌>>=◌, Fails}
 use Rattle.ispc_parser.specs.declared.tree.Stmt.{Stmt}
 use Rattle.ispc_parser.specs.Tree.{stmt_view, stmts_view}
 use Rattle.ispc_parser.specs.Parts.{Reader}

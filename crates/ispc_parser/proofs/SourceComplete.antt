@@ -7,16 +7,16 @@ use Rattle.gang_model.specs.declared.forms.GlobalForm.{GlobalForm}
 use Rattle.gang_model.specs.declared.forms.GlobalForm.TheVariants as form
 use Rattle.gang_model.specs.declared.forms.Literal.{Literal}
 use Rattle.gang_model.specs.declared.forms.Literal.TheVariants as literal
-use Rattle.gang_model.specs.Tokens.{named, numbered, marked, Lexeme}
-use Rattle.gang_model.specs.Parsed.{Name, ParsedParam, ParsedFunction, ParsedGlobal, ParsedItem, ParsedFunctionItem, ParsedGlobalItem, ParsedSource}
-use Rattle.gang_model.specs.Spells.{Takes, TakesAt, Stops, any_level, truth_mark}
-use Rattle.gang_model.specs.SpellsStatements.{SpellsList, SpellsStmts}
-use Rattle.gang_model.specs.SpellsSource.{max_params, SpellsEmptyBrackets, SpellsParam, SpellsParams, SpellsFunction, SpellsLiteral, SpellsForm, SpellsGlobal, SpellsItem, IsTree}
-use Rattle.expression_parser.specs.Parse.{◌>>=◌, begins, begins_word, take, after_words}
-use Rattle.expression_parser.proofs.Tools.{mark_is, take_takes, take_again, begins_again}
-use Rattle.expression_parser.proofs.Starts.{takes_at, takes_shorter, at_shorter}
-use Rattle.expression_parser.proofs.SpecWords.{words_again, words_begin}
-use Rattle.expression_parser.proofs.Follows.{take_none, not_begins}
+use Rattle.gang_model.specs.Source.Tokens.{named, numbered, marked, Lexeme}
+use Rattle.gang_model.specs.Source.Parsed.{Name, ParsedParam, ParsedFunction, ParsedGlobal, ParsedItem, ParsedFunctionItem, ParsedGlobalItem, ParsedSource}
+use Rattle.gang_model.specs.Source.Spells.{Takes, TakesAt, Stops, any_level, truth_mark}
+use Rattle.gang_model.specs.Source.SpellsStatements.{SpellsList, SpellsStmts}
+use Rattle.gang_model.specs.Source.SpellsSource.{max_params, SpellsEmptyBrackets, SpellsParam, SpellsParams, SpellsFunction, SpellsLiteral, SpellsForm, SpellsGlobal, SpellsItem, IsTree}
+use Rattle.ispc_parser_expressions.specs.Parse.{◌>>=◌, begins, begins_word, take, after_words}
+use Rattle.ispc_parser_expressions.proofs.Tools.{mark_is, take_takes, take_again, begins_again}
+use Rattle.ispc_parser_expressions.proofs.Starts.{takes_at, takes_shorter, at_shorter}
+use Rattle.ispc_parser_expressions.proofs.SpecWords.{words_again, words_begin}
+use Rattle.ispc_parser_expressions.proofs.Follows.{take_none, not_begins}
 use Rattle.ispc_parser.specs.Statements.{ends_block, parsers}
 use Rattle.ispc_parser.specs.Source.{brackets_of, param_of, lone_void, some_params_of, params_of, function_body_of, function_of, number_of, literal_of, form_of, global_of, declared_of, outer_spec_of, item_of, is_empty, items_of, tree_of}
 use Rattle.ispc_parser.proofs.Tokens.{other_first, take_at_again, name_again, spec_again, local_spec_again}

@@ -7,13 +7,13 @@ use Rattle.gang_model.specs.declared.forms.GlobalForm.{GlobalForm}
 use Rattle.gang_model.specs.declared.forms.GlobalForm.TheVariants as form
 use Rattle.gang_model.specs.declared.forms.Literal.{Literal}
 use Rattle.gang_model.specs.declared.forms.Literal.TheVariants as literal
-use Rattle.gang_model.specs.Tokens.{Sort, named, numbered, marked, Lexeme}
-use Rattle.gang_model.specs.Parsed.{Name, ParsedParam, ParsedItem, ParsedFunctionItem, ParsedGlobalItem, ParsedSource}
-use Rattle.gang_model.specs.Spells.{Takes, TakesAt, Opens}
-use Rattle.gang_model.specs.SpellsStatements.{SpellsSpec, SpellsList, SpellsStmts}
-use Rattle.gang_model.specs.SpellsSource.{max_nesting, max_params, SpellsEmptyBrackets, SpellsParam, SpellsParams, SpellsLiteral, SpellsForm, SpellsItem, IsTree}
-use Rattle.expression_parser.specs.Parse.{begins, take, spec_at}
-use Rattle.expression_parser.proofs.Tools.{bind_some, some_is, which, chosen, take_takes}
+use Rattle.gang_model.specs.Source.Tokens.{Sort, named, numbered, marked, Lexeme}
+use Rattle.gang_model.specs.Source.Parsed.{Name, ParsedParam, ParsedItem, ParsedFunctionItem, ParsedGlobalItem, ParsedSource}
+use Rattle.gang_model.specs.Source.Spells.{Takes, TakesAt, Opens}
+use Rattle.gang_model.specs.Source.SpellsStatements.{SpellsSpec, SpellsList, SpellsStmts}
+use Rattle.gang_model.specs.Source.SpellsSource.{max_nesting, max_params, SpellsEmptyBrackets, SpellsParam, SpellsParams, SpellsLiteral, SpellsForm, SpellsItem, IsTree}
+use Rattle.ispc_parser_expressions.specs.Parse.{begins, take, spec_at}
+use Rattle.ispc_parser_expressions.proofs.Tools.{bind_some, some_is, which, chosen, take_takes}
 use Rattle.ispc_parser.specs.Parts.{take_at, name_of, local_spec_of}
 use Rattle.ispc_parser.specs.Statements.{within, parsers}
 use Rattle.ispc_parser.specs.Source.{brackets_of, param_of, some_params_of, lone_void, params_of, Body, function_body_of, function_of, Digits, digits_in, number_of, signed, literal_of, form_of, global_of, declared_of, is_outer, outer_spec_of, item_of, is_empty, items_of, tree_of}

@@ -3,14 +3,14 @@ use Rattle.std.proofs.Common.{◌≡◌, inl, inr, ℕ, zero, suc, ◌≤◌, Li
 use Rattle.gang_types.specs.declared.places.Place.{Place}
 use Rattle.gang_model.specs.declared.marks.Mark.{Mark}
 use Rattle.gang_model.specs.declared.marks.Mark.TheVariants as mark
-use Rattle.gang_model.specs.Tokens.{Sort, named, marked, Lexeme}
-use Rattle.gang_model.specs.Parsed.{ParsedStmt, ParsedEmpty, ParsedBlock, ParsedDeclare, ParsedAssign, ParsedChange, ParsedIncrement, ParsedDoCall, ParsedBreak, ParsedContinue, ParsedReturn, ParsedIf, ParsedIfElse, ParsedWhile, ParsedDo, ParsedFor, ParsedSwitch, ParsedForEach, ParsedForEachActive, ParsedForEachUnique, ParsedStmts, ParsedLast, ParsedNext}
-use Rattle.gang_model.specs.Spells.{Takes, TakesAt, Opens, any_level}
-use Rattle.gang_model.specs.SpellsStatements.{TakesEither, BeginsAt, SpellsSimple, foreach_word, OpensBody, SpellsStmt, SpellsStmts}
-use Rattle.expression_parser.specs.Parse.{begins, begins_word, is_mark, spec_word}
-use Rattle.expression_parser.proofs.Tools.{opened, take_again, begins_again}
-use Rattle.expression_parser.proofs.Starts.{takes_at}
-use Rattle.expression_parser.proofs.Follows.{stops_at}
+use Rattle.gang_model.specs.Source.Tokens.{Sort, named, marked, Lexeme}
+use Rattle.gang_model.specs.Source.Parsed.{ParsedStmt, ParsedEmpty, ParsedBlock, ParsedDeclare, ParsedAssign, ParsedChange, ParsedIncrement, ParsedDoCall, ParsedBreak, ParsedContinue, ParsedReturn, ParsedIf, ParsedIfElse, ParsedWhile, ParsedDo, ParsedFor, ParsedSwitch, ParsedForEach, ParsedForEachActive, ParsedForEachUnique, ParsedStmts, ParsedLast, ParsedNext}
+use Rattle.gang_model.specs.Source.Spells.{Takes, TakesAt, Opens, any_level}
+use Rattle.gang_model.specs.Source.SpellsStatements.{TakesEither, BeginsAt, SpellsSimple, foreach_word, OpensBody, SpellsStmt, SpellsStmts}
+use Rattle.ispc_parser_expressions.specs.Parse.{begins, begins_word, is_mark, spec_word}
+use Rattle.ispc_parser_expressions.proofs.Tools.{opened, take_again, begins_again}
+use Rattle.ispc_parser_expressions.proofs.Starts.{takes_at}
+use Rattle.ispc_parser_expressions.proofs.Follows.{stops_at}
 use Rattle.ispc_parser.specs.declared.words.Loop.{Loop}
 use Rattle.ispc_parser.specs.declared.words.Loop.TheVariants as loop
 use Rattle.ispc_parser.specs.Parts.{declaration_of, simple_of}

@@ -3,14 +3,14 @@ use Rattle.std.proofs.Common.{◌≡◌, inl, inr, ℕ, zero, suc, List, [], ◌
 use Rattle.gang_types.specs.declared.places.Place.{Place}
 use Rattle.gang_model.specs.declared.marks.Mark.{Mark}
 use Rattle.gang_model.specs.declared.marks.Mark.TheVariants as mark
-use Rattle.gang_model.specs.Tokens.{Sort, named, numbered, marked, Lexeme}
-use Rattle.gang_model.specs.Parsed.{ParsedExpr, ParsedStmt, ParsedEmpty, ParsedBlock, ParsedDeclare, ParsedAssign, ParsedChange, ParsedIncrement, ParsedDoCall, ParsedBreak, ParsedContinue, ParsedReturn, ParsedIf, ParsedIfElse, ParsedDo, ParsedStmts, ParsedLast, ParsedNext}
-use Rattle.gang_model.specs.Spells.{Takes, TakesAt, WholeExpr}
-use Rattle.gang_model.specs.SpellsStatements.{TakesEither, SpellsDeclaration, SpellsSimple, SpellsRounds, SpellsDims, SpellsDistinct, foreach_word, OpensBody, SpellsStmt, SpellsStmts}
-use Rattle.expression_parser.specs.Parse.{begins, begins_word, take, whole_expr}
-use Rattle.expression_parser.proofs.Tools.{bind_some, some_is, which, take_takes, begins_again}
-use Rattle.expression_parser.proofs.Starts.{takes_at}
-use Rattle.expression_parser.proofs.Whole.{whole_sound}
+use Rattle.gang_model.specs.Source.Tokens.{Sort, named, numbered, marked, Lexeme}
+use Rattle.gang_model.specs.Source.Parsed.{ParsedExpr, ParsedStmt, ParsedEmpty, ParsedBlock, ParsedDeclare, ParsedAssign, ParsedChange, ParsedIncrement, ParsedDoCall, ParsedBreak, ParsedContinue, ParsedReturn, ParsedIf, ParsedIfElse, ParsedDo, ParsedStmts, ParsedLast, ParsedNext}
+use Rattle.gang_model.specs.Source.Spells.{Takes, TakesAt, WholeExpr}
+use Rattle.gang_model.specs.Source.SpellsStatements.{TakesEither, SpellsDeclaration, SpellsSimple, SpellsRounds, SpellsDims, SpellsDistinct, foreach_word, OpensBody, SpellsStmt, SpellsStmts}
+use Rattle.ispc_parser_expressions.specs.Parse.{begins, begins_word, take, whole_expr}
+use Rattle.ispc_parser_expressions.proofs.Tools.{bind_some, some_is, which, take_takes, begins_again}
+use Rattle.ispc_parser_expressions.proofs.Starts.{takes_at}
+use Rattle.ispc_parser_expressions.proofs.Whole.{whole_sound}
 use Rattle.ispc_parser.specs.declared.words.Loop.{Loop}
 use Rattle.ispc_parser.specs.declared.words.Loop.TheVariants as loop
 use Rattle.ispc_parser.specs.declared.words.Plain.{Plain}

@@ -4,14 +4,14 @@ use Rattle.gang_types.specs.declared.places.Place.{Place}
 use Rattle.gang_model.specs.declared.marks.Mark.{Mark}
 use Rattle.gang_model.specs.declared.marks.Mark.TheVariants as mark
 use Rattle.gang_model.specs.declared.forms.Spec.{Spec}
-use Rattle.gang_model.specs.Tokens.{Sort, named, numbered, marked, Lexeme}
-use Rattle.gang_model.specs.Parsed.{Name}
-use Rattle.gang_model.specs.Specs.{spec_of}
-use Rattle.gang_model.specs.Spells.{Takes, TakesAt, Opens}
-use Rattle.gang_model.specs.SpellsStatements.{NotNext, BeginsAt, InParens, SpellsSpec, IsLocal}
-use Rattle.expression_parser.specs.Parse.{begins, begins_word, take, is_mark, mark_of, words_of, after_words, spec_at}
-use Rattle.expression_parser.proofs.Tools.{bind_some, some_is, which, opened, mark_is, is_mark-same, take_takes, take_again, begins_again}
-use Rattle.expression_parser.proofs.SpecWords.{words_taken, words_again}
+use Rattle.gang_model.specs.Source.Tokens.{Sort, named, numbered, marked, Lexeme}
+use Rattle.gang_model.specs.Source.Parsed.{Name}
+use Rattle.gang_model.specs.Source.Specs.{spec_of}
+use Rattle.gang_model.specs.Source.Spells.{Takes, TakesAt, Opens}
+use Rattle.gang_model.specs.Source.SpellsStatements.{NotNext, BeginsAt, InParens, SpellsSpec, IsLocal}
+use Rattle.ispc_parser_expressions.specs.Parse.{begins, begins_word, take, is_mark, mark_of, words_of, after_words, spec_at}
+use Rattle.ispc_parser_expressions.proofs.Tools.{bind_some, some_is, which, opened, mark_is, is_mark-same, take_takes, take_again, begins_again}
+use Rattle.ispc_parser_expressions.proofs.SpecWords.{words_taken, words_again}
 use Rattle.ispc_parser.specs.Parts.{Reader, deeper, enter, take_at, name_in, name_of, in_parens, is_local, local_spec_of}
 
 -- ---- marks

@@ -1,13 +1,13 @@
 -- The tree of all the tokens.
 use Rattle.std.proofs.Common.{◌≡◌, ◌⊎◌, inl, inr, List, Result, Ok, Err, refl, sym, ◌∙◌}
 use Rattle.std.specs.Prelude.{IfOk, IfErr}
-use Rattle.gang_model.specs.Tokens.{Lexeme}
-use Rattle.gang_model.specs.Parsed.{ParsedSource}
-use Rattle.gang_model.specs.SpellsSource.{IsTree}
+use Rattle.gang_model.specs.Source.Tokens.{Lexeme}
+use Rattle.gang_model.specs.Source.Parsed.{ParsedSource}
+use Rattle.gang_model.specs.Source.SpellsSource.{IsTree}
 use Rattle.ispc_lexer.specs.declared.fault.SourceFault.{SourceFault}
 use Rattle.ispc_lexer.specs.declared.fault.SourceFault.TheVariants as faults
-use Rattle.expression_parser.specs.Parse.{Gives}
-use Rattle.expression_parser.proofs.Tools.{some_is}
+use Rattle.ispc_parser_expressions.specs.Parse.{Gives}
+use Rattle.ispc_parser_expressions.proofs.Tools.{some_is}
 use Rattle.ispc_parser.specs.Refusals.{IsRefusal}
 use Rattle.ispc_parser.specs.Source.{tree_of}
 use Rattle.ispc_parser.proofs.SourceSound.{tree_sound}

@@ -2,10 +2,10 @@
 use Rattle.std.specs.Prelude.{ℕ, Bool, List, [], ◌∷◌, Option, Some, None, if◌then◌else◌, map}
 use Rattle.gang_types.specs.declared.places.Place.{Place}
 use Rattle.gang_model.specs.declared.marks.Mark.TheVariants as mark
-use Rattle.gang_model.specs.Parsed.{Name, ParsedExpr, ParsedDim, ParsedStmt, ParsedEmpty, ParsedWhile, ParsedFor, ParsedForEach, ParsedForEachActive, ParsedForEachUnique}
-use Rattle.gang_model.specs.SpellsStatements.{max_dims}
-use Rattle.expression_parser.specs.Parse.{◌>>=◌, begins, begins_word, take, is_mark, whole_expr}
-use Rattle.expression_parser.specs.Tree.{expr_view}
+use Rattle.gang_model.specs.Source.Parsed.{Name, ParsedExpr, ParsedDim, ParsedStmt, ParsedEmpty, ParsedWhile, ParsedFor, ParsedForEach, ParsedForEachActive, ParsedForEachUnique}
+use Rattle.gang_model.specs.Source.SpellsStatements.{max_dims}
+use Rattle.ispc_parser_expressions.specs.Parse.{◌>>=◌, begins, begins_word, take, is_mark, whole_expr}
+use Rattle.ispc_parser_expressions.specs.Tree.{expr_view}
 use Rattle.ispc_parser.specs.declared.words.Loop.{Loop}
 use Rattle.ispc_parser.specs.declared.words.Loop.TheVariants as loop
 use Rattle.ispc_parser.specs.declared.heads.Rounds.{Rounds}

@@ -6,10 +6,10 @@ use Rattle.gang_model.specs.declared.marks.Mark.{Mark}
 use Rattle.gang_model.specs.declared.marks.Mark.TheVariants as mark
 use Rattle.gang_model.specs.contracts.marks.Mark.{the_type}
 use Rattle.gang_model.specs.declared.forms.Spec.{Spec}
-use Rattle.gang_model.specs.Tokens.{Sort, named, numbered, marked, Lexeme}
-use Rattle.gang_model.specs.Parsed.{Name, ParsedExpr, ParsedTarget, ParsedStmt, ParsedDeclare, ParsedAssign, ParsedChange, ParsedIncrement, ParsedDoCall}
-use Rattle.gang_model.specs.SpellsStatements.{change_of, increment_of}
-use Rattle.expression_parser.specs.Parse.{◌>>=◌, if_some, begins, take, mark_of, is_mark, spec_at, whole_expr, whole_args}
+use Rattle.gang_model.specs.Source.Tokens.{Sort, named, numbered, marked, Lexeme}
+use Rattle.gang_model.specs.Source.Parsed.{Name, ParsedExpr, ParsedTarget, ParsedStmt, ParsedDeclare, ParsedAssign, ParsedChange, ParsedIncrement, ParsedDoCall}
+use Rattle.gang_model.specs.Source.SpellsStatements.{change_of, increment_of}
+use Rattle.ispc_parser_expressions.specs.Parse.{◌>>=◌, if_some, begins, take, mark_of, is_mark, spec_at, whole_expr, whole_args}
 use Rattle.ispc_parser.specs.declared.front.Identifier.{Identifier}
 
 abbrev pub Reader : Type 0 → Type 0

@@ -2,7 +2,7 @@
 use Rattle.std.specs.Prelude.{◌≡◌}
 use Rattle.ispc_lexer.specs.declared.fault.SourceFault.{SourceFault}
 use Rattle.ispc_lexer.specs.declared.fault.SourceFault.TheVariants.{Memory, Refused}
-use Rattle.expression_parser.specs.Parse.{IsParserNumber}
+use Rattle.ispc_parser_expressions.specs.Parse.{IsParserNumber}
 
 -- S3, S4 or S13
 abbrev pub IsRefusal : SourceFault → Type 0

@@ -3,9 +3,9 @@ use Rattle.std.specs.Prelude.{ℕ, zero, suc, Bool, true, false, List, [], ◌�
 use Rattle.gang_types.specs.declared.places.Place.{Place}
 use Rattle.gang_model.specs.declared.marks.Mark.{Mark}
 use Rattle.gang_model.specs.declared.marks.Mark.TheVariants as mark
-use Rattle.gang_model.specs.Tokens.{Sort, named, numbered, marked, Lexeme}
-use Rattle.gang_model.specs.Parsed.{ParsedExpr, ParsedStmt, ParsedEmpty, ParsedBlock, ParsedBreak, ParsedContinue, ParsedReturn, ParsedIf, ParsedIfElse, ParsedDo, ParsedStmts, ParsedLast, ParsedNext}
-use Rattle.expression_parser.specs.Parse.{◌>>=◌, begins, begins_word, take, is_mark, whole_expr}
+use Rattle.gang_model.specs.Source.Tokens.{Sort, named, numbered, marked, Lexeme}
+use Rattle.gang_model.specs.Source.Parsed.{ParsedExpr, ParsedStmt, ParsedEmpty, ParsedBlock, ParsedBreak, ParsedContinue, ParsedReturn, ParsedIf, ParsedIfElse, ParsedDo, ParsedStmts, ParsedLast, ParsedNext}
+use Rattle.ispc_parser_expressions.specs.Parse.{◌>>=◌, begins, begins_word, take, is_mark, whole_expr}
 use Rattle.ispc_parser.specs.declared.words.Loop.TheVariants as loop
 use Rattle.ispc_parser.specs.declared.words.Loop.{Loop}
 use Rattle.ispc_parser.specs.declared.words.Plain.{Plain}

@@ -1,8 +1,8 @@
 -- Trees, without where they lie in memory.
 use Rattle.std.specs.Prelude.{List, [], ◌∷◌, Option, Some, None, map}
 use Rattle.gang_types.specs.declared.places.Place.{Place}
-use Rattle.gang_model.specs.Parsed.{ParsedExpr, ParsedDim, ParsedTarget, ParsedStmt, ParsedEmpty, ParsedBlock, ParsedDeclare, ParsedAssign, ParsedChange, ParsedIncrement, ParsedDoCall, ParsedBreak, ParsedContinue, ParsedReturn, ParsedIf, ParsedIfElse, ParsedWhile, ParsedDo, ParsedFor, ParsedForEach, ParsedForEachActive, ParsedForEachUnique, ParsedStmts, ParsedLast, ParsedNext, ParsedParam, ParsedFunction, ParsedGlobal, ParsedItem, ParsedFunctionItem, ParsedGlobalItem, ParsedSource}
-use Rattle.expression_parser.specs.Tree.{expr_view, args_view}
+use Rattle.gang_model.specs.Source.Parsed.{ParsedExpr, ParsedDim, ParsedTarget, ParsedStmt, ParsedEmpty, ParsedBlock, ParsedDeclare, ParsedAssign, ParsedChange, ParsedIncrement, ParsedDoCall, ParsedBreak, ParsedContinue, ParsedReturn, ParsedIf, ParsedIfElse, ParsedWhile, ParsedDo, ParsedFor, ParsedForEach, ParsedForEachActive, ParsedForEachUnique, ParsedStmts, ParsedLast, ParsedNext, ParsedParam, ParsedFunction, ParsedGlobal, ParsedItem, ParsedFunctionItem, ParsedGlobalItem, ParsedSource}
+use Rattle.ispc_parser_expressions.specs.Tree.{expr_view, args_view}
 use Rattle.ispc_parser.specs.declared.tree.Tree.{Tree}
 use Rattle.ispc_parser.specs.declared.tree.Item.{Item}
 use Rattle.ispc_parser.specs.declared.tree.Item.TheVariants as item

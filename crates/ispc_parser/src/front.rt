@@ -1,14 +1,14 @@
 //! What stands at the front of the tokens, and refusals there.
 ghost use Rattle.std.specs.Prelude.{◌≡◌, IfOk, IfErr};
 ghost use Rattle.ispc_lexer.specs.Views.{lexemes_of};
-ghost use Rattle.expression_parser.specs.Parse.{Gives};
+ghost use Rattle.ispc_parser_expressions.specs.Parse.{Gives};
 ghost use Rattle.ispc_parser.specs.Parts as spec;
 ghost use Rattle.ispc_parser.specs.Parts.{name_view};
 
-use expression_parser::{begins, take, unexpected};
 use gang_model::{Mark, RefusalNumber, SourceRefusal};
 use gang_types::Place;
 use ispc_lexer::{Kind, SourceFault, Token};
+use ispc_parser_expressions::{begins, take, unexpected};
 use std::alloc::Global;
 
 /// What was read, and the tokens after it.

@@ -1,8 +1,8 @@
 //! What stands between the word of a loop or a foreach form and its body.
 ghost use Rattle.std.specs.Prelude.{map};
 ghost use Rattle.ispc_lexer.specs.Views.{lexemes_of};
-ghost use Rattle.expression_parser.specs.Tree.{expr_view};
-ghost use Rattle.expression_parser.specs.Parse.{Gives, whole_expr};
+ghost use Rattle.ispc_parser_expressions.specs.Tree.{expr_view};
+ghost use Rattle.ispc_parser_expressions.specs.Parse.{Gives, whole_expr};
 ghost use Rattle.ispc_parser.specs.Tree.{option_view, dim_view, stmt_view};
 ghost use Rattle.ispc_parser.specs.Parts.{name_view, name_of, in_parens};
 ghost use Rattle.ispc_parser.specs.Refusals.{IsRefusal};
@@ -13,10 +13,10 @@ use crate::front::{Context, Identifier, Read, enter, name, refused_at};
 use crate::parts::{declaration, simple};
 use crate::tree::{Dim, Stmt};
 use crate::words::Loop;
-use expression_parser::{Expr, after, begins, begins_word, expression, take, unexpected};
 use gang_model::{Mark, RefusalNumber};
 use gang_types::Place;
 use ispc_lexer::{Kind, SourceFault, Token};
+use ispc_parser_expressions::{Expr, after, begins, begins_word, expression, take, unexpected};
 
 /// How many dimensions a `foreach` may have.
 const MAX_DIMS: usize = 3;

@@ -1,16 +1,16 @@
 //! The words before a name, where they fit nothing that may be declared there.
 ghost use Rattle.std.specs.Prelude.{◌≡◌};
 ghost use Rattle.ispc_lexer.specs.Views.{lexemes_of};
-ghost use Rattle.expression_parser.specs.Parse.{Gives};
+ghost use Rattle.ispc_parser_expressions.specs.Parse.{Gives};
 ghost use Rattle.ispc_parser.specs.Parts as parts;
 ghost use Rattle.ispc_parser.specs.Source as source;
 ghost use Rattle.ispc_parser.specs.Refusals.{IsSooner};
 
 use crate::front::{Context, Read};
-use expression_parser::{spec_words, take_spec};
 use gang_model::{Mark, RefusalNumber, SourceRefusal, Spec};
 use gang_types::Place;
 use ispc_lexer::{Kind, SourceFault, Token};
+use ispc_parser_expressions::{spec_words, take_spec};
 
 /// The first word that stands on no variable of a function.
 fn local_misfit(tokens: &[Token]) -> Option<Place> {

@@ -1,15 +1,15 @@
 //! Statements with their parts in boxes.
 ghost use Rattle.std.specs.Prelude.{◌≡◌, IfOk, IfErr};
-ghost use Rattle.gang_model.specs.Parsed.{ParsedBlock, ParsedIf, ParsedIfElse, ParsedDo};
-ghost use Rattle.expression_parser.specs.Tree.{expr_view};
+ghost use Rattle.gang_model.specs.Source.Parsed.{ParsedBlock, ParsedIf, ParsedIfElse, ParsedDo};
+ghost use Rattle.ispc_parser_expressions.specs.Tree.{expr_view};
 ghost use Rattle.ispc_parser.specs.Tree.{stmt_view, stmts_view};
 ghost use Rattle.ispc_parser.specs.Heads.{head_view, completed};
 
 use crate::heads::Head;
 use crate::tree::Stmt;
-use expression_parser::Expr;
 use gang_types::Place;
 use ispc_lexer::{SourceFault, both_boxed, boxed};
+use ispc_parser_expressions::Expr;
 use std::alloc::Global;
 
 pub(crate) fn block(stmts: Vec<Stmt>) -> Stmt

@@ -1,9 +1,9 @@
 //! The one tree of the tokens.
 ghost use Rattle.std.specs.Prelude.{◌≡◌, ◌⊎◌, IfOk, IfErr};
-ghost use Rattle.gang_model.specs.Parsed.{ParsedSource};
-ghost use Rattle.gang_model.specs.SpellsSource.{IsTree};
+ghost use Rattle.gang_model.specs.Source.Parsed.{ParsedSource};
+ghost use Rattle.gang_model.specs.Source.SpellsSource.{IsTree};
 ghost use Rattle.ispc_lexer.specs.Views.{lexemes_of};
-ghost use Rattle.expression_parser.specs.Parse.{Gives};
+ghost use Rattle.ispc_parser_expressions.specs.Parse.{Gives};
 ghost use Rattle.ispc_parser.specs.Tree.{tree_view};
 ghost use Rattle.ispc_parser.specs.Source.{tree_of};
 ghost use Rattle.ispc_parser.specs.Refusals.{IsRefusal};

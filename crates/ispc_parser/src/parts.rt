@@ -1,9 +1,9 @@
 //! Declarations, assignments and calls, without the `;` that ends them.
 ghost use Rattle.std.specs.Prelude.{◌≡◌};
 ghost use Rattle.ispc_lexer.specs.Views.{sort_of, lexemes_of};
-ghost use Rattle.gang_model.specs.SpellsStatements as grammar;
-ghost use Rattle.expression_parser.specs.Tree.{expr_view};
-ghost use Rattle.expression_parser.specs.Parse.{Gives};
+ghost use Rattle.gang_model.specs.Source.SpellsStatements as grammar;
+ghost use Rattle.ispc_parser_expressions.specs.Tree.{expr_view};
+ghost use Rattle.ispc_parser_expressions.specs.Parse.{Gives};
 ghost use Rattle.ispc_parser.specs.Tree.{option_view, target_view, stmt_view};
 ghost use Rattle.ispc_parser.specs.Parts as spec;
 ghost use Rattle.ispc_parser.specs.Parts.{name_view};
@@ -11,10 +11,10 @@ ghost use Rattle.ispc_parser.specs.Parts.{name_view};
 use crate::front::{Context, Identifier, Read, copied_name, enter, name};
 use crate::misfits::local_spec;
 use crate::tree::{Stmt, Target};
-use expression_parser::{Expr, arguments, begins, expression, take, unexpected};
 use gang_model::Mark;
 use gang_types::{BinaryOp, Place};
 use ispc_lexer::{Kind, SourceFault, Token};
+use ispc_parser_expressions::{Expr, arguments, begins, expression, take, unexpected};
 
 /// What `op=` does, for such a mark.
 fn change_of(mark: Mark) -> Option<BinaryOp>

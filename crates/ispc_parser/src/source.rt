@@ -1,7 +1,7 @@
 //! Functions, file-scope variables and whole sources.
 ghost use Rattle.std.specs.Prelude.{◌≡◌, map};
 ghost use Rattle.ispc_lexer.specs.Views.{sort_of, lexemes_of};
-ghost use Rattle.expression_parser.specs.Parse.{Gives, shown};
+ghost use Rattle.ispc_parser_expressions.specs.Parse.{Gives, shown};
 ghost use Rattle.ispc_parser.specs.Tree.{param_view, item_view};
 ghost use Rattle.ispc_parser.specs.Parts.{name_view};
 ghost use Rattle.ispc_parser.specs.Source as spec;
@@ -12,10 +12,10 @@ use crate::front::{Context, Identifier, Read, name, refused_at, take_at};
 use crate::misfits::{local_spec, outer_spec};
 use crate::statements::stmts;
 use crate::tree::{Function, GlobalVariable, Item, Param, Stmt};
-use expression_parser::{after, begins, begins_word, take, unexpected};
 use gang_model::{GlobalForm, Literal, Mark, RefusalNumber, Spec};
 use gang_types::Place;
 use ispc_lexer::{Kind, Number, SourceFault, Token};
+use ispc_parser_expressions::{after, begins, begins_word, take, unexpected};
 
 /// How many nestings are left inside a function's braces, of 64.
 const INSIDE_FUNCTION: u32 = 63;

@@ -1,8 +1,8 @@
 //! Statements, by descent.
 ghost use Rattle.std.specs.Prelude.{◌≡◌, ◌+◌, IfOk};
 ghost use Rattle.ispc_lexer.specs.Views.{sort_of, lexemes_of};
-ghost use Rattle.expression_parser.specs.Parse.{Gives};
-ghost use Rattle.expression_parser.specs.Tree.{expr_view};
+ghost use Rattle.ispc_parser_expressions.specs.Parse.{Gives};
+ghost use Rattle.ispc_parser_expressions.specs.Tree.{expr_view};
 ghost use Rattle.ispc_parser.specs.Tree.{stmt_view, stmts_view};
 ghost use Rattle.ispc_parser.specs.Parts.{declaration_of, simple_of};
 ghost use Rattle.ispc_parser.specs.Statements as spec;
@@ -14,10 +14,10 @@ use crate::nodes;
 use crate::parts::{declaration, simple};
 use crate::tree::Stmt;
 use crate::words::{Loop, Opening, Plain, opening_of};
-use expression_parser::{Expr, begins, begins_word, take, unexpected};
 use gang_model::{Mark, RefusalNumber};
 use gang_types::Place;
 use ispc_lexer::{Kind, SourceFault, Token};
+use ispc_parser_expressions::{Expr, begins, begins_word, take, unexpected};
 
 // ---- statements that hold no other one
 

@@ -1,24 +1,38 @@
 //! The tree of a source.
 
-use expression_parser::{Arg, Expr};
 use gang_model::{GlobalForm, Spec};
 use gang_types::{BinaryOp, Place};
+use ispc_parser_expressions::{Arg, Expr};
 
 /// The functions and file-scope variables of a source, in order.
-#[derive(Debug, Drop)]
+#[derive(Debug)]
 pub struct Tree {
     pub items: Vec<Item>,
 }
 
+impl Drop for Tree {
+    fn drop(self) {
+        let Self { items: _ } = self;
+    }
+}
+
 /// A function or a file-scope variable.
-#[derive(Debug, Drop)]
+#[derive(Debug)]
 pub enum Item {
     Function(Function),
     Global(GlobalVariable),
 }
 
+impl Drop for Item {
+    fn drop(self) {
+        match self {
+            Item::Function(_) | Item::Global(_) => {}
+        }
+    }
+}
+
 /// A function: its place is that of its name, and `closing` that of its closing brace.
-#[derive(Debug, Drop)]
+#[derive(Debug)]
 pub struct Function {
     pub place: Place,
     pub name: Vec<u8>,
@@ -28,8 +42,21 @@ pub struct Function {
     pub closing: Place,
 }
 
+impl Drop for Function {
+    fn drop(self) {
+        let Self {
+            place: _,
+            name: _,
+            spec: _,
+            params: _,
+            body: _,
+            closing: _,
+        } = self;
+    }
+}
+
 /// A parameter, at its name.
-#[derive(Debug, Drop)]
+#[derive(Debug)]
 pub struct Param {
     pub place: Place,
     pub name: Vec<u8>,
@@ -37,8 +64,19 @@ pub struct Param {
     pub is_array: bool,
 }
 
+impl Drop for Param {
+    fn drop(self) {
+        let Self {
+            place: _,
+            name: _,
+            spec: _,
+            is_array: _,
+        } = self;
+    }
+}
+
 /// A file-scope variable, at its name.
-#[derive(Debug, Drop)]
+#[derive(Debug)]
 pub struct GlobalVariable {
     pub place: Place,
     pub name: Vec<u8>,
@@ -46,16 +84,37 @@ pub struct GlobalVariable {
     pub form: GlobalForm,
 }
 
+impl Drop for GlobalVariable {
+    fn drop(self) {
+        let Self {
+            place: _,
+            name: _,
+            spec: _,
+            form: _,
+        } = self;
+    }
+}
+
 /// What is assigned, at its name.
-#[derive(Debug, Drop)]
+#[derive(Debug)]
 pub struct Target {
     pub place: Place,
     pub name: Vec<u8>,
     pub index: Option<Expr>,
 }
 
+impl Drop for Target {
+    fn drop(self) {
+        let Self {
+            place: _,
+            name: _,
+            index: _,
+        } = self;
+    }
+}
+
 /// A dimension `name = low ... high`, at its name.
-#[derive(Debug, Drop)]
+#[derive(Debug)]
 pub struct Dim {
     pub place: Place,
     pub name: Vec<u8>,
@@ -63,8 +122,19 @@ pub struct Dim {
     pub high: Expr,
 }
 
+impl Drop for Dim {
+    fn drop(self) {
+        let Self {
+            place: _,
+            name: _,
+            low: _,
+            high: _,
+        } = self;
+    }
+}
+
 /// A statement. Its place is that of its first token, and that of `do` is its `while`.
-#[derive(Debug, Drop)]
+#[derive(Debug)]
 pub enum Stmt {
     Empty,
     Block(Vec<Stmt>),
@@ -151,4 +221,86 @@ pub enum Stmt {
         value: Expr,
         body: Box<Stmt>,
     },
+}
+
+impl Drop for Stmt {
+    fn drop(self) {
+        match self {
+            Stmt::Empty
+            | Stmt::Block(_)
+            | Stmt::Declare {
+                place: _,
+                spec: _,
+                name_place: _,
+                name: _,
+                value: _,
+            }
+            | Stmt::Assign {
+                place: _,
+                target: _,
+                value: _,
+            }
+            | Stmt::Change {
+                place: _,
+                target: _,
+                operator: _,
+                value: _,
+            }
+            | Stmt::Increment {
+                place: _,
+                target: _,
+                operator: _,
+            }
+            | Stmt::Call {
+                place: _,
+                name: _,
+                args: _,
+            }
+            | Stmt::Break { place: _ }
+            | Stmt::Continue { place: _ }
+            | Stmt::Return { place: _, value: _ }
+            | Stmt::If {
+                place: _,
+                test: _,
+                first: _,
+                other: _,
+            }
+            | Stmt::While {
+                place: _,
+                test: _,
+                body: _,
+            }
+            | Stmt::Do {
+                body: _,
+                place: _,
+                test: _,
+            }
+            | Stmt::For {
+                place: _,
+                start: _,
+                test: _,
+                update: _,
+                body: _,
+            }
+            | Stmt::ForEach {
+                place: _,
+                is_tiled: _,
+                dims: _,
+                body: _,
+            }
+            | Stmt::ForEachActive {
+                place: _,
+                name_place: _,
+                name: _,
+                body: _,
+            }
+            | Stmt::ForEachUnique {
+                place: _,
+                name_place: _,
+                name: _,
+                value: _,
+                body: _,
+            } => {}
+        }
+    }
 }

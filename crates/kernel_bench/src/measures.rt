@@ -1,9 +1,9 @@
 //! The time of each operation, repeated on its own results.
 use gang_types::{BinaryOp, IntType, Mask, UnaryOp};
-use lane_kernels_test::plain;
 use std::io;
 use std::rt::Clock;
 use std::time::Instant;
+use tests_kernels::plain;
 
 const LANES: usize = 8;
 

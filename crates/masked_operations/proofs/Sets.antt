@@ -3,7 +3,7 @@ use Rattle.std.proofs.Common.{ℕ, Bool, true, false, cond, ◌≡◌, refl, sym
 use Rattle.std.specs.Prelude.{not, ◌&&◌, ◌||◌}
 use Rattle.gang_types.specs.Lanes.{Lanes, has, without, lanes_where}
 use Rattle.gang_types.specs.LaneLaws.{same_lanes, length-lanes_where, has-lanes_where, length-without, has-without}
-use Rattle.gang_model.specs.Lanes.{each, truth_word}
+use Rattle.gang_model.specs.Running.Lanes.{each, truth_word}
 use Rattle.cross_lane.specs.EachLaws.{each_is, lane_each, length-each}
 
 left_out : (b t : Bool) → (b && not (b && t)) ≡ (b && not t)

@@ -9,7 +9,7 @@ use Rattle.gang_types.specs.declared.faults.FaultName.TheVariants.{DivideByZero}
 use Rattle.gang_types.specs.Values.{binary_of, binary_result, divides}
 use Rattle.gang_types.specs.Lanes.{Lanes, has, lowest}
 use Rattle.gang_types.specs.LaneLaws.{has-lanes_where, no_lane_has, lowest_has, below_lowest}
-use Rattle.gang_model.specs.Lanes.{at, try_each}
+use Rattle.gang_model.specs.Running.Lanes.{at, try_each}
 use Rattle.lane_kernels.specs.Lanes.{Divided, Faulted, zero_divisors}
 use Rattle.cross_lane.specs.Calls.{fault_of}
 use Rattle.cross_lane.specs.EachLaws.{each_is}

@@ -1,9 +1,9 @@
 //! The library's functions of the values of one lane.
 ghost use Rattle.std.specs.Prelude.{◌≡◌, ℕ};
 ghost use Rattle.gang_types.specs.Masks.{IsGangWidth, lanes_of};
-ghost use Rattle.gang_model.specs.Lanes.{at, each};
-ghost use Rattle.gang_model.specs.Library.{of_one, of_two};
-ghost use Rattle.gang_model.specs.Tree.{Absolute, PopCount, Lesser, Larger};
+ghost use Rattle.gang_model.specs.Running.Lanes.{at, each};
+ghost use Rattle.gang_model.specs.Running.Library.{of_one, of_two};
+ghost use Rattle.gang_model.specs.Types.Tree.{Absolute, PopCount, Lesser, Larger};
 
 use crate::words::only;
 use gang_types::{IntType, Mask};

@@ -2,7 +2,7 @@
 ghost use Rattle.std.specs.Prelude.{◌≡◌, ℕ, ◌<◌, not, ◌&&◌, ◌||◌, slice_index, if◌then◌else◌};
 ghost use Rattle.gang_types.specs.Lanes.{lanes_where};
 ghost use Rattle.gang_types.specs.Masks.{IsGangWidth, lanes_of};
-ghost use Rattle.gang_model.specs.Lanes.{at, each, holds, truth_word};
+ghost use Rattle.gang_model.specs.Running.Lanes.{at, each, holds, truth_word};
 
 use crate::words::{only, splat};
 use gang_types::Mask;

@@ -2,7 +2,7 @@
 ghost use Rattle.std.specs.Prelude.{◌≡◌, ℕ, false};
 ghost use Rattle.gang_types.specs.Values.{binary_of, binary_result, converted, divides, unary_of};
 ghost use Rattle.gang_types.specs.Masks.{IsGangWidth, lanes_of};
-ghost use Rattle.gang_model.specs.Lanes.{at, each, try_each};
+ghost use Rattle.gang_model.specs.Running.Lanes.{at, each, try_each};
 ghost use Rattle.lane_kernels.specs.Lanes.{InEachLane, OfEachLane};
 ghost use Rattle.cross_lane.specs.Calls.{answer_of};
 

@@ -2,7 +2,7 @@
 ghost use Rattle.std.specs.Prelude.{◌≡◌, ℕ, ◌<◌, slice_index, if◌then◌else◌};
 ghost use Rattle.gang_types.specs.Lanes.{has};
 ghost use Rattle.gang_types.specs.Masks.{IsGangWidth, lanes_of};
-ghost use Rattle.gang_model.specs.Lanes.{at, each};
+ghost use Rattle.gang_model.specs.Running.Lanes.{at, each};
 
 use gang_types::Mask;
 use std::simd::prelude::*;

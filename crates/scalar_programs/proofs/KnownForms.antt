@@ -5,11 +5,11 @@ use Rattle.std.specs.Prelude.{Bool, Option, Some, None, is_none, if◌then◌els
 use Rattle.gang_types.specs.declared.places.Place.{Place}
 use Rattle.gang_types.specs.declared.operators.BinaryOp.{BinaryOp}
 use Rattle.gang_model.specs.declared.forms.Spec.{Spec}
-use Rattle.gang_model.specs.Parsed.{Name, ParsedExpr, ParsedNumber, ParsedBool, ParsedName, ParsedIndex, ParsedCall, ParsedParen, ParsedUnary, ParsedCast, ParsedBinary, ParsedChoice, ParsedTarget, ParsedStmt, ParsedEmpty, ParsedBlock, ParsedDeclare, ParsedAssign, ParsedChange, ParsedIncrement, ParsedDoCall, ParsedBreak, ParsedContinue, ParsedReturn, ParsedIf, ParsedIfElse, ParsedWhile, ParsedDo, ParsedFor, ParsedSwitch, ParsedForEach, ParsedForEachActive, ParsedForEachUnique, ParsedStmts, ParsedLast, ParsedNext, ParsedParam, ParsedFunction}
-use Rattle.gang_model.specs.Known.{known_expr, known_some, known_target, known_stmt, known_stmts, known_params, today}
-use Rattle.gang_model.specs.Scope.{has_return, one_returns, before_return}
-use Rattle.gang_model.specs.Calls.{whole_call}
-use Rattle.gang_model.specs.Statements.{call_for}
+use Rattle.gang_model.specs.Source.Parsed.{Name, ParsedExpr, ParsedNumber, ParsedBool, ParsedName, ParsedIndex, ParsedCall, ParsedParen, ParsedUnary, ParsedCast, ParsedBinary, ParsedChoice, ParsedTarget, ParsedStmt, ParsedEmpty, ParsedBlock, ParsedDeclare, ParsedAssign, ParsedChange, ParsedIncrement, ParsedDoCall, ParsedBreak, ParsedContinue, ParsedReturn, ParsedIf, ParsedIfElse, ParsedWhile, ParsedDo, ParsedFor, ParsedSwitch, ParsedForEach, ParsedForEachActive, ParsedForEachUnique, ParsedStmts, ParsedLast, ParsedNext, ParsedParam, ParsedFunction}
+use Rattle.gang_model.specs.Source.Known.{known_expr, known_some, known_target, known_stmt, known_stmts, known_params, today}
+use Rattle.gang_model.specs.Names.Scope.{has_return, one_returns, before_return}
+use Rattle.gang_model.specs.Types.Calls.{whole_call}
+use Rattle.gang_model.specs.Types.Statements.{call_for}
 use Rattle.gang_model.proofs.JudgedLaws.{and_true}
 
 -- ---- expressions and targets

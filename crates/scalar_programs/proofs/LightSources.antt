@@ -1,12 +1,12 @@
 -- A whole source has expressions of at most 256 operators alone.
 use Rattle.std.proofs.Common.{ℕ, zero, suc, ◌≤◌, true, List, ◌≡◌}
 use Rattle.std.specs.Prelude.{Option, Some, None}
-use Rattle.gang_model.specs.Tokens.{Lexeme}
-use Rattle.gang_model.specs.Parsed.{ParsedExpr, ParsedStmt, ParsedBlock, ParsedDeclare, ParsedAssign, ParsedChange, ParsedStmts, ParsedLast, ParsedNext, ParsedFunction}
-use Rattle.gang_model.specs.Spells.{Opens, weight, max_weight}
-use Rattle.gang_model.specs.SpellsStatements.{Maybe, SpellsValue, SpellsStmt, SpellsStmts}
-use Rattle.gang_model.specs.SpellsSource.{SpellsFunction, max_nesting}
-use Rattle.gang_model.specs.Known.{known_stmts, today}
+use Rattle.gang_model.specs.Source.Tokens.{Lexeme}
+use Rattle.gang_model.specs.Source.Parsed.{ParsedExpr, ParsedStmt, ParsedBlock, ParsedDeclare, ParsedAssign, ParsedChange, ParsedStmts, ParsedLast, ParsedNext, ParsedFunction}
+use Rattle.gang_model.specs.Source.Spells.{Opens, weight, max_weight}
+use Rattle.gang_model.specs.Source.SpellsStatements.{Maybe, SpellsValue, SpellsStmt, SpellsStmts}
+use Rattle.gang_model.specs.Source.SpellsSource.{SpellsFunction, max_nesting}
+use Rattle.gang_model.specs.Source.Known.{known_stmts, today}
 use Rattle.scalar_programs.proofs.KnownForms.{by_forms}
 
 -- an expression of at most 256 operators, if there is one

@@ -14,17 +14,17 @@ use Rattle.gang_types.specs.declared.operators.UnaryOp.TheVariants.{Negate, Plus
 use Rattle.gang_model.specs.declared.forms.Infix.{Infix}
 use Rattle.gang_model.specs.declared.forms.Infix.TheVariants.{Op, AndAlso, OrElse}
 use Rattle.gang_model.specs.declared.refusals.RefusalNumber.TheVariants.{S8}
-use Rattle.gang_model.specs.Tree.{Var, Expr, Unary, Binary, Convert, Choice, Number, Read, ProgramIndex, ProgramCount}
-use Rattle.gang_model.specs.Names.{same_text}
-use Rattle.gang_model.specs.Parsed.{Name, ParsedExpr, ParsedNumber, ParsedBool, ParsedName, ParsedIndex, ParsedCall, ParsedParen, ParsedUnary, ParsedCast, ParsedBinary, ParsedChoice}
-use Rattle.gang_model.specs.Spells.{weight, max_weight}
-use Rattle.gang_model.specs.Judged.{both, refused}
+use Rattle.gang_model.specs.Types.Tree.{Var, Expr, Unary, Binary, Convert, Choice, Number, Read, ProgramIndex, ProgramCount}
+use Rattle.gang_model.specs.Source.Names.{same_text}
+use Rattle.gang_model.specs.Source.Parsed.{Name, ParsedExpr, ParsedNumber, ParsedBool, ParsedName, ParsedIndex, ParsedCall, ParsedParen, ParsedUnary, ParsedCast, ParsedBinary, ParsedChoice}
+use Rattle.gang_model.specs.Source.Spells.{weight, max_weight}
+use Rattle.gang_model.specs.Source.Judged.{both, refused}
 use Rattle.gang_model.proofs.JudgedLaws.{OnSound, on_then, on_both, on_unless, on_pair, on_if, on_fault_if, and_true}
 use Rattle.gang_model.proofs.StandingLaws.{Each}
-use Rattle.gang_model.specs.Signatures.{declared_type}
-use Rattle.gang_model.specs.Conversions.{Typed, joined, promoted, same_type, as_type, operation_type, right_operand, infixed, prefixed, chosen_by}
-use Rattle.gang_model.specs.Typing.{Entry, Scope, entry_of, named_entry, names_no_value, has_no_value, built_in_value, name_value, cast_rate, cast_faults, cast_to, var_of, truth_value, expression}
-use Rattle.gang_model.specs.Known.{known_expr, today}
+use Rattle.gang_model.specs.Types.Signatures.{declared_type}
+use Rattle.gang_model.specs.Types.Conversions.{Typed, joined, promoted, same_type, as_type, operation_type, right_operand, infixed, prefixed, chosen_by}
+use Rattle.gang_model.specs.Types.Typing.{Entry, Scope, entry_of, named_entry, names_no_value, has_no_value, built_in_value, name_value, cast_rate, cast_faults, cast_to, var_of, truth_value, expression}
+use Rattle.gang_model.specs.Source.Known.{known_expr, today}
 use Rattle.scalar_programs.specs.Scalars.{IsOneOf, ReadsScalars, vectors, nested_arms, IsScalarExpr}
 
 module _ (file own : List Var) where

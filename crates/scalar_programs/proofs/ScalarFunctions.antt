@@ -5,21 +5,21 @@ use Rattle.std.proofs.lemmas.Option.{slice_get-map}
 use Rattle.std.proofs.lemmas.List.Elements.{All-nil, All-cons}
 use Rattle.std.specs.Prelude.{map, option_map, All, Some, slice_get, slice_index_or}
 use Rattle.gang_types.specs.declared.places.VarId.TheVariants.{Local}
-use Rattle.gang_model.specs.Tree.{Var, Variable, Standing, Stmt}
-use Rattle.gang_model.specs.Parsed.{ParsedFunction, ParsedGlobal, ParsedSource, functions_in, globals_in}
-use Rattle.gang_model.specs.Scope.{Binding, is_local, Site, locals_in_all, after_all, NameStanding, standing, standings_in_all, standings_of, file_bindings, file_scope}
-use Rattle.gang_model.specs.Judged.{unless}
+use Rattle.gang_model.specs.Types.Tree.{Var, Variable, Standing, Stmt}
+use Rattle.gang_model.specs.Source.Parsed.{ParsedFunction, ParsedGlobal, ParsedSource, functions_in, globals_in}
+use Rattle.gang_model.specs.Names.Scope.{Binding, is_local, Site, locals_in_all, after_all, NameStanding, standing, standings_in_all, standings_of, file_bindings, file_scope}
+use Rattle.gang_model.specs.Source.Judged.{unless}
 use Rattle.gang_model.proofs.JudgedLaws.{OnSound, on_any, on_pair}
 use Rattle.gang_model.proofs.StandingLaws.{Each, Placed}
 use Rattle.gang_model.proofs.ScopeLaws.{after_all-next}
 use Rattle.gang_model.proofs.ScopedPrograms.{file_variables}
-use Rattle.gang_model.specs.Signatures.{result_of}
-use Rattle.gang_model.specs.Typing.{var_of}
-use Rattle.gang_model.specs.Calls.{Context}
-use Rattle.gang_model.specs.TypeFaults.{signature_faults}
-use Rattle.gang_model.specs.Statements.{Made, statements}
-use Rattle.gang_model.specs.Resolved.{global_entry, global_entries, no_variable, local_at, standing_with, function_made, judged_function}
-use Rattle.gang_model.specs.Known.{known_stmts, today}
+use Rattle.gang_model.specs.Types.Signatures.{result_of}
+use Rattle.gang_model.specs.Types.Typing.{var_of}
+use Rattle.gang_model.specs.Types.Calls.{Context}
+use Rattle.gang_model.specs.Types.TypeFaults.{signature_faults}
+use Rattle.gang_model.specs.Types.Statements.{Made, statements}
+use Rattle.gang_model.specs.Types.Resolved.{global_entry, global_entries, no_variable, local_at, standing_with, function_made, judged_function}
+use Rattle.gang_model.specs.Source.Known.{known_stmts, today}
 use Rattle.scalar_programs.specs.Scalars.{var_at, steps_in_line, declared_before, IsScalarName, IsStraightFunction}
 use Rattle.scalar_programs.proofs.KnownForms.{none_returns}
 use Rattle.scalar_programs.proofs.LightSources.{AreLight}

@@ -6,20 +6,20 @@ use Rattle.std.specs.List.{list_all}
 use Rattle.gang_types.specs.declared.places.VarId.TheVariants.{File}
 use Rattle.gang_model.specs.declared.forms.GlobalForm.{GlobalForm}
 use Rattle.gang_model.specs.declared.forms.GlobalForm.TheVariants.{Plain, Array, Initial}
-use Rattle.gang_model.specs.Tokens.{Lexeme}
-use Rattle.gang_model.specs.Tree.{Var, Variable, Function, Global, Program}
-use Rattle.gang_model.specs.Parsed.{Name, ParsedFunction, ParsedGlobal, ParsedSource, ParsedFunctionItem, ParsedGlobalItem, functions_in, globals_in}
-use Rattle.gang_model.specs.SpellsSource.{IsTree}
-use Rattle.gang_model.specs.SourceRefusals.{IsAccepted}
-use Rattle.gang_model.specs.Entry.{is_asked, entry_from, entry_of}
+use Rattle.gang_model.specs.Source.Tokens.{Lexeme}
+use Rattle.gang_model.specs.Types.Tree.{Var, Variable, Function, Global, Program}
+use Rattle.gang_model.specs.Source.Parsed.{Name, ParsedFunction, ParsedGlobal, ParsedSource, ParsedFunctionItem, ParsedGlobalItem, functions_in, globals_in}
+use Rattle.gang_model.specs.Source.SpellsSource.{IsTree}
+use Rattle.gang_model.specs.Types.SourceRefusals.{IsAccepted}
+use Rattle.gang_model.specs.Running.Entry.{is_asked, entry_from, entry_of}
 use Rattle.gang_model.proofs.JudgedLaws.{OnSound, on_any, on_pair, and_true}
 use Rattle.gang_model.proofs.StandingLaws.{Each}
 use Rattle.gang_model.proofs.VariableLaws.{on_some}
 use Rattle.gang_model.proofs.ScopedPrograms.{file_variables, variables_of_globals, program_of-scoped}
-use Rattle.gang_model.specs.Typing.{var_of}
-use Rattle.gang_model.specs.TypeFaults.{is_array_form}
-use Rattle.gang_model.specs.Resolved.{global_entry, judged_globals, judged_function, judged_functions, judged_program, program_of}
-use Rattle.gang_model.specs.Known.{known_params, known_stmts, known_function, known_form, known_item, is_known, today}
+use Rattle.gang_model.specs.Types.Typing.{var_of}
+use Rattle.gang_model.specs.Types.TypeFaults.{is_array_form}
+use Rattle.gang_model.specs.Types.Resolved.{global_entry, judged_globals, judged_function, judged_functions, judged_program, program_of}
+use Rattle.gang_model.specs.Source.Known.{known_params, known_stmts, known_function, known_form, known_item, is_known, today}
 use Rattle.scalar_programs.specs.Scalars.{IsStraightFunction, IsScalarProgram}
 use Rattle.scalar_programs.proofs.KnownForms.{no_params}
 use Rattle.scalar_programs.proofs.LightSources.{light_function}

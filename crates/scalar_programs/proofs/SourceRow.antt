@@ -11,15 +11,15 @@ use Rattle.gang_model.specs.declared.marks.Mark.TheVariants as mark
 use Rattle.gang_model.specs.declared.forms.Infix.TheVariants.{Op}
 use Rattle.gang_model.specs.declared.forms.Spec.{Spec}
 use Rattle.gang_model.specs.declared.forms.GlobalForm.TheVariants.{Plain}
-use Rattle.gang_model.specs.Tokens.{Sort, named, numbered, marked, Lexeme}
-use Rattle.gang_model.specs.Specs.{spec_of}
-use Rattle.gang_model.specs.Tree.{Program}
-use Rattle.gang_model.specs.Parsed.{ParsedExpr, ParsedNumber, ParsedName, ParsedBinary, ParsedStmt, ParsedBlock, ParsedDeclare, ParsedAssign, ParsedLast, ParsedNext, ParsedFunction, ParsedGlobal, ParsedFunctionItem, ParsedGlobalItem, ParsedSource}
-use Rattle.gang_model.specs.Spells.{Takes, TakesAt}
-use Rattle.gang_model.specs.SpellsStatements.{IsLocal, SpellsStmt}
-use Rattle.gang_model.specs.SpellsSource.{SpellsGlobal, SpellsFunction, IsTree}
-use Rattle.gang_model.specs.SourceRefusals.{IsAccepted}
-use Rattle.gang_model.specs.Resolved.{program_of}
+use Rattle.gang_model.specs.Source.Tokens.{Sort, named, numbered, marked, Lexeme}
+use Rattle.gang_model.specs.Source.Specs.{spec_of}
+use Rattle.gang_model.specs.Types.Tree.{Program}
+use Rattle.gang_model.specs.Source.Parsed.{ParsedExpr, ParsedNumber, ParsedName, ParsedBinary, ParsedStmt, ParsedBlock, ParsedDeclare, ParsedAssign, ParsedLast, ParsedNext, ParsedFunction, ParsedGlobal, ParsedFunctionItem, ParsedGlobalItem, ParsedSource}
+use Rattle.gang_model.specs.Source.Spells.{Takes, TakesAt}
+use Rattle.gang_model.specs.Source.SpellsStatements.{IsLocal, SpellsStmt}
+use Rattle.gang_model.specs.Source.SpellsSource.{SpellsGlobal, SpellsFunction, IsTree}
+use Rattle.gang_model.specs.Types.SourceRefusals.{IsAccepted}
+use Rattle.gang_model.specs.Types.Resolved.{program_of}
 use Rattle.gang_model.proofs.RefusalLaws.{accepted-program}
 use Rattle.scalar_programs.specs.Scalars.{IsScalarProgram}
 use Rattle.scalar_programs.proofs.ScalarPrograms.{scalar-program}

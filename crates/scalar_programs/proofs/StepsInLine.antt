@@ -4,7 +4,7 @@ use Rattle.std.proofs.lemmas.Grind.{flat_map-append}
 use Rattle.std.proofs.lemmas.List.{take-append-drop}
 use Rattle.std.proofs.lemmas.List.Concat.{flat_map-cons}
 use Rattle.std.specs.Prelude.{flat_map, take, drop}
-use Rattle.gang_model.specs.Tree.{Var, Stmt, Empty, Then, Declare, Assign, Change, If, Loop, BodyFirst, Break, Continue, Return, Switch, Segment, ForEach, Call, Check, PackedStore, PackedLoad}
+use Rattle.gang_model.specs.Types.Tree.{Var, Stmt, Empty, Then, Declare, Assign, Change, If, Loop, BodyFirst, Break, Continue, Return, Switch, Segment, ForEach, Call, Check, PackedStore, PackedLoad}
 use Rattle.scalar_programs.specs.Scalars.{declared_by, steps_in_line, declared_before}
 
 one_step : (s : Stmt) → flat_map declared_by (s ∷ []) ≡ declared_by s

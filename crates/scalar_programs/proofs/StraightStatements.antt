@@ -6,19 +6,19 @@ use Rattle.std.specs.Prelude.{map, Some, slice_get}
 use Rattle.gang_types.specs.declared.places.Place.{Place}
 use Rattle.gang_types.specs.declared.places.VarId.{VarId}
 use Rattle.gang_types.specs.declared.places.VarId.TheVariants.{File, Local}
-use Rattle.gang_model.specs.Tree.{Var, Variable, StepNumber, Stmt, Empty, Then}
-use Rattle.gang_model.specs.Parsed.{ParsedStmt, ParsedBlock, ParsedStmts, ParsedNext}
-use Rattle.gang_model.specs.Numbering.{steps_in}
-use Rattle.gang_model.specs.Scope.{Site, enclosed, locals_in, locals_in_all, after, NameStanding, standing, standings_in, standings_in_all}
-use Rattle.gang_model.specs.Judged.{Judged, Sound, Faulty, unless, both}
+use Rattle.gang_model.specs.Types.Tree.{Var, Variable, StepNumber, Stmt, Empty, Then}
+use Rattle.gang_model.specs.Source.Parsed.{ParsedStmt, ParsedBlock, ParsedStmts, ParsedNext}
+use Rattle.gang_model.specs.Running.Numbering.{steps_in}
+use Rattle.gang_model.specs.Names.Scope.{Site, enclosed, locals_in, locals_in_all, after, NameStanding, standing, standings_in, standings_in_all}
+use Rattle.gang_model.specs.Source.Judged.{Judged, Sound, Faulty, unless, both}
 use Rattle.gang_model.proofs.JudgedLaws.{OnSound, on_any, on_then, on_pair}
 use Rattle.gang_model.proofs.ScopeLaws.{after-next}
 use Rattle.gang_model.proofs.StandingLaws.{Each}
-use Rattle.gang_model.specs.Typing.{Entry, Scope, declared, var_of}
-use Rattle.gang_model.specs.Calls.{Context}
-use Rattle.gang_model.specs.TypeFaults.{variable_faults}
-use Rattle.gang_model.specs.Statements.{declaration, assignment, target_of, rate_of, operand_for, changed, number_one, Made, made, scope_after, statement, statements}
-use Rattle.gang_model.specs.Known.{known_stmt, known_stmts, today}
+use Rattle.gang_model.specs.Types.Typing.{Entry, Scope, declared, var_of}
+use Rattle.gang_model.specs.Types.Calls.{Context}
+use Rattle.gang_model.specs.Types.TypeFaults.{variable_faults}
+use Rattle.gang_model.specs.Types.Statements.{declaration, assignment, target_of, rate_of, operand_for, changed, number_one, Made, made, scope_after, statement, statements}
+use Rattle.gang_model.specs.Source.Known.{known_stmt, known_stmts, today}
 use Rattle.scalar_programs.specs.Scalars.{var_at, declared_by, IsStraight, steps_in_line}
 use Rattle.scalar_programs.proofs.KnownForms.{FormCases, by_forms}
 use Rattle.scalar_programs.proofs.LightSources.{IsLight, AreLight}

@@ -7,17 +7,17 @@ use Rattle.gang_types.specs.declared.operators.BinaryOp.{BinaryOp}
 use Rattle.gang_types.specs.declared.places.Place.{Place}
 use Rattle.gang_types.specs.declared.places.VarId.TheVariants.{Local}
 use Rattle.gang_model.specs.declared.refusals.RefusalNumber.TheVariants.{S7, S8}
-use Rattle.gang_model.specs.Tree.{Var, Expr, Target, Scalar, ElementOf, StepNumber, Stmt, Number, Assign, Change}
-use Rattle.gang_model.specs.Parsed.{Name, ParsedExpr, ParsedTarget}
-use Rattle.gang_model.specs.Spells.{weight, max_weight}
-use Rattle.gang_model.specs.Judged.{Judged, Sound, Faulty, both, fault_if}
+use Rattle.gang_model.specs.Types.Tree.{Var, Expr, Target, Scalar, ElementOf, StepNumber, Stmt, Number, Assign, Change}
+use Rattle.gang_model.specs.Source.Parsed.{Name, ParsedExpr, ParsedTarget}
+use Rattle.gang_model.specs.Source.Spells.{weight, max_weight}
+use Rattle.gang_model.specs.Source.Judged.{Judged, Sound, Faulty, both, fault_if}
 use Rattle.gang_model.proofs.JudgedLaws.{OnSound, on_then, on_unless, on_pair}
 use Rattle.gang_model.proofs.StandingLaws.{Each}
-use Rattle.gang_model.specs.Conversions.{Typed, may_become, as_type, operation_type, right_operand}
-use Rattle.gang_model.specs.Typing.{Entry, Scope, entry_of, has_no_value, first_of, expression, given_value}
-use Rattle.gang_model.specs.Calls.{Context, WholeCall, whole_call}
-use Rattle.gang_model.specs.Statements.{first_value, declaration, Aimed, assigned, scalar_target, target_of, rate_of, assigned_type, call_for, assigned_by, assignment, operand_for, changed, number_one}
-use Rattle.gang_model.specs.Known.{known_expr, known_some, today}
+use Rattle.gang_model.specs.Types.Conversions.{Typed, may_become, as_type, operation_type, right_operand}
+use Rattle.gang_model.specs.Types.Typing.{Entry, Scope, entry_of, has_no_value, first_of, expression, given_value}
+use Rattle.gang_model.specs.Types.Calls.{Context, WholeCall, whole_call}
+use Rattle.gang_model.specs.Types.Statements.{first_value, declaration, Aimed, assigned, scalar_target, target_of, rate_of, assigned_type, call_for, assigned_by, assignment, operand_for, changed, number_one}
+use Rattle.gang_model.specs.Source.Known.{known_expr, known_some, today}
 use Rattle.scalar_programs.specs.Scalars.{IsOneOf, IsScalarExpr, declared_by, IsStraight, steps_in_line}
 use Rattle.scalar_programs.proofs.KnownForms.{no_call, no_call_for}
 use Rattle.scalar_programs.proofs.LightSources.{IsLightValue}

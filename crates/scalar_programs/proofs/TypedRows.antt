@@ -8,8 +8,8 @@ use Rattle.gang_types.specs.declared.types.Rate.TheVariants.{Uniform, Varying}
 use Rattle.gang_types.specs.declared.operators.BinaryOp.TheVariants.{Add}
 use Rattle.gang_types.specs.declared.places.VarId.{VarId}
 use Rattle.gang_types.specs.declared.places.VarId.TheVariants.{File, Local}
-use Rattle.gang_model.specs.Tree.{Var, Expr, Number, Read, Element, Binary, And, Choice, Scalar, Stmt, Empty, Then, Declare, Assign, If, Variable}
-use Rattle.gang_model.specs.Conversions.{is_varying}
+use Rattle.gang_model.specs.Types.Tree.{Var, Expr, Number, Read, Element, Binary, And, Choice, Scalar, Stmt, Empty, Then, Declare, Assign, If, Variable}
+use Rattle.gang_model.specs.Types.Conversions.{is_varying}
 use Rattle.scalar_programs.specs.Scalars.{IsOneOf, ReadsScalars, vectors, nested_arms, IsScalarExpr, IsStraight, steps_in_line, declared_before, IsScalarName}
 
 abbrev int32 : VarId → Rate → Var

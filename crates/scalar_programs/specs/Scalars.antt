@@ -3,8 +3,8 @@
 use Rattle.std.specs.Prelude.{◌≡◌, ℕ, suc, ◌≤◌, max, false, List, [], ◌∷◌, ◌++◌, map, flat_map, length, take, All, Option, Some, None, slice_get}
 use Rattle.gang_types.specs.declared.places.VarId.{VarId}
 use Rattle.gang_types.specs.declared.places.VarId.TheVariants.{File, Local}
-use Rattle.gang_model.specs.Tree.{Var, Expr, Number, ProgramIndex, ProgramCount, LaneMask, Read, Unary, Binary, Convert, And, Or, Choice, OfOne, OfTwo, Select, Scalar, Stmt, Empty, Then, Declare, Assign, Change, Variable, Standing, Function, Program}
-use Rattle.gang_model.specs.Typing.{var_of}
+use Rattle.gang_model.specs.Types.Tree.{Var, Expr, Number, ProgramIndex, ProgramCount, LaneMask, Read, Unary, Binary, Convert, And, Or, Choice, OfOne, OfTwo, Select, Scalar, Stmt, Empty, Then, Declare, Assign, Change, Variable, Standing, Function, Program}
+use Rattle.gang_model.specs.Types.Typing.{var_of}
 
 -- ---- variables
 

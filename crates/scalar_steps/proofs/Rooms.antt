@@ -1,7 +1,7 @@
 -- An expression over scalars as the program holds it: it has code, and room for the vectors and masks that its code keeps.
 use Rattle.std.proofs.Common.{◌≡◌, ◌≤◌, Bool, true, List, refl, ap, ◌∙◌, arith}
 use Rattle.std.specs.Prelude.{◌&&◌}
-use Rattle.gang_model.specs.Tree.{Var}
+use Rattle.gang_model.specs.Types.Tree.{Var}
 use Rattle.typed_tree.specs.declared.expressions.Expr.{Expr, Number, ProgramIndex, ProgramCount, LaneMask, Read, Unary', Binary', Convert', AndAlso', OrElse', Choice', OfOne', OfTwo', Select'}
 use Rattle.typed_tree.specs.Views.{expr_view}
 use Rattle.expression_code.specs.Code.{is_scalar}

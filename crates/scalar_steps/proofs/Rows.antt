@@ -1,7 +1,7 @@
 -- The statements of a block, as the program holds them.
 use Rattle.std.proofs.Common.{◌≡◌, refl, ap, ◌∙◌, Vec, Global}
 use mathlib.Core.Former.{Count}
-use Rattle.gang_model.specs.Tree.{Then}
+use Rattle.gang_model.specs.Types.Tree.{Then}
 use Rattle.typed_tree.specs.declared.statements.Stmt.{Stmt, Block, Block', Row_of-Stmt, end_of-Stmt, more_of-Stmt, items-the_row-Stmt, items_hidden-the_row-Stmt-0}
 use Rattle.typed_tree.specs.Views.{row_view, stmt_view, stmts_view}
 

@@ -6,11 +6,11 @@ use Rattle.gang_types.specs.declared.types.Rate.{Rate}
 use Rattle.gang_types.specs.declared.types.Rate.TheVariants.{Uniform, Varying}
 use Rattle.gang_types.specs.Values.{binary_result, converted}
 use Rattle.gang_types.specs.Lanes.{Lanes, has}
-use Rattle.gang_model.specs.Lanes.{Fault, ◌>>=◌, at, each, merged, try_each}
-use Rattle.gang_model.specs.Tree.{Var, Stmt, Declare, Assign, Change, Scalar, Program}
-use Rattle.gang_model.specs.State.{State, assigned_words, declared_words, seen, with_words_in, words_in}
-use Rattle.gang_model.specs.Value.{value}
-use Rattle.gang_model.specs.Step.{run}
+use Rattle.gang_model.specs.Running.Lanes.{Fault, ◌>>=◌, at, each, merged, try_each}
+use Rattle.gang_model.specs.Types.Tree.{Var, Stmt, Declare, Assign, Change, Scalar, Program}
+use Rattle.gang_model.specs.Running.State.{State, assigned_words, declared_words, seen, with_words_in, words_in}
+use Rattle.gang_model.specs.Running.Value.{value}
+use Rattle.gang_model.specs.Running.Step.{run}
 use Rattle.cross_lane.specs.EachLaws.{each_is}
 use Rattle.scalar_programs.specs.Scalars.{declared_by}
 use Rattle.scalar_steps.specs.Written.{kept_words, words_after, written_var, written_words}

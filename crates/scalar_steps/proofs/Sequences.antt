@@ -3,7 +3,7 @@ use Rattle.std.proofs.Common.{◌≡◌, ℕ, zero, suc, ◌+◌, ◌<◌, List,
 use Rattle.std.proofs.lemmas.List.{take_more}
 use Rattle.gang_types.specs.declared.operators.BinaryOp.{BinaryOp}
 use Rattle.gang_types.specs.declared.types.IntType.{IntType}
-use Rattle.gang_model.specs.Tree.{Assign, Change, ElementOf, Expr, Scalar, Stmt as Step, Target, Var}
+use Rattle.gang_model.specs.Types.Tree.{Assign, Change, ElementOf, Expr, Scalar, Stmt as Step, Target, Var}
 use Rattle.typed_tree.specs.declared.statements.Stmt.{Stmt}
 use Rattle.typed_tree.specs.Views.{stmt_view, stmts_view}
 use Rattle.scalar_programs.specs.Scalars.{IsStraight, declared_by, steps_in_line}

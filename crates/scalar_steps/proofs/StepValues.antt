@@ -6,10 +6,10 @@ use Rattle.gang_types.specs.declared.types.Rate.{Rate}
 use Rattle.gang_types.specs.declared.types.Rate.TheVariants.{Uniform, Varying}
 use Rattle.gang_types.specs.Values.{binary_result, converted}
 use Rattle.gang_types.specs.Lanes.{Lanes}
-use Rattle.gang_model.specs.Lanes.{Fault, ◌>>=◌, at, each, try_each}
-use Rattle.gang_model.specs.Tree.{Var, Stmt, Declare, Assign, Change, Scalar}
-use Rattle.gang_model.specs.State.{State, seen, words_in}
-use Rattle.gang_model.specs.Value.{value}
+use Rattle.gang_model.specs.Running.Lanes.{Fault, ◌>>=◌, at, each, try_each}
+use Rattle.gang_model.specs.Types.Tree.{Var, Stmt, Declare, Assign, Change, Scalar}
+use Rattle.gang_model.specs.Running.State.{State, seen, words_in}
+use Rattle.gang_model.specs.Running.Value.{value}
 use Rattle.cross_lane.specs.EachLaws.{lane_kept}
 use Rattle.cross_lane.specs.AttemptLaws.{attempts_same}
 use Rattle.typed_tree.specs.Views.{expr_view, var_view}

@@ -1,8 +1,8 @@
 -- Assignments that do what the steps of a straight line do.
 use Rattle.std.specs.Prelude.{◌≡◌, ◌≤◌, ℕ, List, [], ◌∷◌, ◌++◌, Option, Some, Result}
 use Rattle.gang_types.specs.declared.faults.FaultName.{FaultName}
-use Rattle.gang_model.specs.Lanes.{Fault}
-use Rattle.gang_model.specs.Tree.{Stmt, Expr as Value, Var as Variable}
+use Rattle.gang_model.specs.Running.Lanes.{Fault}
+use Rattle.gang_model.specs.Types.Tree.{Stmt, Expr as Value, Var as Variable}
 use Rattle.cross_lane.specs.Calls.{answer_of}
 use Rattle.typed_tree.specs.declared.expressions.Expr.{Expr}
 use Rattle.typed_tree.specs.declared.expressions.Var.{Var}

@@ -4,11 +4,11 @@ use Rattle.gang_types.specs.declared.types.Rate.{Rate}
 use Rattle.gang_types.specs.declared.types.Rate.TheVariants.{Uniform, Varying}
 use Rattle.gang_types.specs.Values.{binary_result, converted}
 use Rattle.gang_types.specs.Lanes.{Lanes}
-use Rattle.gang_model.specs.Lanes.{Fault, ◌>>=◌, each, try_each, at}
-use Rattle.gang_model.specs.Tree.{Var, Expr, Number, Stmt, Declare, Assign, Change, Scalar}
-use Rattle.gang_model.specs.State.{State, words_in, seen, declared_words, assigned_words}
-use Rattle.gang_model.specs.Value.{value}
-use Rattle.gang_model.specs.Step.{initial}
+use Rattle.gang_model.specs.Running.Lanes.{Fault, ◌>>=◌, each, try_each, at}
+use Rattle.gang_model.specs.Types.Tree.{Var, Expr, Number, Stmt, Declare, Assign, Change, Scalar}
+use Rattle.gang_model.specs.Running.State.{State, words_in, seen, declared_words, assigned_words}
+use Rattle.gang_model.specs.Running.Value.{value}
+use Rattle.gang_model.specs.Running.Step.{initial}
 use Rattle.scalar_steps.specs.declared.assignment.Change.{Change as Operation}
 
 -- the variable that a step writes

@@ -1,6 +1,6 @@
 //! From statements to assignments.
 ghost use Rattle.std.specs.Prelude.{◌≡◌, [], ◌∷◌, Some, List, IfOk, OnOk};
-ghost use Rattle.gang_model.specs.Tree.{Scalar, Stmt as Step, Var as ModelVar};
+ghost use Rattle.gang_model.specs.Types.Tree.{Scalar, Stmt as Step, Var as ModelVar};
 ghost use Rattle.typed_tree.specs.Views.{expr_view, stmt_view, stmts_view, target_view, var_view};
 ghost use Rattle.scalar_programs.specs.Scalars.{IsStraight, steps_in_line};
 ghost use Rattle.scalar_steps.specs.Performed.{Continues, IsLine, IsOverScalars, PerformAll, Writes};

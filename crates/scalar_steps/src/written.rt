@@ -1,9 +1,9 @@
 //! The words that an assignment gives its variable.
 ghost use Rattle.std.specs.Prelude.{◌≡◌, true, replicate};
 ghost use Rattle.gang_types.specs.Masks.{IsGangWidth};
-ghost use Rattle.gang_model.specs.State.{State};
-ghost use Rattle.gang_model.specs.Tree.{Stmt};
-ghost use Rattle.gang_model.specs.Value.{value};
+ghost use Rattle.gang_model.specs.Running.State.{State};
+ghost use Rattle.gang_model.specs.Types.Tree.{Stmt};
+ghost use Rattle.gang_model.specs.Running.Value.{value};
 ghost use Rattle.cross_lane.specs.Calls.{answer_of};
 ghost use Rattle.scalar_steps.specs.Performed.{IsAnswer, Performs};
 ghost use Rattle.scalar_steps.specs.Written.{changed, written_value, written_words};

@@ -2,8 +2,8 @@
 use Rattle.std.proofs.Common.{◌≡◌, ℕ, List, [], ◌∷◌, ◌++◌, refl, sym, ap, ◌∙◌, Vec, Box, Global}
 use Rattle.std.specs.Prelude.{Result, Ok, Err, Option, Some, map}
 use Rattle.gang_types.specs.declared.places.Place.{Place}
-use Rattle.gang_model.specs.Limits.{declared_in, declared_in_all}
-use Rattle.expression_parser.specs.declared.tree.Expr.{Expr}
+use Rattle.gang_model.specs.Source.Limits.{declared_in, declared_in_all}
+use Rattle.ispc_parser_expressions.specs.declared.tree.Expr.{Expr}
 use Rattle.ispc_parser.specs.declared.tree.Dim.{Dim}
 use Rattle.ispc_parser.specs.declared.tree.Stmt.{Stmt, Block, If, For, ForEach}
 use Rattle.ispc_parser.specs.Tree.{stmt_view, stmts_view, dim_view}

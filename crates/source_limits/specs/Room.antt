@@ -1,8 +1,8 @@
 -- How many variables a function has room for.
 use Rattle.std.specs.Prelude.{ℕ, ◌-◌, List, length, Option, Some, None, Result, Ok, Err, slice_get}
 use Rattle.gang_types.specs.declared.places.Place.{Place}
-use Rattle.gang_model.specs.Parsed.{ParsedItem, ParsedFunctionItem, ParsedGlobalItem}
-use Rattle.gang_model.specs.Resolved.{length_of}
+use Rattle.gang_model.specs.Source.Parsed.{ParsedItem, ParsedFunctionItem, ParsedGlobalItem}
+use Rattle.gang_model.specs.Types.Resolved.{length_of}
 
 -- the place of a variable without room, if there is one, or else so much room
 abbrev pub room_or : Option Place → ℕ → Result ℕ Place

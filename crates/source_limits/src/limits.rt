@@ -1,7 +1,7 @@
 //! The limits of a source: the variables of a function, and the words of file-scope arrays.
 ghost use Rattle.std.specs.Prelude.{◌≡◌, ◌+◌, ◌≤◌, [], ◌∷◌, IfOk, IfErr, Some, slice_get};
-ghost use Rattle.gang_model.specs.Limits as limits;
-ghost use Rattle.gang_model.specs.Limits.{most_variables, most_array_words, limits_passed, past_limit, first_fault};
+ghost use Rattle.gang_model.specs.Source.Limits as limits;
+ghost use Rattle.gang_model.specs.Source.Limits.{most_variables, most_array_words, limits_passed, past_limit, first_fault};
 ghost use Rattle.ispc_parser.specs.Tree.{tree_view, item_view, function_view};
 ghost use Rattle.ispc_parser.specs.declared.tree.Item.TheVariants as item;
 ghost use Rattle.source_limits.specs.Room.{words_in};

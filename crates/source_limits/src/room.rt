@@ -1,6 +1,6 @@
 //! How many variables a function has room for, walked in the order of the source.
 ghost use Rattle.std.specs.Prelude.{◌≡◌, [], ◌∷◌, map};
-ghost use Rattle.gang_model.specs.Limits as limits;
+ghost use Rattle.gang_model.specs.Source.Limits as limits;
 ghost use Rattle.ispc_parser.specs.Tree.{stmt_view, stmts_view, function_view, dim_view, param_view};
 ghost use Rattle.source_limits.specs.Room.{room_after};
 

@@ -2,18 +2,18 @@
 use Rattle.std.proofs.Common.{◌≡◌, ℕ, suc, refl, sym, ap, ◌∙◌, List, [], ◌∷◌, ◌++◌, length}
 use Rattle.std.specs.Prelude.{Ok, Err}
 use Rattle.gang_model.specs.declared.refusals.SourceRefusal.{SourceRefusal}
-use Rattle.gang_model.specs.Tree as tree
-use Rattle.gang_model.specs.Parsed.{ParsedFunction, ParsedParam, ParsedStmts}
-use Rattle.gang_model.specs.Calls.{Context}
-use Rattle.gang_model.specs.Judged.{Judged, Sound, ◌>>=◌, answer_of}
-use Rattle.gang_model.specs.Signatures.{result_of}
-use Rattle.gang_model.specs.Typing.{Scope}
-use Rattle.gang_model.specs.Statements.{Made, statements}
-use Rattle.gang_model.specs.Resolved.{param_entries, param_variables}
+use Rattle.gang_model.specs.Types.Tree as tree
+use Rattle.gang_model.specs.Source.Parsed.{ParsedFunction, ParsedParam, ParsedStmts}
+use Rattle.gang_model.specs.Types.Calls.{Context}
+use Rattle.gang_model.specs.Source.Judged.{Judged, Sound, ◌>>=◌, answer_of}
+use Rattle.gang_model.specs.Types.Signatures.{result_of}
+use Rattle.gang_model.specs.Types.Typing.{Scope}
+use Rattle.gang_model.specs.Types.Statements.{Made, statements}
+use Rattle.gang_model.specs.Types.Resolved.{param_entries, param_variables}
 use Rattle.ispc_lexer.specs.declared.fault.SourceFault.TheVariants.{Refused}
-use Rattle.type_scopes.specs.Answers.{Answers}
-use Rattle.type_scopes.proofs.Answered.{answers-refused}
-use Rattle.statement_parts.specs.Makes.{Makes}
+use Rattle.type_check_scopes.specs.Answers.{Answers}
+use Rattle.type_check_scopes.proofs.Answered.{answers-refused}
+use Rattle.type_check_parts.specs.Makes.{Makes}
 use Rattle.type_check.specs.Bodies.{WithVariables, judged_body}
 
 count-params : (k : ℕ) (params : List ParsedParam) → length (param_variables k params) ≡ length params

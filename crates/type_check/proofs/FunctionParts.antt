@@ -7,21 +7,21 @@ use Rattle.std.proofs.lemmas.List.{map-append, take_more, take-append-drop, leng
 use Rattle.std.proofs.lemmas.Option.{slice_get-map, slice_get-get_or}
 use Rattle.std.proofs.lemmas.Slice.Zip.{length-zip, get_or-zip}
 use Rattle.gang_model.specs.declared.refusals.SourceRefusal.{SourceRefusal}
-use Rattle.gang_model.specs.Tree as tree
-use Rattle.gang_model.specs.Parsed.{ParsedSource, ParsedFunction, functions_in, globals_in}
-use Rattle.gang_model.specs.Scope.{NameStanding, file_scope, standings_of}
-use Rattle.gang_model.specs.Judged.{Judged, Sound, Faulty, unless, both, ◌>>=◌, answer_of}
-use Rattle.gang_model.specs.Signatures.{result_of}
-use Rattle.gang_model.specs.Typing.{Scope}
-use Rattle.gang_model.specs.Statements.{Made, statements}
-use Rattle.gang_model.specs.TypeFaults.{signature_faults}
-use Rattle.gang_model.specs.Resolved.{global_entries, judged_function, judged_functions, param_entries, param_variables}
+use Rattle.gang_model.specs.Types.Tree as tree
+use Rattle.gang_model.specs.Source.Parsed.{ParsedSource, ParsedFunction, functions_in, globals_in}
+use Rattle.gang_model.specs.Names.Scope.{NameStanding, file_scope, standings_of}
+use Rattle.gang_model.specs.Source.Judged.{Judged, Sound, Faulty, unless, both, ◌>>=◌, answer_of}
+use Rattle.gang_model.specs.Types.Signatures.{result_of}
+use Rattle.gang_model.specs.Types.Typing.{Scope}
+use Rattle.gang_model.specs.Types.Statements.{Made, statements}
+use Rattle.gang_model.specs.Types.TypeFaults.{signature_faults}
+use Rattle.gang_model.specs.Types.Resolved.{global_entries, judged_function, judged_functions, param_entries, param_variables}
 use Rattle.gang_model.proofs.JudgedLaws.{merged}
 use Rattle.ispc_parser.specs.declared.tree.Function.{Function}
 use Rattle.ispc_parser.specs.Tree.{function_view}
-use Rattle.name_resolution.specs.Tables.{AreTablesOf}
-use Rattle.step_scopes.specs.declared.table.StepScopes.{StepScopes}
-use Rattle.step_scopes.specs.Scopes.{standings_view}
+use Rattle.ispc_names.specs.Tables.{AreTablesOf}
+use Rattle.ispc_names_table.specs.declared.table.StepScopes.{StepScopes}
+use Rattle.ispc_names_table.specs.Scopes.{standings_view}
 use Rattle.type_check.specs.Bodies.{WithVariables, judged_body, with_body}
 use Rattle.type_check.proofs.Collecting.{all_of, Collects, collects-fault, collects-sound}
 

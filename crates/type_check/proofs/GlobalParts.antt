@@ -4,19 +4,19 @@ use Rattle.std.proofs.lemmas.List.{drop_more, take_more, map-append, length-appe
 use Rattle.std.specs.Prelude.{false, Option}
 use Rattle.gang_types.specs.declared.places.VarId.TheVariants.{File}
 use Rattle.gang_model.specs.declared.refusals.SourceRefusal.{SourceRefusal}
-use Rattle.gang_model.specs.Tree.{Global}
-use Rattle.gang_model.specs.Typing.{Scope, declared}
-use Rattle.gang_model.specs.Parsed.{ParsedGlobal}
-use Rattle.gang_model.specs.Judged.{Judged, Sound, unless, both, ◌>>=◌, least_fault, answer_of}
-use Rattle.gang_model.specs.TypeFaults.{global_faults, is_array_form}
-use Rattle.gang_model.specs.Resolved.{global_entries, global_entry, global_of, judged_globals}
+use Rattle.gang_model.specs.Types.Tree.{Global}
+use Rattle.gang_model.specs.Types.Typing.{Scope, declared}
+use Rattle.gang_model.specs.Source.Parsed.{ParsedGlobal}
+use Rattle.gang_model.specs.Source.Judged.{Judged, Sound, unless, both, ◌>>=◌, least_fault, answer_of}
+use Rattle.gang_model.specs.Types.TypeFaults.{global_faults, is_array_form}
+use Rattle.gang_model.specs.Types.Resolved.{global_entries, global_entry, global_of, judged_globals}
 use Rattle.gang_model.proofs.JudgedLaws.{merged, answer_unless, answer_of-unless}
 use Rattle.ispc_parser.specs.declared.tree.GlobalVariable.{GlobalVariable}
 use Rattle.ispc_parser.specs.Tree as parsed
 use Rattle.typed_tree.specs.declared.program.Global.{Global as TypedGlobal}
 use Rattle.typed_tree.specs.Views as typed
-use Rattle.type_scopes.specs.declared.entries.Declared.{Declared}
-use Rattle.type_scopes.specs.Entries.{declared_view}
+use Rattle.type_check_scopes.specs.declared.entries.Declared.{Declared}
+use Rattle.type_check_scopes.specs.Entries.{declared_view}
 use Rattle.type_check.proofs.FunctionParts.{take_all}
 use Rattle.type_check.proofs.Parameters.{declared-named}
 use Rattle.type_check.proofs.Collecting.{all_of, Collects, collects-more}

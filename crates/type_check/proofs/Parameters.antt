@@ -6,14 +6,14 @@ use Rattle.std.proofs.lemmas.List.{length-append}
 use Rattle.gang_types.specs.declared.places.VarId.{VarId}
 use Rattle.gang_types.specs.declared.places.VarId.TheVariants.{Local}
 use Rattle.gang_model.specs.declared.forms.Spec.{Spec}
-use Rattle.gang_model.specs.Parsed.{Name, ParsedParam}
-use Rattle.gang_model.specs.Tree.{Variable}
-use Rattle.gang_model.specs.Typing.{Entry, Scope, declared}
-use Rattle.gang_model.specs.Resolved.{param_entries, param_variables}
+use Rattle.gang_model.specs.Source.Parsed.{Name, ParsedParam}
+use Rattle.gang_model.specs.Types.Tree.{Variable}
+use Rattle.gang_model.specs.Types.Typing.{Entry, Scope, declared}
+use Rattle.gang_model.specs.Types.Resolved.{param_entries, param_variables}
 use Rattle.ispc_parser.specs.declared.tree.Param.{Param}
 use Rattle.ispc_parser.specs.Tree.{param_view}
-use Rattle.type_scopes.specs.declared.entries.Declared.{Declared}
-use Rattle.type_scopes.specs.Entries.{declared_view}
+use Rattle.type_check_scopes.specs.declared.entries.Declared.{Declared}
+use Rattle.type_check_scopes.specs.Entries.{declared_view}
 
 -- what an entry declares, under another name
 abbrev under : Name → Entry → Entry

@@ -1,13 +1,13 @@
 -- The bodies of functions.
 use Rattle.std.specs.Prelude.{List, ◌++◌, length, map}
-use Rattle.gang_model.specs.Tree as tree
-use Rattle.gang_model.specs.Parsed.{ParsedFunction}
-use Rattle.gang_model.specs.Judged.{Judged, Sound, ◌>>=◌}
-use Rattle.gang_model.specs.Signatures.{result_of}
-use Rattle.gang_model.specs.Typing.{Scope}
-use Rattle.gang_model.specs.Statements.{statements}
-use Rattle.gang_model.specs.Scope.{NameStanding}
-use Rattle.gang_model.specs.Resolved.{param_entries, param_variables, rate_or_uniform, standing_with, type_or_int32}
+use Rattle.gang_model.specs.Types.Tree as tree
+use Rattle.gang_model.specs.Source.Parsed.{ParsedFunction}
+use Rattle.gang_model.specs.Source.Judged.{Judged, Sound, ◌>>=◌}
+use Rattle.gang_model.specs.Types.Signatures.{result_of}
+use Rattle.gang_model.specs.Types.Typing.{Scope}
+use Rattle.gang_model.specs.Types.Statements.{statements}
+use Rattle.gang_model.specs.Names.Scope.{NameStanding}
+use Rattle.gang_model.specs.Types.Resolved.{param_entries, param_variables, rate_or_uniform, standing_with, type_or_int32}
 use Rattle.typed_tree.specs.Views.{stmts_view, variable_view}
 use Rattle.type_check.specs.declared.functions.Body.{Body}
 

@@ -1,16 +1,16 @@
 //! Trees without faults of names and types.
 ghost use Rattle.std.specs.Prelude.{◌≡◌, ◌⊎◌, None, Some, IfErr, IfOk};
 ghost use Rattle.gang_model.specs.declared.refusals.SourceRefusal.{SourceRefusal};
-ghost use Rattle.gang_model.specs.Resolved.{program_of};
-ghost use Rattle.gang_model.specs.SourceRefusals.{names_refusal, types_refusal};
+ghost use Rattle.gang_model.specs.Types.Resolved.{program_of};
+ghost use Rattle.gang_model.specs.Types.SourceRefusals.{names_refusal, types_refusal};
 ghost use Rattle.ispc_lexer.specs.declared.fault.SourceFault.TheVariants.{Memory, Refused};
 ghost use Rattle.ispc_parser.specs.Tree.{tree_view};
 ghost use Rattle.typed_tree.specs.Views.{program_view};
 
 use crate::typed::typed_program;
 use ispc_lexer::SourceFault;
+use ispc_names::Named;
 use ispc_parser::Tree;
-use name_resolution::Named;
 use std::alloc::Global;
 use std::marker::Model;
 use typed_tree::Program;
@@ -25,8 +25,8 @@ pub struct Checked {
 impl Model for Checked {
     ghost use Rattle.std.specs.Prelude.{◌≡◌, None, Some};
     ghost use Rattle.std.specs.Coded.{codes};
-    ghost use Rattle.gang_model.specs.Resolved.{program_of};
-    ghost use Rattle.gang_model.specs.SourceRefusals.{names_refusal};
+    ghost use Rattle.gang_model.specs.Types.Resolved.{program_of};
+    ghost use Rattle.gang_model.specs.Types.SourceRefusals.{names_refusal};
     ghost use Rattle.ispc_parser.specs.contracts.tree.Item as item;
     ghost use Rattle.ispc_parser.specs.declared.tree.Tree as declared;
     ghost use Rattle.ispc_parser.specs.Tree.{tree_view};

@@ -1,11 +1,11 @@
 //! The function that a run begins with.
 ghost use Rattle.std.specs.Prelude.{◌≡◌, option_map};
-ghost use Rattle.gang_model.specs.Entry as entry;
+ghost use Rattle.gang_model.specs.Running.Entry as entry;
 ghost use Rattle.ispc_parser.specs.Tree.{function_view, tree_view};
 
 use crate::checked::Checked;
 use gang_types::FuncId;
-use ispc_names::is_same;
+use ispc_names_scopes::is_same;
 use ispc_parser::{Function, Item};
 
 /// Whether a function has the name that is asked for, if one is.

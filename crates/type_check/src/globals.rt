@@ -1,24 +1,24 @@
 //! File-scope variables.
 ghost use Rattle.std.specs.Prelude.{◌≡◌, IfErr, IfOk, map};
 ghost use Rattle.gang_model.specs.declared.forms.GlobalForm.TheVariants.{Initial};
-ghost use Rattle.gang_model.specs.Judged.{least_fault};
-ghost use Rattle.gang_model.specs.Resolved as model;
-ghost use Rattle.gang_model.specs.TypeFaults as faults;
+ghost use Rattle.gang_model.specs.Source.Judged.{least_fault};
+ghost use Rattle.gang_model.specs.Types.Resolved as model;
+ghost use Rattle.gang_model.specs.Types.TypeFaults as faults;
 ghost use Rattle.ispc_lexer.specs.declared.fault.SourceFault.TheVariants.{Memory};
 ghost use Rattle.ispc_parser.specs.Tree as parsed;
 ghost use Rattle.typed_tree.specs.Views as typed;
-ghost use Rattle.type_scopes.specs.Answers.{Answers};
+ghost use Rattle.type_check_scopes.specs.Answers.{Answers};
 
 use crate::signatures::{variable_fault, varying_fault};
 use gang_model::{GlobalForm, Literal, SourceRefusal};
 use gang_types::{IntType, UnaryOp, VarId, convert, unary};
 use ispc_lexer::SourceFault;
-use ispc_names::least;
+use ispc_names_scopes::least;
 use ispc_parser::GlobalVariable;
 use std::alloc::Global;
-use type_scopes::{TypeScope, declared_with, refuse};
+use type_check_scopes::{TypeScope, declared_with, refuse};
+use type_check_values::{declared_rate, declared_type, literal_type};
 use typed_tree::{Global as TypedGlobal, Variable};
-use typed_values::{declared_rate, declared_type, literal_type};
 
 /// Whether a file-scope variable is an array.
 fn is_array_form(form: GlobalForm) -> bool

@@ -1,15 +1,15 @@
 //! Functions' results and parameters.
 ghost use Rattle.std.specs.Prelude.{◌≡◌, ◌||◌};
-ghost use Rattle.gang_model.specs.Judged.{least_fault};
-ghost use Rattle.gang_model.specs.Signatures as model;
-ghost use Rattle.gang_model.specs.TypeFaults as faults;
+ghost use Rattle.gang_model.specs.Source.Judged.{least_fault};
+ghost use Rattle.gang_model.specs.Types.Signatures as model;
+ghost use Rattle.gang_model.specs.Types.TypeFaults as faults;
 ghost use Rattle.ispc_parser.specs.Tree.{function_view, param_view};
 
 use gang_model::{RefusalNumber, SourceRefusal, Spec};
 use gang_types::{IntType, Place, Rate};
-use ispc_names::{fault_if, least};
+use ispc_names_scopes::{fault_if, least};
 use ispc_parser::{Function, Param};
-use typed_values::{declared_rate, is_varying};
+use type_check_values::{declared_rate, is_varying};
 
 /// Whether what is declared with a spec is varying.
 fn is_varying_spec(spec: Spec) -> bool

@@ -1,18 +1,18 @@
 //! The typed program of a tree.
-ghost use Rattle.gang_model.specs.Resolved.{judged_program};
+ghost use Rattle.gang_model.specs.Types.Resolved.{judged_program};
 ghost use Rattle.ispc_parser.specs.Tree.{tree_view};
-ghost use Rattle.name_resolution.specs.Tables.{AreTablesOf};
+ghost use Rattle.ispc_names.specs.Tables.{AreTablesOf};
 ghost use Rattle.typed_tree.specs.Views.{program_view};
-ghost use Rattle.type_scopes.specs.Answers.{Answers};
+ghost use Rattle.type_check_scopes.specs.Answers.{Answers};
 
 use crate::functions::typed_functions;
 use crate::globals::{declared_globals, typed_globals};
 use ispc_lexer::SourceFault;
+use ispc_names_faults::{functions_of, globals_of};
+use ispc_names_table::StepScopes;
 use ispc_parser::Tree;
-use name_faults::{functions_of, globals_of};
 use std::alloc::Global;
-use step_scopes::StepScopes;
-use type_scopes::both;
+use type_check_scopes::both;
 use typed_tree::Program;
 
 /// The typed program of a tree, whose functions have these steps.

@@ -2,9 +2,9 @@
 use Rattle.std.specs.Prelude.{List, [], ◌∷◌, ◌++◌, Option, Some, None, map}
 use Rattle.gang_types.specs.declared.types.Rate.{Rate}
 use Rattle.gang_types.specs.declared.types.Rate.TheVariants.{Varying}
-use Rattle.gang_model.specs.Tree as t
-use Rattle.gang_model.specs.Resolved.{standing_with}
-use Rattle.step_scopes.specs.Scopes.{standings_view}
+use Rattle.gang_model.specs.Types.Tree as t
+use Rattle.gang_model.specs.Types.Resolved.{standing_with}
+use Rattle.ispc_names_table.specs.Scopes.{standings_view}
 use Rattle.typed_tree.specs.declared.expressions.Var.{Var}
 use Rattle.typed_tree.specs.declared.expressions.Reduction.{Reduction}
 use Rattle.typed_tree.specs.declared.expressions.Reduction.TheVariants as reduction

@@ -48,7 +48,7 @@ pub enum TwoCall {
 
 /// An expression. Its operations name the type that they are made in.
 #[cycle(expression)]
-#[derive(Debug, Drop)]
+#[derive(Debug)]
 pub enum Expr {
     Number(u64),
     ProgramIndex,
@@ -141,4 +141,84 @@ pub enum Expr {
         first: Box<Expr>,
         second: Box<Expr>,
     },
+}
+
+impl Drop for Expr {
+    #[cycle(expression)]
+    fn drop(self) {
+        match self {
+            Expr::Number(_)
+            | Expr::ProgramIndex
+            | Expr::ProgramCount
+            | Expr::LaneMask
+            | Expr::Read(_)
+            | Expr::Element { array: _, index: _ }
+            | Expr::Unary {
+                operator: _,
+                value_type: _,
+                operand: _,
+            }
+            | Expr::Binary {
+                operator: _,
+                value_type: _,
+                left: _,
+                right: _,
+            }
+            | Expr::Convert {
+                from: _,
+                to: _,
+                operand: _,
+            }
+            | Expr::AndAlso { left: _, right: _ }
+            | Expr::OrElse { left: _, right: _ }
+            | Expr::Choice {
+                test: _,
+                first: _,
+                second: _,
+            }
+            | Expr::Reduce {
+                function: _,
+                value_type: _,
+                value: _,
+            }
+            | Expr::ScanLanes {
+                function: _,
+                value_type: _,
+                value: _,
+            }
+            | Expr::OfOne {
+                function: _,
+                value_type: _,
+                value: _,
+            }
+            | Expr::OfTwo {
+                function: _,
+                value_type: _,
+                left: _,
+                right: _,
+            }
+            | Expr::Extract { value: _, index: _ }
+            | Expr::Insert {
+                value: _,
+                index: _,
+                new_value: _,
+            }
+            | Expr::Rotate { value: _, by: _ }
+            | Expr::Shift { value: _, by: _ }
+            | Expr::Shuffle {
+                value: _,
+                places: _,
+            }
+            | Expr::ShuffleTwo {
+                value: _,
+                second: _,
+                places: _,
+            }
+            | Expr::Select {
+                test: _,
+                first: _,
+                second: _,
+            } => {}
+        }
+    }
 }

@@ -4,7 +4,7 @@ use crate::expressions::{Expr, Var};
 use gang_types::{BinaryOp, IntType, Rate, VarId};
 
 /// What is assigned: a scalar, or an element of an array.
-#[derive(Debug, Drop)]
+#[derive(Debug)]
 pub enum Target {
     Scalar(Var),
     Element {
@@ -14,8 +14,21 @@ pub enum Target {
     },
 }
 
+impl Drop for Target {
+    fn drop(self) {
+        match self {
+            Target::Scalar(_)
+            | Target::Element {
+                array: _,
+                rate: _,
+                index: _,
+            } => {}
+        }
+    }
+}
+
 /// What a call passes: a value, or an array from an index on.
-#[derive(Debug, Drop)]
+#[derive(Debug)]
 pub enum Arg {
     Value {
         parameter: Var,
@@ -28,6 +41,22 @@ pub enum Arg {
     },
 }
 
+impl Drop for Arg {
+    fn drop(self) {
+        match self {
+            Arg::Value {
+                parameter: _,
+                value: _,
+            }
+            | Arg::Array {
+                parameter: _,
+                array: _,
+                from: _,
+            } => {}
+        }
+    }
+}
+
 /// What a call's result is for.
 #[derive(Clone, Copy, Debug, PartialEq, Eq, Drop)]
 pub enum ResultFor {
@@ -38,15 +67,25 @@ pub enum ResultFor {
 }
 
 /// An index variable with its bounds.
-#[derive(Debug, Drop)]
+#[derive(Debug)]
 pub struct Dimension {
     pub index: Var,
     pub low: Expr,
     pub high: Expr,
 }
 
+impl Drop for Dimension {
+    fn drop(self) {
+        let Self {
+            index: _,
+            low: _,
+            high: _,
+        } = self;
+    }
+}
+
 /// The rounds of a foreach form.
-#[derive(Debug, Drop)]
+#[derive(Debug)]
 pub enum Rounds {
     Rows(Vec<Dimension>),
     Tiles(Vec<Dimension>),
@@ -54,9 +93,20 @@ pub enum Rounds {
     EachValue { index: Var, value: Expr },
 }
 
+impl Drop for Rounds {
+    fn drop(self) {
+        match self {
+            Rounds::Rows(_)
+            | Rounds::Tiles(_)
+            | Rounds::EachLane(_)
+            | Rounds::EachValue { index: _, value: _ } => {}
+        }
+    }
+}
+
 /// A statement.
 #[cycle(statement)]
-#[derive(Debug, Drop)]
+#[derive(Debug)]
 pub enum Stmt {
     Empty,
     Block(Vec<Stmt>),
@@ -143,4 +193,79 @@ pub enum Stmt {
         into: Var,
         result_for: ResultFor,
     },
+}
+
+impl Drop for Stmt {
+    #[cycle(statement)]
+    fn drop(self) {
+        match self {
+            Stmt::Empty
+            | Stmt::Block(_)
+            | Stmt::Then { first: _, rest: _ }
+            | Stmt::Declare {
+                step: _,
+                variable: _,
+                value: _,
+            }
+            | Stmt::Assign {
+                step: _,
+                target: _,
+                value: _,
+            }
+            | Stmt::Change {
+                step: _,
+                target: _,
+                target_type: _,
+                operator: _,
+                value_type: _,
+                value: _,
+            }
+            | Stmt::If {
+                step: _,
+                test: _,
+                first: _,
+                other: _,
+            }
+            | Stmt::Loop {
+                step: _,
+                test: _,
+                update: _,
+                body: _,
+            }
+            | Stmt::BodyFirst {
+                step: _,
+                test: _,
+                body: _,
+            }
+            | Stmt::Break { step: _ }
+            | Stmt::Continue { step: _ }
+            | Stmt::Return { step: _, value: _ }
+            | Stmt::ForEach {
+                step: _,
+                rounds: _,
+                body: _,
+            }
+            | Stmt::Call {
+                step: _,
+                function: _,
+                args: _,
+                result_for: _,
+            }
+            | Stmt::Check { step: _, test: _ }
+            | Stmt::PackedStore {
+                step: _,
+                array: _,
+                from: _,
+                value: _,
+                result_for: _,
+            }
+            | Stmt::PackedLoad {
+                step: _,
+                array: _,
+                from: _,
+                into: _,
+                result_for: _,
+            } => {}
+        }
+    }
 }

@@ -1,7 +1,7 @@
 //! A machine that counts lines, and a writer that keeps what it is given.
 ghost use Rattle.std.specs.Prelude.{◌≡◌, [], Some, false};
 
-use debug_interface::{AnswerWriter, Fault, Position, RecordedMachine, Shown, StepEnd, WriteFault};
+use debug_machine::{AnswerWriter, Fault, Position, RecordedMachine, Shown, StepEnd, WriteFault};
 use gang_types::{FaultName, IntType, Mask, Place, VarId};
 use std::alloc::Global;
 use undo_log::{NoHistory, Undone};

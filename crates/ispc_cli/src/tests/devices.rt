@@ -3,7 +3,7 @@ ghost use Rattle.std.specs.Prelude.{◌≡◌, ◌≤◌, ◌<◌, Some, None, [
 ghost use Rattle.arrayvec.specs.ArrayVec.{array_vec_len};
 
 use arrayvec::ArrayVec;
-use debug_interface::{AnswerWriter, CommandReader, ReadFault, WriteFault};
+use debug_machine::{AnswerWriter, CommandReader, ReadFault, WriteFault};
 
 /// Gives some bytes, at most so many at a time, and fails once so many were given.
 #[derive(Drop)]

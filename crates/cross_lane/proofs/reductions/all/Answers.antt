@@ -1,7 +1,7 @@
 use Rattle.std.proofs.Common.{slice_index, ◌∙◌, ap}
 use Rattle.gang_types.specs.Lanes.{no_lane, without}
 use Rattle.gang_types.specs.Masks.{lanes_of}
-use Rattle.gang_model.specs.Lanes.{truth_word}
+use Rattle.gang_model.specs.Running.Lanes.{truth_word}
 use Rattle.cross_lane.proofs.LaneTests.{all_hold}
 use Rattle.cross_lane.proofs.reductions.all.Goals as goal
 

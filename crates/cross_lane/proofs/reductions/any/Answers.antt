@@ -2,7 +2,7 @@ use Rattle.std.proofs.Common.{slice_index, ◌∙◌, ap}
 use Rattle.std.specs.Prelude.{not}
 use Rattle.gang_types.specs.Lanes.{no_lane}
 use Rattle.gang_types.specs.Masks.{lanes_of}
-use Rattle.gang_model.specs.Lanes.{truth_word}
+use Rattle.gang_model.specs.Running.Lanes.{truth_word}
 use Rattle.cross_lane.proofs.LaneTests.{none_holds}
 use Rattle.cross_lane.proofs.reductions.any.Goals as goal
 

@@ -1,8 +1,8 @@
 use Rattle.std.proofs.Common.{rules, ◌≡◌, ◌<◌, ◌^◌, ℕ, arith, slice_index, ◌∙◌, sym, ap, cond}
 use Rattle.gang_types.specs.Masks.{lanes_of}
 use Rattle.gang_types.specs.MaskLaws.{length-lanes_of_word}
-use Rattle.gang_model.specs.Library.{scanned, before_lane}
-use Rattle.gang_model.specs.Tree.{ScanAdd}
+use Rattle.gang_model.specs.Running.Library.{scanned, before_lane}
+use Rattle.gang_model.specs.Types.Tree.{ScanAdd}
 use Rattle.cross_lane.specs.declared.folds.Fold.TheVariants.{Add, Or}
 use Rattle.cross_lane.specs.Calls.{values_in}
 use Rattle.cross_lane.specs.EachLaws.{each_same}

@@ -3,8 +3,8 @@ use Rattle.std.specs.Prelude.{bit_and, replicate}
 use lib.Lanes.{zip2}
 use Rattle.gang_types.specs.Masks.{lanes_of}
 use Rattle.gang_types.specs.MaskLaws.{length-lanes_of_word}
-use Rattle.gang_model.specs.Library.{scanned, before_lane}
-use Rattle.gang_model.specs.Tree.{ScanAnd}
+use Rattle.gang_model.specs.Running.Library.{scanned, before_lane}
+use Rattle.gang_model.specs.Types.Tree.{ScanAnd}
 use Rattle.cross_lane.specs.Calls.{values_in}
 use Rattle.cross_lane.proofs.VectorLanes.{lane_zip2, lane_splat, length_splat}
 use Rattle.cross_lane.specs.EachLaws.{each_same}

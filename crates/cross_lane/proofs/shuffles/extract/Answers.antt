@@ -4,8 +4,8 @@ use Rattle.gang_types.specs.declared.faults.FaultName.TheVariants.{LaneIndex}
 use Rattle.gang_types.specs.Lanes.{lowest}
 use Rattle.gang_types.specs.Masks.{lanes_of}
 use Rattle.gang_types.specs.MaskLaws.{length-lanes_of_word}
-use Rattle.gang_model.specs.Lanes.{in_lane}
-use Rattle.gang_model.specs.Library.{lane_value}
+use Rattle.gang_model.specs.Running.Lanes.{in_lane}
+use Rattle.gang_model.specs.Running.Library.{lane_value}
 use Rattle.cross_lane.specs.Calls.{values_in}
 use Rattle.cross_lane.specs.EachLaws.{length-each}
 use Rattle.cross_lane.specs.AttemptLaws.{all_ok, lowest_err, fault_at, lane_found, lane_missing}

@@ -3,8 +3,8 @@ use Rattle.std.specs.Prelude.{Ok, Err, slice_set}
 use Rattle.gang_types.specs.declared.faults.FaultName.TheVariants.{LaneIndex}
 use Rattle.gang_types.specs.Masks.{lanes_of}
 use Rattle.gang_types.specs.MaskLaws.{length-lanes_of_word}
-use Rattle.gang_model.specs.Lanes.{each, ◌>>=◌}
-use Rattle.gang_model.specs.Library.{lane_value}
+use Rattle.gang_model.specs.Running.Lanes.{each, ◌>>=◌}
+use Rattle.gang_model.specs.Running.Library.{lane_value}
 use Rattle.cross_lane.specs.Calls.{values_in}
 use Rattle.cross_lane.specs.EachLaws.{each_same, length-each, lane_set}
 use Rattle.cross_lane.specs.AttemptLaws.{all_ok, lowest_err, lane_found, lane_missing, fault_at}

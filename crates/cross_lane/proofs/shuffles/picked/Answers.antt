@@ -3,7 +3,7 @@ use Rattle.std.specs.Prelude.{Ok}
 use Rattle.gang_types.specs.declared.faults.FaultName.TheVariants.{LaneIndex}
 use Rattle.gang_types.specs.Masks.{lanes_of}
 use Rattle.gang_types.specs.MaskLaws.{length-lanes_of_word}
-use Rattle.gang_model.specs.Library.{lane_value}
+use Rattle.gang_model.specs.Running.Library.{lane_value}
 use Rattle.cross_lane.specs.EachLaws.{each_is}
 use Rattle.cross_lane.specs.AttemptLaws.{all_ok, first_err, lane_found, lane_missing}
 use Rattle.cross_lane.proofs.shuffles.picked.Goals as goal

@@ -5,7 +5,7 @@ use Rattle.gang_types.specs.declared.types.IntType.TheVariants.{Int32}
 use Rattle.gang_types.specs.Values.{value_of, residue}
 use Rattle.gang_types.specs.Masks.{lanes_of}
 use Rattle.gang_types.specs.MaskLaws.{length-lanes_of_word}
-use Rattle.gang_model.specs.Library.{turned}
+use Rattle.gang_model.specs.Running.Library.{turned}
 use Rattle.cross_lane.specs.Calls.{values_in}
 use Rattle.cross_lane.specs.EachLaws.{each_same}
 use Rattle.cross_lane.proofs.Moves.{turned_lane}

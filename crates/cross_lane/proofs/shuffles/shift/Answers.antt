@@ -4,7 +4,7 @@ use Rattle.gang_types.specs.declared.types.IntType.TheVariants.{Int32}
 use Rattle.gang_types.specs.Values.{value_of}
 use Rattle.gang_types.specs.Masks.{lanes_of}
 use Rattle.gang_types.specs.MaskLaws.{length-lanes_of_word}
-use Rattle.gang_model.specs.Library.{value_at}
+use Rattle.gang_model.specs.Running.Library.{value_at}
 use Rattle.cross_lane.specs.Calls.{values_in}
 use Rattle.cross_lane.specs.Folds.{windowed}
 use Rattle.cross_lane.proofs.Rows.{width-le}

@@ -1,5 +1,5 @@
 use Rattle.std.proofs.Common.{◌≡◌, ◌*◌, ◌+◌, get_or, arith, sym, refl, ◌∙◌}
-use Rattle.gang_model.specs.Spellings.{digit_value}
+use Rattle.gang_model.specs.Texts.Spellings.{digit_value}
 use Rattle.debug_commands.specs.Digits.{base}
 use Rattle.debug_commands.proofs.DigitRuns.{number_step, too_large, all_read}
 use Rattle.debug_commands.proofs.numbers.digits_value.Goals as goal

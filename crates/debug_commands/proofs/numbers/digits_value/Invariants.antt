@@ -1,5 +1,5 @@
 use Rattle.std.proofs.Common.{◌≡◌, ◌<◌, ◌^◌, drop}
-use Rattle.gang_model.specs.Spellings.{number_after}
+use Rattle.gang_model.specs.Texts.Spellings.{number_after}
 use Rattle.debug_commands.specs.Digits.{base}
 use Rattle.debug_commands.proofs.numbers.digits_value.Given as goal
 

@@ -1,5 +1,5 @@
 use Rattle.std.proofs.Common.{◌≡◌, drop, map}
-use Rattle.gang_model.specs.CommandText as text
+use Rattle.gang_model.specs.Texts.CommandText as text
 use Rattle.debug_commands.specs.LineWords.{texts}
 use Rattle.debug_commands.specs.CommandTable.{entry_view}
 use Rattle.debug_commands.proofs.reading.command_by.Given as goal

@@ -1,6 +1,6 @@
 use Rattle.std.proofs.Common.{sym, ap, ◌∙◌, arith}
-use Rattle.gang_model.specs.Spellings.{words_of_line}
-use Rattle.gang_model.specs.CommandText.{is_mark}
+use Rattle.gang_model.specs.Texts.Spellings.{words_of_line}
+use Rattle.gang_model.specs.Texts.CommandText.{is_mark}
 use Rattle.debug_commands.specs.Views.{option_view}
 use Rattle.debug_commands.proofs.LongLines.{no_command, of_words}
 use Rattle.debug_commands.proofs.reading.read_command.Goals as goal

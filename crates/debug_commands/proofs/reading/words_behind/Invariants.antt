@@ -1,5 +1,5 @@
 use Rattle.std.proofs.Common.{◌≡◌, drop}
-use Rattle.gang_model.specs.CommandText.{words_behind}
+use Rattle.gang_model.specs.Texts.CommandText.{words_behind}
 use Rattle.debug_commands.specs.LineWords.{texts}
 use Rattle.debug_commands.proofs.reading.words_behind.Given as goal
 

@@ -1,7 +1,7 @@
 use Rattle.std.proofs.Common.{◌∙◌, rules, tests}
 use Rattle.std.proofs.lemmas.Iterator.{YieldsList-from_slice}
 use Rattle.std.proofs.lemmas.Iterator.Search.{all_from_yields_List}
-use Rattle.gang_model.specs.Spellings as spelling
+use Rattle.gang_model.specs.Texts.Spellings as spelling
 use Rattle.debug_commands.proofs.SameBytes.{all_same}
 use Rattle.debug_commands.proofs.splitting.is_blank_line.Goals as goal
 

@@ -1,8 +1,8 @@
 use Rattle.std.proofs.Common.{◌≡◌, length, ◌-◌, take, drop, sym, ap, ◌∙◌}
 use Rattle.std.specs.Prelude.{if◌then◌else◌}
 use Rattle.std.specs.List.{prefix_len}
-use Rattle.gang_model.specs.Spellings.{is_blank}
-use Rattle.gang_model.specs.CommandText.{is_mark}
+use Rattle.gang_model.specs.Texts.Spellings.{is_blank}
+use Rattle.gang_model.specs.Texts.CommandText.{is_mark}
 use Rattle.debug_commands.specs.LineWords.{is_plain, words_from}
 use Rattle.debug_commands.proofs.SplitWords.{first_and_rest, no_word, tail_is}
 use Rattle.debug_commands.proofs.splitting.next_word.Goals as goal

@@ -2,7 +2,7 @@ use Rattle.std.proofs.Common.{Some, None, refl, sym, ap, ◌∙◌, rules}
 use mir.Val.{SFits}
 use mir.Syntax.{w128}
 use Rattle.std.proofs.lemmas.Int.{to_z-of_z}
-use Rattle.gang_model.specs.Debugger.{DoSet}
+use Rattle.gang_model.specs.Debugger.Debugger.{DoSet}
 use Rattle.debug_commands.specs.Views.{option_view, target_view}
 use Rattle.debug_commands.proofs.Assignments.{not_assigned, assigned, too_few}
 use Rattle.debug_commands.proofs.targets.set_of.Goals as goal

@@ -1,5 +1,5 @@
 use Rattle.std.proofs.Common.{sym, ◌∙◌, refl, arith}
-use Rattle.gang_model.specs.Debugger.{taken_back}
+use Rattle.gang_model.specs.Debugger.Debugger.{taken_back}
 use Rattle.debug_session.proofs.Plain.{undone_step}
 use Rattle.debug_session.proofs.Replying.{backward_enough, backward_last, backward_on, replied_by}
 use Rattle.debug_session.proofs.backward.move_backward.Goals as goal

@@ -1,5 +1,5 @@
 use Rattle.std.proofs.Common.{◌≡◌, ◌-◌, ◌+◌, suc, ap, sym, ◌∙◌, arith, ℕ}
-use Rattle.gang_model.specs.Debugger.{Moves, backward}
+use Rattle.gang_model.specs.Debugger.Debugger.{Moves, backward}
 use Rattle.debug_session.proofs.Replying.{backward_done, replied_by}
 use Rattle.debug_session.proofs.backward.step_backward.Goals as goal
 

@@ -1,6 +1,6 @@
 -- as many moves as were done are gone from the command
 use Rattle.std.proofs.Common.{◌≡◌, ◌-◌}
-use Rattle.gang_model.specs.Debugger.{Debugger, Setting, Moves, backward}
+use Rattle.gang_model.specs.Debugger.Debugger.{Debugger, Setting, Moves, backward}
 use Rattle.debug_session.specs.Sessions.{IsPlain}
 use Rattle.debug_session.proofs.backward.step_backward.Given as goal
 

@@ -1,8 +1,8 @@
 use Rattle.std.proofs.Common.{◌≡◌, sym, ◌∙◌, refl, false, arith}
 use Rattle.std.specs.Prelude.{nat_le}
 use Rattle.std.proofs.lemmas.Bool.Decides.{nat_tests}
-use Rattle.gang_model.specs.Events.{Step}
-use Rattle.gang_model.specs.Debugger.{moved}
+use Rattle.gang_model.specs.Debugger.Events.{Step}
+use Rattle.gang_model.specs.Debugger.Debugger.{moved}
 use Rattle.debug_session.proofs.Plain.{plain_moved}
 use Rattle.debug_session.proofs.Replying.{forward_enough, forward_ended, forward_on, replied_by}
 use Rattle.debug_session.proofs.forward.move_forward.Goals.{then-left-le1, else-left-le1}

@@ -1,5 +1,5 @@
 use Rattle.std.proofs.Common.{◌≡◌, ◌-◌, ◌+◌, suc, ap, sym, ◌∙◌, arith, ℕ}
-use Rattle.gang_model.specs.Debugger.{Moves, forward}
+use Rattle.gang_model.specs.Debugger.Debugger.{Moves, forward}
 use Rattle.debug_session.proofs.Replying.{forward_done, replied_by}
 use Rattle.debug_session.proofs.forward.step_forward.Goals as goal
 

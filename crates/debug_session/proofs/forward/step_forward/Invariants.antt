@@ -1,6 +1,6 @@
 -- as many moves as were done are gone from the command
 use Rattle.std.proofs.Common.{◌≡◌, ◌-◌}
-use Rattle.gang_model.specs.Debugger.{Debugger, Setting, Moves, forward}
+use Rattle.gang_model.specs.Debugger.Debugger.{Debugger, Setting, Moves, forward}
 use Rattle.debug_session.specs.Sessions.{IsPlain}
 use Rattle.debug_session.proofs.forward.step_forward.Given as goal
 

@@ -5,7 +5,7 @@ use Rattle.std.proofs.KnownBytes.{Appends-trans}
 use Rattle.std.specs.Io.KnownBytes.{Appends}
 use Rattle.gang_types.specs.Masks.{lanes_of}
 use Rattle.gang_types.specs.MaskLaws.{length-lanes_of_word}
-use Rattle.gang_model.specs.Text.{bits}
+use Rattle.gang_model.specs.Texts.Text.{bits}
 use Rattle.debug_session.proofs.LaneDigits.{bits_more, bits_at, in_widest}
 use Rattle.debug_session.proofs.Writing.{Broke, broke_early, broke_late, writes_err}
 use Rattle.debug_session.proofs.stop_texts.write_lanes.Goals as goal

@@ -2,7 +2,7 @@
 use Rattle.std.proofs.Common.{◌≡◌, false, take}
 use Rattle.std.specs.Io.KnownBytes.{Appends}
 use Rattle.gang_types.specs.Masks.{lanes_of}
-use Rattle.gang_model.specs.Text.{bits}
+use Rattle.gang_model.specs.Texts.Text.{bits}
 use Rattle.debug_session.proofs.stop_texts.write_lanes.Given as goal
 
 abbrev pub invariant-loop-lane : goal.invariant-loop-lane

@@ -1,9 +1,9 @@
 use Rattle.std.proofs.Common.{◌∙◌, sym, subst, ap}
 use Rattle.std.proofs.lemmas.Result.{err_from_is_err_and}
 use Rattle.gang_types.specs.Masks.{lanes_of}
-use Rattle.gang_model.specs.Text.{bits}
-use Rattle.debug_interface.specs.Devices.{Writes}
-use Rattle.debug_interface.specs.Machines.{position_text}
+use Rattle.gang_model.specs.Texts.Text.{bits}
+use Rattle.debug_machine.specs.Devices.{Writes}
+use Rattle.debug_machine.specs.Machines.{position_text}
 use Rattle.debug_session.specs.Wording.{place_front}
 use Rattle.debug_session.proofs.Pieces.{place_parts}
 use Rattle.debug_session.proofs.Writing.{Broke, broke_early, writes_rest, writes_err}

@@ -1,8 +1,8 @@
 use Rattle.std.proofs.Common.{sym, subst, map, codes}
 use Rattle.std.proofs.lemmas.Result.{err_from_is_err_and}
 use Rattle.std.specs.List.{concat}
-use Rattle.debug_interface.specs.Devices.{Writes}
-use Rattle.debug_interface.specs.Machines.{position_text}
+use Rattle.debug_machine.specs.Devices.{Writes}
+use Rattle.debug_machine.specs.Machines.{position_text}
 use Rattle.debug_session.proofs.Pieces.{line_parts}
 use Rattle.debug_session.proofs.Writing.{Broke, broke_early, broke_late, writes_rest, writes_err}
 use Rattle.debug_session.proofs.stop_texts.write_stop.Goals as goal

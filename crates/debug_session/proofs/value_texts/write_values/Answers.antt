@@ -1,8 +1,8 @@
 use Rattle.std.proofs.Common.{◌++◌, sym, subst, codes}
 use Rattle.std.proofs.lemmas.Result.{err_from_is_err_and}
-use Rattle.gang_model.specs.Debugger.{now}
-use Rattle.gang_model.specs.State.{words_in}
-use Rattle.debug_interface.specs.Devices.{Writes}
+use Rattle.gang_model.specs.Debugger.Debugger.{now}
+use Rattle.gang_model.specs.Running.State.{words_in}
+use Rattle.debug_machine.specs.Devices.{Writes}
 use Rattle.debug_session.specs.Wording.{values_text}
 use Rattle.debug_session.proofs.Pieces.{line_parts}
 use Rattle.debug_session.proofs.Writing.{Broke, broke_early, broke_late, writes_rest, writes_err}

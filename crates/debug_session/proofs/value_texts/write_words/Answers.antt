@@ -1,7 +1,7 @@
 use Rattle.std.proofs.Common.{◌<◌, sym, subst, length, drop, ◌+◌, arith}
 use Rattle.std.proofs.lemmas.Result.{err_from_is_err_and}
-use Rattle.gang_model.specs.Debugger.{now}
-use Rattle.gang_model.specs.State.{words_in}
+use Rattle.gang_model.specs.Debugger.Debugger.{now}
+use Rattle.gang_model.specs.Running.State.{words_in}
 use Rattle.debug_session.specs.Wording.{value_text, values_text}
 use Rattle.debug_session.proofs.Pieces.{flat_at}
 use Rattle.debug_session.proofs.Writing.{Broke, broke_early, broke_late, writes_err}

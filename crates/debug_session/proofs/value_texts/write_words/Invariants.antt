@@ -1,8 +1,8 @@
 -- the values of the words before this one were written
 use Rattle.std.proofs.Common.{◌≡◌, false, length, take}
 use Rattle.std.specs.Io.KnownBytes.{Appends}
-use Rattle.gang_model.specs.Debugger.{Debugger, Setting, now}
-use Rattle.gang_model.specs.State.{words_in}
+use Rattle.gang_model.specs.Debugger.Debugger.{Debugger, Setting, now}
+use Rattle.gang_model.specs.Running.State.{words_in}
 use Rattle.debug_session.specs.Wording.{values_text}
 use Rattle.debug_session.proofs.value_texts.write_words.Given as goal
 

@@ -1,7 +1,7 @@
 use Rattle.std.proofs.Common.{◌≡◌, ◌∙◌, ◌++◌, ap, sym, subst, codes}
-use Rattle.gang_model.specs.Debugger as model
-use Rattle.gang_model.specs.Text.{line, text}
-use Rattle.debug_interface.specs.Devices.{Writes}
+use Rattle.gang_model.specs.Debugger.Debugger as model
+use Rattle.gang_model.specs.Texts.Text.{line, text}
+use Rattle.debug_machine.specs.Devices.{Writes}
 use Rattle.debug_session.specs.Sessions.{Means}
 use Rattle.debug_session.proofs.write_answer.write_answer.Goals as goal
 

@@ -1,5 +1,5 @@
 use Rattle.std.proofs.Common.{◌≡◌, length, reverse}
-use Rattle.gang_model.specs.State.{State}
+use Rattle.gang_model.specs.Running.State.{State}
 use Rattle.expression_code.specs.Machine.{exec}
 use Rattle.expression_code.specs.Bridge.{masks_view}
 use Rattle.expression_code.proofs.machine.run.Given as goal

@@ -1,7 +1,7 @@
 use Rattle.std.proofs.Common.{◌∙◌}
 use Rattle.gang_types.specs.Masks.{lanes_of}
 use Rattle.gang_types.specs.MaskLaws.{length-lanes_of_word}
-use Rattle.gang_model.specs.State.{words_in}
+use Rattle.gang_model.specs.Running.State.{words_in}
 use Rattle.expression_code.proofs.Seen.{seen_from}
 use Rattle.expression_code.proofs.operations.read.Goals as goal
 

@@ -1,7 +1,7 @@
 use Rattle.std.proofs.Common.{◌∙◌, ap, sym}
 use Rattle.gang_types.specs.Masks.{lanes_of}
 use Rattle.gang_types.specs.MaskLaws.{length-lanes_of_word}
-use Rattle.gang_model.specs.Lanes.{each}
+use Rattle.gang_model.specs.Running.Lanes.{each}
 use Rattle.expression_code.proofs.operations.widths.Goals as goal
 
 pub returns : goal.returns

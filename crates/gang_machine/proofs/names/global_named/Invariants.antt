@@ -1,6 +1,6 @@
 -- the variables before this one have other names
 use Rattle.std.proofs.Common.{◌≡◌, drop}
-use Rattle.gang_model.specs.Names.{named}
+use Rattle.gang_model.specs.Source.Names.{named}
 use Rattle.gang_machine.specs.Standings.{file_variables}
 use Rattle.gang_machine.proofs.names.global_named.Given as goal
 

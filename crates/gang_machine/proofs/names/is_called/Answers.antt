@@ -1,5 +1,5 @@
 use Rattle.std.proofs.Common.{refl, ap, ◌∙◌, sym}
-use Rattle.gang_model.specs.Names.{same_text}
+use Rattle.gang_model.specs.Source.Names.{same_text}
 use Rattle.typed_tree.specs.Views.{variable_view}
 use Rattle.gang_machine.proofs.FirstNamed.{get_mapped, local_variable, read_at, same_name}
 use Rattle.gang_machine.proofs.names.is_called.Goals as goal

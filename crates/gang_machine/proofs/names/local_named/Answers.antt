@@ -1,10 +1,10 @@
 use Rattle.std.proofs.Common.{◌≡◌, ◌≤◌, length, sym, subst, true, false, Some, None, arith}
 use Rattle.std.specs.Prelude.{map, slice_get}
 use Rattle.gang_types.specs.declared.places.VarId.TheVariants.{Local}
-use Rattle.gang_model.specs.Names.{named, same_text}
-use Rattle.gang_model.specs.Positions.{scope_of}
-use Rattle.gang_model.specs.Resolved.{local_at}
-use Rattle.step_scopes.specs.Scopes.{standings_view}
+use Rattle.gang_model.specs.Source.Names.{named, same_text}
+use Rattle.gang_model.specs.Debugger.Positions.{scope_of}
+use Rattle.gang_model.specs.Types.Resolved.{local_at}
+use Rattle.ispc_names_table.specs.Scopes.{standings_view}
 use Rattle.typed_tree.specs.Views.{function_view, variable_view}
 use Rattle.gang_machine.specs.Found.{IsSeen, SeesFound}
 use Rattle.gang_machine.proofs.FirstNamed.{few_listed, named_first, named_later, named_none, none_listed, one_listed}

@@ -1,8 +1,8 @@
 -- the variables before this one have other names
 use Rattle.std.proofs.Common.{◌≡◌, drop}
 use Rattle.std.specs.Prelude.{slice_get}
-use Rattle.gang_model.specs.Names.{named}
-use Rattle.gang_model.specs.Positions.{scope_of}
+use Rattle.gang_model.specs.Source.Names.{named}
+use Rattle.gang_model.specs.Debugger.Positions.{scope_of}
 use Rattle.typed_tree.specs.Views.{function_view}
 use Rattle.gang_machine.proofs.names.local_named.Given as goal
 

@@ -1,7 +1,7 @@
 -- the variables before this one have their words, and the others none
 use Rattle.std.proofs.Common.{◌≡◌, [], ℕ, ◌<◌, ◌≤◌, ◌⊎◌, length, slice_index, Some}
 use Rattle.std.specs.Prelude.{slice_get}
-use Rattle.gang_model.specs.Events.{scalar_words}
+use Rattle.gang_model.specs.Debugger.Events.{scalar_words}
 use Rattle.typed_tree.specs.declared.program.Global.{Global}
 use Rattle.gang_machine.specs.Layout.{StandsAt, slot_of}
 use Rattle.gang_machine.proofs.slots.store_globals.Given as goal

@@ -1,6 +1,6 @@
 use Rattle.std.proofs.Common.{[], refl}
-use Rattle.gang_model.specs.Debugger.{fresh}
-use Rattle.gang_model.specs.Transcript.{setting}
+use Rattle.gang_model.specs.Debugger.Debugger.{fresh}
+use Rattle.gang_model.specs.Texts.Transcript.{setting}
 use Rattle.typed_tree.specs.Views.{program_view}
 use Rattle.ispc_cli.proofs.running.run_wide.Goals as goal
 

@@ -1,5 +1,5 @@
 use Rattle.std.proofs.Common.{◌≡◌, ◌*◌, ◌+◌, get_or, arith, sym, refl, ◌∙◌}
-use Rattle.gang_model.specs.Spelling.{base, digit_value}
+use Rattle.gang_model.specs.Source.Spelling.{base, digit_value}
 use Rattle.ispc_lexer.specs.Numbers.{radix_view}
 use Rattle.ispc_lexer.proofs.Digits.{value_step, too_large}
 use Rattle.ispc_lexer.proofs.numbers.digits_value.Goals as goal

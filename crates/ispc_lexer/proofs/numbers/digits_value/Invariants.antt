@@ -1,5 +1,5 @@
 use Rattle.std.proofs.Common.{◌≡◌, ◌<◌, ◌^◌, drop}
-use Rattle.gang_model.specs.Spelling.{value_in}
+use Rattle.gang_model.specs.Source.Spelling.{value_in}
 use Rattle.ispc_lexer.specs.Numbers.{radix_view}
 use Rattle.ispc_lexer.proofs.Digits.{value_from}
 use Rattle.ispc_lexer.proofs.numbers.digits_value.Given as goal

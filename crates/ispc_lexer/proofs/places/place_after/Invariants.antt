@@ -1,5 +1,5 @@
 use Rattle.std.proofs.Common.{◌≡◌, ◌+◌, ◌≤◌, drop}
-use Rattle.gang_model.specs.Lexes.{place_after}
+use Rattle.gang_model.specs.Source.Lexes.{place_after}
 use Rattle.ispc_lexer.proofs.places.place_after.Given as goal
 
 abbrev pub invariant-loop-byte : goal.invariant-loop-byte

@@ -1,5 +1,5 @@
 use Rattle.std.proofs.Common.{◌≡◌, ◌+◌, ◌≤◌, length}
-use Rattle.gang_model.specs.Lexes.{first_place}
+use Rattle.gang_model.specs.Source.Lexes.{first_place}
 use Rattle.ispc_lexer.specs.Views.{lexemes_of}
 use Rattle.ispc_lexer.specs.Source.{lexed}
 use Rattle.ispc_lexer.proofs.ReadLoop.{with_front}

@@ -1,7 +1,7 @@
 use Rattle.std.proofs.Common.{◌≡◌, ◌-◌, ◌+◌, ◌∙◌, [], ◌∷◌, ◌++◌, sym, arith, map}
 use Rattle.std.proofs.lemmas.List.{map-append}
 use Rattle.std.proofs.lemmas.Result.{err_from_is_err_and}
-use Rattle.gang_model.specs.SpellsStatements.{max_dims}
+use Rattle.gang_model.specs.Source.SpellsStatements.{max_dims}
 use Rattle.ispc_lexer.specs.Views.{lexemes_of}
 use Rattle.ispc_parser.specs.Tree.{dim_view}
 use Rattle.ispc_parser.specs.Heads.{dim_of, dims_of}

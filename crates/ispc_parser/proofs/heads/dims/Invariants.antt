@@ -1,5 +1,5 @@
 use Rattle.std.proofs.Common.{◌≡◌, ◌-◌, map}
-use Rattle.gang_model.specs.SpellsStatements.{max_dims}
+use Rattle.gang_model.specs.Source.SpellsStatements.{max_dims}
 use Rattle.ispc_lexer.specs.Views.{lexemes_of}
 use Rattle.ispc_parser.specs.Tree.{dim_view}
 use Rattle.ispc_parser.specs.Parts.{list_of}

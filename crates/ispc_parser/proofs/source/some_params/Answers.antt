@@ -1,7 +1,7 @@
 use Rattle.std.proofs.Common.{◌≡◌, ◌-◌, ◌+◌, ◌∙◌, [], ◌∷◌, ◌++◌, sym, arith, map}
 use Rattle.std.proofs.lemmas.List.{map-append}
 use Rattle.std.proofs.lemmas.Result.{err_from_is_err_and}
-use Rattle.gang_model.specs.SpellsSource.{max_params}
+use Rattle.gang_model.specs.Source.SpellsSource.{max_params}
 use Rattle.ispc_lexer.specs.Views.{lexemes_of}
 use Rattle.ispc_parser.specs.Tree.{param_view}
 use Rattle.ispc_parser.specs.Source.{param_of, some_params_of}

@@ -1,5 +1,5 @@
 use Rattle.std.proofs.Common.{◌≡◌, ◌-◌, map}
-use Rattle.gang_model.specs.SpellsSource.{max_params}
+use Rattle.gang_model.specs.Source.SpellsSource.{max_params}
 use Rattle.ispc_lexer.specs.Views.{lexemes_of}
 use Rattle.ispc_parser.specs.Tree.{param_view}
 use Rattle.ispc_parser.specs.Parts.{list_of}

@@ -1,7 +1,7 @@
 use Rattle.std.proofs.Common.{◌∙◌, ap}
 use Rattle.gang_types.specs.Lanes.{lanes_where}
 use Rattle.gang_types.specs.Masks.{lanes_of}
-use Rattle.gang_model.specs.Lanes.{each, holds}
+use Rattle.gang_model.specs.Running.Lanes.{each, holds}
 use Rattle.masked_operations.proofs.Sets.{truths_of_both}
 use Rattle.masked_operations.proofs.choices.both_hold.Goals as goal
 

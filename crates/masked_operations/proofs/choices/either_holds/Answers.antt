@@ -2,7 +2,7 @@ use Rattle.std.proofs.Common.{◌∙◌, ap}
 use Rattle.std.specs.Prelude.{not}
 use Rattle.gang_types.specs.Lanes.{lanes_where, without}
 use Rattle.gang_types.specs.Masks.{lanes_of}
-use Rattle.gang_model.specs.Lanes.{each, holds}
+use Rattle.gang_model.specs.Running.Lanes.{each, holds}
 use Rattle.masked_operations.proofs.Sets.{truths_of_either}
 use Rattle.masked_operations.proofs.choices.either_holds.Goals as goal
 

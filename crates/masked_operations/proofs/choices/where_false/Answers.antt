@@ -1,7 +1,7 @@
 use Rattle.std.proofs.Common.{◌∙◌, ap}
 use Rattle.gang_types.specs.Lanes.{without}
 use Rattle.gang_types.specs.Masks.{lanes_of}
-use Rattle.gang_model.specs.Lanes.{holds}
+use Rattle.gang_model.specs.Running.Lanes.{holds}
 use Rattle.masked_operations.proofs.Sets.{without_where}
 use Rattle.masked_operations.proofs.choices.where_false.Goals as goal
 

@@ -5,7 +5,7 @@ use Rattle.gang_types.specs.declared.operators.BinaryOp.TheVariants.{Div, Rem}
 use Rattle.gang_types.specs.Values.{binary_of, binary_result, divides}
 use Rattle.gang_types.specs.Masks.{lanes_of}
 use Rattle.gang_types.specs.MaskLaws.{length-lanes_of_word}
-use Rattle.gang_model.specs.Lanes.{at, try_each}
+use Rattle.gang_model.specs.Running.Lanes.{at, try_each}
 use Rattle.cross_lane.specs.Calls.{answer_of, fault_of}
 use Rattle.cross_lane.specs.EachLaws.{each_same}
 use Rattle.cross_lane.specs.AttemptLaws.{all_ok}

@@ -2,7 +2,7 @@ use Rattle.std.proofs.Common.{◌∙◌, slice_index}
 use Rattle.gang_types.specs.Values.{unary_of}
 use Rattle.gang_types.specs.Masks.{lanes_of}
 use Rattle.gang_types.specs.MaskLaws.{length-lanes_of_word}
-use Rattle.gang_model.specs.Lanes.{at}
+use Rattle.gang_model.specs.Running.Lanes.{at}
 use Rattle.cross_lane.specs.EachLaws.{each_same}
 use Rattle.masked_operations.proofs.operators.unary.Goals as goal
 

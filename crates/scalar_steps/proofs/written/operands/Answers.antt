@@ -1,7 +1,7 @@
 use Rattle.std.proofs.Common.{sym, subst, arith}
 use Rattle.std.specs.Prelude.{Ok, Err}
 use Rattle.gang_types.specs.Masks.{lanes_of}
-use Rattle.gang_model.specs.Value.{value}
+use Rattle.gang_model.specs.Running.Value.{value}
 use Rattle.cross_lane.specs.Calls.{fault_of}
 use Rattle.typed_tree.specs.Views.{expr_view}
 use Rattle.expression_code.specs.Correct.{Computes}

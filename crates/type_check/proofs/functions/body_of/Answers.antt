@@ -1,9 +1,9 @@
 use Rattle.std.proofs.Common.{◌∙◌, ap, refl, sym, map, length}
 use Rattle.std.specs.Prelude.{Err}
-use Rattle.gang_model.specs.Calls.{Context}
-use Rattle.gang_model.specs.Signatures.{ResultType}
-use Rattle.gang_model.specs.Resolved.{param_variables}
-use Rattle.gang_model.specs.Statements.{statements}
+use Rattle.gang_model.specs.Types.Calls.{Context}
+use Rattle.gang_model.specs.Types.Signatures.{ResultType}
+use Rattle.gang_model.specs.Types.Resolved.{param_variables}
+use Rattle.gang_model.specs.Types.Statements.{statements}
 use Rattle.ispc_parser.specs.Tree as parsed
 use Rattle.typed_tree.specs.Views as typed
 use Rattle.type_check.specs.Bodies.{body_view}

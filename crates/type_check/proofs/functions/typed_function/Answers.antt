@@ -1,13 +1,13 @@
-use Rattle.gang_model.specs.Judged.{Sound, unless}
-use Rattle.gang_model.specs.TypeFaults.{signature_faults}
-use Rattle.gang_model.specs.Resolved.{judged_function}
+use Rattle.gang_model.specs.Source.Judged.{Sound, unless}
+use Rattle.gang_model.specs.Types.TypeFaults.{signature_faults}
+use Rattle.gang_model.specs.Types.Resolved.{judged_function}
 use Rattle.ispc_parser.specs.Tree as parsed
-use Rattle.step_scopes.specs.Scopes.{standings_view}
+use Rattle.ispc_names_table.specs.Scopes.{standings_view}
 use Rattle.typed_tree.specs.Views as typed
-use Rattle.type_scopes.proofs.Answered.{answers-at, answers-refusal}
+use Rattle.type_check_scopes.proofs.Answered.{answers-at, answers-refusal}
 use Rattle.type_check.specs.Bodies.{body_view, judged_body, with_body}
 use Rattle.type_check.proofs.FunctionParts.{views, from_parts, function-of_parts}
-use Rattle.expression_types.proofs.Residuals.{pair-refused}
+use Rattle.type_check_expressions.proofs.Residuals.{pair-refused}
 use Rattle.type_check.proofs.functions.typed_function.Goals as goal
 
 pub returns-in_err-body-clause-function : goal.returns-in_err-body-clause-function

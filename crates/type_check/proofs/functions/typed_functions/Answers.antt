@@ -7,15 +7,15 @@ use Rattle.std.proofs.lemmas.Iterator.Consumers.{YieldsList-turn, YieldsList-end
 use Rattle.std.specs.Iterator.Adapters.{zip_first, zip_second}
 use Rattle.std.specs.Slice.Iter.{iter_rest}
 use Rattle.std.specs.Vec.Iter.{into_iter_items, into_iter_len}
-use Rattle.gang_model.specs.Parsed.{functions_in}
-use Rattle.gang_model.specs.Resolved.{judged_functions}
+use Rattle.gang_model.specs.Source.Parsed.{functions_in}
+use Rattle.gang_model.specs.Types.Resolved.{judged_functions}
 use Rattle.gang_model.proofs.JudgedLaws.{answer_unless}
 use Rattle.ispc_lexer.specs.declared.fault.SourceFault.TheVariants.{Refused}
 use Rattle.typed_tree.specs.declared.program.Function.{Function}
 use Rattle.typed_tree.specs.Views as typed
 use Rattle.type_check.proofs.Collecting.{all_collected, fault_collected}
 use Rattle.type_check.proofs.FunctionParts.{pair-at, steps-of, all-paired, functions-sound, functions-fault, functions-done}
-use Rattle.expression_types.proofs.Residuals.{answers-fault}
+use Rattle.type_check_expressions.proofs.Residuals.{answers-fault}
 use Rattle.type_check.proofs.functions.typed_functions.Goals as goal
 
 pub loop-function-preserved-in-Continue-1 : goal.loop-function-preserved-in-Continue-1

@@ -1,7 +1,7 @@
 use Rattle.std.proofs.Common.{◌≡◌, length, map}
-use Rattle.gang_model.specs.Parsed.{ParsedSource, functions_in, globals_in}
-use Rattle.gang_model.specs.Resolved.{global_entries}
-use Rattle.name_resolution.specs.Tables.{AreTablesOf}
+use Rattle.gang_model.specs.Source.Parsed.{ParsedSource, functions_in, globals_in}
+use Rattle.gang_model.specs.Types.Resolved.{global_entries}
+use Rattle.ispc_names.specs.Tables.{AreTablesOf}
 use Rattle.typed_tree.specs.Views as typed
 use Rattle.type_check.proofs.Collecting.{all_of, Collects}
 use Rattle.type_check.proofs.FunctionParts.{function_parts, views}

@@ -1,8 +1,8 @@
 use Rattle.std.proofs.Common.{◌≡◌, ◌+◌, ◌-◌, ◌∷◌, [], false, ◌∙◌, ap, arith, length, drop}
 use Rattle.gang_types.specs.declared.places.VarId.TheVariants.{File}
-use Rattle.gang_model.specs.Resolved.{global_entries}
-use Rattle.gang_model.specs.Typing.{declared}
-use Rattle.type_scopes.specs.Entries.{declared_view}
+use Rattle.gang_model.specs.Types.Resolved.{global_entries}
+use Rattle.gang_model.specs.Types.Typing.{declared}
+use Rattle.type_check_scopes.specs.Entries.{declared_view}
 use Rattle.type_check.proofs.GlobalParts.{one-earlier, views}
 use Rattle.type_check.proofs.globals.declared_globals.Goals as goal
 

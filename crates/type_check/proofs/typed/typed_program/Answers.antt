@@ -1,14 +1,14 @@
 use Rattle.std.proofs.Common.{◌∙◌, ap, map, List}
-use Rattle.gang_model.specs.Judged.{Sound}
-use Rattle.gang_model.specs.Parsed.{functions_in, globals_in}
-use Rattle.gang_model.specs.Resolved.{global_entries, judged_functions, judged_globals}
-use Rattle.gang_model.specs.Tree as tree
+use Rattle.gang_model.specs.Source.Judged.{Sound}
+use Rattle.gang_model.specs.Source.Parsed.{functions_in, globals_in}
+use Rattle.gang_model.specs.Types.Resolved.{global_entries, judged_functions, judged_globals}
+use Rattle.gang_model.specs.Types.Tree as tree
 use Rattle.ispc_parser.specs.Tree.{tree_view}
 use Rattle.typed_tree.specs.Views as typed
-use Rattle.type_scopes.proofs.Answered.{answers-at}
+use Rattle.type_check_scopes.proofs.Answered.{answers-at}
 use Rattle.type_check.proofs.FunctionParts as functions
 use Rattle.type_check.proofs.GlobalParts as globals
-use Rattle.expression_types.proofs.Residuals.{pair-refused}
+use Rattle.type_check_expressions.proofs.Residuals.{pair-refused}
 use Rattle.type_check.proofs.typed.typed_program.Goals as goal
 
 pub returns-in_err-globals-2 : goal.returns-in_err-globals-2

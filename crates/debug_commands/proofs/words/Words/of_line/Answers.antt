@@ -1,6 +1,6 @@
 use Rattle.std.proofs.Common.{◌<◌, arith, length, length-set}
-use Rattle.gang_model.specs.Spellings.{words_of_line}
-use Rattle.gang_model.specs.CommandText.{is_mark}
+use Rattle.gang_model.specs.Texts.Spellings.{words_of_line}
+use Rattle.gang_model.specs.Texts.CommandText.{is_mark}
 use Rattle.debug_commands.proofs.WordLists.{one_more, too_many, all_words}
 use Rattle.debug_commands.proofs.words.Words.of_line.Goals as goal
 

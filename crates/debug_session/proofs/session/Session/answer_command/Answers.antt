@@ -1,11 +1,11 @@
 use Rattle.std.proofs.Common.{◌≡◌, ◌<◌, ◌∙◌, ℕ, refl, sym, ap, subst, rules, false, None, Some, Option, List, length, take}
 use Rattle.std.specs.Io.KnownBytes.{Appends}
-use Rattle.gang_model.specs.CommandText.{command_of}
-use Rattle.gang_model.specs.Debugger as model
-use Rattle.gang_model.specs.Known.{as_known}
-use Rattle.gang_model.specs.Transcript.{is_quit, replied}
+use Rattle.gang_model.specs.Texts.CommandText.{command_of}
+use Rattle.gang_model.specs.Debugger.Debugger as model
+use Rattle.gang_model.specs.Source.Known.{as_known}
+use Rattle.gang_model.specs.Texts.Transcript.{is_quit, replied}
 use Rattle.debug_commands.specs.Views.{command_view, option_view}
-use Rattle.debug_interface.specs.Lines.{quits, reply_text}
+use Rattle.debug_machine.specs.Lines.{quits, reply_text}
 use Rattle.debug_session.specs.Sessions.{Means, let_through}
 use Rattle.debug_session.proofs.session.Session.answer_command.Goals.{in-None, in-Some}
 use Rattle.debug_session.proofs.session.Session.answer_command.Goals as goal

@@ -1,7 +1,7 @@
 use Rattle.std.proofs.Common.{subst, sym, Some, None}
 use Rattle.std.specs.Prelude.{slice_get}
-use Rattle.gang_model.specs.Names.{named}
-use Rattle.gang_model.specs.Positions.{scope_of}
+use Rattle.gang_model.specs.Source.Names.{named}
+use Rattle.gang_model.specs.Debugger.Positions.{scope_of}
 use Rattle.typed_tree.specs.Views.{function_view}
 use Rattle.gang_machine.specs.Found.{SeesFound}
 use Rattle.gang_machine.specs.Standings.{Holds, Stands, file_variables}

@@ -2,11 +2,11 @@ use Rattle.std.proofs.Common.{◌≡◌, ◌≤◌, length, sym, ap, subst, ◌�
 use Rattle.std.proofs.lemmas.Bool.Decides.{nat_tests}
 use Rattle.std.proofs.lemmas.List.{length-map}
 use Rattle.std.specs.Prelude.{Some, map, slice_get}
-use Rattle.gang_model.specs.Debugger.{now}
-use Rattle.gang_model.specs.Resolved.{standing_with}
-use Rattle.step_scopes.specs.Scopes.{standing_view, standings_view}
+use Rattle.gang_model.specs.Debugger.Debugger.{now}
+use Rattle.gang_model.specs.Types.Resolved.{standing_with}
+use Rattle.ispc_names_table.specs.Scopes.{standing_view, standings_view}
 use Rattle.typed_tree.specs.Views.{function_view, variable_view}
-use Rattle.debug_interface.specs.Machines.{position_text}
+use Rattle.debug_machine.specs.Machines.{position_text}
 use Rattle.gang_machine.specs.Layout.{all_lanes, position}
 use Rattle.gang_machine.specs.Standings.{Stands, file_of}
 use Rattle.gang_machine.proofs.FirstNamed.{get_mapped, read_at}

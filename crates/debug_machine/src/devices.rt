@@ -1,0 +1,50 @@
+//! Where commands come from, and where answers go.
+ghost use Rattle.std.specs.Prelude.{◌≡◌, ℕ, ◌+◌, ◌<◌, ◌≤◌, Bool, true, false, List, Option, length, MatchResult, IfOk};
+ghost use Rattle.std.specs.Io.KnownBytes.{ReadConsumes, WriteAppends};
+ghost use Rattle.debug_machine.specs.Devices.{tells_of_write};
+
+/// The most reads of one run.
+pub const READS: u32 = 16_777_216;
+
+/// A reader failed, or had been read too often.
+#[derive(Clone, Copy, Debug, PartialEq, Eq)]
+pub struct ReadFault;
+
+/// A writer failed, or took nothing.
+#[derive(Clone, Copy, Debug, PartialEq, Eq)]
+pub struct WriteFault;
+
+/// Gives the bytes of the commands, in pieces. A read of none, into a slice that is not empty, is their end.
+pub trait CommandReader {
+    // The bytes that are still to be read, where they are known.
+    ghost left: { Self → Option (List ℕ) };
+
+    // How often was read so far.
+    ghost reads: { Self → ℕ };
+
+    // Whether a read failed. Then no other follows.
+    ghost has_failed: { Self → Bool };
+
+    fn read(&mut self, into: &mut [u8]) -> Result<usize, ReadFault>
+        requires works { has_failed self.old ≡ false }
+        requires few { reads self.old < READS }
+        ensures bound { IfOk result (λ n. n ≤ length into.new) }
+        ensures bytes { ReadConsumes (left self.old) (left self.new) result into.new }
+        ensures count { reads self.new ≡ reads self.old + 1 }
+        ensures failed { MatchResult result (λ _. has_failed self.new ≡ false) (λ _. has_failed self.new ≡ true) };
+}
+
+/// Takes the bytes of the answers, as many at a time as it likes.
+pub trait AnswerWriter {
+    // The bytes that were written, where they are known.
+    ghost written: { Self → Option (List ℕ) };
+
+    // Whether a write failed, or took none of one or more bytes. Then no other follows.
+    ghost has_failed: { Self → Bool };
+
+    fn write(&mut self, bytes: &[u8]) -> Result<usize, WriteFault>
+        requires works { has_failed self.old ≡ false }
+        ensures bound { IfOk result (λ n. n ≤ length bytes.now) }
+        ensures taken { WriteAppends (written self.old) (written self.new) result bytes.now }
+        ensures failed { has_failed self.new ≡ tells_of_write result bytes.now };
+}

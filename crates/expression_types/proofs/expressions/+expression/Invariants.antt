@@ -1,8 +1,0 @@
-use Rattle.type_scopes.specs.Answers.{Answers}
-use Rattle.expression_types.specs.Arguments.{passings_view}
-use Rattle.expression_types.proofs.ArgumentLists.{first_arguments}
-use Rattle.expression_types.proofs.expressions.+expression.Given as goal
-
--- the arguments so far are judged
-abbrev pub invariant-expression-loop-arg : goal.invariant-expression-loop-arg
-invariant-expression-loop-arg l = Answers passings_view l.given (first_arguments l.arg-index l.arg-items l.scope.entries)

@@ -1,0 +1,12 @@
+pub mod Numbering
+pub mod Lanes
+pub mod Library
+pub mod Entry
+pub mod State
+pub mod Value
+pub mod Rounds
+pub mod Step
+pub mod LanePure
+pub mod RunningOrder
+pub mod UniformExprs
+pub mod SeparateInstances

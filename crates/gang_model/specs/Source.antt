@@ -1,0 +1,13 @@
+pub mod Tokens
+pub mod Spelling
+pub mod Lexes
+pub mod Parsed
+pub mod Specs
+pub mod Spells
+pub mod SpellsStatements
+pub mod SpellsSource
+pub mod Names
+pub mod Judged
+pub mod Limits
+pub mod Known
+pub mod Sources

@@ -1,0 +1,13 @@
+pub mod Tree
+pub mod Conversions
+pub mod LibraryTable
+pub mod Signatures
+pub mod Typing
+pub mod Overloads
+pub mod TypeFaults
+pub mod Calls
+pub mod Statements
+pub mod Resolved
+pub mod SourceRefusals
+pub mod WellScoped
+pub mod WellPlaced

@@ -1,0 +1,103 @@
+-- What the phases give together.
+use Rattle.std.proofs.Common.{◌≡◌, ◌⊎◌, ℕ, ◌≤◌, List, length, Option, Some, None, refl, sym, ap, ◌∙◌, subst, inl, inr}
+use Rattle.gang_model.specs.declared.refusals.RefusalNumber.{RefusalNumber}
+use Rattle.gang_model.specs.declared.refusals.RefusalNumber.TheVariants.{S1, S2, S3, S4, S5, S6, S7, S8, S9, S10, S11, S12, S13}
+use Rattle.gang_model.specs.declared.refusals.SourceRefusal.{SourceRefusal}
+use Rattle.gang_model.specs.Running.Entry.{entry_of}
+use Rattle.gang_model.specs.Source.Lexes.{Lexes, max_source}
+use Rattle.gang_model.specs.Source.Limits.{limit_refusal}
+use Rattle.gang_model.specs.Source.Parsed.{Name, ParsedSource}
+use Rattle.gang_model.specs.Types.Resolved.{program_of}
+use Rattle.gang_model.specs.Texts.Run.{source_refusal}
+use Rattle.gang_model.specs.Types.SourceRefusals.{IsAccepted, first_refusal, names_refusal, types_refusal}
+use Rattle.gang_model.specs.Source.Sources.{IsTreeNumber}
+use Rattle.gang_model.specs.Source.SpellsSource.{IsTree}
+use Rattle.gang_model.specs.Source.Tokens.{Lexeme}
+use Rattle.ispc_lexer.specs.declared.fault.SourceFault.{SourceFault}
+use Rattle.ispc_lexer.specs.declared.fault.SourceFault.TheVariants.{Memory, Refused}
+use Rattle.ispc_lexer.specs.Refusal.{IsRefusal as IsLexerRefusal}
+use Rattle.ispc_parser.specs.Refusals.{IsRefusal as IsParserRefusal}
+use Rattle.ispc_parser_expressions.specs.Parse.{IsParserNumber}
+use Rattle.scalar_programs.proofs.ScalarPrograms.{scalar-program}
+use Rattle.typed_tree.specs.Views.{program_view}
+use Rattle.ispc_compiler.specs.declared.front.Compiled.{Compiled}
+use Rattle.ispc_compiler.specs.Front.{Compiles, CompilesTree, GivesTree, IsFault, IsRefused, ReadsKnown}
+
+-- a fault of a known tree refuses its text
+pub fault_right : (text : List ℕ) (source : ParsedSource) (fault : SourceFault) → ReadsKnown text source → IsFault (source_refusal source) fault → IsRefused text fault
+fault_right text source Memory known h = tt
+fault_right text source (Refused r) known h = inr (inr (inr (inr (record { source = source; reads = known.reads; known = known.known; fault = h }))))
+
+-- what a known tree gives, its text gives
+pub compiled_right : (text : List ℕ) (source : ParsedSource) (asked : Option Name) (found : Option Compiled) → ReadsKnown text source → GivesTree source asked found → Compiles text asked found
+compiled_right text source asked None known (sound, none) =
+    record { source = source; accepted = record { reads = known.reads; known = known.known; sound = sound }; none = none }
+compiled_right text source asked (Some c) known g =
+    (record { source = source; accepted = record { reads = known.reads; known = known.known; sound = g.sound }; program_is = g.program; entry_is = g.entry }, g.ready)
+
+-- the tokens' refusals
+pub lexer_right : (text : List ℕ) (fault : SourceFault) → IsLexerRefusal text fault → IsRefused text fault
+lexer_right text Memory h = tt
+lexer_right text (Refused r) (inl (many, number, place)) = inl (record { many = many; number = number; place = place })
+lexer_right text (Refused r) (inr (few, only)) = inr (inl (record { few = few; first = only.first; none = only.none }))
+
+tree_number : (n : RefusalNumber) → IsParserNumber n → IsTreeNumber n
+tree_number S1 h = absurd h
+tree_number S2 h = absurd h
+tree_number S3 h = inl refl
+tree_number S4 h = inr (inl refl)
+tree_number S5 h = absurd h
+tree_number S6 h = absurd h
+tree_number S7 h = absurd h
+tree_number S8 h = absurd h
+tree_number S9 h = absurd h
+tree_number S10 h = absurd h
+tree_number S11 h = absurd h
+tree_number S12 h = absurd h
+tree_number S13 h = inr (inr refl)
+
+-- the tree's refusals
+pub parser_right : (text : List ℕ) (tokens : List Lexeme) (fault : SourceFault) → length text ≤ max_source → Lexes text tokens
+    → (fault ≡ Memory) ⊎ (IsParserRefusal fault × ((tree : ParsedSource) → IsTree tree tokens → ⊥)) → IsRefused text fault
+parser_right text tokens fault few spelled (inl is) = subst (IsRefused text) (sym is) tt
+parser_right text tokens Memory few spelled (inr h) = tt
+parser_right text tokens (Refused r) few spelled (inr (number, none)) =
+    inr (inr (inl (record { few = few; tokens = tokens; spelled = spelled; none = none; number = tree_number r.number number })))
+
+-- a fault that a phase answers is the one that it finds
+pub found_fault : (found : Option SourceRefusal) (fault : SourceFault) → (fault ≡ Memory) ⊎ ((refusal : SourceRefusal) × (fault ≡ Refused refusal) × (found ≡ Some refusal)) → IsFault found fault
+found_fault found fault (inl is) = subst (IsFault found) (sym is) tt
+found_fault found fault (inr (refusal, is, h)) = subst (IsFault found) (sym is) h
+
+-- a fault of names refuses the tree
+pub by_names : (source : ParsedSource) (fault : SourceFault) → IsFault (names_refusal source) fault → IsFault (source_refusal source) fault
+by_names source Memory h = tt
+by_names source (Refused r) h = ap (λ n. first_refusal (first_refusal n (types_refusal source)) (limit_refusal source)) h
+
+-- without a fault of names, one of types does
+pub by_types : (source : ParsedSource) (fault : SourceFault) → names_refusal source ≡ None → IsFault (types_refusal source) fault → IsFault (source_refusal source) fault
+by_types source Memory n h = tt
+by_types source (Refused r) n h =
+    ap (λ n. first_refusal (first_refusal n (types_refusal source)) (limit_refusal source)) n ∙ ap (λ t. first_refusal t (limit_refusal source)) h
+
+-- without either, the limits decide
+pub by_limits : (source : ParsedSource) → names_refusal source ≡ None → types_refusal source ≡ None → source_refusal source ≡ limit_refusal source
+by_limits source n t =
+    ap (λ n. first_refusal (first_refusal n (types_refusal source)) (limit_refusal source)) n ∙ ap (λ t. first_refusal t (limit_refusal source)) t
+
+-- and the limits' refusal is the tree's
+pub by_limits_fault : (source : ParsedSource) (fault : SourceFault) → names_refusal source ≡ None → types_refusal source ≡ None → IsFault (limit_refusal source) fault → IsFault (source_refusal source) fault
+by_limits_fault source fault n t h = subst (λ found. IsFault found fault) (sym (by_limits source n t)) h
+
+accepted : (source : ParsedSource) → names_refusal source ≡ None → types_refusal source ≡ None → IsAccepted source
+accepted source n t = ap (λ n. first_refusal n (types_refusal source)) n ∙ t
+
+-- the program of a tree without a fault
+pub tree_compiles : (text : List ℕ) (source : ParsedSource) (asked : Option Name) (compiled : Compiled) → ReadsKnown text source → names_refusal source ≡ None → types_refusal source ≡ None
+    → limit_refusal source ≡ None → program_of source ≡ Some (program_view compiled.program) → entry_of source asked ≡ Some compiled.entry.0 → CompilesTree source asked compiled
+tree_compiles text source asked compiled known n t l program entry = record {
+  sound = by_limits source n t ∙ l;
+  program = program;
+  entry = entry;
+  ready = scalar-program source known.reads.tokens (program_view compiled.program) asked compiled.entry.0 known.reads.tree known.known (accepted source n t) program entry;
+}

@@ -1,0 +1,50 @@
+-- What the phases from a text to a program give.
+use Rattle.std.specs.Prelude.{◌≡◌, ℕ, true, List, Option, Some, None}
+use Rattle.gang_model.specs.declared.refusals.SourceRefusal.{SourceRefusal}
+use Rattle.gang_model.specs.Running.Entry.{entry_of}
+use Rattle.gang_model.specs.Source.Known.{is_known, today}
+use Rattle.gang_model.specs.Source.Parsed.{Name, ParsedSource}
+use Rattle.gang_model.specs.Types.Resolved.{program_of}
+use Rattle.gang_model.specs.Texts.Run.{source_refusal}
+use Rattle.gang_model.specs.Source.Sources.{HasNoEntry, IsProgramOf, IsRightRefusal, ReadsAs}
+use Rattle.scalar_programs.specs.Scalars.{IsScalarProgram}
+use Rattle.typed_tree.specs.Views.{program_view}
+use Rattle.ispc_lexer.specs.declared.fault.SourceFault.{SourceFault}
+use Rattle.ispc_lexer.specs.declared.fault.SourceFault.TheVariants.{Memory, Refused}
+use Rattle.ispc_compiler.specs.declared.front.Compiled.{Compiled}
+
+-- a program that the machine runs from its entry on
+abbrev pub IsReady : Compiled → Type 0
+IsReady compiled = IsScalarProgram (program_view compiled.program) compiled.entry.0
+
+-- a text reads as a tree of which all forms are let through
+pub record ReadsKnown (text : List ℕ) (source : ParsedSource) : Type 0 where
+  pub reads : ReadsAs text source
+  pub known : is_known today source ≡ true
+
+-- the program and the entry of a tree without a fault
+pub record CompilesTree (source : ParsedSource) (asked : Option Name) (compiled : Compiled) : Type 0 where
+  pub sound : source_refusal source ≡ None
+  pub program : program_of source ≡ Some (program_view compiled.program)
+  pub entry : entry_of source asked ≡ Some compiled.entry.0
+  pub ready : IsReady compiled
+
+-- the same, or nothing where the tree has no fault and no function to begin with
+abbrev pub GivesTree : ParsedSource → (asked : Option Name) → Option Compiled → Type 0
+GivesTree source asked None = (source_refusal source ≡ None) × (entry_of source asked ≡ None)
+GivesTree source asked (Some compiled) = CompilesTree source asked compiled
+
+-- the program of a text and its entry, or nothing where it has no function to begin with
+abbrev pub Compiles : List ℕ → (asked : Option Name) → Option Compiled → Type 0
+Compiles text asked None = HasNoEntry text asked
+Compiles text asked (Some compiled) = IsProgramOf text asked (program_view compiled.program) compiled.entry.0 × IsReady compiled
+
+-- want of memory, or the refusal that is found
+abbrev pub IsFault : Option SourceRefusal → SourceFault → Type 0
+IsFault found Memory = Unit {0}
+IsFault found (Refused refusal) = found ≡ Some refusal
+
+-- want of memory, or the right refusal
+abbrev pub IsRefused : List ℕ → SourceFault → Type 0
+IsRefused text Memory = Unit {0}
+IsRefused text (Refused refusal) = IsRightRefusal text refusal

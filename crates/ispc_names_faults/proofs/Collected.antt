@@ -1,0 +1,97 @@
+-- The lists of functions and of file-scope variables of a tree, and names that stand twice in them.
+use Rattle.std.proofs.Common.{◌≡◌, List, [], ◌∷◌, ◌++◌, Bool, true, false, ◌||◌, refl, sym, ap, ◌∙◌}
+use Rattle.std.specs.List.{list_any}
+use Rattle.gang_model.specs.declared.refusals.RefusalNumber.TheVariants.{S6}
+use Rattle.gang_model.specs.declared.refusals.SourceRefusal.{SourceRefusal}
+use Rattle.gang_model.specs.Source.Judged.{fault_if, least_fault}
+use Rattle.gang_model.specs.Types.LibraryTable.{is_among}
+use Rattle.gang_model.specs.Names.NameFaults.{globals_twice, functions_twice}
+use Rattle.gang_model.specs.Source.Names.{same_text}
+use Rattle.gang_model.specs.Source.Parsed.{Name, ParsedGlobal, ParsedFunction}
+use Rattle.gang_model.specs.Names.Scope.{is_built_in}
+use Rattle.gang_model.specs.Types.Signatures.{same_signature}
+use Rattle.ispc_names_faults.specs.SignatureKeys.{signature_key}
+use Rattle.gang_model.proofs.JudgedLaws.{merged, least_fault-append}
+use Rattle.ispc_names_faults.proofs.Merging.{Fault, one_more}
+use Rattle.ispc_names_faults.proofs.Keys.{same_key}
+
+-- ---- names in a list
+
+or-last : (a b : Bool) → (a || b) ≡ (b || a)
+or-last true true = refl
+or-last true false = refl
+or-last false true = refl
+or-last false false = refl
+
+or-assoc : (a b c : Bool) → ((a || b) || c) ≡ (a || (b || c))
+or-assoc true b c = refl
+or-assoc false b c = refl
+
+among-last : (q : Name) (names : List Name) (name : Name) → is_among q (names ++ name ∷ []) ≡ (same_text q name || is_among q names)
+among-last q [] name = refl
+among-last q (n ∷ names) name =
+    ap (λ b. same_text q n || b) (among-last q names name)
+    ∙ (sym (or-assoc (same_text q n) (same_text q name) (is_among q names))
+    ∙ (ap (λ b. b || is_among q names) (or-last (same_text q n) (same_text q name)) ∙ or-assoc (same_text q name) (same_text q n) (is_among q names)))
+
+-- ---- file-scope variables
+
+-- those with the name of one before, where the names before stand in the order of the source
+abbrev pub later_globals : List ParsedGlobal → List Name → List SourceRefusal
+later_globals [] before = []
+later_globals (g ∷ globals) before = fault_if (is_among g.name before || is_built_in g.name) S6 g.at ++ later_globals globals (before ++ g.name ∷ [])
+
+pub later_globals-twice : (globals : List ParsedGlobal) (names before : List Name) → ((q : Name) → is_among q names ≡ is_among q before)
+    → later_globals globals names ≡ globals_twice globals before
+later_globals-twice [] names before h = refl
+later_globals-twice (g ∷ globals) names before h =
+    ap (λ b. fault_if (b || is_built_in g.name) S6 g.at ++ later_globals globals (names ++ g.name ∷ [])) (h g.name)
+    ∙ ap (λ xs. fault_if (is_among g.name before || is_built_in g.name) S6 g.at ++ xs)
+    (later_globals-twice globals (names ++ g.name ∷ []) (g.name ∷ before) (λ q. among-last q names g.name ∙ ap (λ b. same_text q g.name || b) (h q)))
+
+pub globals_step : (rest later : List ParsedGlobal) (g : ParsedGlobal) (before grown : List Name) (name : Name) (total found fault more : Fault) (taken : Bool)
+    → rest ≡ g ∷ later → total ≡ merged found (least_fault (later_globals rest before)) → name ≡ g.name → taken ≡ (is_among name before || is_built_in name)
+    → fault ≡ least_fault (fault_if taken S6 g.at) → more ≡ merged found fault → grown ≡ before ++ g.name ∷ []
+    → total ≡ merged more (least_fault (later_globals later grown))
+globals_step rest later g before grown name total found fault more taken split t same test f m more_names =
+    let own = fault_if (is_among g.name before || is_built_in g.name) S6 g.at in
+    one_more total found fault more (least_fault own) (least_fault (later_globals rest before)) (least_fault (later_globals later grown)) t
+    (ap (λ gs. least_fault (later_globals gs before)) split
+    ∙ (least_fault-append own (later_globals later (before ++ g.name ∷ []))
+    ∙ ap (λ ns. merged (least_fault own) (least_fault (later_globals later ns))) (sym more_names)))
+    (f ∙ ap (λ b. least_fault (fault_if b S6 g.at)) (test ∙ ap (λ n. is_among n before || is_built_in n) same))
+    m
+
+-- ---- functions
+
+-- those with the signature of one before, by the texts of the signatures
+abbrev pub later_functions : List ParsedFunction → List Name → List SourceRefusal
+later_functions [] before = []
+later_functions (f ∷ functions) before = fault_if (is_among (signature_key f) before) S6 f.at ++ later_functions functions (before ++ signature_key f ∷ [])
+
+pub later_functions-twice : (functions : List ParsedFunction) (keys : List Name) (before : List ParsedFunction)
+    → ((f : ParsedFunction) → is_among (signature_key f) keys ≡ list_any (same_signature f) before)
+    → later_functions functions keys ≡ functions_twice functions before
+later_functions-twice [] keys before h = refl
+later_functions-twice (f ∷ functions) keys before h =
+    ap (λ b. fault_if b S6 f.at ++ later_functions functions (keys ++ signature_key f ∷ [])) (h f)
+    ∙ ap (λ xs. fault_if (list_any (same_signature f) before) S6 f.at ++ xs)
+    (later_functions-twice functions (keys ++ signature_key f ∷ []) (f ∷ before) one)
+  where
+    one : (g : ParsedFunction) → is_among (signature_key g) (keys ++ signature_key f ∷ []) ≡ list_any (same_signature g) (f ∷ before)
+    one g =
+        among-last (signature_key g) keys (signature_key f)
+        ∙ (ap (λ b. b || is_among (signature_key g) keys) (same_key g f) ∙ ap (λ b. same_signature g f || b) (h g))
+
+pub functions_step : (rest later : List ParsedFunction) (f : ParsedFunction) (before grown : List Name) (key : Name) (total found fault more : Fault) (twice : Bool)
+    → rest ≡ f ∷ later → total ≡ merged found (least_fault (later_functions rest before)) → key ≡ signature_key f → twice ≡ is_among key before
+    → fault ≡ least_fault (fault_if twice S6 f.at) → more ≡ merged found fault → grown ≡ before ++ signature_key f ∷ []
+    → total ≡ merged more (least_fault (later_functions later grown))
+functions_step rest later f before grown key total found fault more twice split t same test own_is m more_names =
+    let own = fault_if (is_among (signature_key f) before) S6 f.at in
+    one_more total found fault more (least_fault own) (least_fault (later_functions rest before)) (least_fault (later_functions later grown)) t
+    (ap (λ fs. least_fault (later_functions fs before)) split
+    ∙ (least_fault-append own (later_functions later (before ++ signature_key f ∷ []))
+    ∙ ap (λ ns. merged (least_fault own) (least_fault (later_functions later ns))) (sym more_names)))
+    (own_is ∙ ap (λ b. least_fault (fault_if b S6 f.at)) (test ∙ ap (λ n. is_among n before) same))
+    m

@@ -1,0 +1,12 @@
+use Rattle.std.proofs.Common.{◌≡◌, drop, map}
+use Rattle.gang_model.specs.Source.Judged.{least_fault}
+use Rattle.gang_model.proofs.JudgedLaws.{merged}
+use Rattle.ispc_parser.specs.Tree.{dim_view}
+use Rattle.ispc_names_faults.specs.IndexVariables.{bounds_names}
+use Rattle.ispc_names_faults.proofs.declarations.bounds_fault.Given as goal
+
+-- what is found so far and what is left decide
+abbrev pub invariant-loop-dim : goal.invariant-loop-dim
+invariant-loop-dim l =
+    least_fault (bounds_names (map dim_view l.fn.dims) l.functions l.scopes.environment)
+    ≡ merged l.first (least_fault (bounds_names (map dim_view (drop l.dim-index l.dims)) l.functions l.scopes.environment))

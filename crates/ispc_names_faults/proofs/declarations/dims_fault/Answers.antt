@@ -1,0 +1,22 @@
+use Rattle.std.proofs.Common.{◌∙◌, ◌+◌, drop, map, ap}
+use Rattle.ispc_parser.specs.Tree.{dim_view}
+use Rattle.ispc_names_faults.proofs.Merging.{next_item}
+use Rattle.ispc_names_faults.proofs.Found.{dims_step, dims_declared}
+use Rattle.ispc_names_faults.proofs.declarations.dims_fault.Goals as goal
+
+pub loop-dim-preserved : goal.loop-dim-preserved
+loop-dim-preserved c =
+    let items = c.args.dims.now in
+    let i = c.loop-dim.dim-index in
+    let rest = map dim_view (drop i items) in
+    let later = map dim_view (drop (i + 1) items) in
+    let split = ap (map dim_view) (next_item items i c.dim-item.result c.loop-dim-test.true c.dim-item.is) in
+    let s = c.loop-dim.scopes in
+    let s' = c.declaration_fault.new.scopes in
+    record {
+      found = dims_step rest later (dim_view c.dim-item.result) s s' c.deref.result.now _ _ _ _ split c.loop-dim.invariant.found c.deref.ensures.value
+          c.in_ok-declaration_fault.ensures.fault c.in_ok-declaration_fault.ensures.declared c.least-first.ensures;
+      declared = dims_declared rest later (dim_view c.dim-item.result) s s' c.deref.result.now _ split c.loop-dim.invariant.declared c.deref.ensures.value
+          c.in_ok-declaration_fault.ensures.declared;
+      outside = c.in_ok-declaration_fault.ensures.outside ∙ c.loop-dim.invariant.outside;
+    }

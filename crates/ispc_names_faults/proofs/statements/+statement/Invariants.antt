@@ -1,0 +1,49 @@
+use Rattle.std.proofs.Common.{◌≡◌, ◌+◌, ◌*◌, drop}
+use Rattle.std.specs.Prelude.{max}
+use Rattle.gang_model.specs.Source.Judged.{least_fault}
+use Rattle.gang_model.specs.Names.NameFaults.{stmts_names}
+use Rattle.gang_model.specs.Names.Scope.{after_all, enclosed}
+use Rattle.gang_model.proofs.JudgedLaws.{merged}
+use Rattle.ispc_names_scopes.specs.Scopes.{site}
+use Rattle.ispc_parser.specs.declared.tree.Stmt.{size-Stmt}
+use Rattle.ispc_parser.specs.Tree.{stmts_view}
+use Rattle.ispc_names_faults.specs.MayStand.{allowed_view}
+use Rattle.ispc_names_faults.proofs.statements.+statement.Given as goal
+
+-- how deep the statements are, and behind that the calls that pass a statement on as it is
+
+abbrev pub decreases-statement_fault : goal.decreases-statement_fault
+decreases-statement_fault l = 4 * size-Stmt l.stmt.now
+
+abbrev pub decreases-inner_fault : goal.decreases-inner_fault
+decreases-inner_fault l = 4 * size-Stmt l.stmt.now + 1
+
+abbrev pub decreases-update_fault : goal.decreases-update_fault
+decreases-update_fault l = 4 * size-Stmt l.stmt.now + 1
+
+abbrev pub decreases-block_fault : goal.decreases-block_fault
+decreases-block_fault l = 4 * goal.size-block_fault l + 1
+
+abbrev pub decreases-tested_fault : goal.decreases-tested_fault
+decreases-tested_fault l = 4 * size-Stmt l.stmt.now + 2
+
+abbrev pub decreases-choice_fault : goal.decreases-choice_fault
+decreases-choice_fault l = 4 * max (size-Stmt l.first.now) (size-Stmt l.other.now) + 2
+
+abbrev pub decreases-for_fault : goal.decreases-for_fault
+decreases-for_fault l = 4 * max (size-Stmt l.start.now) (max (size-Stmt l.update.now) (size-Stmt l.body.now)) + 2
+
+abbrev pub decreases-domain_fault : goal.decreases-domain_fault
+decreases-domain_fault l = 4 * size-Stmt l.body.now + 2
+
+abbrev pub decreases-rounds_fault : goal.decreases-rounds_fault
+decreases-rounds_fault l = 4 * size-Stmt l.body.now + 2
+
+-- the statements of a block
+abbrev pub invariant-block_fault-loop-inner : goal.invariant-block_fault-loop-inner
+invariant-block_fault-loop-inner l = record {
+  -- what is found so far and what is left decide
+  found : least_fault (stmts_names (stmts_view l.stmts) (allowed_view l.functions l.may) (enclosed (site l.fn.scopes)))
+      ≡ merged l.first (least_fault (stmts_names (stmts_view (drop l.inner-index l.stmts)) (allowed_view l.functions l.may) (site l.scopes)));
+  after : after_all (stmts_view l.stmts) (enclosed (site l.fn.scopes)) ≡ after_all (stmts_view (drop l.inner-index l.stmts)) (site l.scopes);
+}

@@ -1,0 +1,92 @@
+//! Names that their scope has already, and their declarations.
+ghost use Rattle.std.specs.Prelude.{◌≡◌, IfErr, IfOk, OnOk, map};
+ghost use Rattle.gang_model.specs.Source.Judged.{least_fault};
+ghost use Rattle.gang_model.specs.Names.NameFaults as names;
+ghost use Rattle.gang_model.specs.Names.Scope as scope;
+ghost use Rattle.ispc_lexer.specs.declared.fault.SourceFault.TheVariants.{Memory};
+ghost use Rattle.ispc_names_scopes.specs.Scopes.{site};
+ghost use Rattle.ispc_parser.specs.Tree.{dim_view, param_view};
+ghost use Rattle.ispc_names_faults.specs.IndexVariables.{bounds_names, dims_twice};
+
+use gang_model::{RefusalNumber, SourceRefusal};
+use gang_types::Place;
+use ispc_lexer::SourceFault;
+use ispc_names_scopes::{FunctionNames, Scopes, expression_fault, fault_if, is_built_in, least};
+use ispc_parser::{Dim, Param};
+use std::alloc::Global;
+
+/// The fault of a name that its scope has already or that nothing may declare, and its declaration in that scope.
+pub(crate) fn declaration_fault(
+    alloc: Global,
+    place: Place,
+    name: &[u8],
+    scopes: &mut Scopes,
+) -> Result<Option<SourceRefusal>, SourceFault>
+    ensures fault { IfOk result (λ fault. fault ≡ least_fault (names.twice (site scopes.old) place name.now)) }
+    ensures declared { OnOk result (site scopes.new ≡ scope.with_name name.now (site scopes.old)) }
+    ensures outside { OnOk result (scopes.new.outside ≡ scopes.old.outside) }
+    ensures memory { IfErr result (λ fault. fault ≡ Memory) }
+{
+    let is_twice = scopes.is_here(name) || is_built_in(name);
+    scopes.declare(alloc, name)?;
+    Ok(fault_if(is_twice, RefusalNumber::S6, place))
+}
+
+/// The fault of names in the bounds of a `foreach`.
+pub(crate) fn bounds_fault(
+    dims: &[Dim],
+    functions: &FunctionNames,
+    scopes: &Scopes,
+) -> Option<SourceRefusal>
+    ensures { result ≡ least_fault (bounds_names (map dim_view dims.now) functions.now scopes.now.environment) }
+{
+    let mut first = None;
+    for dim in dims {
+        let in_low = expression_fault(&dim.low, functions, scopes);
+        let in_high = expression_fault(&dim.high, functions, scopes);
+        first = least(first, least(in_low, in_high));
+    }
+    first
+}
+
+/// The fault of the index variables of a `foreach`, and their declarations in the present scope.
+pub(crate) fn dims_fault(
+    alloc: Global,
+    dims: &[Dim],
+    scopes: &mut Scopes,
+) -> Result<Option<SourceRefusal>, SourceFault>
+    ensures fault { IfOk result (λ fault. fault ≡ least_fault (dims_twice (map dim_view dims.now) (site scopes.old))) }
+    ensures declared { OnOk result (site scopes.new ≡ scope.with_dims (map dim_view dims.now) (site scopes.old)) }
+    ensures outside { OnOk result (scopes.new.outside ≡ scopes.old.outside) }
+    ensures memory { IfErr result (λ fault. fault ≡ Memory) }
+{
+    let mut first = None;
+    for dim in dims {
+        first = least(
+            first,
+            declaration_fault(alloc, dim.place, &dim.name, scopes)?,
+        );
+    }
+    Ok(first)
+}
+
+/// The fault of parameters, and their declarations in the present scope.
+pub(crate) fn params_fault(
+    alloc: Global,
+    params: &[Param],
+    scopes: &mut Scopes,
+) -> Result<Option<SourceRefusal>, SourceFault>
+    ensures fault { IfOk result (λ fault. fault ≡ least_fault (names.params_twice (map param_view params.now) (site scopes.old))) }
+    ensures declared { OnOk result (site scopes.new ≡ scope.with_params (map param_view params.now) (site scopes.old)) }
+    ensures outside { OnOk result (scopes.new.outside ≡ scopes.old.outside) }
+    ensures memory { IfErr result (λ fault. fault ≡ Memory) }
+{
+    let mut first = None;
+    for param in params {
+        first = least(
+            first,
+            declaration_fault(alloc, param.place, &param.name, scopes)?,
+        );
+    }
+    Ok(first)
+}

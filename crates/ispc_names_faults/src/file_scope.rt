@@ -1,0 +1,104 @@
+//! The functions and the variables of a file.
+ghost use Rattle.std.specs.Prelude.{◌≡◌, ◌||◌, [], IfErr, IfOk, map};
+ghost use Rattle.gang_model.specs.Source.Judged.{least_fault};
+ghost use Rattle.gang_model.specs.Types.LibraryTable.{is_among};
+ghost use Rattle.gang_model.specs.Names.NameFaults as names;
+ghost use Rattle.gang_model.specs.Source.Parsed.{functions_in, globals_in};
+ghost use Rattle.gang_model.specs.Names.Scope.{file_bindings, is_built_in};
+ghost use Rattle.ispc_lexer.specs.declared.fault.SourceFault.TheVariants.{Memory};
+ghost use Rattle.ispc_parser.specs.Tree.{function_view, global_view, tree_view};
+
+use gang_model::{RefusalNumber, SourceRefusal};
+use ispc_lexer::SourceFault;
+use ispc_names_scopes::{FunctionNames, Scopes, fault_if, is_built_in, least};
+use ispc_parser::{Function, GlobalVariable, Item, Tree};
+use std::alloc::Global;
+
+/// The functions of a tree, in order.
+///
+/// # Errors
+///
+/// Want of memory.
+pub fn functions_of(alloc: Global, tree: &Tree) -> Result<Vec<&Function>, SourceFault>
+    ensures functions { IfOk result (λ functions. map (λ f. function_view f.now) functions.items ≡ functions_in (tree_view tree.now)) }
+    ensures memory { IfErr result (λ fault. fault ≡ Memory) }
+{
+    let mut functions = Vec::new(alloc);
+    for item in &tree.items {
+        if let Item::Function(function) = item {
+            functions.push(function)?;
+        }
+    }
+    Ok(functions)
+}
+
+/// The file-scope variables of a tree, in order.
+///
+/// # Errors
+///
+/// Want of memory.
+pub fn globals_of(alloc: Global, tree: &Tree) -> Result<Vec<&GlobalVariable>, SourceFault>
+    ensures globals { IfOk result (λ globals. map (λ g. global_view g.now) globals.items ≡ globals_in (tree_view tree.now)) }
+    ensures memory { IfErr result (λ fault. fault ≡ Memory) }
+{
+    let mut globals = Vec::new(alloc);
+    for item in &tree.items {
+        if let Item::Global(global) = item {
+            globals.push(global)?;
+        }
+    }
+    Ok(globals)
+}
+
+/// The names of functions, in order.
+pub(crate) fn names_of(alloc: Global, functions: &[&Function]) -> Result<FunctionNames, SourceFault>
+    ensures names { IfOk result (λ names. names ≡ map (λ f. f.name) (map (λ f. function_view f.now) functions.now)) }
+    ensures memory { IfErr result (λ fault. fault ≡ Memory) }
+{
+    let mut names = FunctionNames::new(alloc);
+    for function in functions {
+        names.add(alloc, &function.name)?;
+    }
+    Ok(names)
+}
+
+/// The file-scope variables as what is in scope everywhere.
+pub(crate) fn declared_globals(
+    alloc: Global,
+    globals: &[&GlobalVariable],
+) -> Result<Scopes, SourceFault>
+    ensures environment { IfOk result (λ scopes. scopes.environment ≡ file_bindings 0 (map (λ g. global_view g.now) globals.now)) }
+    ensures memory { IfErr result (λ fault. fault ≡ Memory) }
+{
+    let mut scopes = Scopes::new(alloc);
+    for later in 0..globals.len() {
+        let number = globals.len() - 1 - later;
+        scopes.declare_in_file(alloc, &globals[number].name, number)?;
+    }
+    Ok(scopes)
+}
+
+/// Whether a name stands before, or nothing may declare it.
+fn is_taken(before: &FunctionNames, name: &[u8]) -> bool
+    ensures { result ≡ (is_among name.now before.now || is_built_in name.now) }
+{
+    before.contains(name) || is_built_in(name)
+}
+
+/// The first fault of a file-scope variable with the name of one before it, or with one that nothing may declare.
+pub(crate) fn globals_twice_fault(
+    alloc: Global,
+    globals: &[&GlobalVariable],
+) -> Result<Option<SourceRefusal>, SourceFault>
+    ensures fault { IfOk result (λ fault. fault ≡ least_fault (names.globals_twice (map (λ g. global_view g.now) globals.now) [])) }
+    ensures memory { IfErr result (λ fault. fault ≡ Memory) }
+{
+    let mut before = FunctionNames::new(alloc);
+    let mut first = None;
+    for global in globals {
+        let is_twice = is_taken(&before, &global.name);
+        first = least(first, fault_if(is_twice, RefusalNumber::S6, global.place));
+        before.add(alloc, &global.name)?;
+    }
+    Ok(first)
+}

@@ -1,0 +1,84 @@
+//! The faults of names in functions.
+ghost use Rattle.std.specs.Prelude.{◌≡◌, ◌||◌, IfErr, IfOk, OnOk, is_some, map};
+ghost use Rattle.std.specs.List.{flat_map};
+ghost use Rattle.gang_model.specs.Source.Judged.{least_fault};
+ghost use Rattle.gang_model.specs.Types.LibraryTable as table;
+ghost use Rattle.gang_model.specs.Names.NameFaults as names;
+ghost use Rattle.gang_model.specs.Names.Scope as scope;
+ghost use Rattle.ispc_lexer.specs.declared.fault.SourceFault.TheVariants.{Memory};
+ghost use Rattle.ispc_names_scopes.specs.Scopes.{site};
+ghost use Rattle.ispc_parser.specs.Tree.{function_view, stmts_view};
+ghost use Rattle.ispc_names_faults.specs.MayStand.{allowed_view};
+
+use crate::allowed::{Allowed, in_function};
+use crate::declarations::params_fault;
+use crate::statements::statement_fault;
+use gang_model::{RefusalNumber, SourceRefusal};
+use ispc_lexer::SourceFault;
+use ispc_names_scopes::{FunctionNames, Scopes, fault_if, is_library_name, least, statement_call};
+use ispc_parser::{Function, Stmt};
+use std::alloc::Global;
+
+/// The first fault of names in statements, each after those before it, in the present scope.
+fn body_fault(
+    alloc: Global,
+    stmts: &[Stmt],
+    may: Allowed,
+    functions: &FunctionNames,
+    scopes: &mut Scopes,
+) -> Result<Option<SourceRefusal>, SourceFault>
+    ensures fault { IfOk result (λ fault. fault ≡ least_fault (names.stmts_names (stmts_view stmts.now) (allowed_view functions.now may) (site scopes.old))) }
+    ensures after { OnOk result (site scopes.new ≡ scope.after_all (stmts_view stmts.now) (site scopes.old)) }
+    ensures outside { OnOk result (scopes.new.outside ≡ scopes.old.outside) }
+    ensures memory { IfErr result (λ fault. fault ≡ Memory) }
+{
+    let mut first = None;
+    for stmt in stmts {
+        first = least(first, statement_fault(alloc, stmt, may, functions, scopes)?);
+    }
+    Ok(first)
+}
+
+/// Whether a name is the library's.
+fn is_of_library(name: &[u8]) -> bool
+    ensures { result ≡ (table.is_library_name name.now || is_some (table.statement_call name.now)) }
+{
+    is_library_name(name) || statement_call(name).is_some()
+}
+
+/// The first fault of names in a function: a name of the library's, its parameters, and its body, which is in their scope.
+fn function_fault(
+    alloc: Global,
+    function: &Function,
+    functions: &FunctionNames,
+    scopes: &mut Scopes,
+) -> Result<Option<SourceRefusal>, SourceFault>
+    ensures fault { IfOk result (λ fault. fault ≡ least_fault (names.function_names functions.now scopes.old.environment (function_view function.now))) }
+    ensures environment { OnOk result (scopes.new.environment ≡ scopes.old.environment) }
+    ensures memory { IfErr result (λ fault. fault ≡ Memory) }
+{
+    let is_taken = is_of_library(&function.name);
+    let own = fault_if(is_taken, RefusalNumber::S6, function.place);
+    let mark = scopes.begin_function();
+    let in_params = params_fault(alloc, &function.params, scopes)?;
+    let in_body = body_fault(alloc, &function.body, in_function(), functions, scopes)?;
+    scopes.leave(mark);
+    Ok(least(own, least(in_params, in_body)))
+}
+
+/// The first fault of names in the functions of a source, whose variables are in scope.
+pub(crate) fn functions_fault(
+    alloc: Global,
+    functions: &[&Function],
+    known: &FunctionNames,
+    mut scopes: Scopes,
+) -> Result<Option<SourceRefusal>, SourceFault>
+    ensures fault { IfOk result (λ fault. fault ≡ least_fault (flat_map (names.function_names known.now scopes.environment) (map (λ f. function_view f.now) functions.now))) }
+    ensures memory { IfErr result (λ fault. fault ≡ Memory) }
+{
+    let mut first = None;
+    for function in functions {
+        first = least(first, function_fault(alloc, function, known, &mut scopes)?);
+    }
+    Ok(first)
+}

@@ -1,0 +1,94 @@
+//! Functions of one name with the same parameters.
+ghost use Rattle.std.specs.Prelude.{◌≡◌, ◌++◌, [], IfErr, IfOk, OnOk, is_none, map};
+ghost use Rattle.gang_types.specs.Values.{width};
+ghost use Rattle.gang_model.specs.Types.Conversions.{is_varying};
+ghost use Rattle.gang_model.specs.Source.Judged.{least_fault};
+ghost use Rattle.gang_model.specs.Names.NameFaults as names;
+ghost use Rattle.gang_model.specs.Types.Signatures.{declared_rate, declared_type};
+ghost use Rattle.ispc_lexer.specs.declared.fault.SourceFault.TheVariants.{Memory};
+ghost use Rattle.ispc_parser.specs.Tree.{function_view, param_view};
+ghost use Rattle.ispc_names_faults.specs.SignatureKeys as keys;
+ghost use Rattle.ispc_names_faults.specs.SignatureKeys.{digit, param_key};
+
+use gang_model::{RefusalNumber, SourceRefusal, Spec};
+use gang_types::{IntType, Rate, is_signed, width};
+use ispc_lexer::SourceFault;
+use ispc_names_scopes::{FunctionNames, fault_if, least};
+use ispc_parser::{Function, Param};
+use std::alloc::Global;
+
+/// The type of a declaration; `void` counts as `int32`.
+fn declared_type(spec: Spec) -> IntType
+    ensures { result ≡ declared_type spec.value_type }
+{
+    match spec.value_type {
+        Some(value_type) => value_type,
+        None => IntType::Int32,
+    }
+}
+
+/// Whether a declaration is varying, as one without a rate is.
+fn is_varying(spec: Spec) -> bool
+    ensures { result ≡ is_varying (declared_rate spec.rate) }
+{
+    match spec.rate {
+        Some(Rate::Uniform) => false,
+        Some(Rate::Varying) => true,
+        None => true,
+    }
+}
+
+/// A type's width, which is 64 at most.
+fn width_byte(value_type: IntType) -> u8
+    ensures { result ≡ width value_type }
+{
+    width(value_type) as u8
+}
+
+/// Writes the type and the rate of a parameter after a key. What is written does not begin with 0.
+fn push_param(key: &mut Vec<u8>, param: &Param) -> Result<(), SourceFault>
+    ensures written { OnOk result (key.new.items ≡ key.old.items ++ param_key (param_view param.now)) }
+    ensures memory { IfErr result (λ fault. fault ≡ Memory) }
+{
+    let value_type = declared_type(param.spec);
+    key.push(1 + u8::from(param.spec.value_type.is_none()))?;
+    key.push(width_byte(value_type))?;
+    key.push(u8::from(is_signed(value_type)))?;
+    key.push(u8::from(is_varying(param.spec)))?;
+    key.push(u8::from(param.is_array))?;
+    Ok(())
+}
+
+/// The text under which a signature is looked up: that of two functions is the same where they have one name and the same
+/// parameter types and rates, and only there.
+fn signature_key(alloc: Global, function: &Function) -> Result<Vec<u8>, SourceFault>
+    ensures key { IfOk result (λ key. key.items ≡ keys.signature_key (function_view function.now)) }
+    ensures memory { IfErr result (λ fault. fault ≡ Memory) }
+{
+    let mut key = Vec::new(alloc);
+    for param in &function.params {
+        push_param(&mut key, param)?;
+    }
+    key.push(0)?;
+    key.extend_from_slice(&function.name)?;
+    Ok(key)
+}
+
+/// The first fault of a function with the signature of one before it.
+pub(crate) fn functions_twice_fault(
+    alloc: Global,
+    functions: &[&Function],
+) -> Result<Option<SourceRefusal>, SourceFault>
+    ensures fault { IfOk result (λ fault. fault ≡ least_fault (names.functions_twice (map (λ f. function_view f.now) functions.now) [])) }
+    ensures memory { IfErr result (λ fault. fault ≡ Memory) }
+{
+    let mut before = FunctionNames::new(alloc);
+    let mut first = None;
+    for function in functions {
+        let key = signature_key(alloc, function)?;
+        let is_twice = before.contains(&key);
+        first = least(first, fault_if(is_twice, RefusalNumber::S6, function.place));
+        before.add(alloc, &key)?;
+    }
+    Ok(first)
+}

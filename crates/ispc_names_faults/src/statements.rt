@@ -1,0 +1,267 @@
+//! The faults of names in statements.
+ghost use Rattle.std.specs.Prelude.{◌≡◌, ◌++◌, ◌+◌, Bool, IfErr, IfOk, OnOk, length, map};
+ghost use Rattle.gang_types.specs.declared.places.Place.{Place};
+ghost use Rattle.gang_model.specs.Source.Judged.{least_fault};
+ghost use Rattle.gang_model.specs.Names.NameFaults as names;
+ghost use Rattle.gang_model.specs.Source.Parsed.{ParsedFor, ParsedForEach, ParsedIfElse};
+ghost use Rattle.gang_model.specs.Names.Scope as scope;
+ghost use Rattle.ispc_parser_expressions.specs.Tree.{expr_view};
+ghost use Rattle.ispc_lexer.specs.declared.fault.SourceFault.TheVariants.{Memory};
+ghost use Rattle.ispc_names_scopes.specs.Scopes.{site};
+ghost use Rattle.ispc_parser.specs.Tree.{dim_view, option_view, stmt_view, stmts_view};
+ghost use Rattle.ispc_names_faults.specs.MayStand.{allowed_view};
+ghost use Rattle.ispc_names_faults.specs.Moved.{moved};
+
+use crate::allowed::Allowed;
+use crate::declarations::{bounds_fault, declaration_fault, dims_fault};
+use crate::parts::simple_fault;
+use crate::right_sides::some_expression_fault;
+use gang_model::{RefusalNumber, SourceRefusal};
+use gang_types::Place;
+use ispc_lexer::SourceFault;
+use ispc_names_scopes::{FunctionNames, Scopes, expression_fault, fault_if, least};
+use ispc_parser::{Dim, Stmt};
+use ispc_parser_expressions::Expr;
+use std::alloc::Global;
+
+type Found = Result<Option<SourceRefusal>, SourceFault>;
+
+/// The first fault of names in a statement. The scopes are then those that the next statement finds.
+#[cycle(statement)]
+pub(crate) fn statement_fault(
+    alloc: Global,
+    stmt: &Stmt,
+    may: Allowed,
+    functions: &FunctionNames,
+    scopes: &mut Scopes,
+) -> Found
+    ensures fault { IfOk result (λ fault. fault ≡ least_fault (names.stmt_names (stmt_view stmt.now) (allowed_view functions.now may) (site scopes.old))) }
+    ensures after { OnOk result (site scopes.new ≡ scope.after (stmt_view stmt.now) (site scopes.old)) }
+    ensures outside { OnOk result (scopes.new.outside ≡ scopes.old.outside) }
+    ensures memory { IfErr result (λ fault. fault ≡ Memory) }
+{
+    match stmt {
+        Stmt::Block(stmts) => block_fault(alloc, stmts, may, functions, scopes),
+        Stmt::If {
+            test,
+            first,
+            other,
+            ..
+        } => match other {
+            Some(other) => choice_fault(alloc, first, other, test, may, functions, scopes),
+            None => tested_fault(alloc, first, test, may, functions, scopes),
+        },
+        Stmt::While { test, body, .. } | Stmt::Do { test, body, .. } => {
+            tested_fault(alloc, body, test, may.in_loop(), functions, scopes)
+        }
+        Stmt::For {
+            start,
+            test,
+            update,
+            body,
+            ..
+        } => for_fault(alloc, start, update, body, test, may, functions, scopes),
+        Stmt::ForEach {
+            place,
+            dims,
+            body,
+            ..
+        } => domain_fault(alloc, body, *place, dims, may, functions, scopes),
+        Stmt::ForEachActive {
+            name_place,
+            name,
+            body,
+            ..
+        } => rounds_fault(alloc, body, *name_place, name, may, functions, scopes),
+        Stmt::ForEachUnique {
+            name_place,
+            name,
+            value,
+            body,
+            ..
+        } => Ok(least(
+            expression_fault(value, functions, scopes),
+            rounds_fault(alloc, body, *name_place, name, may, functions, scopes)?,
+        )),
+        _ => simple_fault(alloc, stmt, may, functions, scopes),
+    }
+}
+
+/// The first fault of names in a block.
+#[cycle(statement)]
+fn block_fault(
+    alloc: Global,
+    stmts: &[Stmt],
+    may: Allowed,
+    functions: &FunctionNames,
+    scopes: &mut Scopes,
+) -> Found
+    ensures fault { IfOk result (λ fault. fault ≡ least_fault (names.stmts_names (stmts_view stmts.now) (allowed_view functions.now may) (scope.enclosed (site scopes.old)))) }
+    ensures after { OnOk result (scopes.new ≡ moved (scope.locals_in_all (stmts_view stmts.now)) scopes.old) }
+    ensures memory { IfErr result (λ fault. fault ≡ Memory) }
+{
+    let mark = scopes.enter();
+    let mut first = None;
+    for inner in stmts {
+        first = least(
+            first,
+            statement_fault(alloc, inner, may, functions, scopes)?,
+        );
+    }
+    scopes.leave(mark);
+    Ok(first)
+}
+
+/// The first fault of names in a statement that is a scope of its own.
+#[cycle(statement)]
+fn inner_fault(
+    alloc: Global,
+    stmt: &Stmt,
+    may: Allowed,
+    functions: &FunctionNames,
+    scopes: &mut Scopes,
+) -> Found
+    ensures fault { IfOk result (λ fault. fault ≡ least_fault (names.stmt_names (stmt_view stmt.now) (allowed_view functions.now may) (scope.enclosed (site scopes.old)))) }
+    ensures after { OnOk result (scopes.new ≡ moved (scope.locals_in (stmt_view stmt.now)) scopes.old) }
+    ensures memory { IfErr result (λ fault. fault ≡ Memory) }
+{
+    let mark = scopes.enter();
+    let fault = statement_fault(alloc, stmt, may, functions, scopes)?;
+    scopes.leave(mark);
+    Ok(fault)
+}
+
+/// The first fault of names in the update of a `for`, after which nothing is in scope that it declares.
+#[cycle(statement)]
+fn update_fault(
+    alloc: Global,
+    stmt: &Stmt,
+    may: Allowed,
+    functions: &FunctionNames,
+    scopes: &mut Scopes,
+) -> Found
+    ensures fault { IfOk result (λ fault. fault ≡ least_fault (names.stmt_names (stmt_view stmt.now) (allowed_view functions.now may) (site scopes.old))) }
+    ensures after { OnOk result (scopes.new ≡ moved (scope.locals_in (stmt_view stmt.now)) scopes.old) }
+    ensures memory { IfErr result (λ fault. fault ≡ Memory) }
+{
+    let mark = scopes.mark();
+    let fault = statement_fault(alloc, stmt, may, functions, scopes)?;
+    scopes.leave(mark);
+    Ok(fault)
+}
+
+/// The first fault of names in a test and in the statement that it decides about.
+#[cycle(statement)]
+fn tested_fault(
+    alloc: Global,
+    stmt: &Stmt,
+    test: &Expr,
+    may: Allowed,
+    functions: &FunctionNames,
+    scopes: &mut Scopes,
+) -> Found
+    ensures fault { IfOk result (λ fault. fault ≡ least_fault (names.names_in (expr_view test.now) functions.now scopes.old.environment
+        ++ names.stmt_names (stmt_view stmt.now) (allowed_view functions.now may) (scope.enclosed (site scopes.old)))) }
+    ensures after { OnOk result (scopes.new ≡ moved (scope.locals_in (stmt_view stmt.now)) scopes.old) }
+    ensures memory { IfErr result (λ fault. fault ≡ Memory) }
+{
+    let in_test = expression_fault(test, functions, scopes);
+    let in_stmt = inner_fault(alloc, stmt, may, functions, scopes)?;
+    Ok(least(in_test, in_stmt))
+}
+
+/// The first fault of names in an `if` with an `else`.
+#[cycle(statement)]
+fn choice_fault(
+    alloc: Global,
+    first: &Stmt,
+    other: &Stmt,
+    test: &Expr,
+    may: Allowed,
+    functions: &FunctionNames,
+    scopes: &mut Scopes,
+) -> Found
+    ensures fault { IfOk result (λ fault. (place : Place) → fault ≡ least_fault (names.stmt_names (ParsedIfElse place (expr_view test.now) (stmt_view first.now) (stmt_view other.now))
+        (allowed_view functions.now may) (site scopes.old))) }
+    ensures after { OnOk result (scopes.new ≡ moved (scope.locals_in (stmt_view first.now) + scope.locals_in (stmt_view other.now)) scopes.old) }
+    ensures memory { IfErr result (λ fault. fault ≡ Memory) }
+{
+    let in_test = expression_fault(test, functions, scopes);
+    let in_first = inner_fault(alloc, first, may, functions, scopes)?;
+    let in_other = inner_fault(alloc, other, may, functions, scopes)?;
+    Ok(least(in_test, least(in_first, in_other)))
+}
+
+/// The first fault of names in a `for`: its start is in the scope of the rest.
+#[cycle(statement)]
+fn for_fault(
+    alloc: Global,
+    start: &Stmt,
+    update: &Stmt,
+    body: &Stmt,
+    test: &Option<Expr>,
+    may: Allowed,
+    functions: &FunctionNames,
+    scopes: &mut Scopes,
+) -> Found
+    ensures fault { IfOk result (λ fault. (place : Place) → fault ≡ least_fault (names.stmt_names (ParsedFor place (stmt_view start.now) (option_view expr_view test.now) (stmt_view update.now) (stmt_view body.now))
+        (allowed_view functions.now may) (site scopes.old))) }
+    ensures after { OnOk result (scopes.new ≡ moved (scope.locals_in (stmt_view start.now) + scope.locals_in (stmt_view update.now) + scope.locals_in (stmt_view body.now)) scopes.old) }
+    ensures memory { IfErr result (λ fault. fault ≡ Memory) }
+{
+    let mark = scopes.enter();
+    let in_start = statement_fault(alloc, start, may, functions, scopes)?;
+    let in_test = some_expression_fault(test, functions, scopes);
+    let in_update = update_fault(alloc, update, may, functions, scopes)?;
+    let in_body = inner_fault(alloc, body, may.in_loop(), functions, scopes)?;
+    scopes.leave(mark);
+    Ok(least(least(in_start, in_test), least(in_update, in_body)))
+}
+
+/// The first fault of names in a `foreach`: its index variables, its bounds, which are outside their scope, and its body.
+#[cycle(statement)]
+fn domain_fault(
+    alloc: Global,
+    body: &Stmt,
+    place: Place,
+    dims: &[Dim],
+    may: Allowed,
+    functions: &FunctionNames,
+    scopes: &mut Scopes,
+) -> Found
+    ensures fault { IfOk result (λ fault. (is_tiled : Bool) → fault ≡ least_fault (names.stmt_names (ParsedForEach place is_tiled (map dim_view dims.now) (stmt_view body.now))
+        (allowed_view functions.now may) (site scopes.old))) }
+    ensures after { OnOk result (scopes.new ≡ moved (length dims.now + scope.locals_in (stmt_view body.now)) scopes.old) }
+    ensures memory { IfErr result (λ fault. fault ≡ Memory) }
+{
+    let own = fault_if(!may.domains, RefusalNumber::S11, place);
+    let in_bounds = bounds_fault(dims, functions, scopes);
+    let mark = scopes.enter();
+    let in_names = dims_fault(alloc, dims, scopes)?;
+    let in_body = inner_fault(alloc, body, may.in_domain_round(), functions, scopes)?;
+    scopes.leave(mark);
+    Ok(least(own, least(least(in_names, in_bounds), in_body)))
+}
+
+/// The first fault of names in a `foreach_active` or `foreach_unique`, but for the values that it goes over.
+#[cycle(statement)]
+fn rounds_fault(
+    alloc: Global,
+    body: &Stmt,
+    place: Place,
+    name: &[u8],
+    may: Allowed,
+    functions: &FunctionNames,
+    scopes: &mut Scopes,
+) -> Found
+    ensures fault { IfOk result (λ fault. fault ≡ least_fault (names.twice (scope.enclosed (site scopes.old)) place name.now
+        ++ names.stmt_names (stmt_view body.now) (names.in_round (allowed_view functions.now may)) (scope.in_rounds name.now (site scopes.old)))) }
+    ensures after { OnOk result (scopes.new ≡ moved (1 + scope.locals_in (stmt_view body.now)) scopes.old) }
+    ensures memory { IfErr result (λ fault. fault ≡ Memory) }
+{
+    let mark = scopes.enter();
+    let in_name = declaration_fault(alloc, place, name, scopes)?;
+    let in_body = inner_fault(alloc, body, may.in_round(), functions, scopes)?;
+    scopes.leave(mark);
+    Ok(least(in_name, in_body))
+}

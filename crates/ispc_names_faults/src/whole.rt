@@ -1,0 +1,52 @@
+//! The first fault of names of a tree.
+ghost use Rattle.std.specs.Prelude.{◌≡◌, IfErr, IfOk, map};
+ghost use Rattle.std.specs.List.{flat_map};
+ghost use Rattle.gang_model.specs.Source.Judged.{least_fault};
+ghost use Rattle.gang_model.specs.Names.NameFaults as names;
+ghost use Rattle.gang_model.specs.Names.Scope.{file_bindings};
+ghost use Rattle.gang_model.specs.Types.SourceRefusals.{names_refusal};
+ghost use Rattle.ispc_lexer.specs.declared.fault.SourceFault.TheVariants.{Memory};
+ghost use Rattle.ispc_parser.specs.Tree.{function_view, global_view, tree_view};
+
+use crate::file_scope::{
+    declared_globals, functions_of, globals_of, globals_twice_fault, names_of,
+};
+use crate::outermost::functions_fault;
+use crate::signatures::functions_twice_fault;
+use gang_model::SourceRefusal;
+use ispc_lexer::SourceFault;
+use ispc_names_scopes::least;
+use ispc_parser::{Function, GlobalVariable, Tree};
+use std::alloc::Global;
+
+/// The first fault of names inside functions, where all functions and the file-scope variables are known.
+fn inside_functions(
+    alloc: Global,
+    globals: &[&GlobalVariable],
+    functions: &[&Function],
+) -> Result<Option<SourceRefusal>, SourceFault>
+    ensures fault { IfOk result (λ fault. fault ≡ least_fault (flat_map (names.function_names (map (λ f. f.name) (map (λ f. function_view f.now) functions.now)) (file_bindings 0 (map (λ g. global_view g.now) globals.now))) (map (λ f. function_view f.now) functions.now))) }
+    ensures memory { IfErr result (λ fault. fault ≡ Memory) }
+{
+    let names = names_of(alloc, functions)?;
+    let scopes = declared_globals(alloc, globals)?;
+    functions_fault(alloc, functions, &names, scopes)
+}
+
+/// The first fault of names of a tree: the one with the first place, at one place the one with the least number. S5 is a name
+/// that nothing declares, S6 one that its scope has already, S11 a statement and S12 a call that may not stand there.
+///
+/// # Errors
+///
+/// Want of memory.
+pub fn names_fault(alloc: Global, tree: &Tree) -> Result<Option<SourceRefusal>, SourceFault>
+    ensures fault { IfOk result (λ fault. fault ≡ names_refusal (tree_view tree.now)) }
+    ensures memory { IfErr result (λ fault. fault ≡ Memory) }
+{
+    let globals = globals_of(alloc, tree)?;
+    let functions = functions_of(alloc, tree)?;
+    let in_globals = globals_twice_fault(alloc, &globals)?;
+    let in_signatures = functions_twice_fault(alloc, &functions)?;
+    let in_functions = inside_functions(alloc, &globals, &functions)?;
+    Ok(least(in_globals, least(in_signatures, in_functions)))
+}

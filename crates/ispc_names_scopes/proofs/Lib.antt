@@ -1,0 +1,5 @@
+pub mod SameTexts
+pub mod Indexed
+pub mod ScopeSites
+pub mod ArgumentFaults
+pub mod NameIndex

@@ -1,0 +1,5 @@
+pub mod Bindings
+pub mod FunctionNames
+pub mod Innermost
+pub mod Names
+pub mod Scopes

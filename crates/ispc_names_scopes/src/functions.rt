@@ -1,0 +1,66 @@
+//! The names of the source's functions.
+ghost use Rattle.std.specs.Prelude.{◌≡◌, [], ◌++◌, ◌∷◌, IfErr, OnErr, OnOk};
+ghost use Rattle.gang_model.specs.Types.LibraryTable.{is_among};
+ghost use Rattle.ispc_lexer.specs.declared.fault.SourceFault.TheVariants.{Memory};
+
+use indexmap::IndexSet;
+use ispc_lexer::SourceFault;
+use std::alloc::Global;
+use std::marker::Model;
+
+/// The names of the source's functions, in order, with an index: a look-up does not walk them.
+#[derive(Drop)]
+pub struct FunctionNames {
+    names: Vec<Vec<u8>>,
+    index: IndexSet<Vec<u8>>,
+}
+
+impl Model for FunctionNames {
+    ghost use Rattle.std.specs.Prelude.{List, ℕ};
+    ghost use Rattle.ispc_names_scopes.specs.FunctionNames.{names_of, IsNameIndex};
+
+    ghost Value = { List (List ℕ) };
+
+    ghost view = { λ s. names_of s.names.items };
+
+    ghost invariant = { λ s. IsNameIndex s.names.items s.index.keys };
+}
+
+impl FunctionNames {
+    /// No functions.
+    pub fn new(alloc: Global) -> FunctionNames
+        ensures { result ≡ [] }
+    {
+        FunctionNames {
+            names: Vec::new(alloc),
+            index: IndexSet::new(alloc),
+        }
+    }
+
+    /// One more function, after the others.
+    ///
+    /// # Errors
+    ///
+    /// Want of memory; the names are then as before.
+    pub fn add(&mut self, alloc: Global, name: &[u8]) -> Result<(), SourceFault>
+        ensures last { OnOk result (self.new ≡ self.old ++ name.now ∷ []) }
+        ensures unchanged { OnErr result (self.new ≡ self.old) }
+        ensures memory { IfErr result (λ fault. fault ≡ Memory) }
+    {
+        let key = name.to_vec(alloc)?;
+        let name = name.to_vec(alloc)?;
+        self.names.push(name)?;
+        if self.index.insert(key).is_err() {
+            self.names.pop();
+            return Err(SourceFault::Memory);
+        }
+        Ok(())
+    }
+
+    /// Whether a function has this name.
+    pub fn contains(&self, name: &[u8]) -> bool
+        ensures { result ≡ is_among name.now self.now }
+    {
+        self.index.contains(name)
+    }
+}

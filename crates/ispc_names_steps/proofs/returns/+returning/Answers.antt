@@ -1,0 +1,15 @@
+use Rattle.std.proofs.Common.{ap, sym, ◌∙◌}
+use Rattle.gang_model.specs.Names.Scope.{has_return, one_returns}
+use Rattle.ispc_parser.specs.Tree.{stmt_view, stmts_view}
+use Rattle.ispc_parser.proofs.Rows.{view_block}
+use Rattle.ispc_names_steps.proofs.Sequences.{return_here}
+use Rattle.ispc_names_steps.proofs.returns.+returning.Goals as goal
+
+pub has_return-returns-in-Block : goal.has_return-returns-in-Block
+has_return-returns-in-Block t c =
+    c.one_returns.ensures ∙ ap (λ ss. one_returns (stmts_view ss)) c.deref.ensures.value
+    ∙ sym (ap (λ s. has_return (stmt_view s)) c.in-Block.is ∙ ap has_return (view_block c.in-Block.stmts))
+
+pub one_returns-returns-then-has_return : goal.one_returns-returns-then-has_return
+one_returns-returns-then-has_return t c =
+    sym (c.loop-stmt.invariant ∙ return_here c.args.stmts.now c.loop-stmt.stmt-index c.stmt-item.result c.loop-stmt-test.true c.stmt-item.is (sym c.if-has_return.ensures))

@@ -1,0 +1,153 @@
+-- Results, tests and single tokens.
+use Rattle.std.proofs.Common.{◌≡◌, ◌⊎◌, inl, inr, ℕ, zero, suc, List, [], ◌∷◌, Option, Some, None, Bool, true, false, cond, refl, ap, subst, ◌∙◌}
+use Rattle.std.specs.Prelude.{◌==◌}
+use Rattle.std.proofs.lemmas.Bool.{eqb-true}
+use denote.Enum.Bare.{same_true, true_same}
+use Rattle.gang_types.specs.declared.operators.UnaryOp.{UnaryOp}
+use Rattle.gang_types.specs.declared.operators.UnaryOp.TheVariants as unary
+use Rattle.gang_types.specs.declared.operators.BinaryOp.TheVariants as binary
+use Rattle.gang_model.specs.declared.marks.Mark.{Mark}
+use Rattle.gang_model.specs.declared.marks.Mark.TheVariants as mark
+use Rattle.gang_model.specs.contracts.marks.Mark.{the_type}
+use Rattle.gang_model.specs.declared.forms.Infix.{Infix}
+use Rattle.gang_model.specs.declared.forms.Infix.TheVariants.{Op, AndAlso, OrElse}
+use Rattle.gang_model.specs.Source.Tokens.{Sort, named, numbered, marked, Lexeme}
+use Rattle.gang_model.specs.Source.Spells.{Takes, Opens, truth_mark, unary_mark, infix_mark, level}
+use Rattle.ispc_parser_expressions.specs.Parse.{◌>>=◌, if_some, is_mark, begins, take, unary_op, truth_of, infix_of, mark_of, operator_at, spend}
+
+-- ---- results
+
+pub bind_some : {A B : Type 0} (r : Option A) (f : A → Option B) (y : B) → (r >>= f) ≡ Some y → (x : A) × (r ≡ Some x) × (f x ≡ Some y)
+bind_some None f y e = absurd cc
+bind_some (Some x) f y e = (x, refl, e)
+
+pub some_is : {A : Type 0} (x y : A) → Some x ≡ Some y → x ≡ y
+some_is x y e = cc
+
+pub which : {A : Type 0} (c : Bool) (x y z : A) → cond c x y ≡ z → ((c ≡ true) × (x ≡ z)) ⊎ ((c ≡ false) × (y ≡ z))
+which true x y z e = inl (refl, e)
+which false x y z e = inr (refl, e)
+
+pub chosen : {A B : Type 0} (o : Option A) (f : A → B) (d z : B) → if_some o f d ≡ z → ((x : A) × (o ≡ Some x) × (f x ≡ z)) ⊎ ((o ≡ None) × (d ≡ z))
+chosen None f d z e = inr (refl, e)
+chosen (Some x) f d z e = inl (x, refl, e)
+
+pub spend_is : (room left : ℕ) → spend room ≡ Some left → room ≡ suc left
+spend_is zero left e = absurd cc
+spend_is (suc room) left e = ap (λ (n : ℕ). suc n) (some_is room left e)
+
+-- ---- nestings
+
+pub opened : (d : ℕ) (F : ℕ → Type 0) → Opens d F → (n : ℕ) × (d ≡ suc n) × F n
+opened zero F h = absurd h
+opened (suc d) F h = (d, refl, h)
+
+pub opens_as : (d : ℕ) (F G : ℕ → Type 0) → ((n : ℕ) → F n → G n) → Opens d F → Opens d G
+opens_as zero F G f h = h
+opens_as (suc d) F G f h = f d h
+
+-- ---- marks
+
+pub mark_is : (m : Mark) (s : Sort) → is_mark m s ≡ true → s ≡ marked m
+mark_is m (marked k) e = ap marked (same_true the_type tt k m e)
+mark_is m (named n) e = absurd cc
+mark_is m (numbered n u l) e = absurd cc
+
+pub is_mark-same : (m : Mark) → is_mark m (marked m) ≡ true
+is_mark-same m = true_same the_type m m refl
+
+pub take_takes : (m : Mark) (ts rest : List Lexeme) → take m ts ≡ Some rest → Takes (marked m) ts rest
+unfolding take
+take_takes m [] rest e = absurd cc
+take_takes m (t ∷ ts) rest e =
+    elim (which (is_mark m t.sort) (Some ts) None (Some rest) e) [
+      | inl p ↦ record { token = t; is = ap (λ (r : List Lexeme). t ∷ r) (some_is ts rest p.1); sort_is = mark_is m t.sort p.0 }
+      | inr p ↦ let no_value = p.1 in absurd cc
+    ]
+
+pub take_again : (m : Mark) (ts rest : List Lexeme) → Takes (marked m) ts rest → take m ts ≡ Some rest
+unfolding take
+take_again m ts rest h = rw (h.is, h.sort_is, is_mark-same m) refl
+
+pub begins_again : (m : Mark) (ts rest : List Lexeme) → Takes (marked m) ts rest → begins m ts ≡ true
+begins_again m ts rest h = rw (h.is, h.sort_is) (is_mark-same m)
+
+-- ---- operators
+
+pub unary_op_is : (m : Mark) (op : UnaryOp) → unary_op m ≡ Some op → m ≡ unary_mark op
+unary_op_is mark.Minus op e = ap unary_mark (some_is unary.Negate op e)
+unary_op_is mark.Plus op e = ap unary_mark (some_is unary.Plus op e)
+unary_op_is mark.Exclamation op e = ap unary_mark (some_is unary.Not op e)
+unary_op_is mark.Tilde op e = ap unary_mark (some_is unary.Complement op e)
+unary_op_is _ op e = absurd cc
+
+pub unary_op_again : (op : UnaryOp) → unary_op (unary_mark op) ≡ Some op
+unary_op_again unary.Negate = refl
+unary_op_again unary.Plus = refl
+unary_op_again unary.Not = refl
+unary_op_again unary.Complement = refl
+
+pub truth_of_is : (m : Mark) (v : Bool) → truth_of m ≡ Some v → m ≡ truth_mark v
+truth_of_is mark.True v e = ap truth_mark (some_is true v e)
+truth_of_is mark.False v e = ap truth_mark (some_is false v e)
+truth_of_is _ v e = absurd cc
+
+pub infix_of_is : (m : Mark) (op : Infix) → infix_of m ≡ Some op → m ≡ infix_mark op
+infix_of_is mark.Plus op e = ap infix_mark (some_is (Op binary.Add) op e)
+infix_of_is mark.Minus op e = ap infix_mark (some_is (Op binary.Sub) op e)
+infix_of_is mark.Star op e = ap infix_mark (some_is (Op binary.Mul) op e)
+infix_of_is mark.Slash op e = ap infix_mark (some_is (Op binary.Div) op e)
+infix_of_is mark.Percent op e = ap infix_mark (some_is (Op binary.Rem) op e)
+infix_of_is mark.Ampersand op e = ap infix_mark (some_is (Op binary.And) op e)
+infix_of_is mark.Bar op e = ap infix_mark (some_is (Op binary.Or) op e)
+infix_of_is mark.Caret op e = ap infix_mark (some_is (Op binary.Xor) op e)
+infix_of_is mark.ShiftLeft op e = ap infix_mark (some_is (Op binary.Shl) op e)
+infix_of_is mark.ShiftRight op e = ap infix_mark (some_is (Op binary.Shr) op e)
+infix_of_is mark.Less op e = ap infix_mark (some_is (Op binary.Less) op e)
+infix_of_is mark.LessEqual op e = ap infix_mark (some_is (Op binary.LessEqual) op e)
+infix_of_is mark.Greater op e = ap infix_mark (some_is (Op binary.Greater) op e)
+infix_of_is mark.GreaterEqual op e = ap infix_mark (some_is (Op binary.GreaterEqual) op e)
+infix_of_is mark.EqualEqual op e = ap infix_mark (some_is (Op binary.Equal) op e)
+infix_of_is mark.NotEqual op e = ap infix_mark (some_is (Op binary.NotEqual) op e)
+infix_of_is mark.AndAnd op e = ap infix_mark (some_is AndAlso op e)
+infix_of_is mark.OrOr op e = ap infix_mark (some_is OrElse op e)
+infix_of_is _ op e = absurd cc
+
+pub infix_of_again : (op : Infix) → infix_of (infix_mark op) ≡ Some op
+infix_of_again (Op binary.Add) = refl
+infix_of_again (Op binary.Sub) = refl
+infix_of_again (Op binary.Mul) = refl
+infix_of_again (Op binary.Div) = refl
+infix_of_again (Op binary.Rem) = refl
+infix_of_again (Op binary.And) = refl
+infix_of_again (Op binary.Or) = refl
+infix_of_again (Op binary.Xor) = refl
+infix_of_again (Op binary.Shl) = refl
+infix_of_again (Op binary.Shr) = refl
+infix_of_again (Op binary.Less) = refl
+infix_of_again (Op binary.LessEqual) = refl
+infix_of_again (Op binary.Greater) = refl
+infix_of_again (Op binary.GreaterEqual) = refl
+infix_of_again (Op binary.Equal) = refl
+infix_of_again (Op binary.NotEqual) = refl
+infix_of_again AndAlso = refl
+infix_of_again OrElse = refl
+
+mark_of_is : (s : Sort) (m : Mark) → mark_of s ≡ Some m → s ≡ marked m
+mark_of_is (marked k) m e = ap marked (some_is k m e)
+mark_of_is (named n) m e = absurd cc
+mark_of_is (numbered n u l) m e = absurd cc
+
+pub operator_takes : (k : ℕ) (ts : List Lexeme) (op : Infix) (rest : List Lexeme) → operator_at k ts ≡ Some (op, rest)
+    → (level op ≡ k) × Takes (marked (infix_mark op)) ts rest
+unfolding operator_at
+operator_takes k [] op rest e = absurd cc
+operator_takes k (t ∷ ts) op rest e =
+    let p = bind_some (mark_of t.sort) _ (op, rest) e in
+    let q = bind_some (infix_of p.0) _ (op, rest) p.2 in
+    elim (which (level q.0 == k) (Some (q.0, ts)) None (Some (op, rest)) q.2) [
+      | inl r ↦
+          subst (λ (x : Infix × List Lexeme). (level x.0 ≡ k) × Takes (marked (infix_mark x.0)) (t ∷ ts) x.1) (some_is (q.0, ts) (op, rest) r.1)
+          (eqb-true (level q.0) k r.0, record { token = t; is = refl; sort_is = mark_of_is t.sort p.0 p.1 ∙ ap marked (infix_of_is p.0 q.0 q.1) })
+      | inr r ↦ let no_value = r.1 in absurd cc
+    ]

@@ -1,2 +1,0 @@
-pub mod ItemSteps
-pub mod TableSteps

@@ -1,8 +1,0 @@
--- the statements that are left decide
-use Rattle.std.proofs.Common.{◌≡◌, drop}
-use Rattle.gang_model.specs.Known.{known_stmts, today}
-use Rattle.ispc_parser.specs.Tree.{stmts_view}
-use Rattle.source_front.proofs.forms.+statement.Given as goal
-
-abbrev pub invariant-check_statements-loop-statement : goal.invariant-check_statements-loop-statement
-invariant-check_statements-loop-statement l = known_stmts (stmts_view l.fn.statements) today ≡ known_stmts (stmts_view (drop l.statement-index l.statements)) today

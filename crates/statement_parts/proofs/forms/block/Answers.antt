@@ -1,9 +1,0 @@
-use Rattle.std.proofs.Common.{ap, sym, ◌∙◌}
-use Rattle.std.specs.Prelude.{Ok}
-use Rattle.typed_tree.specs.Views.{stmts_view}
-use Rattle.statement_parts.specs.Typed.{seen}
-use Rattle.statement_parts.proofs.TypedBlocks.{view_typed_block}
-use Rattle.statement_parts.proofs.forms.block.Goals as goal
-
-pub returns-in-Ok : goal.returns-in-Ok
-returns-in-Ok c = ap Ok (view_typed_block c.in-Ok.stmts) ∙ sym (ap (seen (λ stmts. stmts_view stmts.items)) c.in-Ok.is)

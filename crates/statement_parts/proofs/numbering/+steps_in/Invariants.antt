@@ -1,8 +1,0 @@
-use Rattle.std.proofs.Common.{◌≡◌, ◌+◌, drop}
-use Rattle.gang_model.specs.Numbering.{steps_in_all}
-use Rattle.ispc_parser.specs.Tree.{stmts_view}
-use Rattle.statement_parts.proofs.numbering.+steps_in.Given as goal
-
--- what is counted so far and what is left come to the whole
-abbrev pub invariant-loop-inner : goal.invariant-loop-inner
-invariant-loop-inner l = l.steps + steps_in_all (stmts_view (drop l.inner-index l.inner-items)) ≡ steps_in_all (stmts_view l.inner-items)

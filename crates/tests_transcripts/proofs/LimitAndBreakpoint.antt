@@ -1,0 +1,34 @@
+-- The goal and a breakpoint come before the step limit.
+use Rattle.std.specs.Prelude.{◌≡◌, refl, true, false, [], ◌∷◌, Some, None, codes}
+use Rattle.std.specs.Fmt.{digits}
+use Rattle.gang_types.specs.Values.{value_of, residue, word_of, value_in, wrapped, binary_of}
+use Rattle.gang_types.specs.declared.types.Rate.TheVariants.{Uniform}
+use Rattle.gang_types.specs.declared.types.IntType.TheVariants as t
+use Rattle.gang_types.specs.declared.operators.BinaryOp.TheVariants as op
+use Rattle.gang_model.specs.declared.forms.GlobalForm.TheVariants.{Initial}
+use Rattle.gang_model.specs.declared.forms.Literal.TheVariants.{Number}
+use Rattle.gang_model.specs.Source.Parsed.{ParsedNumber, ParsedChange, ParsedLast, ParsedNext, ParsedSource}
+use Rattle.tests_transcripts.proofs.Forms.{at, spec, target, function, file_variable, options, run}
+
+-- uniform int t = 0;
+-- export void go() {
+-- t += 1;
+-- t += 1;
+-- t += 1;
+-- t += 1;
+-- }
+abbrev pub source : ParsedSource
+source =
+    (file_variable (at 1 13) (codes "t") (spec false false false false (Some Uniform) (Some t.Int32)) (Initial (Number false 0 false false))) ∷
+    (function (at 2 13) (codes "go") (spec true false false false None None) ([])
+    (ParsedNext (ParsedChange (at 3 1) (target (at 3 1) (codes "t") None) op.Add (ParsedNumber (at 3 6) 1 false false))
+    (ParsedNext (ParsedChange (at 4 1) (target (at 4 1) (codes "t") None) op.Add (ParsedNumber (at 4 6) 1 false false))
+    (ParsedNext (ParsedChange (at 5 1) (target (at 5 1) (codes "t") None) op.Add (ParsedNumber (at 5 6) 1 false false))
+    (ParsedNext (ParsedChange (at 6 1) (target (at 6 1) (codes "t") None) op.Add (ParsedNumber (at 6 6) 1 false false))
+    ParsedLast)))) (at 7 1)) ∷ []
+
+row_1 : run source (codes "") (options 4 64 2)
+    (codes "break 5\ncontinue\nreverse-step 2\ndelete\ncontinue\nstep 2\ncontinue\n")
+    ≡ codes "breakpoint 1 at line 5\nbreakpoint 1: at 5:1 go depth 1 lanes 1111\nat 3:1 go depth 1 lanes 1111\ndeleted all\nstep limit: at 5:1 go depth 1 lanes 1111\nat 7:1 go depth 1 lanes 1111\nended\n"
+unfolding digits value_of residue word_of value_in wrapped binary_of
+row_1 = refl

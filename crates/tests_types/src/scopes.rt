@@ -1,0 +1,156 @@
+//! Worked by hand.
+ghost use Rattle.std.specs.Prelude.{◌≡◌};
+ghost use Rattle.gang_types.specs.declared.places.VarId.TheVariants.{Local};
+
+use gang_model::{RefusalNumber, SourceRefusal, Spec};
+use gang_types::{IntType, Place, Rate, VarId};
+use ispc_lexer::SourceFault;
+use ispc_names_scopes::is_same;
+use std::alloc::Global;
+use std::test::*;
+use type_check_scopes::{
+    Declared, TypeScope, both, built_in, declared_with, index_variable, refuse,
+};
+use typed_tree::Expr;
+
+fn refused(number: RefusalNumber, line: u32, col: u32) -> SourceRefusal {
+    SourceRefusal {
+        number,
+        place: Place { line, col },
+    }
+}
+
+/// A spec with a type, or with `void`.
+fn spec(value_type: Option<IntType>) -> Spec {
+    Spec {
+        is_exported: false,
+        is_static: false,
+        is_inline: false,
+        is_constant: false,
+        rate: None,
+        value_type,
+    }
+}
+
+/// A uniform variable.
+fn variable(id: VarId, value_type: IntType) -> Declared {
+    Declared {
+        id,
+        value_type,
+        rate: Rate::Uniform,
+        is_array: false,
+        is_parameter: false,
+        is_constant: false,
+        is_void: false,
+    }
+}
+
+/// A uniform variable of a function.
+fn local(number: usize, value_type: IntType) -> Declared
+    ensures { result.id ≡ Local number }
+{
+    Declared {
+        id: VarId::Local(number),
+        value_type,
+        rate: Rate::Uniform,
+        is_array: false,
+        is_parameter: false,
+        is_constant: false,
+        is_void: false,
+    }
+}
+
+fn shadowing(alloc: Global) -> Result<bool, SourceFault> {
+    let file = variable(VarId::File(3), IntType::Int64);
+    let mut scope = TypeScope::new(alloc);
+    scope.declare_in_file(alloc, b"x", file)?;
+    scope.begin_function();
+    let function = scope.mark();
+    let outer = local(scope.next(), IntType::Int32);
+    scope.declare(alloc, b"x", outer)?;
+    let block = scope.mark();
+    let inner = local(scope.next(), IntType::Uint8);
+    scope.declare(alloc, b"x", inner)?;
+    let inside = scope.find(b"x") == Some(inner);
+    scope.leave(block);
+    let back = scope.find(b"x") == Some(outer) && scope.next() == 2;
+    scope.leave(function);
+    Ok(inside && back && scope.find(b"x") == Some(file))
+}
+
+fn other_names(alloc: Global) -> Result<bool, SourceFault> {
+    let mut scope = TypeScope::new(alloc);
+    scope.begin_function();
+    let count = local(scope.next(), IntType::Int32);
+    scope.declare(alloc, b"count", count)?;
+    let longer = scope.find(b"counter");
+    let shorter = scope.find(b"coun");
+    Ok(longer.is_none() && shorter.is_none() && scope.find(b"count") == Some(count))
+}
+
+fn variables_of_functions(alloc: Global) -> Result<bool, SourceFault> {
+    let mut scope = TypeScope::new(alloc);
+    scope.begin_function();
+    let first = local(scope.next(), IntType::Int32);
+    scope.declare(alloc, b"a", first)?;
+    let second = local(scope.next(), IntType::Bool);
+    scope.declare(alloc, b"b", second)?;
+    let locals = scope.take_locals(alloc)?;
+    let [a, b] = locals.as_slice() else {
+        return Ok(false);
+    };
+    let in_order = is_same(&a.name, b"a") && is_same(&b.name, b"b");
+    let numbered = a.id == VarId::Local(0) && b.id == VarId::Local(1);
+    let typed = a.value_type == IntType::Int32 && b.value_type == IntType::Bool;
+    Ok(in_order && numbered && typed && scope.next() == 0)
+}
+
+#[test]
+fn inner_declarations_hide_outer_ones(rt: HostRuntime) {
+    assert!(rt; shadowing(rt.alloc()) == Ok(true));
+}
+
+#[test]
+fn names_that_nothing_declares(rt: HostRuntime) {
+    assert!(rt; other_names(rt.alloc()) == Ok(true));
+}
+
+#[test]
+fn variables_by_their_numbers(rt: HostRuntime) {
+    assert!(rt; variables_of_functions(rt.alloc()) == Ok(true));
+}
+
+#[test]
+fn lesser_fault_of_two_parts(rt: HostRuntime) {
+    let early = refused(RefusalNumber::S7, 1, 9);
+    let late = refused(RefusalNumber::S2, 2, 1);
+    let first: Result<u8, SourceFault> = Err(SourceFault::Refused(late));
+    let second: Result<u8, SourceFault> = Err(SourceFault::Refused(early));
+    assert!(rt; both(first, second) == Err(SourceFault::Refused(early)));
+    assert!(rt; both(Ok(1), second) == Err(SourceFault::Refused(early)));
+    let sound: Result<(u8, u8), SourceFault> = both(Ok(1), Ok(2));
+    assert!(rt; sound == Ok((1, 2)));
+    assert!(rt; refuse(Some(early)) == Err(SourceFault::Refused(early)) && refuse(None).is_ok());
+}
+
+#[test]
+fn what_declarations_are(rt: HostRuntime) {
+    let number = declared_with(VarId::File(0), spec(Some(IntType::Uint16)), false, true);
+    assert!(rt; number.value_type == IntType::Uint16 && number.rate == Rate::Varying);
+    assert!(rt; number.is_parameter && !number.is_void);
+    assert!(rt; declared_with(VarId::File(0), spec(None), false, false).is_void);
+    let index = index_variable(VarId::Local(2), IntType::Int32, Rate::Varying);
+    assert!(rt; index.is_constant && index.id == VarId::Local(2));
+}
+
+#[test]
+fn names_of_the_gang(rt: HostRuntime) {
+    let lane = built_in(b"programIndex");
+    assert!(rt;
+        lane.is_some_and(|value| value.rate == Rate::Varying
+            && matches!(value.expr, Expr::ProgramIndex))
+    );
+    let width = built_in(b"programCount");
+    assert!(rt; width.is_some_and(|value| value.rate == Rate::Uniform));
+    assert!(rt; built_in(b"program").is_none());
+}

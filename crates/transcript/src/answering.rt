@@ -1,0 +1,117 @@
+//! The loop that reads command lines in pieces and has each answered.
+ghost use Rattle.std.specs.Prelude.{◌≡◌, ◌⊎◌, ◌≤◌, ℕ, true, false, List};
+ghost use Rattle.std.specs.Io.KnownBytes.{Appends};
+ghost use Rattle.gang_model.specs.Debugger.Debugger.{Debugger, Setting};
+ghost use Rattle.gang_model.specs.Texts.Text.{Bytes};
+ghost use Rattle.debug_machine.specs.Lines.{fails};
+ghost use Rattle.gang_model.specs.Texts.Endings.{Ends};
+ghost use Rattle.transcript.specs.Answered.{AnswersLines, AnswersPiece, held_of, known_line};
+ghost use Rattle.transcript.specs.LoopEnds.{end_of, ending_of};
+
+use arrayvec::ArrayVec;
+use debug_machine::{AnswerWriter, CommandReader, LineDebugger, READS, Turn};
+
+const LINE_FEED: u8 = 10;
+
+/// How many bytes of a line are held. A line of more than 256 bytes spells no command, whatever they are.
+const HELD: usize = 257;
+
+/// How the answering of command lines ended.
+#[derive(Clone, Copy, Debug, PartialEq, Eq)]
+pub enum LoopEnd {
+    /// A line spelled `quit`.
+    Quit,
+    /// The reader had no more bytes.
+    EndOfCommands,
+    /// A read failed, or `READS` reads did not reach the end.
+    ReadFault,
+    /// The writer failed.
+    WriteFault,
+}
+
+impl LoopEnd {
+    /// The end that the turn of the last line leads to.
+    fn after(turn: Turn) -> LoopEnd
+        ensures { result ≡ end_of turn }
+    {
+        match turn {
+            Turn::Goes => LoopEnd::EndOfCommands,
+            Turn::Quits => LoopEnd::Quit,
+            Turn::Fails => LoopEnd::WriteFault,
+        }
+    }
+}
+
+/// Answers the command lines that the reader gives: up to `quit`, to the last line, or to the first fault of the reader or
+/// of the writer. The last line may lack its line feed.
+pub fn answer_lines<D: LineDebugger, R: CommandReader, O: AnswerWriter>(
+    debugger: &mut D,
+    reader: &mut R,
+    writer: &mut O,
+) -> LoopEnd
+    requires fresh { R.reads reader.old ≡ 0 }
+    requires reader_works { R.has_failed reader.old ≡ false }
+    requires writer_works { O.has_failed writer.old ≡ false }
+    ensures transcript { (s : Setting) (d : Debugger) → D.stands debugger.old s d → (out : List ℕ)
+        × Appends (O.written writer.old) (O.written writer.new) out
+        × Ends s d (ending_of result) (R.left reader.old) (R.left reader.new) out }
+    ensures read_fault { result ≡ LoopEnd.ReadFault → (R.has_failed reader.new ≡ true) ⊎ (R.reads reader.new ≡ READS) }
+    ensures write_fault { result ≡ LoopEnd.WriteFault → O.has_failed writer.new ≡ true }
+    ensures reads { R.reads reader.new ≤ READS }
+{
+    let mut piece = [0; 512];
+    let mut line = ArrayVec::new();
+    for _count in 0..READS {
+        match reader.read(&mut piece) {
+            Err(_) => return LoopEnd::ReadFault,
+            Ok(0) => return LoopEnd::after(answer_last_line(debugger, &line, writer)),
+            Ok(n) => match answer_piece(debugger, &mut line, &piece[..n], writer) {
+                Turn::Goes => {}
+                turn => return LoopEnd::after(turn),
+            },
+        }
+    }
+    LoopEnd::ReadFault
+}
+
+/// Answers the lines that end in a piece, and holds the front of the line that has begun.
+fn answer_piece<D: LineDebugger, O: AnswerWriter>(
+    debugger: &mut D,
+    line: &mut ArrayVec<u8, HELD>,
+    piece: &[u8],
+    writer: &mut O,
+) -> Turn
+    requires works { O.has_failed writer.old ≡ false }
+    ensures answered { (s : Setting) (d : Debugger) (begun : Bytes) → D.stands debugger.old s d → line.old.items ≡ held_of begun
+        → AnswersPiece D.stands s d begun piece.now result debugger.new line.new.items (O.written writer.old) (O.written writer.new) }
+    ensures failed { O.has_failed writer.new ≡ fails result }
+{
+    for byte in piece {
+        if *byte == LINE_FEED {
+            match debugger.answer_line(line.as_slice(), writer) {
+                Turn::Goes => line.clear(),
+                turn => return turn,
+            }
+        } else if !line.is_full() {
+            line.push(*byte);
+        }
+    }
+    Turn::Goes
+}
+
+/// Answers the last line, which lacks its line feed; an empty one has no answer.
+fn answer_last_line<D: LineDebugger, O: AnswerWriter>(
+    debugger: &mut D,
+    line: &ArrayVec<u8, HELD>,
+    writer: &mut O,
+) -> Turn
+    requires works { O.has_failed writer.old ≡ false }
+    ensures answered { (s : Setting) (d : Debugger) (begun : Bytes) → D.stands debugger.old s d → line.now.items ≡ held_of begun
+        → AnswersLines s d (known_line begun) result (O.written writer.old) (O.written writer.new) }
+    ensures failed { O.has_failed writer.new ≡ fails result }
+{
+    if line.is_empty() {
+        return Turn::Goes;
+    }
+    debugger.answer_line(line.as_slice(), writer)
+}

@@ -1,0 +1,37 @@
+use Rattle.std.proofs.Common.{◌∙◌, map, ap}
+use Rattle.gang_model.specs.Source.Judged.{Sound}
+use Rattle.gang_model.specs.Types.Overloads.{candidates, overload}
+use Rattle.ispc_parser.specs.Tree.{function_view}
+use Rattle.typed_tree.specs.Views.{result_view}
+use Rattle.type_check_scopes.specs.Passings.{passing_view}
+use Rattle.type_check_scopes.proofs.Answered.{answers-at, answers-then, answers-memory}
+use Rattle.type_check_calls.specs.Calls.{called_view}
+use Rattle.type_check_calls.specs.Candidates.{candidate_view, called_function}
+use Rattle.type_check_calls.proofs.Residuals.{inside-refused}
+use Rattle.type_check_calls.proofs.user_calls.user_call.Goals as goal
+use Rattle.std.specs.Borrow.{Bor}
+use Rattle.std.specs.Prelude.{Err, Ok}
+use Rattle.type_check_calls.specs.declared.overloads.Candidate.{Candidate}
+
+pub returns-in_err-meant : goal.returns-in_err-meant
+returns-in_err-meant c =
+    let given = map passing_view c.args.given.items in
+    let possible = candidates 0 (map (λ f. function_view f.now) c.args.context.now.functions.now) c.args.name.now given in
+    inside-refused (λ (d : Bor Candidate). candidate_view d.now) called_view c.in_err-meant.field-0.0 c.from_residual-in_err-meant.result (overload c.args.place possible)
+    (λ d. Sound (called_function given (result_view c.args.result_for) c.args.step d)) c.from_residual-in_err-meant.ensures.1
+    (answers-at (λ (d : Bor Candidate). candidate_view d.now) (Err c.in_err-meant.field-0.0) (overload c.args.place (map candidate_view c.deref-2.result.now)) (overload c.args.place possible) c.in_err-meant.ensures
+    (ap (overload c.args.place) (ap (map candidate_view) c.deref-2.ensures.value
+    ∙ (c.in_ok-possible.ensures.candidates
+    ∙ ap (λ xs. candidates 0 (map (λ f. function_view f.now) c.args.context.now.functions.now) c.args.name.now (map passing_view xs)) c.deref.ensures.value))))
+
+pub returns : goal.returns
+returns c =
+    let given = map passing_view c.args.given.items in
+    let possible = candidates 0 (map (λ f. function_view f.now) c.args.context.now.functions.now) c.args.name.now given in
+    answers-then called_view c.meant_call.result (overload c.args.place possible) (candidate_view c.in_ok-meant.meant.now)
+    (λ d. Sound (called_function given (result_view c.args.result_for) c.args.step d))
+    (answers-at (λ (d : Bor Candidate). candidate_view d.now) (Ok c.in_ok-meant.meant) (overload c.args.place (map candidate_view c.deref-2.result.now)) (overload c.args.place possible) c.in_ok-meant.ensures
+    (ap (overload c.args.place) (ap (map candidate_view) c.deref-2.ensures.value
+    ∙ (c.in_ok-possible.ensures.candidates
+    ∙ ap (λ xs. candidates 0 (map (λ f. function_view f.now) c.args.context.now.functions.now) c.args.name.now (map passing_view xs)) c.deref.ensures.value))))
+    (answers-memory called_view c.meant_call.result _ c.meant_call.ensures.called c.meant_call.ensures.memory)

@@ -1,0 +1,101 @@
+//! What calls pass.
+ghost use Rattle.std.specs.Prelude.{◌≡◌, ◌++◌, [], IfErr, IfOk, OnOk, map};
+ghost use Rattle.gang_model.specs.Types.Overloads as overloads;
+ghost use Rattle.ispc_lexer.specs.declared.fault.SourceFault.TheVariants.{Memory};
+ghost use Rattle.ispc_parser.specs.Tree.{param_view};
+ghost use Rattle.type_check_scopes.specs.Passings.{passing_view};
+ghost use Rattle.typed_tree.specs.Views.{arg_view, option_view};
+ghost use Rattle.type_check_calls.specs.Parts as parts;
+
+use gang_types::VarId;
+use ispc_lexer::SourceFault;
+use ispc_parser::Param;
+use std::alloc::Global;
+use type_check_scopes::Passing;
+use type_check_values::{as_type, declared_rate, declared_type};
+use typed_tree::{Arg, Var};
+
+/// What is passed to the parameter of this number, if anything is.
+fn passed_arg(
+    alloc: Global,
+    number: usize,
+    argument: Passing,
+    param: &Param,
+) -> Result<Option<Arg>, SourceFault>
+    ensures passed { IfOk result (λ arg. option_view arg_view arg ≡ parts.passed_arg number (passing_view argument.entry) (param_view param.now)) }
+    ensures memory { IfErr result (λ fault. fault ≡ Memory) }
+{
+    match argument {
+        Passing::Scalar { value, .. } => {
+            let value_type = declared_type(param.spec.value_type);
+            Ok(Some(Arg::Value {
+                parameter: Var {
+                    id: VarId::Local(number),
+                    value_type,
+                    rate: declared_rate(param.spec.rate),
+                },
+                value: as_type(alloc, value_type, value)?,
+            }))
+        }
+        Passing::View { entry, from, .. } => Ok(Some(Arg::Array {
+            parameter: VarId::Local(number),
+            array: entry.declared.id,
+            from,
+        })),
+        Passing::Reference { .. } => Ok(None),
+    }
+}
+
+/// Adds what is passed, if anything is.
+fn add_arg(args: &mut Vec<Arg>, arg: Option<Arg>) -> Result<(), SourceFault>
+    ensures added { OnOk result (map arg_view args.new.items ≡ map arg_view args.old.items ++ parts.with_arg (option_view arg_view arg) []) }
+    ensures memory { IfErr result (λ fault. fault ≡ Memory) }
+{
+    match arg {
+        Some(arg) => {
+            args.push(arg)?;
+            Ok(())
+        }
+        None => Ok(()),
+    }
+}
+
+/// What a call passes to the parameters.
+pub(crate) fn passed_args(
+    alloc: Global,
+    given: Vec<Passing>,
+    params: &[Param],
+) -> Result<Vec<Arg>, SourceFault>
+    ensures passed { IfOk result (λ args. map arg_view args.items ≡ overloads.passed_args 0 (map passing_view given.entry.items) (map param_view params.now)) }
+    ensures memory { IfErr result (λ fault. fault ≡ Memory) }
+{
+    let mut args = Vec::new(alloc);
+    for (number, (argument, param)) in given.into_iter().zip(params).enumerate() {
+        let arg = passed_arg(alloc, number, argument, param)?;
+        add_arg(&mut args, arg)?;
+    }
+    Ok(args)
+}
+
+/// The only argument.
+pub(crate) fn only<'a>(given: Vec<Passing<'a>>) -> Option<Passing<'a>>
+    ensures { result ≡ parts.only given.entry.items }
+{
+    let mut given = given;
+    if given.len() == 1 { given.pop() } else { None }
+}
+
+/// The two arguments.
+pub(crate) fn pair<'a>(given: Vec<Passing<'a>>) -> Option<(Passing<'a>, Passing<'a>)>
+    ensures { result ≡ parts.pair given.entry.items }
+{
+    let mut given = given;
+    if given.len() != 2 {
+        return None;
+    }
+    let second = given.pop()?;
+    match given.pop() {
+        Some(first) => Some((first, second)),
+        None => None,
+    }
+}

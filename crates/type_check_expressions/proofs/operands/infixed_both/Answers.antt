@@ -1,0 +1,17 @@
+use Rattle.gang_model.specs.Types.Conversions.{infixed}
+use Rattle.gang_model.specs.Source.Judged.{Sound}
+use Rattle.type_check_values.specs.Views.{typed_view}
+use Rattle.type_check_scopes.proofs.Answered.{answers-memory}
+use Rattle.type_check_expressions.proofs.Residuals.{pair-refused, pair-sound}
+use Rattle.type_check_expressions.proofs.operands.infixed_both.Goals as goal
+
+pub returns-in_err-left : goal.returns-in_err-left
+returns-in_err-left c of_left of_right h i =
+    pair-refused typed_view typed_view typed_view c.args.left c.args.right of_left of_right (λ operands. Sound (infixed c.args.operator operands.0 operands.1))
+    c.in_err-left.field-0.0 c.from_residual.result c.from_residual.ensures.1 c.in_err-left.ensures h i
+
+pub returns : goal.returns
+returns c of_left of_right h i =
+    pair-sound typed_view typed_view typed_view c.args.left c.args.right of_left of_right (λ operands. Sound (infixed c.args.operator operands.0 operands.1))
+    c.in_ok-left.left c.in_ok-left.right c.infixed.result c.in_ok-left.ensures h i
+    (answers-memory typed_view c.infixed.result _ c.infixed.ensures.infixed c.infixed.ensures.memory)

@@ -1,0 +1,93 @@
+//! Elements of arrays.
+ghost use Rattle.std.specs.Prelude.{◌≡◌, ◌||◌, IfErr, IfOk, Some, not};
+ghost use Rattle.ispc_parser_expressions.specs.Tree.{expr_view};
+ghost use Rattle.gang_model.specs.Source.Judged.{least_fault, unless};
+ghost use Rattle.gang_model.specs.Types.Typing as typing;
+ghost use Rattle.ispc_lexer.specs.declared.fault.SourceFault.TheVariants.{Memory};
+ghost use Rattle.type_check_scopes.specs.Answers.{Answers};
+ghost use Rattle.type_check_scopes.specs.Entries.{declared_view};
+ghost use Rattle.type_check_values.specs.Views.{typed_view};
+
+use crate::places::first_of;
+use crate::values::refusal;
+use gang_model::{RefusalNumber, SourceRefusal};
+use gang_types::{IntType, Place, is_bool};
+use ispc_lexer::{SourceFault, boxed};
+use ispc_names_scopes::{fault_if, least};
+use ispc_parser_expressions::Expr;
+use std::alloc::Global;
+use type_check_scopes::{Declared, TypeScope, refuse};
+use type_check_values::Typed;
+use typed_tree::Expr as TypedExpr;
+
+/// Whether it is no array, or has elements of no value.
+fn has_no_element(declared: Declared) -> bool
+    ensures { result ≡ (not declared.is_array || declared.is_void) }
+{
+    !declared.is_array || declared.is_void
+}
+
+/// S8 at a name that is no array, or has elements of no value; S8 at an index that is bool.
+fn element_fault(
+    place: Place,
+    name: &[u8],
+    index: &Expr,
+    value: &Typed,
+    declared: Declared,
+) -> Option<SourceRefusal>
+    ensures { result ≡ least_fault (typing.element_faults place (expr_view index.now) (typed_view value.now) (Some (declared_view name.now declared))) }
+{
+    let no_element = fault_if(has_no_element(declared), RefusalNumber::S8, place);
+    let bool_index = fault_if(
+        is_bool(value.value_type),
+        RefusalNumber::S8,
+        first_of(index),
+    );
+    least(no_element, bool_index)
+}
+
+/// An element of a declared array.
+fn element_value(
+    alloc: Global,
+    name: &[u8],
+    index: Typed,
+    declared: Declared,
+) -> Result<Typed, SourceFault>
+    ensures element { IfOk result (λ e. typed_view e ≡ typing.element (typed_view index) (Some (declared_view name.now declared))) }
+    ensures memory { IfErr result (λ fault. fault ≡ Memory) }
+{
+    let rate = index.rate;
+    let index = boxed(alloc, index.expr)?;
+    Ok(Typed {
+        expr: TypedExpr::Element {
+            array: declared.id,
+            index,
+        },
+        value_type: declared.value_type,
+        rate,
+    })
+}
+
+/// The element of an array at an index with this value.
+///
+/// # Errors
+///
+/// S8 at what is indexed and is no array, or has elements of no value; S8 at an index that is bool. Want of memory.
+pub(crate) fn element(
+    alloc: Global,
+    place: Place,
+    name: &[u8],
+    index: &Expr,
+    value: Typed,
+    scope: &TypeScope,
+) -> Result<Typed, SourceFault>
+    ensures { Answers typed_view result (unless (typing.element_faults place (expr_view index.now) (typed_view value) (typing.entry_of scope.now.entries name.now)) (typing.element (typed_view value) (typing.entry_of scope.now.entries name.now))) }
+{
+    match scope.find(name) {
+        None => Err(refusal(RefusalNumber::S8, place)),
+        Some(declared) => {
+            refuse(element_fault(place, name, index, &value, declared))?;
+            element_value(alloc, name, value, declared)
+        }
+    }
+}

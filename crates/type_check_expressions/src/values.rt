@@ -1,0 +1,101 @@
+//! The values of literals and names.
+ghost use Rattle.std.specs.Prelude.{◌≡◌, Some};
+ghost use Rattle.gang_model.specs.Types.Conversions as model;
+ghost use Rattle.gang_model.specs.Types.Tree as tree;
+ghost use Rattle.gang_model.specs.Types.Typing as typing;
+ghost use Rattle.gang_types.specs.declared.types.IntType.TheVariants.{Bool};
+ghost use Rattle.gang_types.specs.declared.types.Rate.TheVariants.{Uniform};
+ghost use Rattle.ispc_lexer.specs.declared.fault.SourceFault.TheVariants.{Refused};
+ghost use Rattle.type_check_scopes.specs.Answers.{Answers};
+ghost use Rattle.type_check_scopes.specs.Entries.{declared_view};
+ghost use Rattle.type_check_values.specs.Views.{typed_view};
+
+use crate::named::has_no_value;
+use gang_model::{RefusalNumber, SourceRefusal};
+use gang_types::{IntType, Place, Rate};
+use ispc_lexer::{Number, SourceFault};
+use ispc_names_scopes::fault_if;
+use type_check_scopes::{Declared, TypeScope, built_in, refuse};
+use type_check_values::{Typed, literal_type};
+use typed_tree::{Expr, Var};
+
+/// The value of a number.
+pub(crate) fn number_value(number: Number) -> Typed
+    ensures { typed_view result ≡ model.typed (tree.Number number.value) (model.literal_type number.value number.is_unsigned number.is_long) Uniform }
+{
+    Typed {
+        expr: Expr::Number(number.value),
+        value_type: literal_type(number.value, number.is_unsigned, number.is_long),
+        rate: Rate::Uniform,
+    }
+}
+
+/// The value of a truth value.
+pub(crate) fn truth_value(truth: bool) -> Typed
+    ensures { typed_view result ≡ model.typed (tree.Number (typing.truth_value truth)) Bool Uniform }
+{
+    Typed {
+        expr: Expr::Number(u64::from(truth)),
+        value_type: IntType::Bool,
+        rate: Rate::Uniform,
+    }
+}
+
+/// A fault with its place.
+pub(crate) fn refusal(number: RefusalNumber, place: Place) -> SourceFault
+    ensures { result ≡ Refused (record { number = number; place = place }) }
+{
+    SourceFault::Refused(SourceRefusal { number, place })
+}
+
+/// The value of a built-in name.
+///
+/// # Errors
+///
+/// S5 at the name if nothing has this name.
+fn built_in_value(place: Place, name: &[u8]) -> Result<Typed, SourceFault>
+    ensures { Answers typed_view result (typing.built_in_value place (typing.built_in name.now)) }
+{
+    match built_in(name) {
+        None => Err(refusal(RefusalNumber::S5, place)),
+        Some(value) => Ok(Typed {
+            expr: value.expr,
+            value_type: IntType::Int32,
+            rate: value.rate,
+        }),
+    }
+}
+
+/// The value of a variable.
+///
+/// # Errors
+///
+/// S8 at the name of an array or of a `void` variable.
+fn declared_value(place: Place, name: &[u8], declared: Declared) -> Result<Typed, SourceFault>
+    ensures { Answers typed_view result (typing.name_value place name.now (Some (declared_view name.now declared))) }
+{
+    refuse(fault_if(has_no_value(declared), RefusalNumber::S8, place))?;
+    Ok(Typed {
+        expr: Expr::Read(Var {
+            id: declared.id,
+            value_type: declared.value_type,
+            rate: declared.rate,
+        }),
+        value_type: declared.value_type,
+        rate: declared.rate,
+    })
+}
+
+/// The value of a name.
+///
+/// # Errors
+///
+/// S5 at a name that nothing has; S8 at that of an array or of a `void` variable.
+pub(crate) fn name_value(place: Place, name: &[u8], scope: &TypeScope) -> Result<Typed, SourceFault>
+    ensures { Answers typed_view result (typing.name_value place name.now (typing.entry_of scope.now.entries name.now)) }
+{
+    match scope.find(name) {
+        None => built_in_value(place, name),
+        Some(declared) => declared_value(place, name, declared),
+    }
+}

@@ -1,0 +1,139 @@
+//! Library calls of one value.
+ghost use Rattle.std.specs.Prelude.{◌≡◌, Some, [], ◌∷◌, IfErr, IfOk};
+ghost use Rattle.gang_model.specs.Types.LibraryTable as table;
+ghost use Rattle.ispc_lexer.specs.declared.fault.SourceFault.TheVariants.{Memory};
+ghost use Rattle.typed_tree.specs.Views.{reduction_view, scan_view};
+ghost use Rattle.type_check_values.specs.Views.{typed_view};
+ghost use Rattle.type_check_library.specs.Calls.{call_of_one_view};
+
+use crate::calls::CallOfOne;
+use crate::types::{reduced_type, truths_type};
+use gang_types::{IntType, Rate, is_bool};
+use ispc_lexer::{SourceFault, boxed};
+use std::alloc::Global;
+use type_check_values::{Typed, boxed_as_type, promoted};
+use typed_tree::{Expr, OneCall, Reduction, Scan};
+
+fn truths_reduced(alloc: Global, function: Reduction, value: Typed) -> Result<Typed, SourceFault>
+    ensures reduced { IfOk result (λ e. typed_view e ≡ table.truths_reduced (reduction_view function) (typed_view value)) }
+    ensures memory { IfErr result (λ fault. fault ≡ Memory) }
+{
+    let value = boxed_as_type(alloc, IntType::Bool, value)?;
+    Ok(Typed {
+        expr: Expr::Reduce {
+            function,
+            value_type: IntType::Bool,
+            value,
+        },
+        value_type: truths_type(function),
+        rate: Rate::Uniform,
+    })
+}
+
+fn numbers_reduced(alloc: Global, function: Reduction, value: Typed) -> Result<Typed, SourceFault>
+    ensures reduced { IfOk result (λ e. typed_view e ≡ table.numbers_reduced (reduction_view function) (typed_view value)) }
+    ensures memory { IfErr result (λ fault. fault ≡ Memory) }
+{
+    let value_type = promoted(value.value_type);
+    let value = boxed_as_type(alloc, value_type, value)?;
+    Ok(Typed {
+        expr: Expr::Reduce {
+            function,
+            value_type,
+            value,
+        },
+        value_type: reduced_type(function, value_type),
+        rate: Rate::Uniform,
+    })
+}
+
+fn lanes_compared(alloc: Global, value: Typed) -> Result<Typed, SourceFault>
+    ensures compared { IfOk result (λ e. Some (typed_view e) ≡ table.library_value table.ComparesLanes (typed_view value ∷ [])) }
+    ensures memory { IfErr result (λ fault. fault ≡ Memory) }
+{
+    Ok(Typed {
+        expr: Expr::Reduce {
+            function: Reduction::ReduceEqual,
+            value_type: value.value_type,
+            value: boxed(alloc, value.expr)?,
+        },
+        value_type: IntType::Bool,
+        rate: Rate::Uniform,
+    })
+}
+
+fn lanes_scanned(alloc: Global, function: Scan, value: Typed) -> Result<Typed, SourceFault>
+    ensures scanned { IfOk result (λ e. Some (typed_view e) ≡ table.library_value (table.Scans (scan_view function)) (typed_view value ∷ [])) }
+    ensures memory { IfErr result (λ fault. fault ≡ Memory) }
+{
+    let value_type = promoted(value.value_type);
+    let value = boxed_as_type(alloc, value_type, value)?;
+    Ok(Typed {
+        expr: Expr::ScanLanes {
+            function,
+            value_type,
+            value,
+        },
+        value_type,
+        rate: Rate::Varying,
+    })
+}
+
+fn ones_counted(alloc: Global, value: Typed) -> Result<Typed, SourceFault>
+    ensures counted { IfOk result (λ e. Some (typed_view e) ≡ table.library_value table.CountsOnes (typed_view value ∷ [])) }
+    ensures memory { IfErr result (λ fault. fault ≡ Memory) }
+{
+    if is_bool(value.value_type) {
+        return truths_reduced(alloc, Reduction::PopCountLanes, value);
+    }
+    Ok(Typed {
+        expr: Expr::OfOne {
+            function: OneCall::PopCount,
+            value_type: value.value_type,
+            value: boxed(alloc, value.expr)?,
+        },
+        value_type: IntType::Int32,
+        rate: value.rate,
+    })
+}
+
+fn magnitude(alloc: Global, value: Typed) -> Result<Typed, SourceFault>
+    ensures magnitude { IfOk result (λ e. Some (typed_view e) ≡ table.library_value table.TakesMagnitude (typed_view value ∷ [])) }
+    ensures memory { IfErr result (λ fault. fault ≡ Memory) }
+{
+    let value_type = promoted(value.value_type);
+    let rate = value.rate;
+    let value = boxed_as_type(alloc, value_type, value)?;
+    Ok(Typed {
+        expr: Expr::OfOne {
+            function: OneCall::Absolute,
+            value_type,
+            value,
+        },
+        value_type,
+        rate,
+    })
+}
+
+/// The expression of a library call with this argument.
+///
+/// # Errors
+///
+/// Want of memory.
+pub(crate) fn value_of_one(
+    alloc: Global,
+    call: CallOfOne,
+    value: Typed,
+) -> Result<Typed, SourceFault>
+    ensures value { IfOk result (λ e. Some (typed_view e) ≡ table.library_value (call_of_one_view call) (typed_view value ∷ [])) }
+    ensures memory { IfErr result (λ fault. fault ≡ Memory) }
+{
+    match call {
+        CallOfOne::ReduceTruths(function) => truths_reduced(alloc, function, value),
+        CallOfOne::ReduceNumbers(function) => numbers_reduced(alloc, function, value),
+        CallOfOne::CompareLanes => lanes_compared(alloc, value),
+        CallOfOne::ScanLanes(function) => lanes_scanned(alloc, function, value),
+        CallOfOne::CountOnes => ones_counted(alloc, value),
+        CallOfOne::TakeMagnitude => magnitude(alloc, value),
+    }
+}

@@ -1,0 +1,121 @@
+//! Library calls of three values.
+ghost use Rattle.std.specs.Prelude.{◌≡◌, Some, [], ◌∷◌, IfErr, IfOk};
+ghost use Rattle.gang_model.specs.Types.LibraryTable as table;
+ghost use Rattle.ispc_lexer.specs.declared.fault.SourceFault.TheVariants.{Memory};
+ghost use Rattle.type_check_values.specs.Views.{typed_view};
+ghost use Rattle.type_check_library.specs.Calls.{call_of_three_view};
+
+use crate::calls::CallOfThree;
+use crate::two_values::{as_index, both_as_type, one_of_two, with_index};
+use crate::types::number_type;
+use gang_types::{IntType, Rate};
+use ispc_lexer::{SourceFault, boxed};
+use std::alloc::Global;
+use type_check_values::{Typed, boxed_as_type, joined, joined_rate, promoted};
+use typed_tree::{Expr, TwoCall};
+
+fn inserted(
+    alloc: Global,
+    value: Typed,
+    index: Typed,
+    new_value: Typed,
+) -> Result<Typed, SourceFault>
+    ensures inserted { IfOk result (λ e. Some (typed_view e) ≡ table.library_value table.Inserts (typed_view value ∷ typed_view index ∷ typed_view new_value ∷ [])) }
+    ensures memory { IfErr result (λ fault. fault ≡ Memory) }
+{
+    let value_type = value.value_type;
+    let (value, index) = with_index(alloc, value.expr, index)?;
+    boxed_as_type(alloc, value_type, new_value).map(|new_value| Typed {
+        expr: Expr::Insert {
+            value,
+            index,
+            new_value,
+        },
+        value_type,
+        rate: Rate::Varying,
+    })
+}
+
+fn shuffled_two(
+    alloc: Global,
+    first: Typed,
+    second: Typed,
+    places: Typed,
+) -> Result<Typed, SourceFault>
+    ensures shuffled { IfOk result (λ e. Some (typed_view e) ≡ table.library_value table.ShufflesTwo (typed_view first ∷ typed_view second ∷ typed_view places ∷ [])) }
+    ensures memory { IfErr result (λ fault. fault ≡ Memory) }
+{
+    let value_type = promoted(joined(first.value_type, second.value_type));
+    let (value, second) = both_as_type(alloc, value_type, first, second)?;
+    as_index(alloc, places).map(|places| Typed {
+        expr: Expr::ShuffleTwo {
+            value,
+            second,
+            places,
+        },
+        value_type,
+        rate: Rate::Varying,
+    })
+}
+
+fn clamped(alloc: Global, value: Typed, low: Typed, high: Typed) -> Result<Typed, SourceFault>
+    ensures clamped { IfOk result (λ e. Some (typed_view e) ≡ table.library_value table.Clamps (typed_view value ∷ typed_view low ∷ typed_view high ∷ [])) }
+    ensures memory { IfErr result (λ fault. fault ≡ Memory) }
+{
+    let value_type = joined(number_type(&value, &low), promoted(high.value_type));
+    let rate = joined_rate(value.rate, joined_rate(low.rate, high.rate));
+    let at_least_low = one_of_two(alloc, TwoCall::Larger, value_type, value, low)?;
+    let left = boxed(alloc, at_least_low)?;
+    let right = boxed_as_type(alloc, value_type, high)?;
+    Ok(Typed {
+        expr: Expr::OfTwo {
+            function: TwoCall::Lesser,
+            value_type,
+            left,
+            right,
+        },
+        value_type,
+        rate,
+    })
+}
+
+fn selected(alloc: Global, test: Typed, first: Typed, second: Typed) -> Result<Typed, SourceFault>
+    ensures selected { IfOk result (λ e. Some (typed_view e) ≡ table.library_value table.Selects (typed_view test ∷ typed_view first ∷ typed_view second ∷ [])) }
+    ensures memory { IfErr result (λ fault. fault ≡ Memory) }
+{
+    let value_type = joined(first.value_type, second.value_type);
+    let rate = joined_rate(test.rate, joined_rate(first.rate, second.rate));
+    let (first, second) = both_as_type(alloc, value_type, first, second)?;
+    boxed_as_type(alloc, IntType::Bool, test).map(|test| Typed {
+        expr: Expr::Select {
+            test,
+            first,
+            second,
+        },
+        value_type,
+        rate,
+    })
+}
+
+/// The expression of a library call with these arguments.
+///
+/// # Errors
+///
+/// Want of memory.
+pub(crate) fn value_of_three(
+    alloc: Global,
+    call: CallOfThree,
+    first: Typed,
+    second: Typed,
+    third: Typed,
+) -> Result<Typed, SourceFault>
+    ensures value { IfOk result (λ e. Some (typed_view e) ≡ table.library_value (call_of_three_view call) (typed_view first ∷ typed_view second ∷ typed_view third ∷ [])) }
+    ensures memory { IfErr result (λ fault. fault ≡ Memory) }
+{
+    match call {
+        CallOfThree::Insert => inserted(alloc, first, second, third),
+        CallOfThree::ShuffleTwo => shuffled_two(alloc, first, second, third),
+        CallOfThree::Clamp => clamped(alloc, first, second, third),
+        CallOfThree::Select => selected(alloc, first, second, third),
+    }
+}

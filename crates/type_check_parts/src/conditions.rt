@@ -1,0 +1,45 @@
+//! Tests.
+ghost use Rattle.std.specs.Prelude.{Some};
+ghost use Rattle.ispc_parser_expressions.specs.Tree.{expr_view};
+ghost use Rattle.gang_model.specs.Types.Statements as model;
+ghost use Rattle.ispc_parser.specs.Tree as parsed;
+ghost use Rattle.typed_tree.specs.Views as typed;
+ghost use Rattle.type_check_scopes.specs.Answers.{Answers};
+
+use ispc_lexer::SourceFault;
+use ispc_parser_expressions::Expr;
+use std::alloc::Global;
+use type_check_expressions::expression;
+use type_check_scopes::TypeScope;
+use type_check_values::as_bool;
+use typed_tree::Expr as TypedExpr;
+
+/// A test, in bool.
+///
+/// # Errors
+///
+/// Its first fault. Want of memory.
+pub fn test_of(alloc: Global, scope: &TypeScope, test: &Expr) -> Result<TypedExpr, SourceFault>
+    ensures { Answers typed.expr_view result (model.test_of scope.now.entries (Some (expr_view test.now))) }
+{
+    let value = expression(alloc, test, scope)?;
+    as_bool(alloc, value)
+}
+
+/// The test of a `for`; an empty one is true.
+///
+/// # Errors
+///
+/// Its first fault. Want of memory.
+pub fn some_test(
+    alloc: Global,
+    scope: &TypeScope,
+    test: &Option<Expr>,
+) -> Result<TypedExpr, SourceFault>
+    ensures { Answers typed.expr_view result (model.test_of scope.now.entries (parsed.option_view expr_view test.now)) }
+{
+    match test {
+        Some(test) => test_of(alloc, scope, test),
+        None => Ok(TypedExpr::Number(1)),
+    }
+}

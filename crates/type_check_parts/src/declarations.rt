@@ -1,0 +1,139 @@
+//! Declarations.
+ghost use Rattle.std.specs.Prelude.{◌≡◌, ◌+◌, ◌++◌, ◌∷◌, [], IfErr, IfOk, OnOk, false, length};
+ghost use Rattle.gang_types.specs.declared.places.Place.{Place};
+ghost use Rattle.gang_types.specs.declared.places.VarId.TheVariants.{Local};
+ghost use Rattle.ispc_parser_expressions.specs.Tree.{expr_view};
+ghost use Rattle.gang_model.specs.Source.Parsed.{ParsedDeclare};
+ghost use Rattle.gang_model.specs.Types.Typing as typing;
+ghost use Rattle.ispc_lexer.specs.declared.fault.SourceFault.TheVariants.{Memory};
+ghost use Rattle.gang_model.specs.Types.Calls as calls;
+ghost use Rattle.gang_model.specs.Types.Statements as model;
+ghost use Rattle.ispc_parser.specs.Tree as parsed;
+ghost use Rattle.typed_tree.specs.Views.{stmt_view, var_view};
+ghost use Rattle.type_check_scopes.specs.Answers.{Answers, both_answers};
+ghost use Rattle.type_check_scopes.specs.Entries.{declared_view};
+ghost use Rattle.type_check_calls.specs.Calls.{context_view};
+ghost use Rattle.type_check_parts.specs.Sequences.{second_part};
+ghost use Rattle.type_check_parts.specs.Typed.{IsTyped};
+
+use crate::answers::Answer;
+use crate::numbering::one_step;
+use crate::targets::variable_of;
+use gang_model::{RefusalNumber, Spec};
+use gang_types::{Place, VarId};
+use ispc_lexer::SourceFault;
+use ispc_names_scopes::fault_if;
+use ispc_parser_expressions::Expr;
+use std::alloc::Global;
+use type_check_calls::{Context, Receiver, right_call, whole_call};
+use type_check_expressions::{first_of, given_value};
+use type_check_scopes::{Declared, TypeScope, both, declared_with, refuse};
+use typed_tree::{ResultFor, Stmt, Var};
+
+/// A declaration with a first value: a call's result, or a value.
+fn first_value(
+    alloc: Global,
+    context: &Context,
+    scope: &TypeScope,
+    variable: Var,
+    value: &Expr,
+    step: usize,
+) -> Result<Stmt, SourceFault>
+    ensures { Answers stmt_view result (model.first_value (calls.whole_call (context_view context.now).functions (expr_view value.now)) (context_view context.now) scope.now.entries (var_view variable) (expr_view value.now) step) }
+{
+    match whole_call(context.functions, value) {
+        Some(call) => {
+            let receiver = Receiver {
+                place: first_of(value),
+                rate: variable.rate,
+                result_for: ResultFor::Declares(variable),
+            };
+            right_call(alloc, context, scope, &call, receiver, step)
+        }
+        None => {
+            let value = given_value(alloc, value, scope, variable.value_type, variable.rate)?;
+            Ok(Stmt::Declare {
+                step,
+                variable,
+                value: Some(value),
+            })
+        }
+    }
+}
+
+/// A declaration, whose value does not find the variable.
+///
+/// # Errors
+///
+/// The first fault of the value. Want of memory.
+fn declaration(
+    alloc: Global,
+    context: &Context,
+    scope: &TypeScope,
+    variable: Var,
+    value: &Option<Expr>,
+    step: usize,
+) -> Result<Stmt, SourceFault>
+    ensures { Answers stmt_view result (model.declaration (context_view context.now) scope.now.entries (var_view variable) (parsed.option_view expr_view value.now) step) }
+{
+    match value {
+        Some(value) => first_value(alloc, context, scope, variable, value, step),
+        None => Ok(Stmt::Declare {
+            step,
+            variable,
+            value: None,
+        }),
+    }
+}
+
+/// The statement, unless it or the name beside it has a fault.
+fn beside(
+    name: Result<(), SourceFault>,
+    stmt: Result<Stmt, SourceFault>,
+) -> Result<Stmt, SourceFault>
+    ensures { result ≡ second_part (both_answers name stmt) }
+{
+    let (_, stmt) = both(name, stmt)?;
+    Ok(stmt)
+}
+
+/// Declares the function's next variable, and gives on what was made before.
+fn then_declare<A: Drop>(
+    alloc: Global,
+    name: &[u8],
+    declared: Declared,
+    scope: &mut TypeScope,
+    made: A,
+) -> Result<A, SourceFault>
+    requires next { declared.id ≡ Local (length scope.old.locals) }
+    ensures made { IfOk result (λ kept. (kept ≡ made) × (scope.new.locals ≡ scope.old.locals ++ (declared_view name.now declared).variable ∷ [])) }
+    ensures entries { OnOk result (scope.new.entries ≡ declared_view name.now declared ∷ scope.old.entries) }
+    ensures memory { IfErr result (λ fault. fault ≡ Memory) }
+{
+    scope.declare(alloc, name, declared)?;
+    Ok(made)
+}
+
+/// A declaration. Its value is typed before the name is in scope.
+pub fn declare(
+    alloc: Global,
+    spec: Spec,
+    place: Place,
+    name: &[u8],
+    value: &Option<Expr>,
+    context: &Context,
+    scope: &mut TypeScope,
+    step: &mut usize,
+) -> Result<Answer<Stmt>, SourceFault>
+    ensures typed { IfOk result (λ answer. (p : Place) → IsTyped stmt_view answer (model.statement (ParsedDeclare p spec place name.now (parsed.option_view expr_view value.now)) (context_view context.now) scope.old.entries (length scope.old.locals) step.old)
+        scope.old.locals scope.new.locals 1) }
+    ensures after { OnOk result (scope.new.entries ≡ typing.declared name.now (Local (length scope.old.locals)) spec false false ∷ scope.old.entries) }
+    ensures steps { OnOk result (step.new ≡ step.old + 1) }
+    ensures memory { IfErr result (λ fault. fault ≡ Memory) }
+{
+    let declared = declared_with(VarId::Local(scope.next()), spec, false, false);
+    let in_name = refuse(fault_if(spec.value_type.is_none(), RefusalNumber::S8, place));
+    let stmt = declaration(alloc, context, scope, variable_of(declared), value, *step);
+    let answer = one_step(beside(in_name, stmt), step)?;
+    then_declare(alloc, name, declared, scope, answer)
+}

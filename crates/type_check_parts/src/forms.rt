@@ -1,0 +1,275 @@
+//! Statements of their parts.
+ghost use Rattle.std.specs.Prelude.{◌≡◌, IfErr, IfOk, Ok, if◌then◌else◌, map};
+ghost use Rattle.gang_model.specs.Types.Tree as tree;
+ghost use Rattle.ispc_lexer.specs.declared.fault.SourceFault.TheVariants.{Memory};
+ghost use Rattle.typed_tree.specs.Views.{dimension_view, expr_view, rounds_view, stmt_view, stmts_view, var_view};
+ghost use Rattle.type_check_values.specs.Views.{typed_view};
+ghost use Rattle.type_check_scopes.specs.Answers.{Answers};
+ghost use Rattle.type_check_calls.specs.Calls.{context_view, whole_call_view};
+ghost use Rattle.type_check_parts.specs.Typed.{seen};
+ghost use Rattle.type_check_parts.specs.Sequences.{call_statement, one_more, type_or_int32, value_rounds};
+
+use crate::answers::{Answer, both_answers, in_order};
+use gang_types::IntType;
+use ispc_lexer::{SourceFault, both_boxed, boxed};
+use std::alloc::Global;
+use type_check_calls::{Context, WholeCall, call_of};
+use type_check_scopes::TypeScope;
+use type_check_values::Typed;
+use typed_tree::{Dimension, Expr, ResultFor, Rounds, Stmt, Var};
+
+/// A call that stands as a statement.
+pub fn called(
+    alloc: Global,
+    context: &Context,
+    scope: &TypeScope,
+    call: &WholeCall,
+    step: usize,
+) -> Result<Stmt, SourceFault>
+    ensures { Answers stmt_view result (call_statement (context_view context.now) scope.now.entries (whole_call_view call.now) step) }
+{
+    let called = call_of(alloc, context, scope, call, ResultFor::Nothing, step)?;
+    Ok(called.stmt)
+}
+
+/// The statements with one more after them.
+pub fn more_statements(
+    first: Answer<Vec<Stmt>>,
+    next: Answer<Stmt>,
+) -> Result<Answer<Vec<Stmt>>, SourceFault>
+    ensures more { IfOk result (λ answer. seen (λ stmts. stmts.items) answer ≡ one_more (seen (λ stmts. stmts.items) first) next) }
+    ensures memory { IfErr result (λ fault. fault ≡ Memory) }
+{
+    match both_answers(first, next) {
+        Ok((mut stmts, next)) => {
+            stmts.push(next)?;
+            Ok(Ok(stmts))
+        }
+        Err(fault) => Ok(Err(fault)),
+    }
+}
+
+/// The statements as one.
+pub fn block(stmts: Answer<Vec<Stmt>>) -> Answer<Stmt>
+    ensures { seen stmt_view result ≡ seen (λ stmts. stmts_view stmts.items) stmts }
+{
+    match stmts {
+        Ok(stmts) => Ok(Stmt::Block(stmts)),
+        Err(fault) => Err(fault),
+    }
+}
+
+/// `if`, with both of its statements.
+fn if_of(
+    alloc: Global,
+    step: usize,
+    test: Expr,
+    first: Stmt,
+    other: Stmt,
+) -> Result<Answer<Stmt>, SourceFault>
+    ensures form { IfOk result (λ answer. seen stmt_view answer ≡ Ok (tree.If step (expr_view test) (stmt_view first) (stmt_view other))) }
+    ensures memory { IfErr result (λ fault. fault ≡ Memory) }
+{
+    both_boxed(alloc, first, other).map(|(first, other)| {
+        Ok(Stmt::If {
+            step,
+            test,
+            first,
+            other,
+        })
+    })
+}
+
+/// `if` without `else`.
+pub fn conditional(
+    alloc: Global,
+    step: usize,
+    parts: Answer<(Expr, Stmt)>,
+) -> Result<Answer<Stmt>, SourceFault>
+    ensures form { IfOk result (λ answer. seen stmt_view answer ≡ seen (λ parts. tree.If step (expr_view parts.0) (stmt_view parts.1) tree.Empty) parts) }
+    ensures memory { IfErr result (λ fault. fault ≡ Memory) }
+{
+    match parts {
+        Ok((test, first)) => if_of(alloc, step, test, first, Stmt::Empty),
+        Err(fault) => Ok(Err(fault)),
+    }
+}
+
+/// `if` with `else`.
+pub fn choice(
+    alloc: Global,
+    step: usize,
+    parts: Answer<(Expr, (Stmt, Stmt))>,
+) -> Result<Answer<Stmt>, SourceFault>
+    ensures form { IfOk result (λ answer. seen stmt_view answer ≡ seen (λ parts. tree.If step (expr_view parts.0) (stmt_view parts.1.0) (stmt_view parts.1.1)) parts) }
+    ensures memory { IfErr result (λ fault. fault ≡ Memory) }
+{
+    match parts {
+        Ok((test, (first, other))) => if_of(alloc, step, test, first, other),
+        Err(fault) => Ok(Err(fault)),
+    }
+}
+
+/// A loop whose test comes first.
+fn loop_of(
+    alloc: Global,
+    step: usize,
+    test: Expr,
+    update: Stmt,
+    body: Stmt,
+) -> Result<Stmt, SourceFault>
+    ensures form { IfOk result (λ stmt. stmt_view stmt ≡ tree.Loop step (expr_view test) (stmt_view update) (stmt_view body)) }
+    ensures memory { IfErr result (λ fault. fault ≡ Memory) }
+{
+    both_boxed(alloc, update, body).map(|(update, body)| Stmt::Loop {
+        step,
+        test,
+        update,
+        body,
+    })
+}
+
+/// `while`.
+pub fn repeated(
+    alloc: Global,
+    step: usize,
+    parts: Answer<(Expr, Stmt)>,
+) -> Result<Answer<Stmt>, SourceFault>
+    ensures form { IfOk result (λ answer. seen stmt_view answer ≡ seen (λ parts. tree.Loop step (expr_view parts.0) tree.Empty (stmt_view parts.1)) parts) }
+    ensures memory { IfErr result (λ fault. fault ≡ Memory) }
+{
+    match parts {
+        Ok((test, body)) => loop_of(alloc, step, test, Stmt::Empty, body).map(|stmt| Ok(stmt)),
+        Err(fault) => Ok(Err(fault)),
+    }
+}
+
+/// `do`.
+pub fn body_first(
+    alloc: Global,
+    step: usize,
+    parts: Answer<(Stmt, Expr)>,
+) -> Result<Answer<Stmt>, SourceFault>
+    ensures form { IfOk result (λ answer. seen stmt_view answer ≡ seen (λ parts. tree.BodyFirst step (expr_view parts.1) (stmt_view parts.0)) parts) }
+    ensures memory { IfErr result (λ fault. fault ≡ Memory) }
+{
+    match parts {
+        Ok((body, test)) => boxed(alloc, body).map(|body| Ok(Stmt::BodyFirst { step, test, body })),
+        Err(fault) => Ok(Err(fault)),
+    }
+}
+
+/// A statement, and the rest of what it begins.
+fn then_of(alloc: Global, first: Stmt, rest: Stmt) -> Result<Answer<Stmt>, SourceFault>
+    ensures form { IfOk result (λ answer. seen stmt_view answer ≡ Ok (tree.Then (stmt_view first) (stmt_view rest))) }
+    ensures memory { IfErr result (λ fault. fault ≡ Memory) }
+{
+    both_boxed(alloc, first, rest).map(|(first, rest)| Ok(Stmt::Then { first, rest }))
+}
+
+/// `for`: its start and its test, its update and its body.
+pub fn started(
+    alloc: Global,
+    step: usize,
+    parts: Answer<((Stmt, Expr), (Stmt, Stmt))>,
+) -> Result<Answer<Stmt>, SourceFault>
+    ensures form { IfOk result (λ answer. seen stmt_view answer ≡ seen (λ parts. tree.Then (stmt_view parts.0.0) (tree.Loop step (expr_view parts.0.1) (stmt_view parts.1.0) (stmt_view parts.1.1))) parts) }
+    ensures memory { IfErr result (λ fault. fault ≡ Memory) }
+{
+    match parts {
+        Ok(((start, test), (update, body))) => {
+            let rest = loop_of(alloc, step, test, update, body);
+            rest.and_then(|rest| then_of(alloc, start, rest))
+        }
+        Err(fault) => Ok(Err(fault)),
+    }
+}
+
+/// The rounds of `foreach_tiled` or of `foreach`.
+fn rows_or_tiles(is_tiled: bool, dimensions: Vec<Dimension>) -> Rounds
+    ensures { rounds_view result ≡ (if is_tiled then tree.Tiles (map dimension_view dimensions.items) else tree.Rows (map dimension_view dimensions.items)) }
+{
+    if is_tiled {
+        Rounds::Tiles(dimensions)
+    } else {
+        Rounds::Rows(dimensions)
+    }
+}
+
+/// A body that is run in rounds.
+fn rounds_of(
+    alloc: Global,
+    step: usize,
+    rounds: Rounds,
+    body: Stmt,
+) -> Result<Answer<Stmt>, SourceFault>
+    ensures form { IfOk result (λ answer. seen stmt_view answer ≡ Ok (tree.ForEach step (rounds_view rounds) (stmt_view body))) }
+    ensures memory { IfErr result (λ fault. fault ≡ Memory) }
+{
+    boxed(alloc, body).map(|body| Ok(Stmt::ForEach { step, rounds, body }))
+}
+
+/// `foreach` and `foreach_tiled`.
+pub fn over_rows(
+    alloc: Global,
+    step: usize,
+    is_tiled: bool,
+    parts: Answer<(Vec<Dimension>, Stmt)>,
+) -> Result<Answer<Stmt>, SourceFault>
+    ensures form { IfOk result (λ answer. seen stmt_view answer ≡ seen (λ parts. tree.ForEach step (if is_tiled then tree.Tiles (map dimension_view parts.0.items) else tree.Rows (map dimension_view parts.0.items)) (stmt_view parts.1)) parts) }
+    ensures memory { IfErr result (λ fault. fault ≡ Memory) }
+{
+    match parts {
+        Ok((dimensions, body)) => {
+            rounds_of(alloc, step, rows_or_tiles(is_tiled, dimensions), body)
+        }
+        Err(fault) => Ok(Err(fault)),
+    }
+}
+
+/// `foreach_active`.
+pub fn over_lanes(
+    alloc: Global,
+    step: usize,
+    index: Var,
+    body: Answer<Stmt>,
+) -> Result<Answer<Stmt>, SourceFault>
+    ensures form { IfOk result (λ answer. seen stmt_view answer ≡ seen (λ body. tree.ForEach step (tree.EachLane (var_view index)) (stmt_view body)) body) }
+    ensures memory { IfErr result (λ fault. fault ≡ Memory) }
+{
+    match body {
+        Ok(body) => rounds_of(alloc, step, Rounds::EachLane(index), body),
+        Err(fault) => Ok(Err(fault)),
+    }
+}
+
+/// The type of a value, which is any where it has a fault.
+pub fn type_of(value: &Answer<Typed>) -> IntType
+    ensures { result ≡ type_or_int32 value.now }
+{
+    match value {
+        Ok(value) => value.value_type,
+        Err(_) => IntType::Int32,
+    }
+}
+
+/// `foreach_unique`, where a fault of the value hides those of the body.
+#[tactic(auto, using(crate::proofs::InOrder::rounds_in_order, crate::proofs::InOrder::fault_in_order))]
+pub fn over_values(
+    alloc: Global,
+    step: usize,
+    index: Var,
+    value: Answer<Typed>,
+    body: Answer<Stmt>,
+) -> Result<Answer<Stmt>, SourceFault>
+    ensures form { IfOk result (λ answer. seen stmt_view answer ≡ value_rounds step (var_view index) (seen typed_view value) (seen stmt_view body)) }
+    ensures memory { IfErr result (λ fault. fault ≡ Memory) }
+{
+    match in_order(value, body) {
+        Ok((value, body)) => {
+            let value = value.expr;
+            rounds_of(alloc, step, Rounds::EachValue { index, value }, body)
+        }
+        Err(fault) => Ok(Err(fault)),
+    }
+}

@@ -1,0 +1,107 @@
+//! What a function gives back.
+ghost use Rattle.std.specs.Prelude.{Some};
+ghost use Rattle.ispc_parser_expressions.specs.Tree.{expr_view};
+ghost use Rattle.gang_model.specs.Types.Statements as model;
+ghost use Rattle.ispc_parser.specs.Tree as parsed;
+ghost use Rattle.typed_tree.specs.Views.{stmt_view};
+ghost use Rattle.type_check_scopes.specs.Answers.{Answers};
+ghost use Rattle.type_check_calls.specs.Calls.{context_view};
+
+use gang_model::{RefusalNumber, SourceRefusal};
+use gang_types::{IntType, Place, Rate};
+use ispc_lexer::SourceFault;
+use ispc_parser_expressions::Expr;
+use std::alloc::Global;
+use type_check_calls::{Context, Receiver, right_call, whole_call};
+use type_check_expressions::{first_of, given_value};
+use type_check_scopes::TypeScope;
+use typed_tree::{ResultFor, Stmt};
+
+/// What is returned with a value of this type and rate: a call's result, or a value.
+fn returned(
+    alloc: Global,
+    context: &Context,
+    scope: &TypeScope,
+    value: &Expr,
+    asked: (IntType, Rate),
+    step: usize,
+) -> Result<Stmt, SourceFault>
+    ensures { Answers stmt_view result (model.returned (context_view context.now) scope.now.entries (expr_view value.now) asked step) }
+{
+    let (value_type, rate) = asked;
+    match whole_call(context.functions, value) {
+        Some(call) => {
+            let receiver = Receiver {
+                place: first_of(value),
+                rate,
+                result_for: ResultFor::Returns,
+            };
+            right_call(alloc, context, scope, &call, receiver, step)
+        }
+        None => {
+            let value = given_value(alloc, value, scope, value_type, rate)?;
+            Ok(Stmt::Return {
+                step,
+                value: Some(value),
+            })
+        }
+    }
+}
+
+/// `return` without a value.
+fn empty_return(context: &Context, place: Place, step: usize) -> Result<Stmt, SourceFault>
+    ensures { Answers stmt_view result (model.empty_return place (context_view context.now).result step) }
+{
+    match context.result {
+        Some(_) => Err(SourceFault::Refused(SourceRefusal {
+            number: RefusalNumber::S8,
+            place,
+        })),
+        None => Ok(Stmt::Return { step, value: None }),
+    }
+}
+
+/// `return` with a value.
+fn value_return(
+    alloc: Global,
+    context: &Context,
+    scope: &TypeScope,
+    value: &Expr,
+    step: usize,
+) -> Result<Stmt, SourceFault>
+    ensures { Answers stmt_view result (model.value_return (context_view context.now) scope.now.entries (expr_view value.now) (context_view context.now).result step) }
+{
+    match context.result {
+        Some(asked) => returned(alloc, context, scope, value, asked, step),
+        None => {
+            let any = (IntType::Int32, Rate::Varying);
+            returned(alloc, context, scope, value, any, step)?;
+            Err(SourceFault::Refused(SourceRefusal {
+                number: RefusalNumber::S8,
+                place: first_of(value),
+            }))
+        }
+    }
+}
+
+/// `return`, with or without a value.
+///
+/// # Errors
+///
+/// The first fault of the value; else S8 at the value's first token in a `void` function, at the keyword where a result is
+/// asked. Want of memory.
+pub fn returning(
+    alloc: Global,
+    context: &Context,
+    scope: &TypeScope,
+    place: Place,
+    value: &Option<Expr>,
+    step: usize,
+) -> Result<Stmt, SourceFault>
+    ensures { Answers stmt_view result (model.returning (context_view context.now) scope.now.entries place (parsed.option_view expr_view value.now) step) }
+{
+    match value {
+        Some(value) => value_return(alloc, context, scope, value, step),
+        None => empty_return(context, place, step),
+    }
+}

@@ -1,0 +1,81 @@
+//! What names declare.
+ghost use Rattle.std.specs.Prelude.{◌≡◌, [], None, Some};
+ghost use Rattle.gang_model.specs.Types.Typing as typing;
+ghost use Rattle.gang_model.specs.Types.Conversions as model;
+ghost use Rattle.type_check_scopes.specs.Entries.{built_in_view, declared_view};
+
+use gang_model::Spec;
+use gang_types::{IntType, Rate, VarId};
+use ispc_names_scopes::is_same;
+use type_check_values::{Typed, declared_rate, declared_type};
+use typed_tree::Expr;
+
+/// What a name declares: its variable, of a type that nothing reads if it is declared `void`.
+#[derive(Clone, Copy, Debug, PartialEq, Eq, Drop)]
+pub struct Declared {
+    pub id: VarId,
+    pub value_type: IntType,
+    pub rate: Rate,
+    pub is_array: bool,
+    pub is_parameter: bool,
+    pub is_constant: bool,
+    pub is_void: bool,
+}
+
+/// A name with what it declares.
+#[derive(Clone, Copy, Debug, PartialEq, Eq, Drop)]
+pub struct Entry<'a> {
+    pub name: &'a [u8],
+    pub declared: Declared,
+}
+
+/// What is declared with a spec.
+pub fn declared_with(id: VarId, spec: Spec, is_array: bool, is_parameter: bool) -> Declared
+    ensures { declared_view [] result ≡ typing.declared [] id spec is_array is_parameter }
+{
+    Declared {
+        id,
+        value_type: declared_type(spec.value_type),
+        rate: declared_rate(spec.rate),
+        is_array,
+        is_parameter,
+        is_constant: spec.is_constant,
+        is_void: spec.value_type.is_none(),
+    }
+}
+
+/// An index variable, which is constant.
+pub fn index_variable(id: VarId, value_type: IntType, rate: Rate) -> Declared
+    ensures { declared_view [] result ≡ typing.index_entry [] id value_type rate }
+{
+    Declared {
+        id,
+        value_type,
+        rate,
+        is_array: false,
+        is_parameter: false,
+        is_constant: true,
+        is_void: false,
+    }
+}
+
+/// `programIndex` and `programCount`, which nothing assigns.
+pub fn built_in(name: &[u8]) -> Option<Typed>
+    ensures { built_in_view result ≡ typing.built_in name.now }
+{
+    if is_same(name, b"programIndex") {
+        Some(Typed {
+            expr: Expr::ProgramIndex,
+            value_type: IntType::Int32,
+            rate: Rate::Varying,
+        })
+    } else if is_same(name, b"programCount") {
+        Some(Typed {
+            expr: Expr::ProgramCount,
+            value_type: IntType::Int32,
+            rate: Rate::Uniform,
+        })
+    } else {
+        None
+    }
+}

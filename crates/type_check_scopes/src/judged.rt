@@ -1,0 +1,43 @@
+//! Parts of a tree that are judged each by itself.
+ghost use Rattle.std.specs.Prelude.{◌≡◌};
+ghost use Rattle.type_check_scopes.specs.Answers.{both_answers, refusal_of};
+
+use gang_model::SourceRefusal;
+use ispc_lexer::SourceFault;
+use ispc_names_scopes::least;
+
+/// What both parts stand for.
+///
+/// # Errors
+///
+/// The lesser fault of the two parts. Want of memory, if one of them wanted it.
+pub fn both<A: Drop, B: Drop>(
+    left: Result<A, SourceFault>,
+    right: Result<B, SourceFault>,
+) -> Result<(A, B), SourceFault>
+    ensures { result ≡ both_answers left right }
+{
+    match (left, right) {
+        (Ok(left), Ok(right)) => Ok((left, right)),
+        (Ok(_), Err(fault)) | (Err(fault), Ok(_)) => Err(fault),
+        (Err(SourceFault::Refused(first)), Err(SourceFault::Refused(second))) => {
+            refuse(least(Some(first), Some(second)))?;
+            Err(SourceFault::Memory)
+        }
+        (Err(_), Err(_)) => Err(SourceFault::Memory),
+    }
+}
+
+/// Goes on where there is no fault.
+///
+/// # Errors
+///
+/// The fault.
+pub fn refuse(fault: Option<SourceRefusal>) -> Result<(), SourceFault>
+    ensures { result ≡ refusal_of fault }
+{
+    match fault {
+        None => Ok(()),
+        Some(fault) => Err(SourceFault::Refused(fault)),
+    }
+}

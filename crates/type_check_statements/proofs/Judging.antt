@@ -1,0 +1,125 @@
+-- How the answers for the parts of a statement make up what is known of the statement.
+use Rattle.std.proofs.Common.{◌≡◌, ℕ, ◌+◌, List, [], ◌++◌, length, refl, sym, ap, subst, ◌∙◌, append_assoc, append-nil, length-append}
+use Rattle.std.specs.Prelude.{Result, Ok, Err}
+use Rattle.gang_model.specs.declared.refusals.SourceRefusal.{SourceRefusal}
+use Rattle.gang_model.specs.Types.Tree.{Stmt, Variable}
+use Rattle.gang_model.specs.Source.Parsed.{ParsedStmt}
+use Rattle.gang_model.specs.Types.Calls.{Context}
+use Rattle.gang_model.specs.Types.Typing.{Scope}
+use Rattle.gang_model.specs.Source.Judged.{Judged, Sound, both, ◌>>=◌, answer_of}
+use Rattle.gang_model.specs.Types.Statements.{Made, made, alone, statement}
+use Rattle.gang_model.proofs.JudgedLaws as laws
+use Rattle.ispc_lexer.specs.declared.fault.SourceFault.{SourceFault}
+use Rattle.type_check_scopes.specs.Answers.{Answers, pair_view}
+use Rattle.type_check_parts.specs.Typed.{apart, seen, IsTyped}
+use Rattle.type_check_parts.proofs.Judging.{answers-apart}
+
+both_seen : {A B C D : Type 0} (f : A → C) (g : B → D) (l : Result A SourceRefusal) (r : Result B SourceRefusal)
+    → laws.both_answers (seen f l) (seen g r) ≡ seen (pair_view f g) (laws.both_answers l r)
+both_seen f g (Ok a) (Ok b) = refl
+both_seen f g (Ok a) (Err fault) = refl
+both_seen f g (Err fault) (Ok b) = refl
+both_seen f g (Err fault) (Err later) = refl
+
+-- two parts that are judged each by itself
+pub seen-both : {A B C D : Type 0} (f : A → C) (g : B → D) (l : Result A SourceRefusal) (r : Result B SourceRefusal) (whole : Result (A × B) SourceRefusal) (j : Judged C) (k : Judged D)
+    → whole ≡ laws.both_answers l r → answer_of j ≡ seen f l → answer_of k ≡ seen g r → answer_of (both j k) ≡ seen (pair_view f g) whole
+seen-both f g l r whole j k w h i =
+    laws.answer_of-both j k ∙ (ap (λ x. laws.both_answers x (answer_of k)) h ∙ (ap (laws.both_answers (seen f l)) i ∙ (both_seen f g l r ∙ ap (seen (pair_view f g)) (sym w))))
+
+-- what is judged of a sound part
+pub sound-then : {A C D : Type 0} (view : A → C) (r : Result A SourceRefusal) (a : A) (j : Judged C) (next : C → Judged D)
+    → answer_of j ≡ seen view r → r ≡ Ok a → answer_of (j >>= next) ≡ answer_of (next (view a))
+sound-then view r a j next h e =
+    laws.answer_of-then j next ∙ ap (λ x. laws.then_answer x (λ y. answer_of (next y))) (h ∙ ap (seen view) e)
+
+-- a part with a fault
+pub faulty-then : {A C D : Type 0} (view : A → C) (r : Result A SourceRefusal) (fault : SourceRefusal) (j : Judged C) (next : C → Judged D)
+    → answer_of j ≡ seen view r → r ≡ Err fault → answer_of (j >>= next) ≡ Err fault
+faulty-then view r fault j next h e =
+    laws.answer_of-then j next ∙ ap (λ x. laws.then_answer x (λ y. answer_of (next y))) (h ∙ ap (seen view) e)
+
+-- a statement whose parts are sound
+pub typed-sound : {A P C : Type 0} (view : A → Stmt) (parts : P → C) (r : Result P SourceRefusal) (p : P) (j : Judged C) (next : C → Judged Made) (z : A)
+    (before after declared : List Variable) (count : ℕ)
+    → answer_of j ≡ seen parts r → r ≡ Ok p → next (parts p) ≡ Sound (made (view z) declared) → after ≡ before ++ declared → length declared ≡ count
+    → IsTyped view (Ok z) (j >>= next) before after count
+typed-sound view parts r p j next z before after declared count h e n v l = record {
+  declared = declared;
+  variables = v;
+  counted = l;
+  answered = sound-then parts r p j next h e ∙ ap answer_of n;
+}
+
+-- a statement with a fault in one of its parts
+pub typed-faulty : {A P C : Type 0} (view : A → Stmt) (parts : P → C) (r : Result P SourceRefusal) (fault : SourceRefusal) (j : Judged C) (next : C → Judged Made)
+    (before after declared : List Variable) (count : ℕ)
+    → answer_of j ≡ seen parts r → r ≡ Err fault → after ≡ before ++ declared → length declared ≡ count
+    → IsTyped view (Err fault) (j >>= next) before after count
+typed-faulty view parts r fault j next before after declared count h e v l = record {
+  declared = declared;
+  variables = v;
+  counted = l;
+  answered = faulty-then parts r fault j next h e;
+}
+
+alone_seen : {A : Type 0} (view : A → Stmt) (answer : Result A SourceRefusal)
+    → laws.then_answer (seen view answer) (λ s. answer_of (alone s)) ≡ seen (λ s. made (view s) []) answer
+alone_seen view (Ok a) = refl
+alone_seen view (Err fault) = refl
+
+-- a statement of one step that declares nothing
+pub typed-alone : {A : Type 0} (view : A → Stmt) (result : Result A SourceFault) (answer : Result A SourceRefusal) (j : Judged Stmt) (before : List Variable)
+    → Answers view result j → Ok answer ≡ apart result → IsTyped view answer (j >>= (λ s. alone s)) before before 0
+typed-alone view result answer j before h e = record {
+  declared = [];
+  variables = sym (append-nil before);
+  counted = refl;
+  answered = laws.answer_of-then j (λ s. alone s) ∙ (ap (λ x. laws.then_answer x (λ s. answer_of (alone s))) (answers-apart view result answer j h e) ∙ alone_seen view answer);
+}
+
+-- the same in the same scope
+pub typed-at : {A : Type 0} (view : A → Stmt) (answer : Result A SourceRefusal) (s : ParsedStmt) (context : Context) (scope scope' : Scope) (k k' step step' : ℕ)
+    (before after : List Variable) (count : ℕ)
+    → IsTyped view answer (statement s context scope k step) before after count → scope ≡ scope' → k ≡ k' → step ≡ step'
+    → IsTyped view answer (statement s context scope' k' step') before after count
+typed-at view answer s context scope scope' k k' step step' before after count h e i n =
+    subst (λ x. IsTyped view answer (statement s context x k' step') before after count) e
+    (subst (λ x. IsTyped view answer (statement s context scope x step') before after count) i
+    (subst (λ x. IsTyped view answer (statement s context scope k x) before after count) n h))
+
+-- the variables of two parts, one after the other
+pub variables-two : {A : Type 0} (l0 l1 l2 xs ys : List A) → l1 ≡ l0 ++ xs → l2 ≡ l1 ++ ys → l2 ≡ l0 ++ (xs ++ ys)
+variables-two l0 l1 l2 xs ys h i = i ∙ (ap (λ l. l ++ ys) h ∙ append_assoc l0 xs ys)
+
+pub length-two : {A : Type 0} (xs ys : List A) (m n : ℕ) → length xs ≡ m → length ys ≡ n → length (xs ++ ys) ≡ m + n
+length-two xs ys m n h i = length-append xs ys ∙ (ap (λ x. x + length ys) h ∙ ap (λ x. m + x) i)
+
+-- how many variables a function has after a statement
+pub next-number : {A : Type 0} (view : A → Stmt) (answer : Result A SourceRefusal) (j : Judged Made) (before after : List Variable) (count : ℕ)
+    → IsTyped view answer j before after count → length after ≡ length before + count
+next-number view answer j before after count h =
+    ap length h.variables ∙ (length-append before h.declared ∙ ap (λ x. length before + x) h.counted)
+
+seen_twice : {A : Type 0} (view : A → Stmt) (declared : List Variable) (answer : Result A SourceRefusal)
+    → seen (λ s. made s declared) (seen view answer) ≡ seen (λ s. made (view s) declared) answer
+seen_twice view declared (Ok a) = refl
+seen_twice view declared (Err fault) = refl
+
+-- a statement that is made of its parts
+pub typed-parts : {A P C : Type 0} (view : A → Stmt) (parts : P → C) (r : Result P SourceRefusal) (j : Judged C) (next : C → Judged Made) (form : P → Stmt) (answer : Result A SourceRefusal)
+    (before after declared : List Variable) (count : ℕ)
+    → answer_of j ≡ seen parts r → seen view answer ≡ seen form r → ((p : P) → next (parts p) ≡ Sound (made (form p) declared))
+    → after ≡ before ++ declared → length declared ≡ count
+    → IsTyped view answer (j >>= next) before after count
+typed-parts {P = P} view parts r j next form answer before after declared count h f n v l = record {
+  declared = declared;
+  variables = v;
+  counted = l;
+  answered = laws.answer_of-then j next ∙ (ap (λ x. laws.then_answer x (λ y. answer_of (next y))) h
+      ∙ (by r ∙ (ap (seen (λ s. made s declared)) (sym f) ∙ seen_twice view declared answer)));
+}
+  where
+    by : (q : Result P SourceRefusal) → laws.then_answer (seen parts q) (λ y. answer_of (next y)) ≡ seen (λ s. made s declared) (seen form q)
+    by (Ok p) = ap answer_of (n p)
+    by (Err fault) = refl

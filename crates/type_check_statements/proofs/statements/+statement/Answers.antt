@@ -1,0 +1,473 @@
+use Rattle.std.proofs.Common.{◌≡◌, ◌∙◌, ◌+◌, ap, drop, length, map, refl, subst, sym}
+use Rattle.std.proofs.lemmas.List.{drop_all, length-map}
+use Rattle.std.proofs.lemmas.Result.{IfOk-weaker}
+use Rattle.std.specs.Prelude.{Some, Ok}
+use Rattle.gang_types.specs.declared.places.VarId.TheVariants.{Local}
+use Rattle.gang_types.specs.declared.types.IntType.TheVariants as int_type
+use Rattle.gang_types.specs.declared.types.Rate.TheVariants.{Uniform}
+use Rattle.ispc_parser_expressions.specs.Tree.{expr_view, args_view}
+use Rattle.gang_model.specs.Source.Judged.{Sound, both}
+use Rattle.gang_model.specs.Running.Numbering.{steps_in}
+use Rattle.gang_model.specs.Names.Scope.{locals_in}
+use Rattle.gang_model.specs.Types.Calls.{WholeCall, call_of}
+use Rattle.gang_model.specs.Types.Tree as tree
+use Rattle.gang_model.specs.Source.Parsed.{ParsedBlock, ParsedDeclare, ParsedAssign, ParsedChange, ParsedIncrement, ParsedDoCall, ParsedBreak, ParsedContinue, ParsedReturn, ParsedIf, ParsedIfElse, ParsedWhile, ParsedDo, ParsedFor, ParsedForEach, ParsedForEachActive, ParsedForEachUnique}
+use Rattle.gang_model.specs.Types.Statements as model
+use Rattle.gang_model.specs.Types.Statements.{test_of}
+use Rattle.gang_model.specs.Types.Typing.{expression, index_entry}
+use Rattle.ispc_parser.specs.declared.tree.Stmt.{If}
+use Rattle.ispc_parser.specs.Tree as parsed
+use Rattle.ispc_parser.proofs.Rows.{view_block}
+use Rattle.typed_tree.specs.Views as typed
+use Rattle.type_check_values.specs.Views.{typed_view}
+use Rattle.typed_tree.specs.declared.statements.Stmt.{Break, Continue}
+use Rattle.type_check_scopes.specs.Answers.{Answers}
+use Rattle.type_check_scopes.specs.Entries.{declared_view}
+use Rattle.type_check_calls.specs.Calls.{context_view, whole_call_view}
+use Rattle.type_check_parts.specs.Changes.{change_of, increment_of}
+use Rattle.type_check_parts.specs.Sequences.{call_statement, type_or_int32}
+use Rattle.type_check_parts.specs.Typed.{seen}
+use Rattle.type_check_parts.proofs.Judging.{answers-apart}
+use Rattle.type_check_parts.proofs.Counted.{next_item}
+use Rattle.type_check_parts.proofs.Named.{index-named}
+use Rattle.type_check_statements.proofs.SingleSteps.{then-alone, typed-form, single-step, typed-as, counted-as, ends-at, empty-statement, in-any-case}
+use Rattle.type_check_statements.proofs.InSequence.{begun-none, begun-next, begun-all, whole-block}
+use Rattle.type_check_statements.proofs.Compound.{if-only, if-else, while-loop, do-loop, for-loop, for-each, in-rounds, for-each-active, for-each-unique}
+use Rattle.type_check_statements.proofs.ScopeSteps.{extends-after, extends-indices, extends-one, extends-same, extends-next, extends-marked, extends-left}
+use Rattle.type_check_statements.proofs.statements.+statement.Goals as goal
+
+-- ---- statements that are scopes of their own
+
+pub inner-leave-requires : goal.inner-leave-requires
+inner-leave-requires t c =
+    let before = c.args.scope.now in
+    let after = c.statement.new.scope in
+    extends-marked before.entries after.entries c.mark-mark.result.declared c.mark-mark.ensures
+    (extends-after (parsed.stmt_view c.args.stmt.now) before.entries after.entries (length before.locals) c.in_ok-answer.ensures.after)
+
+pub inner-returns-clause-after : goal.inner-returns-clause-after
+inner-returns-clause-after t c =
+    let before = c.args.scope.now in
+    let after = c.statement.new.scope in
+    extends-left before.entries after.entries c.leave.new.self.entries c.mark-mark.result.declared c.mark-mark.ensures
+    (extends-after (parsed.stmt_view c.args.stmt.now) before.entries after.entries (length before.locals) c.in_ok-answer.ensures.after) c.leave.ensures.entries
+
+pub inner-returns-clause-typed : goal.inner-returns-clause-typed
+inner-returns-clause-typed t c =
+    let before = c.args.scope.now in
+    ends-at c.in_ok-answer.answer _ before.locals c.statement.new.scope.locals c.leave.new.self.locals _ c.leave.ensures.locals c.in_ok-answer.ensures.typed
+
+-- ---- `if`
+
+pub if_only-returns-clause-typed : goal.if_only-returns-clause-typed
+if_only-returns-clause-typed t c =
+    let scope = c.args.scope.now in
+    let e = expr_view c.args.test.now in
+    IfOk-weaker c.conditional.result _ _ (λ answer form p.
+    if-only p e (parsed.stmt_view c.args.first.now) (context_view c.args.context.now) scope.entries scope.entries scope.locals c.inner.new.scope.locals c.args.step.now _
+    c.in_ok-test.test c.in_ok-first.first answer c.both_answers.result
+    (answers-apart typed.expr_view c.test_of.result c.in_ok-test.test (test_of scope.entries (Some e)) c.test_of.ensures c.in_ok-test.ensures)
+    c.in_ok-first.ensures.typed refl c.in_ok-step.ensures.number c.both_answers.ensures form)
+    c.conditional.ensures.form
+
+pub if_else-returns-clause-typed : goal.if_else-returns-clause-typed
+if_else-returns-clause-typed t c =
+    let scope = c.args.scope.now in
+    let e = expr_view c.args.test.now in
+    IfOk-weaker c.choice.result _ _ (λ answer form p.
+    if-else p e (parsed.stmt_view c.args.first.now) (parsed.stmt_view c.args.other.now) (context_view c.args.context.now) scope.entries scope.entries c.inner.new.scope.entries
+    scope.locals c.inner.new.scope.locals c.inner-2.new.scope.locals c.args.step.now _ _
+    c.in_ok-test.test c.in_ok-first.first c.in_ok-other.other answer c.both_answers.result c.both_answers-2.result
+    (answers-apart typed.expr_view c.test_of.result c.in_ok-test.test (test_of scope.entries (Some e)) c.test_of.ensures c.in_ok-test.ensures)
+    c.in_ok-first.ensures.typed refl c.in_ok-step.ensures.number c.in_ok-other.ensures.typed c.in_ok-first.ensures.after c.in_ok-first.ensures.steps
+    c.both_answers.ensures c.both_answers-2.ensures form)
+    c.choice.ensures.form
+
+-- ---- loops
+
+pub while_loop-returns-clause-typed : goal.while_loop-returns-clause-typed
+while_loop-returns-clause-typed t c =
+    let scope = c.args.scope.now in
+    let e = expr_view c.args.test.now in
+    IfOk-weaker c.repeated.result _ _ (λ answer form p.
+    while-loop p e (parsed.stmt_view c.args.body.now) (context_view c.args.context.now) scope.entries scope.entries scope.locals c.inner.new.scope.locals c.args.step.now c.inner.new.step
+    c.in_ok-test.test c.in_ok-body.body answer c.both_answers.result
+    (answers-apart typed.expr_view c.test_of.result c.in_ok-test.test (test_of scope.entries (Some e)) c.test_of.ensures c.in_ok-test.ensures)
+    c.in_ok-body.ensures.typed refl c.in_ok-body.ensures.steps c.both_answers.ensures form)
+    c.repeated.ensures.form
+
+pub do_loop-returns-clause-typed : goal.do_loop-returns-clause-typed
+do_loop-returns-clause-typed t c =
+    let scope = c.args.scope.now in
+    let entries = c.inner.new.scope.entries in
+    let e = expr_view c.args.test.now in
+    IfOk-weaker c.body_first.result _ _ (λ answer form p.
+    do-loop p e (parsed.stmt_view c.args.body.now) (context_view c.args.context.now) scope.entries entries scope.locals c.inner.new.scope.locals c.args.step.now c.inner.new.step
+    c.in_ok-test.test c.in_ok-body.body answer c.both_answers.result c.in_ok-body.ensures.typed
+    (answers-apart typed.expr_view c.test_of.result c.in_ok-test.test (test_of entries (Some e)) c.test_of.ensures c.in_ok-test.ensures)
+    c.in_ok-body.ensures.after c.in_ok-body.ensures.steps c.both_answers.ensures form)
+    c.body_first.ensures.form
+
+pub for_loop-returns-clause-typed : goal.for_loop-returns-clause-typed
+for_loop-returns-clause-typed t c =
+    let scope = c.args.scope.now in
+    let entries = c.statement.new.scope.entries in
+    let e = parsed.option_view expr_view c.args.test.now in
+    IfOk-weaker c.started.result _ _ (λ answer form p.
+    ends-at answer _ scope.locals c.inner-2.new.scope.locals c.leave.new.self.locals _ c.leave.ensures.locals
+    (for-loop p (parsed.stmt_view c.args.start.now) (parsed.stmt_view c.args.update.now) (parsed.stmt_view c.args.body.now) e (context_view c.args.context.now)
+    scope.entries entries c.inner.new.scope.entries
+    scope.locals c.statement.new.scope.locals c.inner.new.scope.locals c.inner-2.new.scope.locals
+    c.args.step.now c.statement.new.step _ _ c.inner.new.step
+    c.in_ok-test.test c.in_ok-start.start c.in_ok-update.update c.in_ok-body.body answer c.both_answers.result c.both_answers-2.result c.both_answers-parts.result
+    c.in_ok-start.ensures.typed c.in_ok-start.ensures.after c.in_ok-start.ensures.steps
+    (answers-apart typed.expr_view c.some_test.result c.in_ok-test.test (test_of entries e) c.some_test.ensures c.in_ok-test.ensures)
+    c.in_ok-steps_in.ensures.steps c.in_ok-at.ensures.number
+    c.in_ok-update.ensures.typed c.in_ok-update.ensures.after c.in_ok-update.ensures.steps c.in_ok-body.ensures.typed
+    c.both_answers.ensures c.both_answers-2.ensures c.both_answers-parts.ensures form))
+    c.started.ensures.form
+
+pub for_loop-leave-requires : goal.for_loop-leave-requires
+for_loop-leave-requires t c =
+    let scope = c.args.scope.now in
+    let begun = c.statement.new.scope in
+    let after = c.inner-2.new.scope in
+    extends-marked scope.entries after.entries c.mark-mark.result.declared c.mark-mark.ensures
+    (extends-next scope.entries begun.entries after.entries
+    (extends-after (parsed.stmt_view c.args.start.now) scope.entries begun.entries (length scope.locals) c.in_ok-start.ensures.after)
+    (extends-same begun.entries after.entries (c.in_ok-body.ensures.after ∙ c.in_ok-update.ensures.after)))
+
+pub for_loop-returns-clause-after : goal.for_loop-returns-clause-after
+for_loop-returns-clause-after t c =
+    let scope = c.args.scope.now in
+    let begun = c.statement.new.scope in
+    let after = c.inner-2.new.scope in
+    in-any-case c.started.result (extends-left scope.entries after.entries c.leave.new.self.entries c.mark-mark.result.declared c.mark-mark.ensures
+    (extends-next scope.entries begun.entries after.entries
+    (extends-after (parsed.stmt_view c.args.start.now) scope.entries begun.entries (length scope.locals) c.in_ok-start.ensures.after)
+    (extends-same begun.entries after.entries (c.in_ok-body.ensures.after ∙ c.in_ok-update.ensures.after)))
+    c.leave.ensures.entries)
+
+-- ---- `foreach` forms
+
+pub for_each-leave-requires : goal.for_each-leave-requires
+for_each-leave-requires t c =
+    let scope = c.args.scope.now in
+    let after = c.inner.new.scope in
+    extends-marked scope.entries after.entries c.mark-mark.result.declared c.mark-mark.ensures
+    (extends-indices (map parsed.dim_view c.args.dims.now) (length scope.locals) scope.entries after.entries (c.in_ok-body.ensures.after ∙ c.in_ok-declare_indices.ensures.entries))
+
+pub for_each-returns-clause-typed : goal.for_each-returns-clause-typed
+for_each-returns-clause-typed t c =
+    let scope = c.args.scope.now in
+    let inside = c.declare_indices.new.scope in
+    let dims = map parsed.dim_view c.args.dims.now in
+    IfOk-weaker c.over_rows.result _ _ (λ answer form p.
+    ends-at answer _ scope.locals c.inner.new.scope.locals c.leave.new.self.locals _ c.leave.ensures.locals
+    (for-each (λ ds. map typed.dimension_view ds.items) p c.args.is_tiled dims (length c.args.dims.now) (parsed.stmt_view c.args.body.now) (context_view c.args.context.now)
+    scope.entries inside.entries scope.locals inside.locals c.inner.new.scope.locals c.args.step.now _
+    c.in_ok-dimensions.dimensions c.in_ok-body.body answer c.both_answers.result
+    (sym (length-map c.args.dims.now parsed.dim_view)) c.in_ok-dimensions.ensures.dimensions
+    c.in_ok-declare_indices.ensures.entries c.in_ok-declare_indices.ensures.locals c.in_ok-step.ensures.number
+    c.in_ok-body.ensures.typed c.both_answers.ensures form))
+    c.over_rows.ensures.form
+
+pub for_each-returns-clause-after : goal.for_each-returns-clause-after
+for_each-returns-clause-after t c =
+    let scope = c.args.scope.now in
+    let after = c.inner.new.scope in
+    in-any-case c.over_rows.result (extends-left scope.entries after.entries c.leave.new.self.entries c.mark-mark.result.declared c.mark-mark.ensures
+    (extends-indices (map parsed.dim_view c.args.dims.now) (length scope.locals) scope.entries after.entries (c.in_ok-body.ensures.after ∙ c.in_ok-declare_indices.ensures.entries))
+    c.leave.ensures.entries)
+
+pub rounds-leave-requires : goal.rounds-leave-requires
+rounds-leave-requires t c =
+    let scope = c.args.scope.now in
+    let after = c.inner.new.scope in
+    extends-marked scope.entries after.entries c.mark-mark.result.declared c.mark-mark.ensures
+    (extends-one scope.entries after.entries (declared_view c.args.name.now c.args.index) (c.in_ok-body.ensures.after ∙ c.in_ok-declare.ensures.entries))
+
+pub rounds-returns-clause-typed : goal.rounds-returns-clause-typed
+rounds-returns-clause-typed t c =
+    let scope = c.args.scope.now in
+    let inside = c.declare.new.self in
+    ends-at c.in_ok-body.body _ scope.locals c.inner.new.scope.locals c.leave.new.self.locals _ c.leave.ensures.locals
+    (in-rounds (declared_view c.args.name.now c.args.index) (parsed.stmt_view c.args.body.now) (context_view c.args.context.now) scope.entries inside.entries
+    scope.locals inside.locals c.inner.new.scope.locals c.args.step.now _ c.in_ok-body.body
+    c.in_ok-declare.ensures.entries c.in_ok-declare.ensures.locals c.in_ok-step.ensures.number c.in_ok-body.ensures.typed)
+
+pub rounds-returns-clause-after : goal.rounds-returns-clause-after
+rounds-returns-clause-after t c =
+    let scope = c.args.scope.now in
+    let after = c.inner.new.scope in
+    extends-left scope.entries after.entries c.leave.new.self.entries c.mark-mark.result.declared c.mark-mark.ensures
+    (extends-one scope.entries after.entries (declared_view c.args.name.now c.args.index) (c.in_ok-body.ensures.after ∙ c.in_ok-declare.ensures.entries))
+    c.leave.ensures.entries
+
+pub for_each_active-returns-clause-typed : goal.for_each_active-returns-clause-typed
+for_each_active-returns-clause-typed t c =
+    let scope = c.args.scope.now in
+    let name = c.args.name.now in
+    let index = c.index_variable-index.result in
+    IfOk-weaker c.over_lanes.result _ _ (λ answer form p at.
+    for-each-active p at name (parsed.stmt_view c.args.body.now) (context_view c.args.context.now) scope.entries scope.locals c.rounds.new.scope.locals c.args.step.now
+    (declared_view name index) (typed.var_view c.variable_of.result) c.in_ok-body.body answer
+    (index-named name index _ _ _ c.index_variable-index.ensures ∙ ap (λ k. index_entry name (Local k) int_type.Int64 Uniform) c.next.ensures)
+    c.variable_of.ensures c.in_ok-body.ensures.typed form)
+    c.over_lanes.ensures.form
+
+pub for_each_unique-returns-clause-typed : goal.for_each_unique-returns-clause-typed
+for_each_unique-returns-clause-typed t c =
+    let scope = c.args.scope.now in
+    let name = c.args.name.now in
+    let index = c.index_variable-index.result in
+    let e = expr_view c.args.value.now in
+    let k = length scope.locals in
+    IfOk-weaker c.over_values.result _ _ (λ answer form p at.
+    for-each-unique typed_view p at name e (parsed.stmt_view c.args.body.now) (context_view c.args.context.now) scope.entries scope.locals c.rounds.new.scope.locals c.args.step.now
+    (declared_view name index) (typed.var_view c.variable_of.result) c.in_ok-value.value c.in_ok-body.body answer
+    (answers-apart typed_view c.expression.result c.in_ok-value.value (expression e scope.entries) c.expression.ensures c.in_ok-value.ensures)
+    (λ x is. index-named name index _ _ _ c.index_variable-index.ensures
+    ∙ (ap (λ n. index_entry name (Local n) c.type_of-value_type.result Uniform) c.next.ensures
+    ∙ ap (λ ty. index_entry name (Local k) ty Uniform) (c.type_of-value_type.ensures ∙ ap type_or_int32 is)))
+    c.variable_of.ensures c.in_ok-body.ensures.typed form)
+    c.over_values.ensures.form
+
+-- ---- blocks
+
+pub statement-loop-inner-init : goal.statement-loop-inner-init
+statement-loop-inner-init t c =
+    let scope = c.args.scope.now in
+    begun-none (context_view c.args.context.now) (parsed.stmts_view c.deref-inner-items.result.now) _ scope.entries scope.locals c.args.step.now (ap Ok c.new.ensures.items)
+
+pub statement-loop-inner-preserved : goal.statement-loop-inner-preserved
+statement-loop-inner-preserved t c =
+    let scope = c.args.scope.now in
+    let items = c.deref-inner-items.result.now in
+    let i = c.loop-inner.inner-index in
+    let here = c.loop-inner.scope in
+    let there = c.statement.new.scope in
+    begun-next (context_view c.args.context.now) (parsed.stmts_view items) (parsed.stmts_view (drop i items)) (parsed.stmts_view (drop (i + 1) items)) (parsed.stmt_view c.inner-item.result)
+    (seen (λ v. v.items) c.loop-inner.typed) _ c.in_ok-next-in-Block.next scope.entries here.entries there.entries scope.locals here.locals there.locals c.args.step.now c.loop-inner.step _
+    c.loop-inner.invariant (ap parsed.stmts_view (next_item items i c.inner-item.result c.loop-inner-test.true c.inner-item.is))
+    c.in_ok-next-in-Block.ensures.typed c.in_ok-next-in-Block.ensures.after c.in_ok-next-in-Block.ensures.steps c.in_ok-typed-in-Block.ensures.more
+
+-- ---- the forms of a statement
+
+pub statement-returns-in-Empty-clause-typed : goal.statement-returns-in-Empty-clause-typed
+statement-returns-in-Empty-clause-typed t c =
+    let scope = c.args.scope.now in
+    empty-statement (parsed.stmt_view c.args.stmt.now) (context_view c.args.context.now) scope.entries scope.locals c.args.step.now (ap parsed.stmt_view c.in-Empty.is)
+
+pub statement-returns-in-Assign-clause-typed : goal.statement-returns-in-Assign-clause-typed
+statement-returns-in-Assign-clause-typed t c =
+    let scope = c.args.scope.now in
+    let context = context_view c.args.context.now in
+    let s = parsed.stmt_view c.args.stmt.now in
+    single-step c.one_step.result c.assignment.result (model.assignment context scope.entries (parsed.target_view c.in-Assign.target) (expr_view c.in-Assign.value) c.args.step.now) s (ParsedAssign c.in-Assign.place (parsed.target_view c.in-Assign.target) (expr_view c.in-Assign.value))
+    context scope.entries scope.locals c.args.step.now (ap parsed.stmt_view c.in-Assign.is) (refl) refl c.assignment.ensures c.one_step.ensures.answer
+
+pub statement-returns-in-Change-clause-typed : goal.statement-returns-in-Change-clause-typed
+statement-returns-in-Change-clause-typed t c =
+    let scope = c.args.scope.now in
+    let context = context_view c.args.context.now in
+    let s = parsed.stmt_view c.args.stmt.now in
+    let target = parsed.target_view c.in-Change.target in
+    let e = expr_view c.in-Change.value in
+    let aimed = model.target_of scope.entries target.at target.name target.index in
+    single-step c.one_step-in-Change.result c.change.result (change_of scope.entries target c.in-Change.operator e c.args.step.now) s (ParsedChange c.in-Change.place target c.in-Change.operator e)
+    context scope.entries scope.locals c.args.step.now (ap parsed.stmt_view c.in-Change.is) (then-alone (both aimed (model.operand_for (model.rate_of aimed) e scope.entries)) (λ parts. model.changed c.in-Change.operator c.args.step.now parts.0 parts.1)) refl c.change.ensures c.one_step-in-Change.ensures.answer
+
+pub statement-returns-in-Increment-clause-typed : goal.statement-returns-in-Increment-clause-typed
+statement-returns-in-Increment-clause-typed t c =
+    let scope = c.args.scope.now in
+    let context = context_view c.args.context.now in
+    let s = parsed.stmt_view c.args.stmt.now in
+    let target = parsed.target_view c.in-Increment.target in
+    single-step c.one_step-in-Increment.result c.increment.result (increment_of scope.entries target c.in-Increment.operator c.args.step.now) s (ParsedIncrement c.in-Increment.place target c.in-Increment.operator)
+    context scope.entries scope.locals c.args.step.now (ap parsed.stmt_view c.in-Increment.is) (then-alone (model.target_of scope.entries target.at target.name target.index) (λ a. model.changed c.in-Increment.operator c.args.step.now a model.number_one)) refl c.increment.ensures c.one_step-in-Increment.ensures.answer
+
+pub statement-returns-in-Call-clause-typed : goal.statement-returns-in-Call-clause-typed
+statement-returns-in-Call-clause-typed t c =
+    let scope = c.args.scope.now in
+    let context = context_view c.args.context.now in
+    let s = parsed.stmt_view c.args.stmt.now in
+    let call : WholeCall = record { at = c.in-Call.place; name = c.in-Call.name.items; args = args_view c.in-Call.args.items } in
+    let same : whole_call_view (record { place = c.in-Call.place; name = c.deref-in-Call.result; args = c.deref-in-Call-2.result }) ≡ call =
+    ap (λ name. record { at = c.in-Call.place; name = name; args = args_view c.deref-in-Call-2.result.now }) c.deref-in-Call.ensures.value
+    ∙ ap (λ args. record { at = c.in-Call.place; name = c.in-Call.name.items; args = args_view args }) c.deref-in-Call-2.ensures.value in
+    single-step c.one_step-in-Call.result c.called.result (call_statement context scope.entries call c.args.step.now) s (ParsedDoCall c.in-Call.place c.in-Call.name.items (args_view c.in-Call.args.items))
+    context scope.entries scope.locals c.args.step.now (ap parsed.stmt_view c.in-Call.is) (then-alone (call_of context scope.entries c.in-Call.place c.in-Call.name.items (args_view c.in-Call.args.items) tree.Nothing c.args.step.now) (λ x. x.stmt)) refl (subst (λ x. Answers typed.stmt_view c.called.result (call_statement context scope.entries x c.args.step.now)) same c.called.ensures) c.one_step-in-Call.ensures.answer
+
+pub statement-returns-in-Break-clause-typed : goal.statement-returns-in-Break-clause-typed
+statement-returns-in-Break-clause-typed t c =
+    let scope = c.args.scope.now in
+    let context = context_view c.args.context.now in
+    let s = parsed.stmt_view c.args.stmt.now in
+    single-step c.one_step-in-Break.result (Ok (Break c.args.step.now)) (Sound (tree.Break c.args.step.now)) s (ParsedBreak c.in-Break.place)
+    context scope.entries scope.locals c.args.step.now (ap parsed.stmt_view c.in-Break.is) (refl) refl refl c.one_step-in-Break.ensures.answer
+
+pub statement-returns-in-Continue-clause-typed : goal.statement-returns-in-Continue-clause-typed
+statement-returns-in-Continue-clause-typed t c =
+    let scope = c.args.scope.now in
+    let context = context_view c.args.context.now in
+    let s = parsed.stmt_view c.args.stmt.now in
+    single-step c.one_step-in-Continue.result (Ok (Continue c.args.step.now)) (Sound (tree.Continue c.args.step.now)) s (ParsedContinue c.in-Continue.place)
+    context scope.entries scope.locals c.args.step.now (ap parsed.stmt_view c.in-Continue.is) (refl) refl refl c.one_step-in-Continue.ensures.answer
+
+pub statement-returns-in-Return-clause-typed : goal.statement-returns-in-Return-clause-typed
+statement-returns-in-Return-clause-typed t c =
+    let scope = c.args.scope.now in
+    let context = context_view c.args.context.now in
+    let s = parsed.stmt_view c.args.stmt.now in
+    single-step c.one_step-in-Return.result c.returning.result (model.returning context scope.entries c.in-Return.place (parsed.option_view expr_view c.in-Return.value) c.args.step.now) s (ParsedReturn c.in-Return.place (parsed.option_view expr_view c.in-Return.value))
+    context scope.entries scope.locals c.args.step.now (ap parsed.stmt_view c.in-Return.is) (refl) refl c.returning.ensures c.one_step-in-Return.ensures.answer
+
+pub statement-returns-in-Declare-clause-typed : goal.statement-returns-in-Declare-clause-typed
+statement-returns-in-Declare-clause-typed t c =
+    let scope = c.args.scope.now in
+    let s = parsed.stmt_view c.args.stmt.now in
+    let form = ParsedDeclare c.in-Declare.place c.in-Declare.spec c.in-Declare.name_place c.deref.result.now (parsed.option_view expr_view c.in-Declare.value) in
+    let e : s ≡ form =
+    ap parsed.stmt_view c.in-Declare.is ∙ ap (λ x. ParsedDeclare c.in-Declare.place c.in-Declare.spec c.in-Declare.name_place x (parsed.option_view expr_view c.in-Declare.value)) (sym c.deref.ensures.value) in
+    typed-form c.declare.result s form (context_view c.args.context.now) scope.entries (length scope.locals) c.args.step.now scope.locals c.declare.new.scope.locals e
+    (IfOk-weaker c.declare.result _ _ (λ answer h. h c.in-Declare.place) c.declare.ensures.typed)
+
+pub statement-returns-in-None-clause-typed : goal.statement-returns-in-None-clause-typed
+statement-returns-in-None-clause-typed t c =
+    let scope = c.args.scope.now in
+    let s = parsed.stmt_view c.args.stmt.now in
+    let form = ParsedIf c.in-If.place (expr_view c.in-If.test) (parsed.stmt_view c.deref-in-None.result.now) in
+    let e : s ≡ form =
+    ap parsed.stmt_view (c.in-If.is ∙ ap (λ o. If c.in-If.place c.in-If.test c.in-If.first o) c.in-None.is)
+    ∙ ap (λ x. ParsedIf c.in-If.place (expr_view c.in-If.test) (parsed.stmt_view x)) (sym c.deref-in-None.ensures) in
+    typed-form c.if_only.result s form (context_view c.args.context.now) scope.entries (length scope.locals) c.args.step.now scope.locals c.if_only.new.scope.locals e
+    (IfOk-weaker c.if_only.result _ _ (λ answer h. h c.in-If.place) c.if_only.ensures.typed)
+
+pub statement-returns-in-Some-clause-typed : goal.statement-returns-in-Some-clause-typed
+statement-returns-in-Some-clause-typed t c =
+    let scope = c.args.scope.now in
+    let s = parsed.stmt_view c.args.stmt.now in
+    let form = ParsedIfElse c.in-If.place (expr_view c.in-If.test) (parsed.stmt_view c.deref-in-Some.result.now) (parsed.stmt_view c.deref-in-Some-2.result.now) in
+    let e : s ≡ form =
+    ap parsed.stmt_view (c.in-If.is ∙ ap (λ o. If c.in-If.place c.in-If.test c.in-If.first o) c.in-Some.is)
+    ∙ (ap (λ x. ParsedIfElse c.in-If.place (expr_view c.in-If.test) (parsed.stmt_view x) (parsed.stmt_view c.in-Some.other.value)) (sym c.deref-in-Some.ensures)
+    ∙ ap (λ x. ParsedIfElse c.in-If.place (expr_view c.in-If.test) (parsed.stmt_view c.deref-in-Some.result.now) (parsed.stmt_view x)) (sym c.deref-in-Some-2.ensures)) in
+    typed-form c.if_else.result s form (context_view c.args.context.now) scope.entries (length scope.locals) c.args.step.now scope.locals c.if_else.new.scope.locals e
+    (IfOk-weaker c.if_else.result _ _ (λ answer h. h c.in-If.place) c.if_else.ensures.typed)
+
+pub statement-returns-in-While-clause-typed : goal.statement-returns-in-While-clause-typed
+statement-returns-in-While-clause-typed t c =
+    let scope = c.args.scope.now in
+    let s = parsed.stmt_view c.args.stmt.now in
+    let form = ParsedWhile c.in-While.place (expr_view c.in-While.test) (parsed.stmt_view c.deref-in-While.result.now) in
+    let e : s ≡ form =
+    ap parsed.stmt_view c.in-While.is ∙ ap (λ x. ParsedWhile c.in-While.place (expr_view c.in-While.test) (parsed.stmt_view x)) (sym c.deref-in-While.ensures) in
+    typed-form c.while_loop.result s form (context_view c.args.context.now) scope.entries (length scope.locals) c.args.step.now scope.locals c.while_loop.new.scope.locals e
+    (IfOk-weaker c.while_loop.result _ _ (λ answer h. h c.in-While.place) c.while_loop.ensures.typed)
+
+pub statement-returns-in-Do-clause-typed : goal.statement-returns-in-Do-clause-typed
+statement-returns-in-Do-clause-typed t c =
+    let scope = c.args.scope.now in
+    let s = parsed.stmt_view c.args.stmt.now in
+    let form = ParsedDo (parsed.stmt_view c.deref-in-Do.result.now) c.in-Do.place (expr_view c.in-Do.test) in
+    let e : s ≡ form =
+    ap parsed.stmt_view c.in-Do.is ∙ ap (λ x. ParsedDo (parsed.stmt_view x) c.in-Do.place (expr_view c.in-Do.test)) (sym c.deref-in-Do.ensures) in
+    typed-form c.do_loop.result s form (context_view c.args.context.now) scope.entries (length scope.locals) c.args.step.now scope.locals c.do_loop.new.scope.locals e
+    (IfOk-weaker c.do_loop.result _ _ (λ answer h. h c.in-Do.place) c.do_loop.ensures.typed)
+
+pub statement-returns-in-For-clause-typed : goal.statement-returns-in-For-clause-typed
+statement-returns-in-For-clause-typed t c =
+    let scope = c.args.scope.now in
+    let s = parsed.stmt_view c.args.stmt.now in
+    let form = ParsedFor c.in-For.place (parsed.stmt_view c.deref-in-For.result.now) (parsed.option_view expr_view c.in-For.test) (parsed.stmt_view c.deref-in-For-2.result.now) (parsed.stmt_view c.deref-in-For-3.result.now) in
+    let e : s ≡ form =
+    ap parsed.stmt_view c.in-For.is
+    ∙ (ap (λ x. ParsedFor c.in-For.place (parsed.stmt_view x) (parsed.option_view expr_view c.in-For.test) (parsed.stmt_view c.in-For.update.value) (parsed.stmt_view c.in-For.body.value)) (sym c.deref-in-For.ensures)
+    ∙ (ap (λ x. ParsedFor c.in-For.place (parsed.stmt_view c.deref-in-For.result.now) (parsed.option_view expr_view c.in-For.test) (parsed.stmt_view x) (parsed.stmt_view c.in-For.body.value)) (sym c.deref-in-For-2.ensures)
+    ∙ ap (λ x. ParsedFor c.in-For.place (parsed.stmt_view c.deref-in-For.result.now) (parsed.option_view expr_view c.in-For.test) (parsed.stmt_view c.deref-in-For-2.result.now) (parsed.stmt_view x)) (sym c.deref-in-For-3.ensures))) in
+    typed-form c.for_loop.result s form (context_view c.args.context.now) scope.entries (length scope.locals) c.args.step.now scope.locals c.for_loop.new.scope.locals e
+    (IfOk-weaker c.for_loop.result _ _ (λ answer h. h c.in-For.place) c.for_loop.ensures.typed)
+
+pub statement-returns-in-ForEach-clause-typed : goal.statement-returns-in-ForEach-clause-typed
+statement-returns-in-ForEach-clause-typed t c =
+    let scope = c.args.scope.now in
+    let s = parsed.stmt_view c.args.stmt.now in
+    let form = ParsedForEach c.in-ForEach.place c.in-ForEach.is_tiled (map parsed.dim_view c.deref-in-ForEach.result.now) (parsed.stmt_view c.deref-in-ForEach-2.result.now) in
+    let e : s ≡ form =
+    ap parsed.stmt_view c.in-ForEach.is
+    ∙ (ap (λ x. ParsedForEach c.in-ForEach.place c.in-ForEach.is_tiled (map parsed.dim_view x) (parsed.stmt_view c.in-ForEach.body.value)) (sym c.deref-in-ForEach.ensures.value)
+    ∙ ap (λ x. ParsedForEach c.in-ForEach.place c.in-ForEach.is_tiled (map parsed.dim_view c.deref-in-ForEach.result.now) (parsed.stmt_view x)) (sym c.deref-in-ForEach-2.ensures)) in
+    typed-form c.for_each.result s form (context_view c.args.context.now) scope.entries (length scope.locals) c.args.step.now scope.locals c.for_each.new.scope.locals e
+    (IfOk-weaker c.for_each.result _ _ (λ answer h. counted-as answer _ scope.locals c.for_each.new.scope.locals _ _ (ap (λ n. n + locals_in (parsed.stmt_view c.deref-in-ForEach-2.result.now)) (sym (length-map c.deref-in-ForEach.result.now parsed.dim_view))) (h c.in-ForEach.place)) c.for_each.ensures.typed)
+
+pub statement-returns-in-ForEachActive-clause-typed : goal.statement-returns-in-ForEachActive-clause-typed
+statement-returns-in-ForEachActive-clause-typed t c =
+    let scope = c.args.scope.now in
+    let s = parsed.stmt_view c.args.stmt.now in
+    let form = ParsedForEachActive c.in-ForEachActive.place c.in-ForEachActive.name_place c.deref-in-ForEachActive.result.now (parsed.stmt_view c.deref-in-ForEachActive-2.result.now) in
+    let e : s ≡ form =
+    ap parsed.stmt_view c.in-ForEachActive.is
+    ∙ (ap (λ x. ParsedForEachActive c.in-ForEachActive.place c.in-ForEachActive.name_place x (parsed.stmt_view c.in-ForEachActive.body.value)) (sym c.deref-in-ForEachActive.ensures.value)
+    ∙ ap (λ x. ParsedForEachActive c.in-ForEachActive.place c.in-ForEachActive.name_place c.deref-in-ForEachActive.result.now (parsed.stmt_view x)) (sym c.deref-in-ForEachActive-2.ensures)) in
+    typed-form c.for_each_active.result s form (context_view c.args.context.now) scope.entries (length scope.locals) c.args.step.now scope.locals c.for_each_active.new.scope.locals e
+    (IfOk-weaker c.for_each_active.result _ _ (λ answer h. h c.in-ForEachActive.place c.in-ForEachActive.name_place) c.for_each_active.ensures.typed)
+
+pub statement-returns-in-ForEachUnique-clause-typed : goal.statement-returns-in-ForEachUnique-clause-typed
+statement-returns-in-ForEachUnique-clause-typed t c =
+    let scope = c.args.scope.now in
+    let s = parsed.stmt_view c.args.stmt.now in
+    let form = ParsedForEachUnique c.in-ForEachUnique.place c.in-ForEachUnique.name_place c.deref-in-ForEachUnique.result.now (expr_view c.in-ForEachUnique.value) (parsed.stmt_view c.deref-in-ForEachUnique-2.result.now) in
+    let e : s ≡ form =
+    ap parsed.stmt_view c.in-ForEachUnique.is
+    ∙ (ap (λ x. ParsedForEachUnique c.in-ForEachUnique.place c.in-ForEachUnique.name_place x (expr_view c.in-ForEachUnique.value) (parsed.stmt_view c.in-ForEachUnique.body.value)) (sym c.deref-in-ForEachUnique.ensures.value)
+    ∙ ap (λ x. ParsedForEachUnique c.in-ForEachUnique.place c.in-ForEachUnique.name_place c.deref-in-ForEachUnique.result.now (expr_view c.in-ForEachUnique.value) (parsed.stmt_view x)) (sym c.deref-in-ForEachUnique-2.ensures)) in
+    typed-form c.for_each_unique.result s form (context_view c.args.context.now) scope.entries (length scope.locals) c.args.step.now scope.locals c.for_each_unique.new.scope.locals e
+    (IfOk-weaker c.for_each_unique.result _ _ (λ answer h. h c.in-ForEachUnique.place c.in-ForEachUnique.name_place) c.for_each_unique.ensures.typed)
+
+pub statement-leave-requires : goal.statement-leave-requires
+statement-leave-requires t c =
+    let scope = c.args.scope.now in
+    let items = c.deref-inner-items.result.now in
+    let i = c.loop-inner.inner-index in
+    let whole = begun-all (context_view c.args.context.now) (parsed.stmts_view items) (parsed.stmts_view (drop i items)) (seen (λ v. v.items) c.loop-inner.typed) scope.entries c.loop-inner.scope.entries
+    scope.locals c.loop-inner.scope.locals c.args.step.now c.loop-inner.step c.loop-inner.invariant (ap parsed.stmts_view (drop_all i items c.loop-inner-test.false)) in
+    extends-marked scope.entries c.loop-inner.scope.entries c.mark-mark.result.declared c.mark-mark.ensures whole.extends
+
+pub statement-returns-after-loop-inner-clause-typed : goal.statement-returns-after-loop-inner-clause-typed
+statement-returns-after-loop-inner-clause-typed t c =
+    let scope = c.args.scope.now in
+    let items = c.deref-inner-items.result.now in
+    let i = c.loop-inner.inner-index in
+    let context = context_view c.args.context.now in
+    let whole = begun-all context (parsed.stmts_view items) (parsed.stmts_view (drop i items)) (seen (λ v. v.items) c.loop-inner.typed) scope.entries c.loop-inner.scope.entries
+    scope.locals c.loop-inner.scope.locals c.args.step.now c.loop-inner.step c.loop-inner.invariant (ap parsed.stmts_view (drop_all i items c.loop-inner-test.false)) in
+    let e : parsed.stmt_view c.args.stmt.now ≡ ParsedBlock (parsed.stmts_view items) =
+    ap parsed.stmt_view c.in-Block.is ∙ (view_block c.in-Block.stmts ∙ ap (λ xs. ParsedBlock (parsed.stmts_view xs)) (sym c.deref-inner-items.ensures.value)) in
+    typed-as c.block.result (parsed.stmt_view c.args.stmt.now) (ParsedBlock (parsed.stmts_view items)) context scope.entries (length scope.locals) c.args.step.now scope.locals c.leave.new.self.locals e
+    (ends-at c.block.result _ scope.locals c.loop-inner.scope.locals c.leave.new.self.locals _ c.leave.ensures.locals
+    (whole-block context (parsed.stmts_view items) c.loop-inner.typed c.block.result scope.entries c.loop-inner.scope.entries scope.locals c.loop-inner.scope.locals c.args.step.now c.loop-inner.step whole c.block.ensures))
+
+pub statement-returns-after-loop-inner-clause-after : goal.statement-returns-after-loop-inner-clause-after
+statement-returns-after-loop-inner-clause-after t c =
+    let scope = c.args.scope.now in
+    let items = c.deref-inner-items.result.now in
+    let i = c.loop-inner.inner-index in
+    let k = length scope.locals in
+    let whole = begun-all (context_view c.args.context.now) (parsed.stmts_view items) (parsed.stmts_view (drop i items)) (seen (λ v. v.items) c.loop-inner.typed) scope.entries c.loop-inner.scope.entries
+    scope.locals c.loop-inner.scope.locals c.args.step.now c.loop-inner.step c.loop-inner.invariant (ap parsed.stmts_view (drop_all i items c.loop-inner-test.false)) in
+    let e : parsed.stmt_view c.args.stmt.now ≡ ParsedBlock (parsed.stmts_view items) =
+    ap parsed.stmt_view c.in-Block.is ∙ (view_block c.in-Block.stmts ∙ ap (λ xs. ParsedBlock (parsed.stmts_view xs)) (sym c.deref-inner-items.ensures.value)) in
+    extends-left scope.entries c.loop-inner.scope.entries c.leave.new.self.entries c.mark-mark.result.declared c.mark-mark.ensures whole.extends c.leave.ensures.entries
+    ∙ sym (ap (λ s. model.scope_after s scope.entries k) e)
+
+pub statement-returns-after-loop-inner-clause-steps : goal.statement-returns-after-loop-inner-clause-steps
+statement-returns-after-loop-inner-clause-steps t c =
+    let scope = c.args.scope.now in
+    let items = c.deref-inner-items.result.now in
+    let i = c.loop-inner.inner-index in
+    let whole = begun-all (context_view c.args.context.now) (parsed.stmts_view items) (parsed.stmts_view (drop i items)) (seen (λ v. v.items) c.loop-inner.typed) scope.entries c.loop-inner.scope.entries
+    scope.locals c.loop-inner.scope.locals c.args.step.now c.loop-inner.step c.loop-inner.invariant (ap parsed.stmts_view (drop_all i items c.loop-inner-test.false)) in
+    let e : parsed.stmt_view c.args.stmt.now ≡ ParsedBlock (parsed.stmts_view items) =
+    ap parsed.stmt_view c.in-Block.is ∙ (view_block c.in-Block.stmts ∙ ap (λ xs. ParsedBlock (parsed.stmts_view xs)) (sym c.deref-inner-items.ensures.value)) in
+    whole.numbered ∙ sym (ap (λ s. c.args.step.now + steps_in s) e)

@@ -1,0 +1,41 @@
+//! The body of a function.
+ghost use Rattle.std.specs.Prelude.{◌≡◌, length};
+ghost use Rattle.gang_model.specs.Types.Statements as model;
+ghost use Rattle.ispc_parser.specs.Tree as parsed;
+ghost use Rattle.typed_tree.specs.Views.{stmts_view};
+ghost use Rattle.type_check_calls.specs.Calls.{context_view};
+ghost use Rattle.type_check_parts.specs.Makes.{IfAnswered, Makes};
+
+use crate::statements::statement;
+use ispc_lexer::SourceFault;
+use ispc_parser::Stmt as ParsedStmt;
+use std::alloc::Global;
+use type_check_calls::Context;
+use type_check_parts::{joined, more_statements};
+use type_check_scopes::TypeScope;
+use typed_tree::Stmt;
+
+/// The typed form of a function's body, whose steps are numbered from 0. Its variables come after the parameters.
+///
+/// # Errors
+///
+/// The first of its faults S5 and S7 to S10. Want of memory.
+pub fn typed_body(
+    alloc: Global,
+    stmts: &[ParsedStmt],
+    context: &Context,
+    scope: &mut TypeScope,
+) -> Result<Vec<Stmt>, SourceFault>
+    ensures makes { Makes (λ made. stmts_view made.items) result scope.old.locals scope.new.locals (model.statements (parsed.stmts_view stmts.now) (context_view context.now) scope.old.entries (length scope.old.locals) 0) }
+    ensures entries { IfAnswered result (scope.new.entries ≡ scope.old.entries) }
+{
+    let mark = scope.mark();
+    let mut step = 0;
+    let mut typed = Ok(Vec::new(alloc));
+    for stmt in stmts {
+        let next = statement(alloc, stmt, context, scope, &mut step)?;
+        typed = more_statements(typed, next)?;
+    }
+    scope.leave(mark);
+    joined(typed)
+}

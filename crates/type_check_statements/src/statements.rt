@@ -1,0 +1,381 @@
+//! Statements.
+ghost use Rattle.std.specs.Prelude.{◌≡◌, ◌+◌, ◌∷◌, IfErr, IfOk, OnOk, length, map, suc};
+ghost use Rattle.gang_types.specs.declared.places.Place.{Place};
+ghost use Rattle.gang_types.specs.declared.places.VarId.TheVariants.{Local};
+ghost use Rattle.ispc_parser_expressions.specs.Tree.{expr_view};
+ghost use Rattle.gang_model.specs.Running.Numbering.{steps_in};
+ghost use Rattle.gang_model.specs.Source.Parsed.{ParsedFor, ParsedForEach, ParsedForEachActive, ParsedForEachUnique, ParsedIf, ParsedIfElse, ParsedWhile, ParsedDo};
+ghost use Rattle.gang_model.specs.Names.Scope.{locals_in};
+ghost use Rattle.gang_model.specs.Types.Statements as model;
+ghost use Rattle.ispc_lexer.specs.declared.fault.SourceFault.TheVariants.{Memory};
+ghost use Rattle.ispc_parser.specs.Tree as parsed;
+ghost use Rattle.typed_tree.specs.Views.{stmt_view};
+ghost use Rattle.type_check_calls.specs.Calls.{context_view};
+ghost use Rattle.type_check_scopes.specs.Entries.{declared_view};
+ghost use Rattle.type_check_parts.specs.Typed.{IsTyped, with_index};
+
+use gang_types::{IntType, Rate, VarId};
+use ispc_lexer::SourceFault;
+use ispc_parser::{Dim, Stmt as ParsedStmt};
+use ispc_parser_expressions::Expr;
+use std::alloc::Global;
+use type_check_calls::{Context, WholeCall};
+use type_check_expressions::expression;
+use type_check_parts::{
+    Answer, advanced, assignment, block, body_first, both_answers, called, change, choice,
+    conditional, declare, declare_indices, dimensions, increment, more_statements, one_step,
+    over_lanes, over_rows, over_values, repeated, returning, set_apart, some_test, started,
+    steps_in, test_of, type_of, variable_of,
+};
+use type_check_scopes::{Declared, TypeScope, index_variable};
+use typed_tree::Stmt;
+
+/// The typed form of a statement. What it declares is in scope then, and the step is that of the next statement; so also where
+/// it has a fault.
+#[cycle(statement)]
+pub(crate) fn statement(
+    alloc: Global,
+    stmt: &ParsedStmt,
+    context: &Context,
+    scope: &mut TypeScope,
+    step: &mut usize,
+) -> Result<Answer<Stmt>, SourceFault>
+    ensures typed { IfOk result (λ answer. IsTyped stmt_view answer (model.statement (parsed.stmt_view stmt.now) (context_view context.now) scope.old.entries (length scope.old.locals) step.old)
+        scope.old.locals scope.new.locals (locals_in (parsed.stmt_view stmt.now))) }
+    ensures after { OnOk result (scope.new.entries ≡ model.scope_after (parsed.stmt_view stmt.now) scope.old.entries (length scope.old.locals)) }
+    ensures steps { OnOk result (step.new ≡ step.old + steps_in (parsed.stmt_view stmt.now)) }
+    ensures memory { IfErr result (λ fault. fault ≡ Memory) }
+{
+    match stmt {
+        ParsedStmt::Empty => Ok(Ok(Stmt::Empty)),
+        ParsedStmt::Block(stmts) => {
+            let mark = scope.mark();
+            let mut typed: Answer<Vec<Stmt>> = Ok(Vec::new(alloc));
+            for inner in stmts {
+                let next = statement(alloc, inner, context, scope, step)?;
+                typed = more_statements(typed, next)?;
+            }
+            scope.leave(mark);
+            Ok(block(typed))
+        }
+        ParsedStmt::Declare {
+            spec,
+            name_place,
+            name,
+            value,
+            ..
+        } => declare(alloc, *spec, *name_place, name, value, context, scope, step),
+        ParsedStmt::Assign { target, value, .. } => one_step(
+            assignment(alloc, context, scope, target, value, *step),
+            step,
+        ),
+        ParsedStmt::Change {
+            target,
+            operator,
+            value,
+            ..
+        } => one_step(change(alloc, scope, target, *operator, value, *step), step),
+        ParsedStmt::Increment {
+            target,
+            operator,
+            ..
+        } => one_step(increment(alloc, scope, target, *operator, *step), step),
+        ParsedStmt::Call { place, name, args } => {
+            let call = WholeCall {
+                place: *place,
+                name,
+                args,
+            };
+            one_step(called(alloc, context, scope, &call, *step), step)
+        }
+        ParsedStmt::Break { .. } => one_step(Ok(Stmt::Break { step: *step }), step),
+        ParsedStmt::Continue { .. } => one_step(Ok(Stmt::Continue { step: *step }), step),
+        ParsedStmt::Return { place, value } => one_step(
+            returning(alloc, context, scope, *place, value, *step),
+            step,
+        ),
+        ParsedStmt::If {
+            test,
+            first,
+            other,
+            ..
+        } => match other {
+            Some(other) => if_else(alloc, test, first, other, context, scope, step),
+            None => if_only(alloc, test, first, context, scope, step),
+        },
+        ParsedStmt::While { test, body, .. } => {
+            while_loop(alloc, test, body, context, scope, step)
+        }
+        ParsedStmt::Do { body, test, .. } => do_loop(alloc, body, test, context, scope, step),
+        ParsedStmt::For {
+            start,
+            test,
+            update,
+            body,
+            ..
+        } => for_loop(alloc, start, test, update, body, context, scope, step),
+        ParsedStmt::ForEach {
+            is_tiled,
+            dims,
+            body,
+            ..
+        } => for_each(alloc, *is_tiled, dims, body, context, scope, step),
+        ParsedStmt::ForEachActive { name, body, .. } => {
+            for_each_active(alloc, name, body, context, scope, step)
+        }
+        ParsedStmt::ForEachUnique {
+            name,
+            value,
+            body,
+            ..
+        } => for_each_unique(alloc, name, value, body, context, scope, step),
+    }
+}
+
+/// A statement that is a scope of its own.
+#[cycle(statement)]
+fn inner(
+    alloc: Global,
+    stmt: &ParsedStmt,
+    context: &Context,
+    scope: &mut TypeScope,
+    step: &mut usize,
+) -> Result<Answer<Stmt>, SourceFault>
+    ensures typed { IfOk result (λ answer. IsTyped stmt_view answer (model.statement (parsed.stmt_view stmt.now) (context_view context.now) scope.old.entries (length scope.old.locals) step.old)
+        scope.old.locals scope.new.locals (locals_in (parsed.stmt_view stmt.now))) }
+    ensures after { OnOk result (scope.new.entries ≡ scope.old.entries) }
+    ensures steps { OnOk result (step.new ≡ step.old + steps_in (parsed.stmt_view stmt.now)) }
+    ensures memory { IfErr result (λ fault. fault ≡ Memory) }
+{
+    let mark = scope.mark();
+    let answer = statement(alloc, stmt, context, scope, step)?;
+    scope.leave(mark);
+    Ok(answer)
+}
+
+/// `if` without `else`.
+#[cycle(statement)]
+fn if_only(
+    alloc: Global,
+    test: &Expr,
+    first: &ParsedStmt,
+    context: &Context,
+    scope: &mut TypeScope,
+    step: &mut usize,
+) -> Result<Answer<Stmt>, SourceFault>
+    ensures typed { IfOk result (λ answer. (p : Place) → IsTyped stmt_view answer (model.statement (ParsedIf p (expr_view test.now) (parsed.stmt_view first.now)) (context_view context.now) scope.old.entries (length scope.old.locals) step.old)
+        scope.old.locals scope.new.locals (locals_in (parsed.stmt_view first.now))) }
+    ensures after { OnOk result (scope.new.entries ≡ scope.old.entries) }
+    ensures steps { OnOk result (step.new ≡ step.old + (1 + steps_in (parsed.stmt_view first.now))) }
+    ensures memory { IfErr result (λ fault. fault ≡ Memory) }
+{
+    let at = *step;
+    *step = advanced(at, 1)?;
+    let test = set_apart(test_of(alloc, scope, test))?;
+    let first = inner(alloc, first, context, scope, step)?;
+    conditional(alloc, at, both_answers(test, first))
+}
+
+/// `if` with `else`.
+#[cycle(statement)]
+fn if_else(
+    alloc: Global,
+    test: &Expr,
+    first: &ParsedStmt,
+    other: &ParsedStmt,
+    context: &Context,
+    scope: &mut TypeScope,
+    step: &mut usize,
+) -> Result<Answer<Stmt>, SourceFault>
+    ensures typed { IfOk result (λ answer. (p : Place) → IsTyped stmt_view answer (model.statement (ParsedIfElse p (expr_view test.now) (parsed.stmt_view first.now) (parsed.stmt_view other.now)) (context_view context.now) scope.old.entries (length scope.old.locals) step.old)
+        scope.old.locals scope.new.locals (locals_in (parsed.stmt_view first.now) + locals_in (parsed.stmt_view other.now))) }
+    ensures after { OnOk result (scope.new.entries ≡ scope.old.entries) }
+    ensures steps { OnOk result (step.new ≡ step.old + (1 + steps_in (parsed.stmt_view first.now) + steps_in (parsed.stmt_view other.now))) }
+    ensures memory { IfErr result (λ fault. fault ≡ Memory) }
+{
+    let at = *step;
+    *step = advanced(at, 1)?;
+    let test = set_apart(test_of(alloc, scope, test))?;
+    let first = inner(alloc, first, context, scope, step)?;
+    let other = inner(alloc, other, context, scope, step)?;
+    choice(alloc, at, both_answers(test, both_answers(first, other)))
+}
+
+/// `while`.
+#[cycle(statement)]
+fn while_loop(
+    alloc: Global,
+    test: &Expr,
+    body: &ParsedStmt,
+    context: &Context,
+    scope: &mut TypeScope,
+    step: &mut usize,
+) -> Result<Answer<Stmt>, SourceFault>
+    ensures typed { IfOk result (λ answer. (p : Place) → IsTyped stmt_view answer (model.statement (ParsedWhile p (expr_view test.now) (parsed.stmt_view body.now)) (context_view context.now) scope.old.entries (length scope.old.locals) step.old)
+        scope.old.locals scope.new.locals (locals_in (parsed.stmt_view body.now))) }
+    ensures after { OnOk result (scope.new.entries ≡ scope.old.entries) }
+    ensures steps { OnOk result (step.new ≡ step.old + (steps_in (parsed.stmt_view body.now) + 1)) }
+    ensures memory { IfErr result (λ fault. fault ≡ Memory) }
+{
+    let test = set_apart(test_of(alloc, scope, test))?;
+    let body = inner(alloc, body, context, scope, step)?;
+    let at = *step;
+    *step = advanced(at, 1)?;
+    repeated(alloc, at, both_answers(test, body))
+}
+
+/// `do`.
+#[cycle(statement)]
+fn do_loop(
+    alloc: Global,
+    body: &ParsedStmt,
+    test: &Expr,
+    context: &Context,
+    scope: &mut TypeScope,
+    step: &mut usize,
+) -> Result<Answer<Stmt>, SourceFault>
+    ensures typed { IfOk result (λ answer. (p : Place) → IsTyped stmt_view answer (model.statement (ParsedDo (parsed.stmt_view body.now) p (expr_view test.now)) (context_view context.now) scope.old.entries (length scope.old.locals) step.old)
+        scope.old.locals scope.new.locals (locals_in (parsed.stmt_view body.now))) }
+    ensures after { OnOk result (scope.new.entries ≡ scope.old.entries) }
+    ensures steps { OnOk result (step.new ≡ step.old + (steps_in (parsed.stmt_view body.now) + 1)) }
+    ensures memory { IfErr result (λ fault. fault ≡ Memory) }
+{
+    let body = inner(alloc, body, context, scope, step)?;
+    let test = set_apart(test_of(alloc, scope, test))?;
+    let at = *step;
+    *step = advanced(at, 1)?;
+    body_first(alloc, at, both_answers(body, test))
+}
+
+/// `for`. The update is numbered after the body, and its variables come before the body's.
+#[cycle(statement)]
+fn for_loop(
+    alloc: Global,
+    start: &ParsedStmt,
+    test: &Option<Expr>,
+    update: &ParsedStmt,
+    body: &ParsedStmt,
+    context: &Context,
+    scope: &mut TypeScope,
+    step: &mut usize,
+) -> Result<Answer<Stmt>, SourceFault>
+    ensures typed { IfOk result (λ answer. (p : Place) → IsTyped stmt_view answer (model.statement (ParsedFor p (parsed.stmt_view start.now) (parsed.option_view expr_view test.now) (parsed.stmt_view update.now) (parsed.stmt_view body.now)) (context_view context.now) scope.old.entries (length scope.old.locals) step.old)
+        scope.old.locals scope.new.locals (locals_in (parsed.stmt_view start.now) + locals_in (parsed.stmt_view update.now) + locals_in (parsed.stmt_view body.now))) }
+    ensures after { OnOk result (scope.new.entries ≡ scope.old.entries) }
+    ensures steps { OnOk result (step.new ≡ step.old + (steps_in (parsed.stmt_view start.now) + steps_in (parsed.stmt_view body.now) + steps_in (parsed.stmt_view update.now) + 1)) }
+    ensures memory { IfErr result (λ fault. fault ≡ Memory) }
+{
+    let mark = scope.mark();
+    let start = statement(alloc, start, context, scope, step)?;
+    let test = set_apart(some_test(alloc, scope, test))?;
+    let mut at = advanced(*step, steps_in(body)?)?;
+    let update = inner(alloc, update, context, scope, &mut at)?;
+    let body = inner(alloc, body, context, scope, step)?;
+    scope.leave(mark);
+    *step = advanced(at, 1)?;
+    let parts = both_answers(both_answers(start, test), both_answers(update, body));
+    started(alloc, at, parts)
+}
+
+/// `foreach` and `foreach_tiled`.
+#[cycle(statement)]
+fn for_each(
+    alloc: Global,
+    is_tiled: bool,
+    dims: &[Dim],
+    body: &ParsedStmt,
+    context: &Context,
+    scope: &mut TypeScope,
+    step: &mut usize,
+) -> Result<Answer<Stmt>, SourceFault>
+    ensures typed { IfOk result (λ answer. (p : Place) → IsTyped stmt_view answer (model.statement (ParsedForEach p is_tiled (map parsed.dim_view dims.now) (parsed.stmt_view body.now)) (context_view context.now) scope.old.entries (length scope.old.locals) step.old)
+        scope.old.locals scope.new.locals (length dims.now + locals_in (parsed.stmt_view body.now))) }
+    ensures after { OnOk result (scope.new.entries ≡ scope.old.entries) }
+    ensures steps { OnOk result (step.new ≡ step.old + (steps_in (parsed.stmt_view body.now) + 2)) }
+    ensures memory { IfErr result (λ fault. fault ≡ Memory) }
+{
+    let at = *step;
+    *step = advanced(at, 1)?;
+    let dimensions = dimensions(alloc, scope, dims)?;
+    let mark = scope.mark();
+    declare_indices(alloc, dims, scope)?;
+    let body = inner(alloc, body, context, scope, step)?;
+    scope.leave(mark);
+    *step = advanced(*step, 1)?;
+    over_rows(alloc, at, is_tiled, both_answers(dimensions, body))
+}
+
+/// The body of `foreach_active` or `foreach_unique`, in the scope of its index variable, with the steps of its head and rounds.
+#[cycle(statement)]
+fn rounds(
+    alloc: Global,
+    name: &[u8],
+    index: Declared,
+    body: &ParsedStmt,
+    context: &Context,
+    scope: &mut TypeScope,
+    step: &mut usize,
+) -> Result<Answer<Stmt>, SourceFault>
+    requires next { index.id ≡ Local (length scope.old.locals) }
+    ensures typed { IfOk result (λ answer. IsTyped stmt_view answer (with_index (declared_view name.now index) (model.statement (parsed.stmt_view body.now) (context_view context.now) (declared_view name.now index ∷ scope.old.entries) (suc (length scope.old.locals)) (step.old + 1)))
+        scope.old.locals scope.new.locals (1 + locals_in (parsed.stmt_view body.now))) }
+    ensures after { OnOk result (scope.new.entries ≡ scope.old.entries) }
+    ensures steps { OnOk result (step.new ≡ step.old + (steps_in (parsed.stmt_view body.now) + 2)) }
+    ensures memory { IfErr result (λ fault. fault ≡ Memory) }
+{
+    *step = advanced(*step, 1)?;
+    let mark = scope.mark();
+    scope.declare(alloc, name, index)?;
+    let body = inner(alloc, body, context, scope, step)?;
+    scope.leave(mark);
+    *step = advanced(*step, 1)?;
+    Ok(body)
+}
+
+/// `foreach_active`.
+#[cycle(statement)]
+fn for_each_active(
+    alloc: Global,
+    name: &[u8],
+    body: &ParsedStmt,
+    context: &Context,
+    scope: &mut TypeScope,
+    step: &mut usize,
+) -> Result<Answer<Stmt>, SourceFault>
+    ensures typed { IfOk result (λ answer. (p at : Place) → IsTyped stmt_view answer (model.statement (ParsedForEachActive p at name.now (parsed.stmt_view body.now)) (context_view context.now) scope.old.entries (length scope.old.locals) step.old)
+        scope.old.locals scope.new.locals (1 + locals_in (parsed.stmt_view body.now))) }
+    ensures after { OnOk result (scope.new.entries ≡ scope.old.entries) }
+    ensures steps { OnOk result (step.new ≡ step.old + (steps_in (parsed.stmt_view body.now) + 2)) }
+    ensures memory { IfErr result (λ fault. fault ≡ Memory) }
+{
+    let at = *step;
+    let index = index_variable(VarId::Local(scope.next()), IntType::Int64, Rate::Uniform);
+    let body = rounds(alloc, name, index, body, context, scope, step)?;
+    over_lanes(alloc, at, variable_of(index), body)
+}
+
+/// `foreach_unique`. Where its value has a fault the body is typed all the same, so that its variables and steps are numbered,
+/// but none of its faults counts.
+#[cycle(statement)]
+fn for_each_unique(
+    alloc: Global,
+    name: &[u8],
+    value: &Expr,
+    body: &ParsedStmt,
+    context: &Context,
+    scope: &mut TypeScope,
+    step: &mut usize,
+) -> Result<Answer<Stmt>, SourceFault>
+    ensures typed { IfOk result (λ answer. (p at : Place) → IsTyped stmt_view answer (model.statement (ParsedForEachUnique p at name.now (expr_view value.now) (parsed.stmt_view body.now)) (context_view context.now) scope.old.entries (length scope.old.locals) step.old)
+        scope.old.locals scope.new.locals (1 + locals_in (parsed.stmt_view body.now))) }
+    ensures after { OnOk result (scope.new.entries ≡ scope.old.entries) }
+    ensures steps { OnOk result (step.new ≡ step.old + (steps_in (parsed.stmt_view body.now) + 2)) }
+    ensures memory { IfErr result (λ fault. fault ≡ Memory) }
+{
+    let at = *step;
+    let value = set_apart(expression(alloc, value, scope))?;
+    let value_type = type_of(&value);
+    let index = index_variable(VarId::Local(scope.next()), value_type, Rate::Uniform);
+    let body = rounds(alloc, name, index, body, context, scope, step)?;
+    over_values(alloc, at, variable_of(index), value, body)
+}

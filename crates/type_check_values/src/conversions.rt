@@ -1,0 +1,77 @@
+//! Conversions that are written out.
+ghost use Rattle.std.specs.Prelude.{◌≡◌, IfErr, IfOk};
+ghost use Rattle.gang_model.specs.Types.Conversions as model;
+ghost use Rattle.ispc_lexer.specs.declared.fault.SourceFault.TheVariants.{Memory};
+ghost use Rattle.typed_tree.specs.Views.{expr_view};
+ghost use Rattle.type_check_values.specs.Views.{typed_view};
+
+use crate::typed::Typed;
+use crate::types::same_type;
+use gang_types::{BinaryOp, IntType};
+use ispc_lexer::{SourceFault, boxed};
+use std::alloc::Global;
+use typed_tree::Expr;
+
+/// The expression, converted to a type.
+///
+/// # Errors
+///
+/// Want of memory.
+pub fn as_type(alloc: Global, to: IntType, value: Typed) -> Result<Expr, SourceFault>
+    ensures converted { IfOk result (λ e. expr_view e ≡ model.as_type to (typed_view value)) }
+    ensures memory { IfErr result (λ fault. fault ≡ Memory) }
+{
+    if same_type(value.value_type, to) {
+        return Ok(value.expr);
+    }
+    let operand = boxed(alloc, value.expr)?;
+    Ok(Expr::Convert {
+        from: value.value_type,
+        to,
+        operand,
+    })
+}
+
+/// The expression, converted to a type, in a box.
+///
+/// # Errors
+///
+/// Want of memory.
+pub fn boxed_as_type(alloc: Global, to: IntType, value: Typed) -> Result<Box<Expr>, SourceFault>
+    ensures converted { IfOk result (λ e. expr_view e.value ≡ model.as_type to (typed_view value)) }
+    ensures memory { IfErr result (λ fault. fault ≡ Memory) }
+{
+    boxed(alloc, as_type(alloc, to, value)?)
+}
+
+/// The expression, converted to bool.
+///
+/// # Errors
+///
+/// Want of memory.
+pub fn as_bool(alloc: Global, value: Typed) -> Result<Expr, SourceFault>
+    ensures converted { IfOk result (λ e. expr_view e ≡ model.as_bool (typed_view value)) }
+    ensures memory { IfErr result (λ fault. fault ≡ Memory) }
+{
+    as_type(alloc, IntType::Bool, value)
+}
+
+/// The right operand in an operation's type; a shift's amount keeps its own.
+///
+/// # Errors
+///
+/// Want of memory.
+pub fn right_operand(
+    alloc: Global,
+    operator: BinaryOp,
+    made_in: IntType,
+    value: Typed,
+) -> Result<Expr, SourceFault>
+    ensures operand { IfOk result (λ e. expr_view e ≡ model.right_operand operator made_in (typed_view value)) }
+    ensures memory { IfErr result (λ fault. fault ≡ Memory) }
+{
+    match operator {
+        BinaryOp::Shl | BinaryOp::Shr => Ok(value.expr),
+        _ => as_type(alloc, made_in, value),
+    }
+}
