@@ -3,7 +3,7 @@ use gang_types::{BinaryOp, IntType, UnaryOp};
 use typed_tree::{OneCall, TwoCall, Var};
 
 /// What needs no operand.
-#[derive(Clone, Copy, Debug, PartialEq, Eq, Drop)]
+#[derive(Clone, Copy, Drop)]
 pub enum Leaf {
     Number(u64),
     ProgramIndex,
@@ -13,7 +13,7 @@ pub enum Leaf {
 }
 
 /// What takes one vector and gives one.
-#[derive(Clone, Copy, Debug, PartialEq, Eq, Drop)]
+#[derive(Clone, Copy, Drop)]
 pub enum OneOperand {
     Unary(UnaryOp, IntType),
     Convert(IntType, IntType),
@@ -21,7 +21,7 @@ pub enum OneOperand {
 }
 
 /// What takes two vectors and gives one.
-#[derive(Clone, Copy, Debug, PartialEq, Eq, Drop)]
+#[derive(Clone, Copy, Drop)]
 pub enum TwoOperands {
     Binary(BinaryOp, IntType),
     OfTwo(TwoCall, IntType),
@@ -29,7 +29,7 @@ pub enum TwoOperands {
 
 /// Which lanes a part is run with: those where the top vector holds, those where it does not, and those where the
 /// vector below the top does not.
-#[derive(Clone, Copy, Debug, PartialEq, Eq, Drop)]
+#[derive(Clone, Copy, Drop)]
 pub enum Gate {
     WhereTrue,
     WhereFalse,
@@ -37,7 +37,7 @@ pub enum Gate {
 }
 
 /// How a part's vector is joined to those below it.
-#[derive(Clone, Copy, Debug, PartialEq, Eq, Drop)]
+#[derive(Clone, Copy, Drop)]
 pub enum Joining {
     Both,
     Either,
@@ -45,7 +45,7 @@ pub enum Joining {
 }
 
 /// One instruction. A gate says how many instructions are passed where no lane is left for them.
-#[derive(Clone, Copy, Debug, PartialEq, Eq, Drop)]
+#[derive(Clone, Copy, Drop)]
 pub enum Instruction {
     Push(Leaf),
     One(OneOperand),

@@ -6,7 +6,7 @@ use Rattle.std.specs.Prelude.{nat_lt, is_some, Option, Some, None, Result, Ok, E
 use Rattle.gang_model.specs.declared.refusals.RefusalNumber.{RefusalNumber}
 use Rattle.gang_types.specs.declared.places.Place.{Place}
 use Rattle.gang_model.specs.declared.refusals.SourceRefusal.{SourceRefusal}
-use Rattle.gang_model.specs.Source.Judged.{Judged, Sound, Faulty, faults_of, unless, both, ◌>>=◌, or_own, rank, is_less, lesser, least_of, least_fault, answer_of, fault_if}
+use Rattle.gang_model.specs.Source.Judged.{Judged, Sound, Faulty, faults_of, unless, both, ◌>>=◌, or_own, rank, is_less, lesser, least_of, least_fault, answer_of, fault_if, merged, or_later, both_answers, then_answer}
 
 -- the order on a line, a column and a number
 abbrev below : (l c n l' c' n' : ℕ) → Bool
@@ -81,22 +81,27 @@ pub least_of-append : (a : SourceRefusal) (others : List SourceRefusal) (b : Sou
 least_of-append a [] b more = least_of-cons a b more
 least_of-append a (c ∷ others) b more = least_of-append (lesser a c) others b more
 
--- the lesser of two faults, where each may be there or not
-abbrev pub merged : Option SourceRefusal → Option SourceRefusal → Option SourceRefusal
-merged None later = later
-merged (Some a) None = Some a
-merged (Some a) (Some b) = Some (lesser a b)
-
 -- the least of two lists together
 pub least_fault-append : (faults more : List SourceRefusal) → least_fault (faults ++ more) ≡ merged (least_fault faults) (least_fault more)
 least_fault-append [] more = refl
 least_fault-append (a ∷ others) [] = ap (λ xs. Some (least_of a xs)) (append-nil others)
 least_fault-append (a ∷ others) (b ∷ more) = ap Some (least_of-append a others b more)
 
--- the least of a part's own faults, where there are none inside
-abbrev pub or_later : Option SourceRefusal → Option SourceRefusal → Option SourceRefusal
-or_later None own = own
-or_later (Some a) own = Some a
+-- the lesser of two faults, where each may be there or not
+pub merged-none : (a : Option SourceRefusal) → merged a None ≡ a
+merged-none None = refl
+merged-none (Some a) = refl
+
+pub merged-assoc : (a b c : Option SourceRefusal) → merged (merged a b) c ≡ merged a (merged b c)
+merged-assoc None b c = refl
+merged-assoc (Some a) None c = refl
+merged-assoc (Some a) (Some b) None = refl
+merged-assoc (Some a) (Some b) (Some c) = ap Some (lesser-assoc a b c)
+
+-- the least fault of two lists, from that of each
+pub in_pair : (xs ys : List SourceRefusal) (a b r : Option SourceRefusal) → a ≡ least_fault xs → b ≡ least_fault ys → r ≡ merged a b → r ≡ least_fault (xs ++ ys)
+in_pair xs ys a b r left right whole =
+    whole ∙ (ap (λ x. merged x b) left ∙ (ap (merged (least_fault xs)) right ∙ sym (least_fault-append xs ys)))
 
 pub least_fault-or_own : (inside own : List SourceRefusal) → least_fault (or_own inside own) ≡ or_later (least_fault inside) (least_fault own)
 least_fault-or_own [] own = refl
@@ -104,23 +109,11 @@ least_fault-or_own (a ∷ others) own = refl
 
 -- ---- answers
 
--- the answers for two parts together
-abbrev pub both_answers : {A B : Type 0} → Result A SourceRefusal → Result B SourceRefusal → Result (A × B) SourceRefusal
-both_answers (Ok a) (Ok b) = Ok (a, b)
-both_answers (Ok a) (Err f) = Err f
-both_answers (Err f) (Ok b) = Err f
-both_answers (Err f) (Err g) = Err (lesser f g)
-
 pub answer_of-both : {A B : Type 0} (a : Judged A) (b : Judged B) → answer_of (both a b) ≡ both_answers (answer_of a) (answer_of b)
 answer_of-both (Sound a) (Sound b) = refl
 answer_of-both (Sound a) (Faulty first others) = refl
 answer_of-both (Faulty first others) (Sound b) = refl
 answer_of-both (Faulty first others) (Faulty second more) = ap Err (least_of-append first others second more)
-
--- an answer, and what is asked only where it is no fault
-abbrev pub then_answer : {A B : Type 0} → Result A SourceRefusal → (A → Result B SourceRefusal) → Result B SourceRefusal
-then_answer (Ok a) next = next a
-then_answer (Err f) next = Err f
 
 pub answer_of-then : {A B : Type 0} (a : Judged A) (next : A → Judged B) → answer_of (a >>= next) ≡ then_answer (answer_of a) (λ x. answer_of (next x))
 answer_of-then (Sound a) next = refl

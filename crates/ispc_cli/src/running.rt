@@ -20,7 +20,7 @@ use debug_machine::{AnswerWriter, CommandReader, READS};
 use debug_session::Session;
 use gang_machine::open;
 use ispc_compiler::{Compiled, compile_source};
-use ispc_lexer::SourceFault;
+use source_answers::SourceFault;
 use std::alloc::Global;
 use transcript::{LoopEnd, answer_lines};
 

@@ -13,8 +13,8 @@ use Rattle.gang_model.specs.Types.SourceRefusals.{IsAccepted, first_refusal, nam
 use Rattle.gang_model.specs.Source.Sources.{IsTreeNumber}
 use Rattle.gang_model.specs.Source.SpellsSource.{IsTree}
 use Rattle.gang_model.specs.Source.Tokens.{Lexeme}
-use Rattle.ispc_lexer.specs.declared.fault.SourceFault.{SourceFault}
-use Rattle.ispc_lexer.specs.declared.fault.SourceFault.TheVariants.{Memory, Refused}
+use Rattle.source_answers.specs.declared.fault.SourceFault.{SourceFault}
+use Rattle.source_answers.specs.declared.fault.SourceFault.TheVariants.{Memory, Refused}
 use Rattle.ispc_lexer.specs.Refusal.{IsRefusal as IsLexerRefusal}
 use Rattle.ispc_parser.specs.Refusals.{IsRefusal as IsParserRefusal}
 use Rattle.ispc_parser_expressions.specs.Parse.{IsParserNumber}

@@ -9,8 +9,8 @@ use Rattle.gang_model.specs.Texts.Run.{source_refusal}
 use Rattle.gang_model.specs.Source.Sources.{HasNoEntry, IsProgramOf, IsRightRefusal, ReadsAs}
 use Rattle.scalar_programs.specs.Scalars.{IsScalarProgram}
 use Rattle.typed_tree.specs.Views.{program_view}
-use Rattle.ispc_lexer.specs.declared.fault.SourceFault.{SourceFault}
-use Rattle.ispc_lexer.specs.declared.fault.SourceFault.TheVariants.{Memory, Refused}
+use Rattle.source_answers.specs.declared.fault.SourceFault.{SourceFault}
+use Rattle.source_answers.specs.declared.fault.SourceFault.TheVariants.{Memory, Refused}
 use Rattle.ispc_compiler.specs.declared.front.Compiled.{Compiled}
 
 -- a program that the machine runs from its entry on

@@ -8,16 +8,17 @@ ghost use Rattle.ispc_compiler.specs.Front.{Compiles, GivesTree, IsFault, IsRefu
 use crate::forms::check_forms;
 use gang_model::{RefusalNumber, SourceRefusal};
 use gang_types::{FuncId, Place};
-use ispc_lexer::{SourceFault, source_end, tokens};
+use ispc_lexer::{source_end, tokens};
 use ispc_names::resolve;
 use ispc_parser::{Tree, parse};
+use source_answers::SourceFault;
 use source_limits::limit_refusal;
 use std::alloc::Global;
 use type_check::{check, entry_of};
 use typed_tree::Program;
 
 /// A program, and the function that its run begins with.
-#[derive(Debug, Drop)]
+#[derive(Drop)]
 pub struct Compiled {
     pub program: Program,
     pub entry: FuncId,

@@ -2,7 +2,7 @@
 use crate::compile_source;
 use gang_model::{RefusalNumber, SourceRefusal};
 use gang_types::{FuncId, Place};
-use ispc_lexer::SourceFault;
+use source_answers::SourceFault;
 use std::alloc::Global;
 use std::test::*;
 

@@ -6,8 +6,8 @@ use Rattle.gang_model.specs.declared.refusals.RefusalNumber.{RefusalNumber}
 use Rattle.gang_model.specs.declared.refusals.SourceRefusal.{SourceRefusal}
 use Rattle.gang_model.specs.Source.Tokens.{Lexeme}
 use Rattle.gang_model.specs.Source.Lexes.{first_place, max_source, Lexes, IsFirstFault}
-use Rattle.ispc_lexer.specs.declared.fault.SourceFault.{SourceFault}
-use Rattle.ispc_lexer.specs.declared.fault.SourceFault.TheVariants as fault
+use Rattle.source_answers.specs.declared.fault.SourceFault.{SourceFault}
+use Rattle.source_answers.specs.declared.fault.SourceFault.TheVariants as fault
 use Rattle.ispc_lexer.specs.Source.{Gives, lexed}
 use Rattle.ispc_lexer.specs.Refusal.{IsRefusal}
 use Rattle.ispc_lexer.proofs.Lexed.{fine, ok_is, err_is, lex_sound, lex_fault, lex_complete, lex_stuck}

@@ -5,8 +5,8 @@ use Rattle.gang_model.specs.declared.refusals.RefusalNumber.{RefusalNumber}
 use Rattle.gang_model.specs.declared.refusals.RefusalNumber.TheVariants.{S13}
 use Rattle.gang_model.specs.Source.Tokens.{Lexeme}
 use Rattle.gang_model.specs.Source.Lexes.{Lexes, IsFirstFault, first_place, max_source}
-use Rattle.ispc_lexer.specs.declared.fault.SourceFault.{SourceFault}
-use Rattle.ispc_lexer.specs.declared.fault.SourceFault.TheVariants as fault
+use Rattle.source_answers.specs.declared.fault.SourceFault.{SourceFault}
+use Rattle.source_answers.specs.declared.fault.SourceFault.TheVariants as fault
 
 -- the first fault, no other one being it, of a source that no tokens spell
 pub record IsOnlyFault (source : List ℕ) (n : RefusalNumber) (p : Place) : Type 0 where

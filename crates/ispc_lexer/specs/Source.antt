@@ -4,8 +4,8 @@ use Rattle.gang_types.specs.declared.places.Place.{Place}
 use Rattle.gang_model.specs.declared.refusals.SourceRefusal.{SourceRefusal}
 use Rattle.gang_model.specs.Source.Tokens.{Lexeme}
 use Rattle.gang_model.specs.Source.Lexes.{place_after, fault_at}
-use Rattle.ispc_lexer.specs.declared.fault.SourceFault.{SourceFault}
-use Rattle.ispc_lexer.specs.declared.fault.SourceFault.TheVariants as fault
+use Rattle.source_answers.specs.declared.fault.SourceFault.{SourceFault}
+use Rattle.source_answers.specs.declared.fault.SourceFault.TheVariants as fault
 use Rattle.ispc_lexer.specs.Numbers.{is_nil}
 use Rattle.ispc_lexer.specs.Pieces.{if_some, piece_of, Shape, shape}
 

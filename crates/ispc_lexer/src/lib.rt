@@ -1,7 +1,6 @@
 //! The tokens of a source.
 #![tactic(auto)]
 
-mod fault;
 mod letters;
 mod marks;
 mod numbers;
@@ -10,7 +9,6 @@ mod places;
 mod source;
 mod token;
 
-pub use fault::{SourceFault, both_boxed, boxed};
 pub use places::source_end;
 pub use source::tokens;
 pub use token::{Kind, Number, Token};

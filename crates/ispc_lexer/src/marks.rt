@@ -98,7 +98,7 @@ const PUNCTUATION: [Mark; 44] = [
 ];
 
 /// The bytes of a mark or a reserved word.
-#[tactic(auto, unfolding(gang_model::specs::Spelling::text_of))]
+#[tactic(auto, unfolding(gang_model::specs::Source::Spelling::text_of))]
 pub fn text_of(mark: Mark) -> &'static [u8]
     ensures { result.now ≡ spelling.text_of mark }
 {

@@ -5,11 +5,11 @@ ghost use Rattle.ispc_lexer.specs.Pieces as spec;
 ghost use Rattle.ispc_lexer.specs.Steps.{step_view};
 ghost use Rattle.ispc_lexer.specs.Views.{sort_of};
 
-use crate::fault::SourceFault;
 use crate::letters::{is_blank, is_digit, is_word, line_len, word_len};
 use crate::marks::{longest_mark, reserved, text_of};
 use crate::numbers::number_of;
 use crate::token::Kind;
+use source_answers::SourceFault;
 use std::alloc::Global;
 
 /// A piece: its token, if it is no blank and no comment, and how many bytes it has.

@@ -7,13 +7,13 @@ ghost use Rattle.ispc_lexer.specs.Source as spec;
 ghost use Rattle.ispc_lexer.specs.Steps.{step_view};
 ghost use Rattle.ispc_lexer.specs.Views.{lexeme_of, lexemes_of};
 
-use crate::fault::SourceFault;
 use crate::letters::is_digit;
 use crate::pieces::{Step, first_step};
 use crate::places::{FIRST, place_after};
 use crate::token::Token;
 use gang_model::{RefusalNumber, SourceRefusal};
 use gang_types::Place;
+use source_answers::SourceFault;
 use std::alloc::Global;
 
 const MAX_SOURCE: usize = 65536;

@@ -3,7 +3,7 @@ use Rattle.std.proofs.Common.{◌≡◌, List, [], ◌∷◌, ◌++◌, Bool, tr
 use Rattle.std.specs.List.{list_any}
 use Rattle.gang_model.specs.declared.refusals.RefusalNumber.TheVariants.{S6}
 use Rattle.gang_model.specs.declared.refusals.SourceRefusal.{SourceRefusal}
-use Rattle.gang_model.specs.Source.Judged.{fault_if, least_fault}
+use Rattle.gang_model.specs.Source.Judged.{fault_if, least_fault, merged}
 use Rattle.gang_model.specs.Types.LibraryTable.{is_among}
 use Rattle.gang_model.specs.Names.NameFaults.{globals_twice, functions_twice}
 use Rattle.gang_model.specs.Source.Names.{same_text}
@@ -11,7 +11,7 @@ use Rattle.gang_model.specs.Source.Parsed.{Name, ParsedGlobal, ParsedFunction}
 use Rattle.gang_model.specs.Names.Scope.{is_built_in}
 use Rattle.gang_model.specs.Types.Signatures.{same_signature}
 use Rattle.ispc_names_faults.specs.SignatureKeys.{signature_key}
-use Rattle.gang_model.proofs.JudgedLaws.{merged, least_fault-append}
+use Rattle.gang_model.proofs.JudgedLaws.{least_fault-append}
 use Rattle.ispc_names_faults.proofs.Merging.{Fault, one_more}
 use Rattle.ispc_names_faults.proofs.Keys.{same_key}
 

@@ -6,15 +6,15 @@ use Rattle.std.specs.List.{flat_map}
 use Rattle.gang_types.specs.declared.places.Place.{Place}
 use Rattle.gang_model.specs.declared.refusals.RefusalNumber.TheVariants.{S6, S11}
 use Rattle.gang_model.specs.declared.refusals.SourceRefusal.{SourceRefusal}
-use Rattle.gang_model.specs.Source.Judged.{fault_if, least_fault}
+use Rattle.gang_model.specs.Source.Judged.{fault_if, least_fault, merged}
 use Rattle.gang_model.specs.Types.LibraryTable.{is_library_name, statement_call}
 use Rattle.gang_model.specs.Names.NameFaults.{Allowed, in_loop, in_round, in_domain_round, in_function, names_in, names_in_some, twice, dims_names, params_twice, stmt_names, stmts_names, function_names, globals_twice, functions_twice}
 use Rattle.gang_model.specs.Source.Parsed.{Name, ParsedExpr, ParsedDim, ParsedParam, ParsedStmt, ParsedIfElse, ParsedWhile, ParsedDo, ParsedFor, ParsedForEach, ParsedForEachUnique, ParsedGlobal, ParsedFunction, ParsedSource, functions_in, globals_in}
 use Rattle.gang_model.specs.Names.Scope.{Environment, Site, with_name, with_dims, with_params, enclosed, past, after, after_all, at_test, in_for, in_rounds, in_domain, locals_in, function_site, file_bindings}
 use Rattle.gang_model.specs.Types.SourceRefusals.{names_refusal}
-use Rattle.gang_model.proofs.JudgedLaws.{merged, least_fault-append}
+use Rattle.gang_model.proofs.JudgedLaws.{least_fault-append}
 use Rattle.ispc_names_scopes.specs.Scopes.{Scoped, site}
-use Rattle.ispc_lexer.specs.declared.fault.SourceFault.{SourceFault}
+use Rattle.source_answers.specs.declared.fault.SourceFault.{SourceFault}
 use Rattle.ispc_parser.specs.declared.tree.Stmt.{Stmt}
 use Rattle.ispc_parser.specs.Tree.{stmt_view, stmts_view}
 use Rattle.ispc_names_faults.specs.IndexVariables.{dims_twice, bounds_names}

@@ -1,3 +1,4 @@
+pub mod ArgumentFaults
 pub mod Merging
 pub mod ScopeSteps
 pub mod Keys

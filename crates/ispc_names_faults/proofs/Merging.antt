@@ -7,9 +7,8 @@ use Rattle.gang_types.specs.declared.places.Place.{Place}
 use Rattle.gang_model.specs.declared.refusals.RefusalNumber.{RefusalNumber}
 use Rattle.gang_model.specs.declared.refusals.RefusalNumber.TheVariants.{S1, S2, S3, S4, S5, S6, S7, S8, S9, S10, S11, S12, S13}
 use Rattle.gang_model.specs.declared.refusals.SourceRefusal.{SourceRefusal}
-use Rattle.gang_model.specs.Source.Judged.{rank, is_less, lesser, least_fault}
-use Rattle.gang_model.proofs.JudgedLaws.{merged, least_fault-append}
-use Rattle.ispc_names_scopes.proofs.ArgumentFaults.{merged-none, merged-assoc}
+use Rattle.gang_model.specs.Source.Judged.{rank, is_less, lesser, least_fault, merged}
+use Rattle.gang_model.proofs.JudgedLaws.{least_fault-append, merged-none, merged-assoc}
 
 abbrev pub Fault : Type 0
 Fault = Option SourceRefusal

@@ -5,13 +5,14 @@ ghost use Rattle.gang_model.specs.Types.LibraryTable.{is_among};
 ghost use Rattle.gang_model.specs.Names.NameFaults as names;
 ghost use Rattle.gang_model.specs.Source.Parsed.{functions_in, globals_in};
 ghost use Rattle.gang_model.specs.Names.Scope.{file_bindings, is_built_in};
-ghost use Rattle.ispc_lexer.specs.declared.fault.SourceFault.TheVariants.{Memory};
+ghost use Rattle.source_answers.specs.declared.fault.SourceFault.TheVariants.{Memory};
 ghost use Rattle.ispc_parser.specs.Tree.{function_view, global_view, tree_view};
 
+use crate::expressions::is_built_in;
 use gang_model::{RefusalNumber, SourceRefusal};
-use ispc_lexer::SourceFault;
-use ispc_names_scopes::{FunctionNames, Scopes, fault_if, is_built_in, least};
+use ispc_names_scopes::{FunctionNames, Scopes};
 use ispc_parser::{Function, GlobalVariable, Item, Tree};
+use source_answers::{SourceFault, fault_if, least};
 use std::alloc::Global;
 
 /// The functions of a tree, in order.

@@ -4,6 +4,7 @@
 
 mod allowed;
 mod declarations;
+mod expressions;
 mod file_scope;
 mod outermost;
 mod parts;
@@ -12,5 +13,6 @@ mod signatures;
 mod statements;
 mod whole;
 
+pub use expressions::{arguments_fault, expression_fault};
 pub use file_scope::{functions_of, globals_of};
 pub use whole::names_fault;

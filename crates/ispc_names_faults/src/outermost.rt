@@ -5,7 +5,7 @@ ghost use Rattle.gang_model.specs.Source.Judged.{least_fault};
 ghost use Rattle.gang_model.specs.Types.LibraryTable as table;
 ghost use Rattle.gang_model.specs.Names.NameFaults as names;
 ghost use Rattle.gang_model.specs.Names.Scope as scope;
-ghost use Rattle.ispc_lexer.specs.declared.fault.SourceFault.TheVariants.{Memory};
+ghost use Rattle.source_answers.specs.declared.fault.SourceFault.TheVariants.{Memory};
 ghost use Rattle.ispc_names_scopes.specs.Scopes.{site};
 ghost use Rattle.ispc_parser.specs.Tree.{function_view, stmts_view};
 ghost use Rattle.ispc_names_faults.specs.MayStand.{allowed_view};
@@ -14,9 +14,9 @@ use crate::allowed::{Allowed, in_function};
 use crate::declarations::params_fault;
 use crate::statements::statement_fault;
 use gang_model::{RefusalNumber, SourceRefusal};
-use ispc_lexer::SourceFault;
-use ispc_names_scopes::{FunctionNames, Scopes, fault_if, is_library_name, least, statement_call};
+use ispc_names_scopes::{FunctionNames, Scopes, is_library_name, statement_call};
 use ispc_parser::{Function, Stmt};
+use source_answers::{SourceFault, fault_if, least};
 use std::alloc::Global;
 
 /// The first fault of names in statements, each after those before it, in the present scope.

@@ -6,7 +6,7 @@ ghost use Rattle.gang_model.specs.declared.refusals.RefusalNumber.TheVariants as
 ghost use Rattle.gang_model.specs.Names.NameFaults as names;
 ghost use Rattle.gang_model.specs.Names.Scope as scope;
 ghost use Rattle.ispc_parser_expressions.specs.Tree.{expr_view};
-ghost use Rattle.ispc_lexer.specs.declared.fault.SourceFault.TheVariants.{Memory};
+ghost use Rattle.source_answers.specs.declared.fault.SourceFault.TheVariants.{Memory};
 ghost use Rattle.ispc_names_scopes.specs.Scopes.{site};
 ghost use Rattle.ispc_parser.specs.Tree.{option_view, stmt_view, target_view};
 ghost use Rattle.ispc_names_faults.specs.MayStand.{allowed_view};
@@ -14,13 +14,14 @@ ghost use Rattle.ispc_names_faults.specs.HeldStatements.{holds_others};
 
 use crate::allowed::Allowed;
 use crate::declarations::declaration_fault;
+use crate::expressions::{expression_fault, unknown_name};
 use crate::right_sides::{call_fault, right_fault, some_expression_fault, some_right_fault};
 use gang_model::{RefusalNumber, SourceRefusal};
 use gang_types::Place;
-use ispc_lexer::SourceFault;
-use ispc_names_scopes::{FunctionNames, Scopes, expression_fault, fault_if, least, unknown_name};
+use ispc_names_scopes::{FunctionNames, Scopes};
 use ispc_parser::{Stmt, Target};
 use ispc_parser_expressions::Expr;
+use source_answers::{SourceFault, fault_if, least};
 use std::alloc::Global;
 
 /// The fault of names in what is assigned.

@@ -9,13 +9,12 @@ ghost use Rattle.ispc_parser_expressions.specs.Tree.{expr_view, args_view};
 ghost use Rattle.ispc_names_scopes.specs.Names.{statement_call_view};
 ghost use Rattle.ispc_parser.specs.Tree.{option_view};
 
+use crate::expressions::{arguments_fault, expression_fault, stands_whole};
 use gang_model::{RefusalNumber, SourceRefusal};
 use gang_types::Place;
-use ispc_names_scopes::{
-    FunctionNames, Scopes, StatementCall, arguments_fault, expression_fault, fault_if,
-    is_library_name, least_inside, stands_whole, statement_call,
-};
+use ispc_names_scopes::{FunctionNames, Scopes, StatementCall, is_library_name, statement_call};
 use ispc_parser_expressions::{Arg, Expr};
+use source_answers::{fault_if, least_inside};
 
 /// The fault of a call that stands whole after `=` or `return`: `assert` gives nothing.
 fn whole_call_fault(

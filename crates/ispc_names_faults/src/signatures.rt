@@ -5,16 +5,16 @@ ghost use Rattle.gang_model.specs.Types.Conversions.{is_varying};
 ghost use Rattle.gang_model.specs.Source.Judged.{least_fault};
 ghost use Rattle.gang_model.specs.Names.NameFaults as names;
 ghost use Rattle.gang_model.specs.Types.Signatures.{declared_rate, declared_type};
-ghost use Rattle.ispc_lexer.specs.declared.fault.SourceFault.TheVariants.{Memory};
+ghost use Rattle.source_answers.specs.declared.fault.SourceFault.TheVariants.{Memory};
 ghost use Rattle.ispc_parser.specs.Tree.{function_view, param_view};
 ghost use Rattle.ispc_names_faults.specs.SignatureKeys as keys;
 ghost use Rattle.ispc_names_faults.specs.SignatureKeys.{digit, param_key};
 
 use gang_model::{RefusalNumber, SourceRefusal, Spec};
 use gang_types::{IntType, Rate, is_signed, width};
-use ispc_lexer::SourceFault;
-use ispc_names_scopes::{FunctionNames, fault_if, least};
+use ispc_names_scopes::FunctionNames;
 use ispc_parser::{Function, Param};
+use source_answers::{SourceFault, fault_if, least};
 use std::alloc::Global;
 
 /// The type of a declaration; `void` counts as `int32`.

@@ -6,7 +6,7 @@ ghost use Rattle.gang_model.specs.Names.NameFaults as names;
 ghost use Rattle.gang_model.specs.Source.Parsed.{ParsedFor, ParsedForEach, ParsedIfElse};
 ghost use Rattle.gang_model.specs.Names.Scope as scope;
 ghost use Rattle.ispc_parser_expressions.specs.Tree.{expr_view};
-ghost use Rattle.ispc_lexer.specs.declared.fault.SourceFault.TheVariants.{Memory};
+ghost use Rattle.source_answers.specs.declared.fault.SourceFault.TheVariants.{Memory};
 ghost use Rattle.ispc_names_scopes.specs.Scopes.{site};
 ghost use Rattle.ispc_parser.specs.Tree.{dim_view, option_view, stmt_view, stmts_view};
 ghost use Rattle.ispc_names_faults.specs.MayStand.{allowed_view};
@@ -14,14 +14,15 @@ ghost use Rattle.ispc_names_faults.specs.Moved.{moved};
 
 use crate::allowed::Allowed;
 use crate::declarations::{bounds_fault, declaration_fault, dims_fault};
+use crate::expressions::expression_fault;
 use crate::parts::simple_fault;
 use crate::right_sides::some_expression_fault;
 use gang_model::{RefusalNumber, SourceRefusal};
 use gang_types::Place;
-use ispc_lexer::SourceFault;
-use ispc_names_scopes::{FunctionNames, Scopes, expression_fault, fault_if, least};
+use ispc_names_scopes::{FunctionNames, Scopes};
 use ispc_parser::{Dim, Stmt};
 use ispc_parser_expressions::Expr;
+use source_answers::{SourceFault, fault_if, least};
 use std::alloc::Global;
 
 type Found = Result<Option<SourceRefusal>, SourceFault>;

@@ -5,7 +5,7 @@ ghost use Rattle.gang_model.specs.Source.Judged.{least_fault};
 ghost use Rattle.gang_model.specs.Names.NameFaults as names;
 ghost use Rattle.gang_model.specs.Names.Scope.{file_bindings};
 ghost use Rattle.gang_model.specs.Types.SourceRefusals.{names_refusal};
-ghost use Rattle.ispc_lexer.specs.declared.fault.SourceFault.TheVariants.{Memory};
+ghost use Rattle.source_answers.specs.declared.fault.SourceFault.TheVariants.{Memory};
 ghost use Rattle.ispc_parser.specs.Tree.{function_view, global_view, tree_view};
 
 use crate::file_scope::{
@@ -14,9 +14,8 @@ use crate::file_scope::{
 use crate::outermost::functions_fault;
 use crate::signatures::functions_twice_fault;
 use gang_model::SourceRefusal;
-use ispc_lexer::SourceFault;
-use ispc_names_scopes::least;
 use ispc_parser::{Function, GlobalVariable, Tree};
+use source_answers::{SourceFault, least};
 use std::alloc::Global;
 
 /// The first fault of names inside functions, where all functions and the file-scope variables are known.

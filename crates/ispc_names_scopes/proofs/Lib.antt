@@ -1,5 +1,4 @@
 pub mod SameTexts
 pub mod Indexed
 pub mod ScopeSites
-pub mod ArgumentFaults
 pub mod NameIndex

@@ -1,13 +1,13 @@
 //! The declarations in scope, and what each name stands for.
 ghost use Rattle.std.specs.Prelude.{◌≡◌, [], ◌∷◌, IfErr, OnErr, OnOk, drop, length};
-ghost use Rattle.ispc_lexer.specs.declared.fault.SourceFault.TheVariants.{Memory};
+ghost use Rattle.source_answers.specs.declared.fault.SourceFault.TheVariants.{Memory};
 ghost use Rattle.gang_model.specs.Names.Scope.{bound};
 ghost use Rattle.ispc_names_scopes.specs.Bindings.{found_in};
 ghost use Rattle.ispc_names_scopes.specs.Innermost.{innermost_of};
 
 use gang_types::VarId;
 use indexmap::IndexMap;
-use ispc_lexer::SourceFault;
+use source_answers::SourceFault;
 use std::alloc::Global;
 use std::marker::Model;
 

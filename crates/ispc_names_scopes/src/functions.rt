@@ -1,10 +1,10 @@
 //! The names of the source's functions.
 ghost use Rattle.std.specs.Prelude.{◌≡◌, [], ◌++◌, ◌∷◌, IfErr, OnErr, OnOk};
 ghost use Rattle.gang_model.specs.Types.LibraryTable.{is_among};
-ghost use Rattle.ispc_lexer.specs.declared.fault.SourceFault.TheVariants.{Memory};
+ghost use Rattle.source_answers.specs.declared.fault.SourceFault.TheVariants.{Memory};
 
 use indexmap::IndexSet;
-use ispc_lexer::SourceFault;
+use source_answers::SourceFault;
 use std::alloc::Global;
 use std::marker::Model;
 

@@ -3,12 +3,12 @@ ghost use Rattle.std.specs.Prelude.{◌≡◌, [], ◌∷◌, ◌-◌, ◌≤◌
 ghost use Rattle.gang_types.specs.declared.places.VarId.TheVariants.{Local};
 ghost use Rattle.gang_model.specs.Types.LibraryTable.{is_among};
 ghost use Rattle.gang_model.specs.Names.Scope as scope;
-ghost use Rattle.ispc_lexer.specs.declared.fault.SourceFault.TheVariants.{Memory};
+ghost use Rattle.source_answers.specs.declared.fault.SourceFault.TheVariants.{Memory};
 ghost use Rattle.ispc_names_scopes.specs.Scopes.{bound_in_file, here, site};
 
 use crate::bindings::Bindings;
 use gang_types::VarId;
-use ispc_lexer::SourceFault;
+use source_answers::SourceFault;
 use std::alloc::Global;
 use std::marker::Model;
 

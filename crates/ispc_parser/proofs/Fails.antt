@@ -1,7 +1,7 @@
 -- Where reading fails.
 use Rattle.std.proofs.Common.{◌≡◌, Option, None}
-use Rattle.ispc_lexer.specs.declared.fault.SourceFault.{SourceFault}
-use Rattle.ispc_lexer.specs.declared.fault.SourceFault.TheVariants as faults
+use Rattle.source_answers.specs.declared.fault.SourceFault.{SourceFault}
+use Rattle.source_answers.specs.declared.fault.SourceFault.TheVariants as faults
 use Rattle.ispc_parser_expressions.specs.Parse.{Fails}
 use Rattle.ispc_parser.specs.Refusals.{IsRefusal, IsSooner}
 

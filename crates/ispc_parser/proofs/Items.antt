@@ -5,7 +5,7 @@ use Rattle.std.proofs.lemmas.Bool.{eqb-true}
 use Rattle.std.proofs.lemmas.List.{append-nil}
 use Rattle.gang_model.specs.Source.Tokens.{Lexeme}
 use Rattle.gang_model.specs.Source.Parsed.{ParsedItem, ParsedSource}
-use Rattle.ispc_lexer.specs.declared.fault.SourceFault.{SourceFault}
+use Rattle.source_answers.specs.declared.fault.SourceFault.{SourceFault}
 use Rattle.ispc_lexer.specs.declared.token.Token.{Token}
 use Rattle.ispc_lexer.specs.Views.{lexemes_of}
 use Rattle.ispc_parser_expressions.specs.Parse.{◌>>=◌, Fails}

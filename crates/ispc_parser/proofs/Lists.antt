@@ -2,7 +2,7 @@
 use Rattle.std.proofs.Common.{◌≡◌, ℕ, zero, suc, List, [], ◌∷◌, ◌++◌, Option, Some, None, refl, sym, ap, ◌∙◌, arith, append_assoc}
 use Rattle.gang_model.specs.declared.marks.Mark.TheVariants as mark
 use Rattle.gang_model.specs.Source.Tokens.{Lexeme}
-use Rattle.ispc_lexer.specs.declared.fault.SourceFault.{SourceFault}
+use Rattle.source_answers.specs.declared.fault.SourceFault.{SourceFault}
 use Rattle.ispc_parser_expressions.specs.Parse.{◌>>=◌, Fails, take}
 use Rattle.ispc_parser.specs.Parts.{Reader, list_of}
 use Rattle.ispc_parser.proofs.Fails.{fails_when}

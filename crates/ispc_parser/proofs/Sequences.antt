@@ -2,7 +2,7 @@
 use Rattle.std.proofs.Common.{◌≡◌, ℕ, zero, suc, List, [], ◌∷◌, ◌++◌, Option, Some, None, true, false, refl, sym, ap, ◌∙◌, arith}
 use Rattle.gang_model.specs.Source.Tokens.{Lexeme}
 use Rattle.gang_model.specs.Source.Parsed.{ParsedStmt, ParsedStmts, ParsedLast, ParsedNext}
-use Rattle.ispc_lexer.specs.declared.fault.SourceFault.{SourceFault}
+use Rattle.source_answers.specs.declared.fault.SourceFault.{SourceFault}
 use Rattle.ispc_parser_expressions.specs.Parse.{◌>>=◌, Fails}
 use Rattle.ispc_parser.specs.declared.tree.Stmt.{Stmt}
 use Rattle.ispc_parser.specs.Tree.{stmt_view, stmts_view}

@@ -4,8 +4,8 @@ use Rattle.std.specs.Prelude.{IfOk, IfErr}
 use Rattle.gang_model.specs.Source.Tokens.{Lexeme}
 use Rattle.gang_model.specs.Source.Parsed.{ParsedSource}
 use Rattle.gang_model.specs.Source.SpellsSource.{IsTree}
-use Rattle.ispc_lexer.specs.declared.fault.SourceFault.{SourceFault}
-use Rattle.ispc_lexer.specs.declared.fault.SourceFault.TheVariants as faults
+use Rattle.source_answers.specs.declared.fault.SourceFault.{SourceFault}
+use Rattle.source_answers.specs.declared.fault.SourceFault.TheVariants as faults
 use Rattle.ispc_parser_expressions.specs.Parse.{Gives}
 use Rattle.ispc_parser_expressions.proofs.Tools.{some_is}
 use Rattle.ispc_parser.specs.Refusals.{IsRefusal}

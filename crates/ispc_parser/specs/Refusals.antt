@@ -1,7 +1,7 @@
 -- Why tokens have no tree.
 use Rattle.std.specs.Prelude.{◌≡◌}
-use Rattle.ispc_lexer.specs.declared.fault.SourceFault.{SourceFault}
-use Rattle.ispc_lexer.specs.declared.fault.SourceFault.TheVariants.{Memory, Refused}
+use Rattle.source_answers.specs.declared.fault.SourceFault.{SourceFault}
+use Rattle.source_answers.specs.declared.fault.SourceFault.TheVariants.{Memory, Refused}
 use Rattle.ispc_parser_expressions.specs.Parse.{IsParserNumber}
 
 -- S3, S4 or S13

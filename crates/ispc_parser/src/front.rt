@@ -7,8 +7,9 @@ ghost use Rattle.ispc_parser.specs.Parts.{name_view};
 
 use gang_model::{Mark, RefusalNumber, SourceRefusal};
 use gang_types::Place;
-use ispc_lexer::{Kind, SourceFault, Token};
+use ispc_lexer::{Kind, Token};
 use ispc_parser_expressions::{begins, take, unexpected};
+use source_answers::SourceFault;
 use std::alloc::Global;
 
 /// What was read, and the tokens after it.

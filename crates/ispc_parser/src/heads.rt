@@ -15,14 +15,15 @@ use crate::tree::{Dim, Stmt};
 use crate::words::Loop;
 use gang_model::{Mark, RefusalNumber};
 use gang_types::Place;
-use ispc_lexer::{Kind, SourceFault, Token};
+use ispc_lexer::{Kind, Token};
 use ispc_parser_expressions::{Expr, after, begins, begins_word, expression, take, unexpected};
+use source_answers::SourceFault;
 
 /// How many dimensions a `foreach` may have.
 const MAX_DIMS: usize = 3;
 
 /// `start; test; update`, where each part may be missing.
-#[derive(Debug, Drop)]
+#[derive(Drop)]
 pub(crate) struct Rounds {
     pub(crate) start: Stmt,
     pub(crate) test: Option<Expr>,
@@ -30,14 +31,14 @@ pub(crate) struct Rounds {
 }
 
 /// `name in value`.
-#[derive(Debug, Drop)]
+#[derive(Drop)]
 pub(crate) struct Distinct {
     pub(crate) name: Identifier,
     pub(crate) value: Expr,
 }
 
 /// A loop or a foreach form without its body, and the place of its word.
-#[derive(Debug, Drop)]
+#[derive(Drop)]
 pub(crate) enum Head {
     While {
         place: Place,

@@ -9,8 +9,9 @@ ghost use Rattle.ispc_parser.specs.Refusals.{IsSooner};
 use crate::front::{Context, Read};
 use gang_model::{Mark, RefusalNumber, SourceRefusal, Spec};
 use gang_types::Place;
-use ispc_lexer::{Kind, SourceFault, Token};
+use ispc_lexer::{Kind, Token};
 use ispc_parser_expressions::{spec_words, take_spec};
+use source_answers::SourceFault;
 
 /// The first word that stands on no variable of a function.
 fn local_misfit(tokens: &[Token]) -> Option<Place> {

@@ -8,8 +8,8 @@ ghost use Rattle.ispc_parser.specs.Heads.{head_view, completed};
 use crate::heads::Head;
 use crate::tree::Stmt;
 use gang_types::Place;
-use ispc_lexer::{SourceFault, both_boxed, boxed};
 use ispc_parser_expressions::Expr;
+use source_answers::{SourceFault, both_boxed, boxed};
 use std::alloc::Global;
 
 pub(crate) fn block(stmts: Vec<Stmt>) -> Stmt

@@ -12,7 +12,8 @@ use crate::front::Context;
 use crate::source::items;
 use crate::tree::Tree;
 use gang_types::Place;
-use ispc_lexer::{SourceFault, Token};
+use ispc_lexer::Token;
+use source_answers::SourceFault;
 use std::alloc::Global;
 
 fn whole(alloc: Global, tokens: &[Token], end: Place) -> Result<Tree, SourceFault>

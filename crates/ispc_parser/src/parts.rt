@@ -13,8 +13,9 @@ use crate::misfits::local_spec;
 use crate::tree::{Stmt, Target};
 use gang_model::Mark;
 use gang_types::{BinaryOp, Place};
-use ispc_lexer::{Kind, SourceFault, Token};
+use ispc_lexer::{Kind, Token};
 use ispc_parser_expressions::{Expr, arguments, begins, expression, take, unexpected};
+use source_answers::SourceFault;
 
 /// What `op=` does, for such a mark.
 fn change_of(mark: Mark) -> Option<BinaryOp>

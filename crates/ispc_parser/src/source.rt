@@ -14,8 +14,9 @@ use crate::statements::stmts;
 use crate::tree::{Function, GlobalVariable, Item, Param, Stmt};
 use gang_model::{GlobalForm, Literal, Mark, RefusalNumber, Spec};
 use gang_types::Place;
-use ispc_lexer::{Kind, Number, SourceFault, Token};
+use ispc_lexer::{Kind, Number, Token};
 use ispc_parser_expressions::{after, begins, begins_word, take, unexpected};
+use source_answers::SourceFault;
 
 /// How many nestings are left inside a function's braces, of 64.
 const INSIDE_FUNCTION: u32 = 63;

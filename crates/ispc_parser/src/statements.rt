@@ -16,8 +16,9 @@ use crate::tree::Stmt;
 use crate::words::{Loop, Opening, Plain, opening_of};
 use gang_model::{Mark, RefusalNumber};
 use gang_types::Place;
-use ispc_lexer::{Kind, SourceFault, Token};
+use ispc_lexer::{Kind, Token};
 use ispc_parser_expressions::{Expr, begins, begins_word, take, unexpected};
+use source_answers::SourceFault;
 
 // ---- statements that hold no other one
 

@@ -5,7 +5,6 @@ use gang_types::{BinaryOp, Place};
 use ispc_parser_expressions::{Arg, Expr};
 
 /// The functions and file-scope variables of a source, in order.
-#[derive(Debug)]
 pub struct Tree {
     pub items: Vec<Item>,
 }
@@ -17,7 +16,6 @@ impl Drop for Tree {
 }
 
 /// A function or a file-scope variable.
-#[derive(Debug)]
 pub enum Item {
     Function(Function),
     Global(GlobalVariable),
@@ -32,7 +30,6 @@ impl Drop for Item {
 }
 
 /// A function: its place is that of its name, and `closing` that of its closing brace.
-#[derive(Debug)]
 pub struct Function {
     pub place: Place,
     pub name: Vec<u8>,
@@ -56,7 +53,6 @@ impl Drop for Function {
 }
 
 /// A parameter, at its name.
-#[derive(Debug)]
 pub struct Param {
     pub place: Place,
     pub name: Vec<u8>,
@@ -76,7 +72,6 @@ impl Drop for Param {
 }
 
 /// A file-scope variable, at its name.
-#[derive(Debug)]
 pub struct GlobalVariable {
     pub place: Place,
     pub name: Vec<u8>,
@@ -96,7 +91,6 @@ impl Drop for GlobalVariable {
 }
 
 /// What is assigned, at its name.
-#[derive(Debug)]
 pub struct Target {
     pub place: Place,
     pub name: Vec<u8>,
@@ -114,7 +108,6 @@ impl Drop for Target {
 }
 
 /// A dimension `name = low ... high`, at its name.
-#[derive(Debug)]
 pub struct Dim {
     pub place: Place,
     pub name: Vec<u8>,
@@ -134,7 +127,6 @@ impl Drop for Dim {
 }
 
 /// A statement. Its place is that of its first token, and that of `do` is its `while`.
-#[derive(Debug)]
 pub enum Stmt {
     Empty,
     Block(Vec<Stmt>),

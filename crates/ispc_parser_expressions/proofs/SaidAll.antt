@@ -11,8 +11,8 @@ use Rattle.gang_model.specs.contracts.marks.Mark.{the_type}
 use Rattle.gang_model.specs.declared.forms.Spec.{Spec}
 use Rattle.gang_model.specs.Source.Tokens.{Lexeme}
 use Rattle.gang_model.specs.Source.Specs.{has, is_spec_word, are_spec_words, rate_of, type_named, unsigned_named, type_words, spec_of, cast_part}
-use Rattle.ispc_lexer.specs.declared.fault.SourceFault.{SourceFault}
-use Rattle.ispc_lexer.specs.declared.fault.SourceFault.TheVariants as faults
+use Rattle.source_answers.specs.declared.fault.SourceFault.{SourceFault}
+use Rattle.source_answers.specs.declared.fault.SourceFault.TheVariants as faults
 use Rattle.ispc_parser_expressions.specs.declared.words.Words.{Words}
 use Rattle.ispc_parser_expressions.specs.Parse.{◌>>=◌, if_some, Fails, spec_word, words_of, after_words, spec_at, cast_spec_at}
 use Rattle.ispc_parser_expressions.specs.Words.{no_words, is_some, with_unsigned, with_type, with_word, words_from, said, said_at}

@@ -4,8 +4,8 @@ use Rattle.gang_model.specs.declared.marks.Mark.TheVariants as mark
 use Rattle.gang_model.specs.declared.forms.Infix.{Infix}
 use Rattle.gang_model.specs.Source.Tokens.{Lexeme}
 use Rattle.gang_model.specs.Source.Parsed.{ParsedExpr, ParsedBinary, ParsedArgs, ParsedEnd, ParsedValue, ParsedPart, ParsedPartFrom}
-use Rattle.ispc_lexer.specs.declared.fault.SourceFault.{SourceFault}
-use Rattle.ispc_lexer.specs.declared.fault.SourceFault.TheVariants as faults
+use Rattle.source_answers.specs.declared.fault.SourceFault.{SourceFault}
+use Rattle.source_answers.specs.declared.fault.SourceFault.TheVariants as faults
 use Rattle.ispc_parser_expressions.specs.declared.tree.Arg.{Arg}
 use Rattle.ispc_parser_expressions.specs.declared.budget.Budget.{Budget}
 use Rattle.ispc_parser_expressions.specs.Tree.{ParsedArg, OfValue, OfPart, OfPartFrom, with_arg, arg_view, args_view}

@@ -17,8 +17,8 @@ use Rattle.gang_model.specs.Source.Tokens.{Sort, named, numbered, marked, Lexeme
 use Rattle.gang_model.specs.Source.Specs.{is_spec_word, spec_of, cast_spec_of}
 use Rattle.gang_model.specs.Source.Parsed.{Name, ParsedExpr, ParsedNumber, ParsedBool, ParsedName, ParsedIndex, ParsedCall, ParsedParen, ParsedUnary, ParsedCast, ParsedBinary, ParsedChoice, ParsedArgs, ParsedEnd}
 use Rattle.gang_model.specs.Source.Spells.{level, max_weight}
-use Rattle.ispc_lexer.specs.declared.fault.SourceFault.{SourceFault}
-use Rattle.ispc_lexer.specs.declared.fault.SourceFault.TheVariants as faults
+use Rattle.source_answers.specs.declared.fault.SourceFault.{SourceFault}
+use Rattle.source_answers.specs.declared.fault.SourceFault.TheVariants as faults
 use Rattle.gang_model.specs.declared.refusals.RefusalNumber.{RefusalNumber}
 use Rattle.gang_model.specs.declared.refusals.RefusalNumber.TheVariants as numbers
 use Rattle.ispc_parser_expressions.specs.declared.budget.Budget.{Budget}

@@ -16,7 +16,8 @@ use crate::tree::{Arg, Expr};
 use crate::words::{begins_word, take_cast_spec};
 use gang_model::{Mark, RefusalNumber};
 use gang_types::{Place, UnaryOp};
-use ispc_lexer::{Kind, SourceFault, Token};
+use ispc_lexer::{Kind, Token};
+use source_answers::SourceFault;
 
 /// What was read, how many operators are left, and the tokens after it.
 type Read<'a, T> = Result<(T, u32, &'a [Token]), SourceFault>;

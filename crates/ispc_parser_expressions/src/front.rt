@@ -6,7 +6,8 @@ ghost use Rattle.ispc_parser_expressions.specs.Parse.{Gives, shown, within, pars
 
 use gang_model::{Mark, RefusalNumber, SourceRefusal};
 use gang_types::Place;
-use ispc_lexer::{Kind, SourceFault, Token};
+use ispc_lexer::{Kind, Token};
+use source_answers::SourceFault;
 use std::alloc::Global;
 
 /// How many operators, calls and indexings an expression may have that stands in no other one.

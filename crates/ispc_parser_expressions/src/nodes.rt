@@ -6,7 +6,7 @@ ghost use Rattle.ispc_parser_expressions.specs.Tree.{expr_view, arg_view, args_v
 use crate::tree::{Arg, Expr};
 use gang_model::Infix;
 use gang_types::{IntType, Place, Rate, UnaryOp};
-use ispc_lexer::{SourceFault, boxed};
+use source_answers::{SourceFault, boxed};
 use std::alloc::Global;
 
 pub(crate) fn name(alloc: Global, place: Place, name: &[u8]) -> Result<Expr, SourceFault>

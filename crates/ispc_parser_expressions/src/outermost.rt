@@ -10,7 +10,8 @@ use crate::descent::{args, expr};
 use crate::front::{MAX_OPERATORS, Reader};
 use crate::tree::{Arg, Expr};
 use gang_types::Place;
-use ispc_lexer::{SourceFault, Token};
+use ispc_lexer::Token;
+use source_answers::SourceFault;
 use std::alloc::Global;
 
 /// The expression at the front of the tokens, which stands in no other one, with so many nestings left, and the

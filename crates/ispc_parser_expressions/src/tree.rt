@@ -6,7 +6,6 @@ use ispc_lexer::Number;
 
 /// An expression as it is written. A place is that of the form's first token.
 #[cycle(tree)]
-#[derive(Debug)]
 pub enum Expr {
     Number {
         place: Place,
@@ -106,7 +105,6 @@ impl Drop for Expr {
 
 /// An argument of a call: a value, or `&a` or `&a[e]` with the place of the name.
 #[cycle(tree)]
-#[derive(Debug)]
 pub enum Arg {
     Value(Expr),
     Part {

@@ -10,7 +10,8 @@ ghost use Rattle.ispc_parser_expressions.specs.Words.{said_at};
 use crate::front::unexpected;
 use gang_model::{Mark, Spec};
 use gang_types::{IntType, Place, Rate};
-use ispc_lexer::{Kind, SourceFault, Token};
+use ispc_lexer::{Kind, Token};
+use source_answers::SourceFault;
 
 /// What the words read so far say.
 #[derive(Clone, Copy, Debug, PartialEq, Eq, Drop)]

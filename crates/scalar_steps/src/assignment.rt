@@ -13,7 +13,7 @@ pub struct Change {
 }
 
 /// What a step writes: a variable gets the value of an expression, or what an operation makes of its old value and that value.
-#[derive(Debug, Drop)]
+#[derive(Drop)]
 pub struct Assignment {
     pub variable: Var,
     pub change: Option<Change>,

@@ -1,9 +1,10 @@
 //! Rows of the language's rules: columns are counted in the source that stands there.
 use gang_model::{RefusalNumber, SourceRefusal};
 use gang_types::Place;
-use ispc_lexer::{SourceFault, source_end, tokens};
+use ispc_lexer::{source_end, tokens};
 use ispc_names_faults::names_fault;
 use ispc_parser::parse;
+use source_answers::SourceFault;
 use std::alloc::Global;
 use std::test::*;
 

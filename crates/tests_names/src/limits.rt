@@ -1,8 +1,8 @@
 //! Limits that a tree passes.
 use gang_model::{GlobalForm, RefusalNumber, SourceRefusal, Spec};
 use gang_types::{IntType, Place};
-use ispc_lexer::SourceFault;
 use ispc_parser::{Function, GlobalVariable, Item, Param, Stmt, Tree};
+use source_answers::SourceFault;
 use source_limits::limit_refusal;
 use std::alloc::Global;
 use std::test::*;

@@ -1,9 +1,10 @@
 //! Sources with and without faults of names, and what their names stand for.
 use gang_model::{RefusalNumber, SourceRefusal};
 use gang_types::{FuncId, Place, Spot, VarId};
-use ispc_lexer::{SourceFault, source_end, tokens};
+use ispc_lexer::{source_end, tokens};
 use ispc_names::{Named, resolve};
 use ispc_parser::parse;
+use source_answers::SourceFault;
 use std::alloc::Global;
 use std::test::*;
 

@@ -1,8 +1,9 @@
 //! Functions with their steps: what is listed at each, by the names of the variables.
-use ispc_lexer::{SourceFault, source_end, tokens};
+use ispc_lexer::{source_end, tokens};
 use ispc_names_steps::steps_of;
 use ispc_names_table::StepScopes;
 use ispc_parser::{Item, parse};
+use source_answers::SourceFault;
 use std::alloc::Global;
 use std::test::*;
 

@@ -1,7 +1,8 @@
 //! Tokens of short sources, and where a source is refused.
 use gang_model::{Mark, RefusalNumber, SourceRefusal};
 use gang_types::Place;
-use ispc_lexer::{Kind, SourceFault, Token, source_end, tokens};
+use ispc_lexer::{Kind, Token, source_end, tokens};
+use source_answers::SourceFault;
 use std::alloc::Global;
 use std::test::*;
 

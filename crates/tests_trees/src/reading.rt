@@ -2,8 +2,9 @@
 
 use gang_model::{RefusalNumber, SourceRefusal};
 use gang_types::Place;
-use ispc_lexer::{SourceFault, source_end, tokens};
+use ispc_lexer::{source_end, tokens};
 use ispc_parser::{Item, Stmt, Tree, parse};
+use source_answers::SourceFault;
 use std::alloc::Global;
 
 /// The tree of a source.

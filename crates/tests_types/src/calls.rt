@@ -1,9 +1,10 @@
 //! Which function a call means, by the costs of its arguments.
 use gang_model::{RefusalNumber, SourceRefusal};
 use gang_types::Place;
-use ispc_lexer::{SourceFault, source_end, tokens};
+use ispc_lexer::{source_end, tokens};
 use ispc_parser::{Function, Item, Stmt, Tree, parse};
 use ispc_parser_expressions::Expr;
+use source_answers::SourceFault;
 use std::alloc::Global;
 use std::test::*;
 use type_check_calls::{Context, WholeCall, call_of, whole_call};

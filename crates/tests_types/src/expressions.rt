@@ -1,8 +1,9 @@
 //! The types of expressions, and where their faults stand. The place of a token is its column in line 1.
 use gang_model::{RefusalNumber, SourceRefusal};
 use gang_types::{IntType, Place, Rate, VarId};
-use ispc_lexer::{SourceFault, source_end, tokens};
+use ispc_lexer::{source_end, tokens};
 use ispc_parser_expressions::{Expr, arguments as read_arguments, expression as read_expression};
+use source_answers::SourceFault;
 use std::alloc::Global;
 use std::test::*;
 use type_check_expressions::{arguments, expression, given_value};

@@ -1,7 +1,7 @@
 //! Library calls and their faults.
 use gang_model::{RefusalNumber, SourceRefusal};
 use gang_types::{IntType, Place, Rate};
-use ispc_lexer::SourceFault;
+use source_answers::SourceFault;
 use std::alloc::Global;
 use std::test::*;
 use type_check_library::called_value;

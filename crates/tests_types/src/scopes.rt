@@ -4,13 +4,11 @@ ghost use Rattle.gang_types.specs.declared.places.VarId.TheVariants.{Local};
 
 use gang_model::{RefusalNumber, SourceRefusal, Spec};
 use gang_types::{IntType, Place, Rate, VarId};
-use ispc_lexer::SourceFault;
 use ispc_names_scopes::is_same;
+use source_answers::{SourceFault, both, refuse};
 use std::alloc::Global;
 use std::test::*;
-use type_check_scopes::{
-    Declared, TypeScope, both, built_in, declared_with, index_variable, refuse,
-};
+use type_check_scopes::{Declared, TypeScope, built_in, declared_with, index_variable};
 use typed_tree::Expr;
 
 fn refused(number: RefusalNumber, line: u32, col: u32) -> SourceRefusal {

@@ -1,9 +1,10 @@
 //! Typed programs of sources, and the faults of types that are named. The place of a fault is its column in line 1.
 use gang_model::{RefusalNumber, SourceRefusal};
 use gang_types::{FuncId, IntType, Place, Rate, VarId};
-use ispc_lexer::{SourceFault, source_end, tokens};
+use ispc_lexer::{source_end, tokens};
 use ispc_names::resolve;
 use ispc_parser::parse;
+use source_answers::SourceFault;
 use std::alloc::Global;
 use std::test::*;
 use type_check::{Checked, check, entry_of};

@@ -1,7 +1,7 @@
 //! Types of operations and literals, and conversions.
 use gang_model::Infix;
 use gang_types::{BinaryOp, IntType, Rate, UnaryOp};
-use ispc_lexer::SourceFault;
+use source_answers::SourceFault;
 use std::alloc::Global;
 use std::test::*;
 use type_check_values::{Typed, as_type, chosen_by, infixed, joined, literal_type, prefixed};

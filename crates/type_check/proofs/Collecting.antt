@@ -2,12 +2,11 @@
 use Rattle.std.proofs.Common.{◌≡◌, refl, sym, ap, ◌∙◌, List, [], ◌∷◌, ◌++◌, append_assoc}
 use Rattle.std.specs.Prelude.{Option, Some, None, Result, Ok, Err}
 use Rattle.gang_model.specs.declared.refusals.SourceRefusal.{SourceRefusal}
-use Rattle.gang_model.specs.Source.Judged.{Judged, Sound, Faulty, both, ◌>>=◌, answer_of}
-use Rattle.gang_model.proofs.JudgedLaws.{merged, both_answers, then_answer, answer_unless, answer_of-both, answer_of-then}
-use Rattle.ispc_names_scopes.proofs.ArgumentFaults.{merged-none}
-use Rattle.ispc_lexer.specs.declared.fault.SourceFault.{SourceFault}
-use Rattle.ispc_lexer.specs.declared.fault.SourceFault.TheVariants.{Memory, Refused}
-use Rattle.type_check_scopes.specs.Answers.{Answers, refusal_of}
+use Rattle.gang_model.specs.Source.Judged.{Judged, Sound, Faulty, both, ◌>>=◌, answer_of, merged, both_answers, then_answer}
+use Rattle.gang_model.proofs.JudgedLaws.{answer_unless, answer_of-both, answer_of-then, merged-none}
+use Rattle.source_answers.specs.declared.fault.SourceFault.{SourceFault}
+use Rattle.source_answers.specs.declared.fault.SourceFault.TheVariants.{Memory, Refused}
+use Rattle.source_answers.specs.Answers.{Answers, refusal_of}
 
 -- the parts together
 abbrev pub all_of : {A : Type 0} → List (Judged A) → Judged (List A)

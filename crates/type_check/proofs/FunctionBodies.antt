@@ -10,9 +10,9 @@ use Rattle.gang_model.specs.Types.Signatures.{result_of}
 use Rattle.gang_model.specs.Types.Typing.{Scope}
 use Rattle.gang_model.specs.Types.Statements.{Made, statements}
 use Rattle.gang_model.specs.Types.Resolved.{param_entries, param_variables}
-use Rattle.ispc_lexer.specs.declared.fault.SourceFault.TheVariants.{Refused}
-use Rattle.type_check_scopes.specs.Answers.{Answers}
-use Rattle.type_check_scopes.proofs.Answered.{answers-refused}
+use Rattle.source_answers.specs.declared.fault.SourceFault.TheVariants.{Refused}
+use Rattle.source_answers.specs.Answers.{Answers}
+use Rattle.source_answers.proofs.Answered.{answers-refused}
 use Rattle.type_check_parts.specs.Makes.{Makes}
 use Rattle.type_check.specs.Bodies.{WithVariables, judged_body}
 

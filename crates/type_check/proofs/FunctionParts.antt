@@ -10,13 +10,12 @@ use Rattle.gang_model.specs.declared.refusals.SourceRefusal.{SourceRefusal}
 use Rattle.gang_model.specs.Types.Tree as tree
 use Rattle.gang_model.specs.Source.Parsed.{ParsedSource, ParsedFunction, functions_in, globals_in}
 use Rattle.gang_model.specs.Names.Scope.{NameStanding, file_scope, standings_of}
-use Rattle.gang_model.specs.Source.Judged.{Judged, Sound, Faulty, unless, both, ◌>>=◌, answer_of}
+use Rattle.gang_model.specs.Source.Judged.{Judged, Sound, Faulty, unless, both, ◌>>=◌, answer_of, merged}
 use Rattle.gang_model.specs.Types.Signatures.{result_of}
 use Rattle.gang_model.specs.Types.Typing.{Scope}
 use Rattle.gang_model.specs.Types.Statements.{Made, statements}
 use Rattle.gang_model.specs.Types.TypeFaults.{signature_faults}
 use Rattle.gang_model.specs.Types.Resolved.{global_entries, judged_function, judged_functions, param_entries, param_variables}
-use Rattle.gang_model.proofs.JudgedLaws.{merged}
 use Rattle.ispc_parser.specs.declared.tree.Function.{Function}
 use Rattle.ispc_parser.specs.Tree.{function_view}
 use Rattle.ispc_names.specs.Tables.{AreTablesOf}

@@ -7,10 +7,10 @@ use Rattle.gang_model.specs.declared.refusals.SourceRefusal.{SourceRefusal}
 use Rattle.gang_model.specs.Types.Tree.{Global}
 use Rattle.gang_model.specs.Types.Typing.{Scope, declared}
 use Rattle.gang_model.specs.Source.Parsed.{ParsedGlobal}
-use Rattle.gang_model.specs.Source.Judged.{Judged, Sound, unless, both, ◌>>=◌, least_fault, answer_of}
+use Rattle.gang_model.specs.Source.Judged.{Judged, Sound, unless, both, ◌>>=◌, least_fault, answer_of, merged}
 use Rattle.gang_model.specs.Types.TypeFaults.{global_faults, is_array_form}
 use Rattle.gang_model.specs.Types.Resolved.{global_entries, global_entry, global_of, judged_globals}
-use Rattle.gang_model.proofs.JudgedLaws.{merged, answer_unless, answer_of-unless}
+use Rattle.gang_model.proofs.JudgedLaws.{answer_unless, answer_of-unless}
 use Rattle.ispc_parser.specs.declared.tree.GlobalVariable.{GlobalVariable}
 use Rattle.ispc_parser.specs.Tree as parsed
 use Rattle.typed_tree.specs.declared.program.Global.{Global as TypedGlobal}

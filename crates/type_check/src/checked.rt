@@ -3,14 +3,14 @@ ghost use Rattle.std.specs.Prelude.{◌≡◌, ◌⊎◌, None, Some, IfErr, IfO
 ghost use Rattle.gang_model.specs.declared.refusals.SourceRefusal.{SourceRefusal};
 ghost use Rattle.gang_model.specs.Types.Resolved.{program_of};
 ghost use Rattle.gang_model.specs.Types.SourceRefusals.{names_refusal, types_refusal};
-ghost use Rattle.ispc_lexer.specs.declared.fault.SourceFault.TheVariants.{Memory, Refused};
+ghost use Rattle.source_answers.specs.declared.fault.SourceFault.TheVariants.{Memory, Refused};
 ghost use Rattle.ispc_parser.specs.Tree.{tree_view};
 ghost use Rattle.typed_tree.specs.Views.{program_view};
 
 use crate::typed::typed_program;
-use ispc_lexer::SourceFault;
 use ispc_names::Named;
 use ispc_parser::Tree;
+use source_answers::SourceFault;
 use std::alloc::Global;
 use std::marker::Model;
 use typed_tree::Program;

@@ -3,29 +3,28 @@ ghost use Rattle.std.specs.Prelude.{◌≡◌, [], OnOk, IfErr, IfOk, map};
 ghost use Rattle.gang_model.specs.Source.Parsed.{ParsedSource, functions_in, globals_in};
 ghost use Rattle.gang_model.specs.Types.Resolved as model;
 ghost use Rattle.gang_model.specs.Names.Scope.{file_scope, standings_of};
-ghost use Rattle.ispc_lexer.specs.declared.fault.SourceFault.TheVariants.{Memory};
+ghost use Rattle.source_answers.specs.declared.fault.SourceFault.TheVariants.{Memory};
 ghost use Rattle.ispc_parser.specs.Tree as parsed;
 ghost use Rattle.ispc_names.specs.Tables.{AreTablesOf};
 ghost use Rattle.ispc_names_table.specs.Scopes.{standings_view};
 ghost use Rattle.typed_tree.specs.Views as typed;
-ghost use Rattle.type_check_scopes.specs.Answers.{Answers};
+ghost use Rattle.source_answers.specs.Answers.{Answers};
 ghost use Rattle.type_check_parts.specs.Makes.{IfAnswered};
 ghost use Rattle.type_check.specs.Bodies.{body_view, judged_body, with_body};
 
 use crate::signatures::{result_of, signature_fault};
 use gang_types::{IntType, Rate, VarId};
-use ispc_lexer::SourceFault;
-use ispc_names_scopes::least;
 use ispc_names_table::StepScopes;
 use ispc_parser::{Function as ParsedFunction, Param};
+use source_answers::{SourceFault, both, least, refuse};
 use std::alloc::Global;
 use type_check_calls::Context;
-use type_check_scopes::{TypeScope, both, declared_with, refuse};
+use type_check_scopes::{TypeScope, declared_with};
 use type_check_statements::typed_body;
 use typed_tree::{Function, Stmt, Variable};
 
 /// A function's body, with the function's variables by their numbers.
-#[derive(Debug, Drop)]
+#[derive(Drop)]
 struct Body {
     statements: Vec<Stmt>,
     variables: Vec<Variable>,

@@ -7,8 +7,8 @@ ghost use Rattle.ispc_parser.specs.Tree.{function_view, param_view};
 
 use gang_model::{RefusalNumber, SourceRefusal, Spec};
 use gang_types::{IntType, Place, Rate};
-use ispc_names_scopes::{fault_if, least};
 use ispc_parser::{Function, Param};
+use source_answers::{fault_if, least};
 use type_check_values::{declared_rate, is_varying};
 
 /// Whether what is declared with a spec is varying.

@@ -3,16 +3,15 @@ ghost use Rattle.gang_model.specs.Types.Resolved.{judged_program};
 ghost use Rattle.ispc_parser.specs.Tree.{tree_view};
 ghost use Rattle.ispc_names.specs.Tables.{AreTablesOf};
 ghost use Rattle.typed_tree.specs.Views.{program_view};
-ghost use Rattle.type_check_scopes.specs.Answers.{Answers};
+ghost use Rattle.source_answers.specs.Answers.{Answers};
 
 use crate::functions::typed_functions;
 use crate::globals::{declared_globals, typed_globals};
-use ispc_lexer::SourceFault;
 use ispc_names_faults::{functions_of, globals_of};
 use ispc_names_table::StepScopes;
 use ispc_parser::Tree;
+use source_answers::{SourceFault, both};
 use std::alloc::Global;
-use type_check_scopes::both;
 use typed_tree::Program;
 
 /// The typed program of a tree, whose functions have these steps.

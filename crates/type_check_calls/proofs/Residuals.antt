@@ -7,10 +7,10 @@ use Rattle.gang_types.specs.declared.places.Place.{Place}
 use Rattle.gang_model.specs.declared.refusals.RefusalNumber.{RefusalNumber}
 use Rattle.gang_model.specs.declared.refusals.SourceRefusal.{SourceRefusal}
 use Rattle.gang_model.specs.Source.Judged.{Judged, Sound, unless, ◌>>=◌, least_fault, refused, answer_of}
-use Rattle.ispc_lexer.specs.declared.fault.SourceFault.{SourceFault}
-use Rattle.ispc_lexer.specs.declared.fault.SourceFault.TheVariants.{Refused}
-use Rattle.type_check_scopes.specs.Answers.{Answers, refusal_of}
-use Rattle.type_check_scopes.proofs.Answered.{answers-same, answers-at, answers-refused, answers-refuse, sound-refuse}
+use Rattle.source_answers.specs.declared.fault.SourceFault.{SourceFault}
+use Rattle.source_answers.specs.declared.fault.SourceFault.TheVariants.{Refused}
+use Rattle.source_answers.specs.Answers.{Answers, refusal_of}
+use Rattle.source_answers.proofs.Answered.{answers-same, answers-at, answers-refused, answers-refuse, sound-refuse}
 
 -- a result that is this fault answers what the fault answers
 pub answers-fault : {A B : Type 0} (g : A → B) (fault : SourceFault) (result : Result A SourceFault) (j : Judged B)

@@ -4,7 +4,7 @@ ghost use Rattle.gang_model.specs.Types.Calls as calls;
 ghost use Rattle.gang_model.specs.Source.Judged.{least_fault};
 ghost use Rattle.ispc_names_scopes.specs.Names.{statement_call_view};
 ghost use Rattle.typed_tree.specs.Views.{result_view, stmt_view};
-ghost use Rattle.type_check_scopes.specs.Answers.{Answers};
+ghost use Rattle.source_answers.specs.Answers.{Answers};
 ghost use Rattle.type_check_scopes.specs.Passings.{passing_view};
 ghost use Rattle.type_check_calls.specs.Calls.{called_view, context_view, whole_call_view};
 
@@ -14,16 +14,16 @@ use crate::user_calls::user_call;
 use crate::whole::WholeCall;
 use gang_model::{RefusalNumber, SourceRefusal};
 use gang_types::{IntType, Place, Rate};
-use ispc_lexer::SourceFault;
-use ispc_names_scopes::{StatementCall, fault_if, statement_call};
+use ispc_names_scopes::{StatementCall, statement_call};
+use source_answers::{SourceFault, fault_if, refuse};
 use std::alloc::Global;
 use type_check_expressions::arguments;
-use type_check_scopes::{Passing, TypeScope, refuse};
+use type_check_scopes::{Passing, TypeScope};
 use type_check_values::may_become;
 use typed_tree::{ResultFor, Stmt};
 
 /// A call as a statement, with the type and rate of its result.
-#[derive(Debug, Drop)]
+#[derive(Drop)]
 pub struct Called {
     pub stmt: Stmt,
     pub result: Option<(IntType, Rate)>,

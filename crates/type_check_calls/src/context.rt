@@ -4,7 +4,7 @@ use gang_types::{IntType, Rate};
 use ispc_parser::Function;
 
 /// The functions of the source, and the result of the function that a statement stands in, `None` being `void`.
-#[derive(Clone, Copy, Debug, Drop)]
+#[derive(Clone, Copy, Drop)]
 pub struct Context<'a> {
     pub functions: &'a [&'a Function],
     pub result: Option<(IntType, Rate)>,

@@ -1,15 +1,15 @@
 //! What it costs to pass arguments.
 ghost use Rattle.std.specs.Prelude.{◌≡◌, ◌&&◌, ◌||◌, IfErr, IfOk, None, Some, if◌then◌else◌, map, not, option_map};
 ghost use Rattle.gang_model.specs.Types.Overloads as overloads;
-ghost use Rattle.ispc_lexer.specs.declared.fault.SourceFault.TheVariants.{Memory};
+ghost use Rattle.source_answers.specs.declared.fault.SourceFault.TheVariants.{Memory};
 ghost use Rattle.ispc_parser.specs.Tree.{param_view};
 ghost use Rattle.type_check_scopes.specs.Entries.{entry_view};
 ghost use Rattle.type_check_scopes.specs.Passings.{passing_view};
 ghost use Rattle.type_check_values.specs.Views.{typed_view};
 
 use gang_types::{IntType, is_bool, is_signed, width};
-use ispc_lexer::SourceFault;
 use ispc_parser::Param;
+use source_answers::SourceFault;
 use std::alloc::Global;
 use type_check_scopes::{Entry, Passing};
 use type_check_values::{Typed, declared_rate, declared_type, may_become, same_rate, same_type};

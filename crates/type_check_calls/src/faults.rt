@@ -1,10 +1,10 @@
 //! Refusals as faults.
 ghost use Rattle.std.specs.Prelude.{◌≡◌};
-ghost use Rattle.ispc_lexer.specs.declared.fault.SourceFault.TheVariants.{Refused};
+ghost use Rattle.source_answers.specs.declared.fault.SourceFault.TheVariants.{Refused};
 
 use gang_model::{RefusalNumber, SourceRefusal};
 use gang_types::Place;
-use ispc_lexer::SourceFault;
+use source_answers::SourceFault;
 
 /// A refusal at a place.
 pub(crate) fn refused(number: RefusalNumber, place: Place) -> SourceFault

@@ -3,9 +3,9 @@ ghost use Rattle.std.specs.Prelude.{◌≡◌, ◌++◌, [], IfErr, IfOk, None, 
 ghost use Rattle.std.specs.List.{list_all};
 ghost use Rattle.gang_model.specs.Source.Names.{same_text};
 ghost use Rattle.gang_model.specs.Types.Overloads as overloads;
-ghost use Rattle.ispc_lexer.specs.declared.fault.SourceFault.TheVariants.{Memory};
+ghost use Rattle.source_answers.specs.declared.fault.SourceFault.TheVariants.{Memory};
 ghost use Rattle.ispc_parser.specs.Tree.{function_view, param_view};
-ghost use Rattle.type_check_scopes.specs.Answers.{Answers};
+ghost use Rattle.source_answers.specs.Answers.{Answers};
 ghost use Rattle.type_check_scopes.specs.Passings.{passing_view};
 ghost use Rattle.type_check_calls.specs.Candidates.{candidate_view};
 
@@ -13,14 +13,14 @@ use crate::costs::costs;
 use crate::faults::refused;
 use gang_model::RefusalNumber;
 use gang_types::Place;
-use ispc_lexer::SourceFault;
 use ispc_names_scopes::is_same;
 use ispc_parser::Function;
+use source_answers::SourceFault;
 use std::alloc::Global;
 use type_check_scopes::Passing;
 
 /// A function that takes the arguments, by its number in the source, with what they cost.
-#[derive(Debug, Drop)]
+#[derive(Drop)]
 pub(crate) struct Candidate<'a> {
     pub(crate) number: usize,
     pub(crate) function: &'a Function,

@@ -1,15 +1,15 @@
 //! What calls pass.
 ghost use Rattle.std.specs.Prelude.{◌≡◌, ◌++◌, [], IfErr, IfOk, OnOk, map};
 ghost use Rattle.gang_model.specs.Types.Overloads as overloads;
-ghost use Rattle.ispc_lexer.specs.declared.fault.SourceFault.TheVariants.{Memory};
+ghost use Rattle.source_answers.specs.declared.fault.SourceFault.TheVariants.{Memory};
 ghost use Rattle.ispc_parser.specs.Tree.{param_view};
 ghost use Rattle.type_check_scopes.specs.Passings.{passing_view};
 ghost use Rattle.typed_tree.specs.Views.{arg_view, option_view};
 ghost use Rattle.type_check_calls.specs.Parts as parts;
 
 use gang_types::VarId;
-use ispc_lexer::SourceFault;
 use ispc_parser::Param;
+use source_answers::SourceFault;
 use std::alloc::Global;
 use type_check_scopes::Passing;
 use type_check_values::{as_type, declared_rate, declared_type};

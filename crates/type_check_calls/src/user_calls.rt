@@ -2,12 +2,12 @@
 ghost use Rattle.std.specs.Prelude.{◌≡◌, IfErr, IfOk, map};
 ghost use Rattle.gang_model.specs.Types.Calls as calls;
 ghost use Rattle.gang_model.specs.Types.Signatures as signatures;
-ghost use Rattle.type_check_scopes.specs.Answers.{Answers};
+ghost use Rattle.source_answers.specs.Answers.{Answers};
 ghost use Rattle.type_check_scopes.specs.Passings.{passing_view};
 ghost use Rattle.typed_tree.specs.Views.{result_view};
 ghost use Rattle.type_check_calls.specs.Calls.{called_view, context_view};
 ghost use Rattle.type_check_calls.specs.Candidates.{called_function, candidate_view};
-ghost use Rattle.ispc_lexer.specs.declared.fault.SourceFault.TheVariants.{Memory};
+ghost use Rattle.source_answers.specs.declared.fault.SourceFault.TheVariants.{Memory};
 
 use crate::calls::Called;
 use crate::context::Context;
@@ -15,7 +15,7 @@ use crate::overloads::{Candidate, candidates, overload};
 use crate::passed::passed_args;
 use gang_model::Spec;
 use gang_types::{IntType, Place, Rate};
-use ispc_lexer::SourceFault;
+use source_answers::SourceFault;
 use std::alloc::Global;
 use type_check_scopes::Passing;
 use type_check_values::declared_rate;

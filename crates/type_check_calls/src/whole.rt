@@ -14,7 +14,7 @@ use ispc_parser::Function;
 use ispc_parser_expressions::{Arg, Expr};
 
 /// A call with its name's place.
-#[derive(Clone, Copy, Debug, Drop)]
+#[derive(Clone, Copy, Drop)]
 pub struct WholeCall<'a> {
     pub place: Place,
     pub name: &'a [u8],

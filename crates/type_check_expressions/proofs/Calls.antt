@@ -9,13 +9,13 @@ use Rattle.ispc_parser_expressions.specs.declared.tree.Expr.{Expr, Call}
 use Rattle.ispc_parser_expressions.specs.declared.tree.Arg.{Arg}
 use Rattle.ispc_parser_expressions.specs.Tree.{expr_view, args_view}
 use Rattle.ispc_parser_expressions.proofs.Rows.{view_call}
-use Rattle.ispc_lexer.specs.declared.fault.SourceFault.{SourceFault}
-use Rattle.type_check_scopes.specs.Answers.{Answers}
+use Rattle.source_answers.specs.declared.fault.SourceFault.{SourceFault}
+use Rattle.source_answers.specs.Answers.{Answers}
 use Rattle.type_check_values.specs.declared.typed.Typed.{Typed}
 use Rattle.type_check_values.specs.Views.{typed_view}
 use Rattle.type_check_scopes.specs.declared.passings.Passing.{Passing}
 use Rattle.type_check_expressions.specs.Arguments.{passings_view}
-use Rattle.type_check_scopes.proofs.Answered.{answers-at, answers-same, answers-then}
+use Rattle.source_answers.proofs.Answered.{answers-at, answers-same, answers-then}
 use Rattle.type_check_expressions.proofs.ArgumentLists.{first_arguments, first_arguments-all}
 use Rattle.type_check_expressions.proofs.Residuals.{inside-refused}
 

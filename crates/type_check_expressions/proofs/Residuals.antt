@@ -5,10 +5,10 @@ use Rattle.std.specs.Result.{IsErrAnd}
 use Rattle.std.proofs.lemmas.Result.{err_from_is_err_and}
 use Rattle.gang_model.specs.declared.refusals.SourceRefusal.{SourceRefusal}
 use Rattle.gang_model.specs.Source.Judged.{Judged, Sound, unless, both, ◌>>=◌, least_fault}
-use Rattle.ispc_lexer.specs.declared.fault.SourceFault.{SourceFault}
-use Rattle.ispc_lexer.specs.declared.fault.SourceFault.TheVariants.{Memory}
-use Rattle.type_check_scopes.specs.Answers.{Answers, both_answers, refusal_of, pair_view}
-use Rattle.type_check_scopes.proofs.Answered.{answers-same, answers-at, answers-refused, answers-then, answers-pair, answers-refuse, sound-refuse}
+use Rattle.source_answers.specs.declared.fault.SourceFault.{SourceFault}
+use Rattle.source_answers.specs.declared.fault.SourceFault.TheVariants.{Memory}
+use Rattle.source_answers.specs.Answers.{Answers, both_answers, refusal_of, pair_view}
+use Rattle.source_answers.proofs.Answered.{answers-same, answers-at, answers-refused, answers-then, answers-pair, answers-refuse, sound-refuse}
 
 -- a result that is this fault answers what the fault answers
 pub answers-fault : {A B : Type 0} (g : A → B) (fault : SourceFault) (result : Result A SourceFault) (j : Judged B)

@@ -4,9 +4,8 @@ use Rattle.std.specs.Prelude.{Option}
 use Rattle.gang_types.specs.declared.places.Place.{Place}
 use Rattle.gang_model.specs.declared.refusals.RefusalNumber.{RefusalNumber}
 use Rattle.gang_model.specs.declared.refusals.SourceRefusal.{SourceRefusal}
-use Rattle.gang_model.specs.Source.Judged.{fault_if, least_fault}
-use Rattle.gang_model.proofs.JudgedLaws.{merged}
-use Rattle.ispc_names_scopes.proofs.ArgumentFaults.{in_pair}
+use Rattle.gang_model.specs.Source.Judged.{fault_if, least_fault, merged}
+use Rattle.gang_model.proofs.JudgedLaws.{in_pair}
 
 -- a fault that is looked for in another writing
 pub one-fault : (b b' : Bool) (n : RefusalNumber) (p p' : Place) (f : Option SourceRefusal)

@@ -2,15 +2,13 @@
 ghost use Rattle.std.specs.Prelude.{◌≡◌};
 ghost use Rattle.gang_model.specs.Source.Judged.{least_fault};
 ghost use Rattle.gang_model.specs.Types.Typing as typing;
-ghost use Rattle.type_check_scopes.specs.Answers.{Answers};
+ghost use Rattle.source_answers.specs.Answers.{Answers};
 ghost use Rattle.type_check_values.specs.Views.{typed_view};
 
 use gang_model::{RefusalNumber, SourceRefusal};
 use gang_types::{IntType, Place, Rate};
-use ispc_lexer::SourceFault;
-use ispc_names_scopes::{fault_if, least};
+use source_answers::{SourceFault, fault_if, least, refuse};
 use std::alloc::Global;
-use type_check_scopes::refuse;
 use type_check_values::{Typed, as_type, declared_type, may_become};
 
 /// The rate of a cast expression: the cast's, else the operand's.

@@ -3,8 +3,8 @@ ghost use Rattle.std.specs.Prelude.{◌≡◌, ◌||◌, IfErr, IfOk, Some, not}
 ghost use Rattle.ispc_parser_expressions.specs.Tree.{expr_view};
 ghost use Rattle.gang_model.specs.Source.Judged.{least_fault, unless};
 ghost use Rattle.gang_model.specs.Types.Typing as typing;
-ghost use Rattle.ispc_lexer.specs.declared.fault.SourceFault.TheVariants.{Memory};
-ghost use Rattle.type_check_scopes.specs.Answers.{Answers};
+ghost use Rattle.source_answers.specs.declared.fault.SourceFault.TheVariants.{Memory};
+ghost use Rattle.source_answers.specs.Answers.{Answers};
 ghost use Rattle.type_check_scopes.specs.Entries.{declared_view};
 ghost use Rattle.type_check_values.specs.Views.{typed_view};
 
@@ -12,11 +12,10 @@ use crate::places::first_of;
 use crate::values::refusal;
 use gang_model::{RefusalNumber, SourceRefusal};
 use gang_types::{IntType, Place, is_bool};
-use ispc_lexer::{SourceFault, boxed};
-use ispc_names_scopes::{fault_if, least};
 use ispc_parser_expressions::Expr;
+use source_answers::{SourceFault, boxed, fault_if, least, refuse};
 use std::alloc::Global;
-use type_check_scopes::{Declared, TypeScope, refuse};
+use type_check_scopes::{Declared, TypeScope};
 use type_check_values::Typed;
 use typed_tree::Expr as TypedExpr;
 

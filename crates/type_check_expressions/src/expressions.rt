@@ -5,7 +5,7 @@ ghost use Rattle.type_check_expressions.specs.Arguments.{argument};
 ghost use Rattle.gang_model.specs.Types.Typing as typing;
 ghost use Rattle.typed_tree.specs.Views as typed;
 ghost use Rattle.type_check_values.specs.Views.{typed_view};
-ghost use Rattle.type_check_scopes.specs.Answers.{Answers};
+ghost use Rattle.source_answers.specs.Answers.{Answers};
 ghost use Rattle.type_check_scopes.specs.Passings.{passing_view};
 
 use crate::casts::cast_to;
@@ -17,12 +17,11 @@ use crate::places::first_of;
 use crate::values::{name_value, number_value, refusal, truth_value};
 use gang_model::RefusalNumber;
 use gang_types::{IntType, Rate};
-use ispc_lexer::SourceFault;
-use ispc_names_scopes::fault_if;
 use ispc_parser_expressions::{Arg, Expr};
+use source_answers::{SourceFault, fault_if, refuse};
 use std::alloc::Global;
 use type_check_library::called_value;
-use type_check_scopes::{Passing, TypeScope, refuse};
+use type_check_scopes::{Passing, TypeScope};
 use type_check_values::{Typed, as_type, may_become, prefixed};
 use typed_tree::Expr as TypedExpr;
 

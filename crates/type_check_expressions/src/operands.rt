@@ -2,13 +2,12 @@
 ghost use Rattle.gang_model.specs.Types.Conversions as model;
 ghost use Rattle.gang_model.specs.Source.Judged.{Judged};
 ghost use Rattle.type_check_expressions.specs.Operands as operands;
-ghost use Rattle.type_check_scopes.specs.Answers.{Answers};
+ghost use Rattle.source_answers.specs.Answers.{Answers};
 ghost use Rattle.type_check_values.specs.Views.{typed_view};
 
 use gang_model::Infix;
-use ispc_lexer::SourceFault;
+use source_answers::{SourceFault, both};
 use std::alloc::Global;
-use type_check_scopes::both;
 use type_check_values::{Typed, chosen_by, infixed};
 
 /// Two operands with what stands between them.

@@ -4,7 +4,7 @@ ghost use Rattle.ispc_parser_expressions.specs.Tree.{expr_view};
 ghost use Rattle.gang_model.specs.Types.Conversions as model;
 ghost use Rattle.gang_model.specs.Source.Judged.{Judged, least_fault};
 ghost use Rattle.gang_model.specs.Types.Typing as typing;
-ghost use Rattle.type_check_scopes.specs.Answers.{Answers};
+ghost use Rattle.source_answers.specs.Answers.{Answers};
 ghost use Rattle.type_check_scopes.specs.Entries.{entry_view};
 ghost use Rattle.type_check_scopes.specs.Passings.{passing_view};
 ghost use Rattle.type_check_values.specs.Views.{typed_view};
@@ -15,10 +15,9 @@ use crate::places::{first_of, name_of};
 use crate::values::refusal;
 use gang_model::{RefusalNumber, SourceRefusal};
 use gang_types::{IntType, Place, VarId, is_bool};
-use ispc_lexer::SourceFault;
-use ispc_names_scopes::{fault_if, least};
 use ispc_parser_expressions::Expr;
-use type_check_scopes::{Entry, Passing, TypeScope, both, built_in, index_variable, refuse};
+use source_answers::{SourceFault, both, fault_if, least, refuse};
+use type_check_scopes::{Entry, Passing, TypeScope, built_in, index_variable};
 use type_check_values::{Typed, is_varying};
 
 /// An argument without `&`, which has this value: an array's name is passed as the array, anything else as the value.

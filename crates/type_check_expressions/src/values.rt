@@ -5,17 +5,17 @@ ghost use Rattle.gang_model.specs.Types.Tree as tree;
 ghost use Rattle.gang_model.specs.Types.Typing as typing;
 ghost use Rattle.gang_types.specs.declared.types.IntType.TheVariants.{Bool};
 ghost use Rattle.gang_types.specs.declared.types.Rate.TheVariants.{Uniform};
-ghost use Rattle.ispc_lexer.specs.declared.fault.SourceFault.TheVariants.{Refused};
-ghost use Rattle.type_check_scopes.specs.Answers.{Answers};
+ghost use Rattle.source_answers.specs.declared.fault.SourceFault.TheVariants.{Refused};
+ghost use Rattle.source_answers.specs.Answers.{Answers};
 ghost use Rattle.type_check_scopes.specs.Entries.{declared_view};
 ghost use Rattle.type_check_values.specs.Views.{typed_view};
 
 use crate::named::has_no_value;
 use gang_model::{RefusalNumber, SourceRefusal};
 use gang_types::{IntType, Place, Rate};
-use ispc_lexer::{Number, SourceFault};
-use ispc_names_scopes::fault_if;
-use type_check_scopes::{Declared, TypeScope, built_in, refuse};
+use ispc_lexer::Number;
+use source_answers::{SourceFault, fault_if, refuse};
+use type_check_scopes::{Declared, TypeScope, built_in};
 use type_check_values::{Typed, literal_type};
 use typed_tree::{Expr, Var};
 

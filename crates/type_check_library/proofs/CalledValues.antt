@@ -7,9 +7,9 @@ use Rattle.gang_model.specs.Types.Conversions as model
 use Rattle.gang_model.specs.Source.Judged.{Judged, Sound, unless, ◌>>=◌, least_fault, answer_of}
 use Rattle.gang_model.specs.Types.LibraryTable as table
 use Rattle.gang_model.specs.Types.Typing as typing
-use Rattle.ispc_lexer.specs.declared.fault.SourceFault.{SourceFault}
-use Rattle.ispc_lexer.specs.declared.fault.SourceFault.TheVariants.{Memory, Refused}
-use Rattle.type_check_scopes.specs.Answers.{Answers, refusal_of}
+use Rattle.source_answers.specs.declared.fault.SourceFault.{SourceFault}
+use Rattle.source_answers.specs.declared.fault.SourceFault.TheVariants.{Memory, Refused}
+use Rattle.source_answers.specs.Answers.{Answers, refusal_of}
 
 abbrev Value : Type 0
 Value = Place × model.Typed

@@ -6,10 +6,9 @@ use Rattle.gang_types.specs.declared.types.Rate.{Rate}
 use Rattle.gang_types.specs.declared.places.Place.{Place}
 use Rattle.gang_model.specs.declared.refusals.SourceRefusal.{SourceRefusal}
 use Rattle.gang_model.specs.Types.Conversions as model
-use Rattle.gang_model.specs.Source.Judged.{least_fault, fault_if}
+use Rattle.gang_model.specs.Source.Judged.{least_fault, fault_if, merged}
 use Rattle.gang_model.specs.Types.Typing as typing
-use Rattle.gang_model.proofs.JudgedLaws.{merged, least_fault-append}
-use Rattle.ispc_names_scopes.proofs.ArgumentFaults.{merged-assoc}
+use Rattle.gang_model.proofs.JudgedLaws.{least_fault-append, merged-assoc}
 use Rattle.gang_model.specs.declared.refusals.RefusalNumber.TheVariants.{S7}
 use Rattle.std.specs.Prelude.{not}
 use Rattle.type_check_scopes.specs.declared.passings.Passing.{Passing}

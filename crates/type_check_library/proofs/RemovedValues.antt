@@ -3,7 +3,7 @@ use Rattle.std.proofs.Common.{◌≡◌, ℕ, List, [], ◌∷◌, length, refl,
 use Rattle.std.specs.Prelude.{Some, Result, Ok, Err, IfOk, remove}
 use Rattle.gang_model.specs.Types.LibraryTable as table
 use Rattle.gang_model.specs.Types.Typing as typing
-use Rattle.ispc_lexer.specs.declared.fault.SourceFault.{SourceFault}
+use Rattle.source_answers.specs.declared.fault.SourceFault.{SourceFault}
 use Rattle.type_check_values.specs.declared.typed.Typed.{Typed}
 use Rattle.type_check_values.specs.Views.{typed_view}
 use Rattle.type_check_library.specs.declared.arguments.Argument.{Argument}

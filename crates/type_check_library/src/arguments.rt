@@ -2,20 +2,19 @@
 ghost use Rattle.std.specs.Prelude.{◌≡◌, [], ◌∷◌, IfErr, IfOk, map};
 ghost use Rattle.gang_model.specs.Source.Judged.{least_fault};
 ghost use Rattle.gang_model.specs.Types.Typing as typing;
-ghost use Rattle.ispc_lexer.specs.declared.fault.SourceFault.TheVariants.{Memory};
+ghost use Rattle.source_answers.specs.declared.fault.SourceFault.TheVariants.{Memory};
 ghost use Rattle.type_check_scopes.specs.Passings.{passing_view};
 ghost use Rattle.type_check_library.specs.Arguments.{argument_view, option_argument_view, option_arguments_view};
 
 use gang_model::{RefusalNumber, SourceRefusal};
 use gang_types::{Place, Rate};
-use ispc_lexer::SourceFault;
-use ispc_names_scopes::{fault_if, least};
+use source_answers::{SourceFault, fault_if, least};
 use std::alloc::Global;
 use type_check_scopes::Passing;
 use type_check_values::{Typed, may_become};
 
 /// A value that is given to a library call, with its first token.
-#[derive(Debug, Drop)]
+#[derive(Drop)]
 pub(crate) struct Argument {
     pub place: Place,
     pub value: Typed,

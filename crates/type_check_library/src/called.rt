@@ -3,7 +3,7 @@ ghost use Rattle.std.specs.Prelude.{◌≡◌, Some, length, map, vec_len};
 ghost use Rattle.gang_model.specs.Types.LibraryTable as table;
 ghost use Rattle.gang_model.specs.Types.Typing as typing;
 ghost use Rattle.type_check_values.specs.Views.{typed_view};
-ghost use Rattle.type_check_scopes.specs.Answers.{Answers};
+ghost use Rattle.source_answers.specs.Answers.{Answers};
 ghost use Rattle.type_check_scopes.specs.Passings.{passing_view};
 ghost use Rattle.type_check_library.specs.Arguments.{argument_view};
 ghost use Rattle.type_check_library.specs.Calls.{call_view};
@@ -13,9 +13,9 @@ use crate::calls::{LibraryCall, asked_by, library_call};
 use crate::values::library_value;
 use gang_model::{RefusalNumber, SourceRefusal};
 use gang_types::Place;
-use ispc_lexer::SourceFault;
+use source_answers::{SourceFault, refuse};
 use std::alloc::Global;
-use type_check_scopes::{Passing, refuse};
+use type_check_scopes::Passing;
 use type_check_values::Typed;
 
 /// The value of a call with as many arguments as it takes.

@@ -1,7 +1,7 @@
 //! Library calls of one value.
 ghost use Rattle.std.specs.Prelude.{◌≡◌, Some, [], ◌∷◌, IfErr, IfOk};
 ghost use Rattle.gang_model.specs.Types.LibraryTable as table;
-ghost use Rattle.ispc_lexer.specs.declared.fault.SourceFault.TheVariants.{Memory};
+ghost use Rattle.source_answers.specs.declared.fault.SourceFault.TheVariants.{Memory};
 ghost use Rattle.typed_tree.specs.Views.{reduction_view, scan_view};
 ghost use Rattle.type_check_values.specs.Views.{typed_view};
 ghost use Rattle.type_check_library.specs.Calls.{call_of_one_view};
@@ -9,7 +9,7 @@ ghost use Rattle.type_check_library.specs.Calls.{call_of_one_view};
 use crate::calls::CallOfOne;
 use crate::types::{reduced_type, truths_type};
 use gang_types::{IntType, Rate, is_bool};
-use ispc_lexer::{SourceFault, boxed};
+use source_answers::{SourceFault, boxed};
 use std::alloc::Global;
 use type_check_values::{Typed, boxed_as_type, promoted};
 use typed_tree::{Expr, OneCall, Reduction, Scan};

@@ -1,7 +1,7 @@
 //! Library calls of three values.
 ghost use Rattle.std.specs.Prelude.{◌≡◌, Some, [], ◌∷◌, IfErr, IfOk};
 ghost use Rattle.gang_model.specs.Types.LibraryTable as table;
-ghost use Rattle.ispc_lexer.specs.declared.fault.SourceFault.TheVariants.{Memory};
+ghost use Rattle.source_answers.specs.declared.fault.SourceFault.TheVariants.{Memory};
 ghost use Rattle.type_check_values.specs.Views.{typed_view};
 ghost use Rattle.type_check_library.specs.Calls.{call_of_three_view};
 
@@ -9,7 +9,7 @@ use crate::calls::CallOfThree;
 use crate::two_values::{as_index, both_as_type, one_of_two, with_index};
 use crate::types::number_type;
 use gang_types::{IntType, Rate};
-use ispc_lexer::{SourceFault, boxed};
+use source_answers::{SourceFault, boxed};
 use std::alloc::Global;
 use type_check_values::{Typed, boxed_as_type, joined, joined_rate, promoted};
 use typed_tree::{Expr, TwoCall};

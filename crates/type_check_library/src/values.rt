@@ -2,7 +2,7 @@
 ghost use Rattle.std.specs.Prelude.{◌≡◌, Some, IfErr, IfOk, length, map, vec_len};
 ghost use Rattle.gang_model.specs.Types.LibraryTable as table;
 ghost use Rattle.gang_model.specs.Types.Typing as typing;
-ghost use Rattle.ispc_lexer.specs.declared.fault.SourceFault.TheVariants.{Memory};
+ghost use Rattle.source_answers.specs.declared.fault.SourceFault.TheVariants.{Memory};
 ghost use Rattle.type_check_values.specs.Views.{typed_view};
 ghost use Rattle.type_check_library.specs.Arguments.{argument_view};
 ghost use Rattle.type_check_library.specs.Calls.{call_view};
@@ -13,7 +13,7 @@ use crate::one_value::value_of_one;
 use crate::three_values::value_of_three;
 use crate::two_values::value_of_two;
 use gang_types::{IntType, Rate};
-use ispc_lexer::SourceFault;
+use source_answers::SourceFault;
 use std::alloc::Global;
 use type_check_values::Typed;
 use typed_tree::Expr;

@@ -14,17 +14,19 @@ use Rattle.gang_model.specs.Types.Calls.{Context}
 use Rattle.gang_model.specs.Types.Typing.{Entry, Scope, declared, var_of}
 use Rattle.gang_model.specs.Types.TypeFaults.{variable_faults}
 use Rattle.gang_model.specs.Types.Statements.{made, declaration, statement}
+use Rattle.gang_model.specs.Source.Judged as definitions
 use Rattle.gang_model.proofs.JudgedLaws as laws
-use Rattle.ispc_lexer.specs.declared.fault.SourceFault.{SourceFault}
-use Rattle.ispc_lexer.specs.declared.fault.SourceFault.TheVariants.{Memory, Refused}
+use Rattle.source_answers.specs.declared.fault.SourceFault.{SourceFault}
+use Rattle.source_answers.specs.declared.fault.SourceFault.TheVariants.{Memory, Refused}
 use Rattle.typed_tree.specs.declared.expressions.Var.{Var}
 use Rattle.typed_tree.specs.declared.statements.Stmt.{Stmt}
 use Rattle.typed_tree.specs.Views.{var_view, stmt_view}
-use Rattle.type_check_scopes.specs.Answers.{Answers, both_answers, refusal_of, pair_view}
+use Rattle.source_answers.specs.Answers.{Answers, both_answers, refusal_of, pair_view}
 use Rattle.type_check_scopes.specs.declared.entries.Declared.{Declared}
 use Rattle.type_check_scopes.specs.Entries.{declared_view}
-use Rattle.type_check_scopes.proofs.Answered.{answers-both, answers-refusal}
-use Rattle.type_check_parts.specs.Typed.{apart, seen, IsTyped}
+use Rattle.source_answers.proofs.Answered.{answers-both, answers-refusal}
+use Rattle.source_answers.specs.Apart.{apart, seen}
+use Rattle.type_check_parts.specs.Typed.{IsTyped}
 use Rattle.type_check_parts.specs.Sequences.{second_part}
 use Rattle.type_check_parts.proofs.Named.{declared-named}
 
@@ -41,7 +43,7 @@ second_seen n (Err Memory) answer j variables h e =
 second_seen n (Err (Refused fault)) answer j variables h e =
     let same : answer ≡ Err fault = cc in
     laws.answer_of-then j (λ both. Sound (made both.1 variables))
-    ∙ (ap (λ x. laws.then_answer x (λ both. answer_of (Sound (made both.1 variables)))) h ∙ ap (seen (λ s. made (stmt_view s) variables)) (sym same))
+    ∙ (ap (λ x. definitions.then_answer x (λ both. answer_of (Sound (made both.1 variables)))) h ∙ ap (seen (λ s. made (stmt_view s) variables)) (sym same))
 
 -- whether there is no type, from whether there is one
 missing : (is_there is_missing : Bool) → is_there ≡ not is_missing → is_missing ≡ not is_there

@@ -7,10 +7,10 @@ use Rattle.gang_types.specs.declared.places.VarId.TheVariants.{Local}
 use Rattle.gang_model.specs.declared.refusals.SourceRefusal.{SourceRefusal}
 use Rattle.gang_model.specs.Types.Tree.{Dimension, Expr}
 use Rattle.gang_model.specs.Source.Parsed.{ParsedDim}
-use Rattle.gang_model.specs.Source.Judged.{Judged, Sound, Faulty, both, ◌>>=◌, answer_of, lesser}
+use Rattle.gang_model.specs.Source.Judged.{Judged, Sound, Faulty, both, ◌>>=◌, answer_of, lesser, both_answers, then_answer}
 use Rattle.gang_model.specs.Types.Typing.{Scope, given_value}
 use Rattle.gang_model.specs.Types.Statements.{dimensions}
-use Rattle.gang_model.proofs.JudgedLaws.{both_answers, then_answer, lesser-assoc, answer_of-both, answer_of-then}
+use Rattle.gang_model.proofs.JudgedLaws.{lesser-assoc, answer_of-both, answer_of-then}
 use Rattle.type_check_parts.specs.Rows.{dimension_of, first_dimensions}
 
 -- the answer for the whole, from what is typed so far and the answer for what is left

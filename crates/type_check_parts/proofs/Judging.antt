@@ -3,10 +3,10 @@ use Rattle.std.proofs.Common.{◌≡◌, sym, ap, ◌∙◌}
 use Rattle.std.specs.Prelude.{Result, Ok, Err}
 use Rattle.gang_model.specs.declared.refusals.SourceRefusal.{SourceRefusal}
 use Rattle.gang_model.specs.Source.Judged.{Judged, answer_of}
-use Rattle.ispc_lexer.specs.declared.fault.SourceFault.{SourceFault}
-use Rattle.ispc_lexer.specs.declared.fault.SourceFault.TheVariants.{Memory, Refused}
-use Rattle.type_check_scopes.specs.Answers.{Answers}
-use Rattle.type_check_parts.specs.Typed.{apart, seen}
+use Rattle.source_answers.specs.declared.fault.SourceFault.{SourceFault}
+use Rattle.source_answers.specs.declared.fault.SourceFault.TheVariants.{Memory, Refused}
+use Rattle.source_answers.specs.Answers.{Answers}
+use Rattle.source_answers.specs.Apart.{apart, seen}
 
 -- what is left of an answer where want of memory is set apart
 pub answers-apart : {A B : Type 0} (view : A → B) (result : Result A SourceFault) (answer : Result A SourceRefusal) (j : Judged B)

@@ -8,12 +8,12 @@ use Rattle.gang_model.specs.Types.Tree as tree
 use Rattle.gang_model.specs.Source.Judged.{Judged, Sound, Faulty, both, ◌>>=◌}
 use Rattle.gang_model.specs.Types.Statements as model
 use Rattle.gang_model.specs.Types.Statements.{assigned_type, rate_of, variable_of}
-use Rattle.ispc_lexer.specs.declared.fault.SourceFault.{SourceFault}
-use Rattle.ispc_lexer.specs.declared.fault.SourceFault.TheVariants.{Memory, Refused}
+use Rattle.source_answers.specs.declared.fault.SourceFault.{SourceFault}
+use Rattle.source_answers.specs.declared.fault.SourceFault.TheVariants.{Memory, Refused}
 use Rattle.typed_tree.specs.declared.expressions.Var.{Var}
 use Rattle.typed_tree.specs.Views.{var_view}
-use Rattle.type_check_scopes.specs.Answers.{Answers, both_answers, pair_view}
-use Rattle.type_check_scopes.proofs.Answered.{answers-both, answers-same, answers-then}
+use Rattle.source_answers.specs.Answers.{Answers, both_answers, pair_view}
+use Rattle.source_answers.proofs.Answered.{answers-both, answers-same, answers-then}
 use Rattle.type_check_parts.specs.declared.targets.Aimed.{Aimed}
 use Rattle.type_check_parts.specs.Typed.{aimed_view}
 use Rattle.type_check_parts.specs.Changes.{wanted, wanted_variable}

@@ -11,7 +11,7 @@ use Rattle.gang_model.specs.Types.Typing.{Scope}
 use Rattle.gang_model.specs.Source.Parsed.{ParsedExpr, ParsedTarget}
 use Rattle.gang_model.specs.Source.Judged.{Judged, Sound, both, ◌>>=◌}
 use Rattle.gang_model.specs.Types.Statements.{target_of, operand_for, rate_of, changed, number_one}
-use Rattle.ispc_lexer.specs.declared.fault.SourceFault.{SourceFault}
+use Rattle.source_answers.specs.declared.fault.SourceFault.{SourceFault}
 use Rattle.typed_tree.specs.declared.expressions.Var.{Var}
 use Rattle.type_check_parts.specs.declared.targets.Aimed.{Aimed}
 

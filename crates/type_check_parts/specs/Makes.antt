@@ -3,8 +3,8 @@ use Rattle.std.specs.Prelude.{◌≡◌, ◌++◌, List, Result, Ok, Err}
 use Rattle.gang_model.specs.Types.Tree.{Stmt, Variable}
 use Rattle.gang_model.specs.Source.Judged.{Judged, Sound, answer_of}
 use Rattle.gang_model.specs.Types.Statements.{Made, made}
-use Rattle.ispc_lexer.specs.declared.fault.SourceFault.{SourceFault}
-use Rattle.ispc_lexer.specs.declared.fault.SourceFault.TheVariants.{Memory, Refused}
+use Rattle.source_answers.specs.declared.fault.SourceFault.{SourceFault}
+use Rattle.source_answers.specs.declared.fault.SourceFault.TheVariants.{Memory, Refused}
 
 -- The typed statement, with the variables that the function has then beside those before; or the least fault.
 abbrev pub Makes : {A : Type 0} → (A → Stmt) → Result A SourceFault → (before after : List Variable) → Judged Made → Type 0

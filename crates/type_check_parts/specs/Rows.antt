@@ -6,9 +6,8 @@ use Rattle.gang_types.specs.declared.places.VarId.TheVariants.{Local}
 use Rattle.gang_model.specs.declared.refusals.SourceRefusal.{SourceRefusal}
 use Rattle.gang_model.specs.Types.Tree.{Dimension}
 use Rattle.gang_model.specs.Source.Parsed.{ParsedDim}
-use Rattle.gang_model.specs.Source.Judged.{Judged, Sound, both, ◌>>=◌}
+use Rattle.gang_model.specs.Source.Judged.{Judged, Sound, both, ◌>>=◌, both_answers, then_answer}
 use Rattle.gang_model.specs.Types.Typing.{Scope, given_value}
-use Rattle.gang_model.proofs.JudgedLaws.{both_answers, then_answer}
 
 -- one dimension, with the k-th variable as its index variable
 abbrev pub dimension_of : Scope → ℕ → ParsedDim → Judged Dimension

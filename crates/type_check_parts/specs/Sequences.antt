@@ -4,12 +4,11 @@ use Rattle.gang_types.specs.declared.types.IntType.{IntType}
 use Rattle.gang_types.specs.declared.types.IntType.TheVariants.{Int32}
 use Rattle.gang_model.specs.declared.refusals.SourceRefusal.{SourceRefusal}
 use Rattle.gang_model.specs.Types.Tree as tree
-use Rattle.gang_model.specs.Source.Judged.{Judged, Sound, ◌>>=◌}
+use Rattle.gang_model.specs.Source.Judged.{Judged, Sound, ◌>>=◌, both_answers, then_answer}
 use Rattle.gang_model.specs.Types.Typing.{Scope}
 use Rattle.gang_model.specs.Types.Conversions as model
 use Rattle.gang_model.specs.Types.Calls.{Context, WholeCall, call_of}
-use Rattle.gang_model.proofs.JudgedLaws.{both_answers, then_answer}
-use Rattle.ispc_lexer.specs.declared.fault.SourceFault.{SourceFault}
+use Rattle.source_answers.specs.declared.fault.SourceFault.{SourceFault}
 use Rattle.typed_tree.specs.declared.statements.Stmt.{Stmt}
 use Rattle.type_check_values.specs.declared.typed.Typed.{Typed}
 
@@ -30,12 +29,6 @@ call_statement context scope call step = call_of context scope call.at call.name
 abbrev pub type_or_int32 : Result Typed SourceRefusal → IntType
 type_or_int32 (Ok e) = e.value_type
 type_or_int32 (Err fault) = Int32
-
--- what both parts stand for, or the fault of the first of them that has one
-abbrev pub in_order : {A B : Type 0} → Result A SourceRefusal → Result B SourceRefusal → Result (A × B) SourceRefusal
-in_order (Ok a) (Ok b) = Ok (a, b)
-in_order (Ok a) (Err fault) = Err fault
-in_order (Err fault) b = Err fault
 
 -- the answer for a `foreach_unique`, where a fault of the value hides those of the body
 abbrev pub value_rounds : ℕ → tree.Var → Result model.Typed SourceRefusal → Result tree.Stmt SourceRefusal → Result tree.Stmt SourceRefusal

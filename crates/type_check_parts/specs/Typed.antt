@@ -6,26 +6,10 @@ use Rattle.gang_model.specs.Types.Typing.{Entry}
 use Rattle.gang_model.specs.Source.Judged.{Judged, Sound, ◌>>=◌, answer_of}
 use Rattle.gang_model.specs.Types.Statements as model
 use Rattle.gang_model.specs.Types.Statements.{Made, made}
-use Rattle.ispc_lexer.specs.declared.fault.SourceFault.{SourceFault}
-use Rattle.ispc_lexer.specs.declared.fault.SourceFault.TheVariants.{Memory, Refused}
+use Rattle.source_answers.specs.declared.fault.SourceFault.{SourceFault}
+use Rattle.source_answers.specs.declared.fault.SourceFault.TheVariants.{Memory, Refused}
 use Rattle.typed_tree.specs.Views.{target_view}
 use Rattle.type_check_parts.specs.declared.targets.Aimed.{Aimed}
-
--- want of memory, set apart from the answer
-abbrev pub apart : {A : Type 0} → Result A SourceFault → Result (Result A SourceRefusal) SourceFault
-apart (Ok a) = Ok (Ok a)
-apart (Err Memory) = Err Memory
-apart (Err (Refused fault)) = Ok (Err fault)
-
--- an answer as a result that may want memory
-abbrev pub joined : {A : Type 0} → Result A SourceRefusal → Result A SourceFault
-joined (Ok a) = Ok a
-joined (Err fault) = Err (Refused fault)
-
--- an answer, seen through a view
-abbrev pub seen : {A B : Type 0} → (A → B) → Result A SourceRefusal → Result B SourceRefusal
-seen view (Ok a) = Ok (view a)
-seen view (Err fault) = Err fault
 
 -- The answer is that for what is judged, and the function has so many more variables then: those that the statement declares.
 pub record IsTyped {A : Type 0} (view : A → Stmt) (answer : Result A SourceRefusal) (judged : Judged Made) (before after : List Variable) (count : ℕ) : Type 0 where

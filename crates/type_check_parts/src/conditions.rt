@@ -4,10 +4,10 @@ ghost use Rattle.ispc_parser_expressions.specs.Tree.{expr_view};
 ghost use Rattle.gang_model.specs.Types.Statements as model;
 ghost use Rattle.ispc_parser.specs.Tree as parsed;
 ghost use Rattle.typed_tree.specs.Views as typed;
-ghost use Rattle.type_check_scopes.specs.Answers.{Answers};
+ghost use Rattle.source_answers.specs.Answers.{Answers};
 
-use ispc_lexer::SourceFault;
 use ispc_parser_expressions::Expr;
+use source_answers::SourceFault;
 use std::alloc::Global;
 use type_check_expressions::expression;
 use type_check_scopes::TypeScope;

@@ -5,29 +5,27 @@ ghost use Rattle.gang_types.specs.declared.places.VarId.TheVariants.{Local};
 ghost use Rattle.ispc_parser_expressions.specs.Tree.{expr_view};
 ghost use Rattle.gang_model.specs.Source.Parsed.{ParsedDeclare};
 ghost use Rattle.gang_model.specs.Types.Typing as typing;
-ghost use Rattle.ispc_lexer.specs.declared.fault.SourceFault.TheVariants.{Memory};
+ghost use Rattle.source_answers.specs.declared.fault.SourceFault.TheVariants.{Memory};
 ghost use Rattle.gang_model.specs.Types.Calls as calls;
 ghost use Rattle.gang_model.specs.Types.Statements as model;
 ghost use Rattle.ispc_parser.specs.Tree as parsed;
 ghost use Rattle.typed_tree.specs.Views.{stmt_view, var_view};
-ghost use Rattle.type_check_scopes.specs.Answers.{Answers, both_answers};
+ghost use Rattle.source_answers.specs.Answers.{Answers, both_answers};
 ghost use Rattle.type_check_scopes.specs.Entries.{declared_view};
 ghost use Rattle.type_check_calls.specs.Calls.{context_view};
 ghost use Rattle.type_check_parts.specs.Sequences.{second_part};
 ghost use Rattle.type_check_parts.specs.Typed.{IsTyped};
 
-use crate::answers::Answer;
 use crate::numbering::one_step;
 use crate::targets::variable_of;
 use gang_model::{RefusalNumber, Spec};
 use gang_types::{Place, VarId};
-use ispc_lexer::SourceFault;
-use ispc_names_scopes::fault_if;
 use ispc_parser_expressions::Expr;
+use source_answers::{Answer, SourceFault, both, fault_if, refuse};
 use std::alloc::Global;
 use type_check_calls::{Context, Receiver, right_call, whole_call};
 use type_check_expressions::{first_of, given_value};
-use type_check_scopes::{Declared, TypeScope, both, declared_with, refuse};
+use type_check_scopes::{Declared, TypeScope, declared_with};
 use typed_tree::{ResultFor, Stmt, Var};
 
 /// A declaration with a first value: a call's result, or a value.

@@ -1,17 +1,16 @@
 //! Statements of their parts.
 ghost use Rattle.std.specs.Prelude.{◌≡◌, IfErr, IfOk, Ok, if◌then◌else◌, map};
 ghost use Rattle.gang_model.specs.Types.Tree as tree;
-ghost use Rattle.ispc_lexer.specs.declared.fault.SourceFault.TheVariants.{Memory};
+ghost use Rattle.source_answers.specs.declared.fault.SourceFault.TheVariants.{Memory};
 ghost use Rattle.typed_tree.specs.Views.{dimension_view, expr_view, rounds_view, stmt_view, stmts_view, var_view};
 ghost use Rattle.type_check_values.specs.Views.{typed_view};
-ghost use Rattle.type_check_scopes.specs.Answers.{Answers};
+ghost use Rattle.source_answers.specs.Answers.{Answers};
 ghost use Rattle.type_check_calls.specs.Calls.{context_view, whole_call_view};
-ghost use Rattle.type_check_parts.specs.Typed.{seen};
+ghost use Rattle.source_answers.specs.Apart.{seen};
 ghost use Rattle.type_check_parts.specs.Sequences.{call_statement, one_more, type_or_int32, value_rounds};
 
-use crate::answers::{Answer, both_answers, in_order};
 use gang_types::IntType;
-use ispc_lexer::{SourceFault, both_boxed, boxed};
+use source_answers::{Answer, SourceFault, both_answers, both_boxed, boxed, in_order};
 use std::alloc::Global;
 use type_check_calls::{Context, WholeCall, call_of};
 use type_check_scopes::TypeScope;

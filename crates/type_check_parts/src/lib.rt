@@ -1,7 +1,6 @@
 //! The parts of statements in their typed form, and their faults S7 to S10: targets, conditions, declarations, results, rounds.
 #![tactic(auto)]
 
-mod answers;
 mod assignments;
 mod conditions;
 mod declarations;
@@ -11,7 +10,6 @@ mod results;
 mod rounds;
 mod targets;
 
-pub use answers::{Answer, both_answers, joined, set_apart};
 pub use assignments::{assignment, change, increment};
 pub use conditions::{some_test, test_of};
 pub use declarations::declare;

@@ -1,13 +1,12 @@
 //! The numbers of steps.
 ghost use Rattle.std.specs.Prelude.{◌≡◌, ◌+◌, IfErr, IfOk, OnOk};
 ghost use Rattle.gang_model.specs.Running.Numbering as model;
-ghost use Rattle.ispc_lexer.specs.declared.fault.SourceFault.TheVariants.{Memory};
+ghost use Rattle.source_answers.specs.declared.fault.SourceFault.TheVariants.{Memory};
 ghost use Rattle.ispc_parser.specs.Tree.{stmt_view};
-ghost use Rattle.type_check_parts.specs.Typed.{apart};
+ghost use Rattle.source_answers.specs.Apart.{apart};
 
-use crate::answers::{Answer, set_apart};
-use ispc_lexer::SourceFault;
 use ispc_parser::Stmt;
+use source_answers::{Answer, SourceFault, set_apart};
 
 /// The number that comes so many steps later; one that is too large counts as want of memory.
 pub fn advanced(step: usize, steps: usize) -> Result<usize, SourceFault>

@@ -4,13 +4,13 @@ ghost use Rattle.ispc_parser_expressions.specs.Tree.{expr_view};
 ghost use Rattle.gang_model.specs.Types.Statements as model;
 ghost use Rattle.ispc_parser.specs.Tree as parsed;
 ghost use Rattle.typed_tree.specs.Views.{stmt_view};
-ghost use Rattle.type_check_scopes.specs.Answers.{Answers};
+ghost use Rattle.source_answers.specs.Answers.{Answers};
 ghost use Rattle.type_check_calls.specs.Calls.{context_view};
 
 use gang_model::{RefusalNumber, SourceRefusal};
 use gang_types::{IntType, Place, Rate};
-use ispc_lexer::SourceFault;
 use ispc_parser_expressions::Expr;
+use source_answers::SourceFault;
 use std::alloc::Global;
 use type_check_calls::{Context, Receiver, right_call, whole_call};
 use type_check_expressions::{first_of, given_value};

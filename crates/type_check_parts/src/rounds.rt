@@ -7,21 +7,20 @@ ghost use Rattle.gang_model.specs.Source.Judged as judged;
 ghost use Rattle.gang_model.specs.Source.Judged.{answer_of};
 ghost use Rattle.gang_model.specs.Types.Statements as model;
 ghost use Rattle.gang_model.specs.Types.Typing as typing;
-ghost use Rattle.ispc_lexer.specs.declared.fault.SourceFault.TheVariants.{Memory};
+ghost use Rattle.source_answers.specs.declared.fault.SourceFault.TheVariants.{Memory};
 ghost use Rattle.ispc_parser.specs.Tree.{dim_view};
 ghost use Rattle.typed_tree.specs.Views.{dimension_view};
-ghost use Rattle.type_check_scopes.specs.Answers.{Answers};
-ghost use Rattle.type_check_parts.specs.Typed.{seen};
+ghost use Rattle.source_answers.specs.Answers.{Answers};
+ghost use Rattle.source_answers.specs.Apart.{seen};
 ghost use Rattle.type_check_parts.specs.Rows.{dimension_of, first_dimensions};
 
-use crate::answers::{Answer, both_answers, set_apart};
 use crate::numbering::advanced;
 use gang_types::{IntType, Rate, VarId};
-use ispc_lexer::SourceFault;
 use ispc_parser::Dim;
+use source_answers::{Answer, SourceFault, both, both_answers, set_apart};
 use std::alloc::Global;
 use type_check_expressions::given_value;
-use type_check_scopes::{TypeScope, both, index_variable};
+use type_check_scopes::{TypeScope, index_variable};
 use typed_tree::{Dimension, Var};
 
 /// A dimension, whose bounds are uniform int32 and judged each by itself.

@@ -6,24 +6,23 @@ ghost use Rattle.gang_model.specs.Types.Typing as typing;
 ghost use Rattle.ispc_parser.specs.Tree as parsed;
 ghost use Rattle.typed_tree.specs.Views.{var_view};
 ghost use Rattle.type_check_values.specs.Views.{typed_view};
-ghost use Rattle.type_check_scopes.specs.Answers.{Answers};
+ghost use Rattle.source_answers.specs.Answers.{Answers};
 ghost use Rattle.type_check_scopes.specs.Entries.{declared_view};
 ghost use Rattle.type_check_parts.specs.Typed.{aimed_view};
 
 use gang_model::{RefusalNumber, SourceRefusal};
 use gang_types::{IntType, Place, Rate, is_bool};
-use ispc_lexer::SourceFault;
-use ispc_names_scopes::fault_if;
 use ispc_parser::Target as ParsedTarget;
 use ispc_parser_expressions::Expr;
+use source_answers::{SourceFault, both, fault_if, refuse};
 use std::alloc::Global;
 use type_check_expressions::{expression, first_of};
-use type_check_scopes::{Declared, TypeScope, both, refuse};
+use type_check_scopes::{Declared, TypeScope};
 use type_check_values::Typed;
 use typed_tree::{Target, Var};
 
 /// A target with its type and rate.
-#[derive(Debug, Drop)]
+#[derive(Drop)]
 pub(crate) struct Aimed {
     pub(crate) target: Target,
     pub(crate) value_type: IntType,

@@ -1,4 +1,3 @@
-pub mod Answers
 pub mod Entries
 pub mod Passings
 pub mod Tables

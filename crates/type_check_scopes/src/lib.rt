@@ -3,11 +3,9 @@
 #![tactic(auto)]
 
 mod entries;
-mod judged;
 mod passings;
 mod scope;
 
 pub use entries::{Declared, Entry, built_in, declared_with, index_variable};
-pub use judged::{both, refuse};
 pub use passings::Passing;
 pub use scope::{TypeMark, TypeScope};

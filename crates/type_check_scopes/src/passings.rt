@@ -6,7 +6,7 @@ use type_check_values::Typed;
 use typed_tree::Expr;
 
 /// An argument: a value, with its first token; an array from an index on, at its name; `&x`, at its name.
-#[derive(Debug, Drop)]
+#[derive(Drop)]
 pub enum Passing<'a> {
     Scalar {
         place: Place,

@@ -1,15 +1,15 @@
 //! What is in scope where a statement is typed.
 ghost use Rattle.std.specs.Prelude.{◌≡◌, [], ◌∷◌, ◌++◌, ◌-◌, ◌≤◌, ◌+◌, OnOk, OnErr, IfOk, IfErr, drop, length, map, option_map};
 ghost use Rattle.gang_types.specs.declared.places.VarId.TheVariants.{Local};
-ghost use Rattle.ispc_lexer.specs.declared.fault.SourceFault.TheVariants.{Memory};
+ghost use Rattle.source_answers.specs.declared.fault.SourceFault.TheVariants.{Memory};
 ghost use Rattle.gang_model.specs.Types.Typing as typing;
 ghost use Rattle.typed_tree.specs.Views.{variable_view};
 ghost use Rattle.type_check_scopes.specs.Entries.{declared_view};
 
 use crate::entries::Declared;
 use gang_types::VarId;
-use ispc_lexer::SourceFault;
 use ispc_names_scopes::{ScopeMark, Scopes};
+use source_answers::SourceFault;
 use std::alloc::Global;
 use std::marker::Model;
 use std::mem::replace;

@@ -16,12 +16,14 @@ use Rattle.gang_model.specs.Types.Conversions as conversions
 use Rattle.gang_model.specs.Types.Typing.{Entry, Scope, index_entry, var_of, expression}
 use Rattle.gang_model.specs.Source.Judged.{Judged, Sound, Faulty, both, ◌>>=◌, answer_of, least_of}
 use Rattle.gang_model.specs.Types.Statements.{Made, made, scope_after, statement, test_of, dimensions, index_entries, index_variables}
+use Rattle.gang_model.specs.Source.Judged as definitions
 use Rattle.gang_model.proofs.JudgedLaws as laws
 use Rattle.typed_tree.specs.declared.expressions.Expr.{Expr}
 use Rattle.typed_tree.specs.declared.statements.Stmt.{Stmt}
 use Rattle.typed_tree.specs.Views.{expr_view, stmt_view}
-use Rattle.type_check_scopes.specs.Answers.{pair_view}
-use Rattle.type_check_parts.specs.Typed.{seen, IsTyped, with_index}
+use Rattle.source_answers.specs.Answers.{pair_view}
+use Rattle.source_answers.specs.Apart.{seen}
+use Rattle.type_check_parts.specs.Typed.{IsTyped, with_index}
 use Rattle.type_check_parts.specs.Sequences.{value_rounds}
 use Rattle.type_check_statements.proofs.Judging.{seen-both, typed-at, typed-parts, variables-two, length-two, next-number}
 use Rattle.type_check_statements.proofs.ScopeSteps.{indices-length}
@@ -34,7 +36,7 @@ pub if-only : (p : Place) (e : ParsedExpr) (a : ParsedStmt) (context : Context) 
     (test : Result Expr SourceRefusal) (first answer : Result Stmt SourceRefusal) (parts : Result (Expr × Stmt) SourceRefusal)
     → answer_of (test_of entries (Some e)) ≡ seen expr_view test
     → IsTyped stmt_view first (statement a context entries' (length before) at) before after (locals_in a) → entries' ≡ entries → at ≡ step + 1
-    → parts ≡ laws.both_answers test first → seen stmt_view answer ≡ seen (λ q. tree.If step (expr_view q.0) (stmt_view q.1) tree.Empty) parts
+    → parts ≡ definitions.both_answers test first → seen stmt_view answer ≡ seen (λ q. tree.If step (expr_view q.0) (stmt_view q.1) tree.Empty) parts
     → IsTyped stmt_view answer (statement (ParsedIf p e a) context entries (length before) step) before after (locals_in a)
 if-only p e a context entries entries' before after step at test first answer parts t h n s w f =
     let x = typed-at stmt_view first a context entries' entries (length before) (length before) at (step + 1) before after (locals_in a) h n refl s in
@@ -48,7 +50,7 @@ pub if-else : (p : Place) (e : ParsedExpr) (a b : ParsedStmt) (context : Context
     → answer_of (test_of entries (Some e)) ≡ seen expr_view test
     → IsTyped stmt_view first (statement a context entries1 (length before) at1) before between (locals_in a) → entries1 ≡ entries → at1 ≡ step + 1
     → IsTyped stmt_view other (statement b context entries2 (length between) at2) between after (locals_in b) → entries2 ≡ entries → at2 ≡ at1 + steps_in a
-    → pair ≡ laws.both_answers first other → parts ≡ laws.both_answers test pair
+    → pair ≡ definitions.both_answers first other → parts ≡ definitions.both_answers test pair
     → seen stmt_view answer ≡ seen (λ q. tree.If step (expr_view q.0) (stmt_view q.1.0) (stmt_view q.1.1)) parts
     → IsTyped stmt_view answer (statement (ParsedIfElse p e a b) context entries (length before) step) before after (locals_in a + locals_in b)
 if-else p e a b context entries entries1 entries2 before between after step at1 at2 test first other answer pair parts t h1 n1 s1 h2 n2 s2 v w f =
@@ -69,7 +71,7 @@ pub while-loop : (p : Place) (e : ParsedExpr) (a : ParsedStmt) (context : Contex
     (test : Result Expr SourceRefusal) (body answer : Result Stmt SourceRefusal) (parts : Result (Expr × Stmt) SourceRefusal)
     → answer_of (test_of entries (Some e)) ≡ seen expr_view test
     → IsTyped stmt_view body (statement a context entries' (length before) step) before after (locals_in a) → entries' ≡ entries → at ≡ step + steps_in a
-    → parts ≡ laws.both_answers test body → seen stmt_view answer ≡ seen (λ q. tree.Loop at (expr_view q.0) tree.Empty (stmt_view q.1)) parts
+    → parts ≡ definitions.both_answers test body → seen stmt_view answer ≡ seen (λ q. tree.Loop at (expr_view q.0) tree.Empty (stmt_view q.1)) parts
     → IsTyped stmt_view answer (statement (ParsedWhile p e a) context entries (length before) step) before after (locals_in a)
 while-loop p e a context entries entries' before after step at test body answer parts t h n s w f =
     let x = typed-at stmt_view body a context entries' entries (length before) (length before) step step before after (locals_in a) h n refl refl in
@@ -83,7 +85,7 @@ pub do-loop : (p : Place) (e : ParsedExpr) (a : ParsedStmt) (context : Context) 
     (test : Result Expr SourceRefusal) (body answer : Result Stmt SourceRefusal) (parts : Result (Stmt × Expr) SourceRefusal)
     → IsTyped stmt_view body (statement a context entries (length before) step) before after (locals_in a)
     → answer_of (test_of entries' (Some e)) ≡ seen expr_view test → entries' ≡ entries → at ≡ step + steps_in a
-    → parts ≡ laws.both_answers body test → seen stmt_view answer ≡ seen (λ q. tree.BodyFirst at (expr_view q.1) (stmt_view q.0)) parts
+    → parts ≡ definitions.both_answers body test → seen stmt_view answer ≡ seen (λ q. tree.BodyFirst at (expr_view q.1) (stmt_view q.0)) parts
     → IsTyped stmt_view answer (statement (ParsedDo a p e) context entries (length before) step) before after (locals_in a)
 do-loop p e a context entries entries' before after step at test body answer parts x t n s w f =
     let body_of = statement a context entries (length before) step in
@@ -100,7 +102,7 @@ pub for-loop : (p : Place) (s u b : ParsedStmt) (e : Option ParsedExpr) (context
     → answer_of (test_of entries1 e) ≡ seen expr_view test → n ≡ steps_in b → at0 ≡ step1 + n
     → IsTyped stmt_view update (statement u context entries1 (length l1) at0) l1 l2 (locals_in u) → entries2 ≡ entries1 → at ≡ at0 + steps_in u
     → IsTyped stmt_view body (statement b context entries2 (length l2) step1) l2 after (locals_in b)
-    → head ≡ laws.both_answers start test → tail ≡ laws.both_answers update body → parts ≡ laws.both_answers head tail
+    → head ≡ definitions.both_answers start test → tail ≡ definitions.both_answers update body → parts ≡ definitions.both_answers head tail
     → seen stmt_view answer ≡ seen (λ q. tree.Then (stmt_view q.0.0) (tree.Loop at (expr_view q.0.1) (stmt_view q.1.0) (stmt_view q.1.1))) parts
     → IsTyped stmt_view answer (statement (ParsedFor p s e u b) context entries (length before) step) before after (locals_in s + locals_in u + locals_in b)
 for-loop p s u b e context entries entries1 entries2 before l1 l2 after step step1 n at0 at test start update body answer head tail parts x e1 s1 t ns a0 h2 e2 a1 h3 hw tw w f =
@@ -138,7 +140,7 @@ pub for-each : {D : Type 0} (dims_view : D → List Dimension) (p : Place) (is_t
     → many ≡ length dims → answer_of (dimensions entries (length before) dims) ≡ seen dims_view rows
     → entries1 ≡ index_entries (length before) dims entries → l1 ≡ before ++ index_variables (length before) dims → step1 ≡ step + 1
     → IsTyped stmt_view body (statement b context entries1 (length l1) step1) l1 after (locals_in b)
-    → parts ≡ laws.both_answers rows body
+    → parts ≡ definitions.both_answers rows body
     → seen stmt_view answer ≡ seen (λ q. tree.ForEach step (if is_tiled then tree.Tiles (dims_view q.0) else tree.Rows (dims_view q.0)) (stmt_view q.1)) parts
     → IsTyped stmt_view answer (statement (ParsedForEach p is_tiled dims b) context entries (length before) step) before after (many + locals_in b)
 for-each dims_view p is_tiled dims many b context entries entries1 before l1 after step step1 rows body answer parts m d e1 v1 s1 h w f =
@@ -157,9 +159,9 @@ with_index_seen : (n : Entry) (declared : List Variable) (j : Judged Made) (answ
     → answer_of (with_index n j) ≡ seen (statement_view (n.variable ∷ declared)) answer
 with_index_seen n declared j answer h =
     laws.answer_of-then j (λ m. Sound (made m.stmt (n.variable ∷ m.variables)))
-    ∙ (ap (λ x. laws.then_answer x (λ m. Ok (made m.stmt (n.variable ∷ m.variables)))) h ∙ by answer)
+    ∙ (ap (λ x. definitions.then_answer x (λ m. Ok (made m.stmt (n.variable ∷ m.variables)))) h ∙ by answer)
   where
-    by : (r : Result Stmt SourceRefusal) → laws.then_answer (seen (statement_view declared) r) (λ m. Ok (made m.stmt (n.variable ∷ m.variables))) ≡ seen (statement_view (n.variable ∷ declared)) r
+    by : (r : Result Stmt SourceRefusal) → definitions.then_answer (seen (statement_view declared) r) (λ m. Ok (made m.stmt (n.variable ∷ m.variables))) ≡ seen (statement_view (n.variable ∷ declared)) r
     by (Ok s) = refl
     by (Err fault) = refl
 

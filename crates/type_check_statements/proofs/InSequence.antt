@@ -9,13 +9,14 @@ use Rattle.gang_model.specs.Running.Numbering.{steps_in, steps_in_all}
 use Rattle.gang_model.specs.Names.Scope.{locals_in, locals_in_all}
 use Rattle.gang_model.specs.Types.Calls.{Context}
 use Rattle.gang_model.specs.Types.Typing.{Scope}
-use Rattle.gang_model.specs.Source.Judged.{Judged, Sound, Faulty, both, answer_of, lesser}
+use Rattle.gang_model.specs.Source.Judged.{Judged, Sound, Faulty, both, answer_of, lesser, both_answers, then_answer}
 use Rattle.gang_model.specs.Types.Statements.{Made, made, scope_after, statement, statements}
-use Rattle.gang_model.proofs.JudgedLaws.{both_answers, then_answer, lesser-assoc, answer_of-both, answer_of-then}
-use Rattle.ispc_lexer.specs.declared.fault.SourceFault.{SourceFault}
+use Rattle.gang_model.proofs.JudgedLaws.{lesser-assoc, answer_of-both, answer_of-then}
+use Rattle.source_answers.specs.declared.fault.SourceFault.{SourceFault}
 use Rattle.typed_tree.specs.declared.statements.Stmt.{Stmt}
 use Rattle.typed_tree.specs.Views.{stmt_view, stmts_view}
-use Rattle.type_check_parts.specs.Typed.{seen, joined, IsTyped}
+use Rattle.source_answers.specs.Apart.{seen, joined}
+use Rattle.type_check_parts.specs.Typed.{IsTyped}
 use Rattle.type_check_parts.specs.Sequences.{one_more}
 use Rattle.type_check_parts.specs.Makes.{Makes}
 use Rattle.type_check_statements.proofs.ScopeSteps.{Extends, extends-next, extends-after, extends-same}

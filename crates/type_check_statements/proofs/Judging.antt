@@ -8,14 +8,16 @@ use Rattle.gang_model.specs.Types.Calls.{Context}
 use Rattle.gang_model.specs.Types.Typing.{Scope}
 use Rattle.gang_model.specs.Source.Judged.{Judged, Sound, both, ◌>>=◌, answer_of}
 use Rattle.gang_model.specs.Types.Statements.{Made, made, alone, statement}
+use Rattle.gang_model.specs.Source.Judged as definitions
 use Rattle.gang_model.proofs.JudgedLaws as laws
-use Rattle.ispc_lexer.specs.declared.fault.SourceFault.{SourceFault}
-use Rattle.type_check_scopes.specs.Answers.{Answers, pair_view}
-use Rattle.type_check_parts.specs.Typed.{apart, seen, IsTyped}
+use Rattle.source_answers.specs.declared.fault.SourceFault.{SourceFault}
+use Rattle.source_answers.specs.Answers.{Answers, pair_view}
+use Rattle.source_answers.specs.Apart.{apart, seen}
+use Rattle.type_check_parts.specs.Typed.{IsTyped}
 use Rattle.type_check_parts.proofs.Judging.{answers-apart}
 
 both_seen : {A B C D : Type 0} (f : A → C) (g : B → D) (l : Result A SourceRefusal) (r : Result B SourceRefusal)
-    → laws.both_answers (seen f l) (seen g r) ≡ seen (pair_view f g) (laws.both_answers l r)
+    → definitions.both_answers (seen f l) (seen g r) ≡ seen (pair_view f g) (definitions.both_answers l r)
 both_seen f g (Ok a) (Ok b) = refl
 both_seen f g (Ok a) (Err fault) = refl
 both_seen f g (Err fault) (Ok b) = refl
@@ -23,21 +25,21 @@ both_seen f g (Err fault) (Err later) = refl
 
 -- two parts that are judged each by itself
 pub seen-both : {A B C D : Type 0} (f : A → C) (g : B → D) (l : Result A SourceRefusal) (r : Result B SourceRefusal) (whole : Result (A × B) SourceRefusal) (j : Judged C) (k : Judged D)
-    → whole ≡ laws.both_answers l r → answer_of j ≡ seen f l → answer_of k ≡ seen g r → answer_of (both j k) ≡ seen (pair_view f g) whole
+    → whole ≡ definitions.both_answers l r → answer_of j ≡ seen f l → answer_of k ≡ seen g r → answer_of (both j k) ≡ seen (pair_view f g) whole
 seen-both f g l r whole j k w h i =
-    laws.answer_of-both j k ∙ (ap (λ x. laws.both_answers x (answer_of k)) h ∙ (ap (laws.both_answers (seen f l)) i ∙ (both_seen f g l r ∙ ap (seen (pair_view f g)) (sym w))))
+    laws.answer_of-both j k ∙ (ap (λ x. definitions.both_answers x (answer_of k)) h ∙ (ap (definitions.both_answers (seen f l)) i ∙ (both_seen f g l r ∙ ap (seen (pair_view f g)) (sym w))))
 
 -- what is judged of a sound part
 pub sound-then : {A C D : Type 0} (view : A → C) (r : Result A SourceRefusal) (a : A) (j : Judged C) (next : C → Judged D)
     → answer_of j ≡ seen view r → r ≡ Ok a → answer_of (j >>= next) ≡ answer_of (next (view a))
 sound-then view r a j next h e =
-    laws.answer_of-then j next ∙ ap (λ x. laws.then_answer x (λ y. answer_of (next y))) (h ∙ ap (seen view) e)
+    laws.answer_of-then j next ∙ ap (λ x. definitions.then_answer x (λ y. answer_of (next y))) (h ∙ ap (seen view) e)
 
 -- a part with a fault
 pub faulty-then : {A C D : Type 0} (view : A → C) (r : Result A SourceRefusal) (fault : SourceRefusal) (j : Judged C) (next : C → Judged D)
     → answer_of j ≡ seen view r → r ≡ Err fault → answer_of (j >>= next) ≡ Err fault
 faulty-then view r fault j next h e =
-    laws.answer_of-then j next ∙ ap (λ x. laws.then_answer x (λ y. answer_of (next y))) (h ∙ ap (seen view) e)
+    laws.answer_of-then j next ∙ ap (λ x. definitions.then_answer x (λ y. answer_of (next y))) (h ∙ ap (seen view) e)
 
 -- a statement whose parts are sound
 pub typed-sound : {A P C : Type 0} (view : A → Stmt) (parts : P → C) (r : Result P SourceRefusal) (p : P) (j : Judged C) (next : C → Judged Made) (z : A)
@@ -64,7 +66,7 @@ typed-faulty view parts r fault j next before after declared count h e v l = rec
 }
 
 alone_seen : {A : Type 0} (view : A → Stmt) (answer : Result A SourceRefusal)
-    → laws.then_answer (seen view answer) (λ s. answer_of (alone s)) ≡ seen (λ s. made (view s) []) answer
+    → definitions.then_answer (seen view answer) (λ s. answer_of (alone s)) ≡ seen (λ s. made (view s) []) answer
 alone_seen view (Ok a) = refl
 alone_seen view (Err fault) = refl
 
@@ -75,7 +77,7 @@ typed-alone view result answer j before h e = record {
   declared = [];
   variables = sym (append-nil before);
   counted = refl;
-  answered = laws.answer_of-then j (λ s. alone s) ∙ (ap (λ x. laws.then_answer x (λ s. answer_of (alone s))) (answers-apart view result answer j h e) ∙ alone_seen view answer);
+  answered = laws.answer_of-then j (λ s. alone s) ∙ (ap (λ x. definitions.then_answer x (λ s. answer_of (alone s))) (answers-apart view result answer j h e) ∙ alone_seen view answer);
 }
 
 -- the same in the same scope
@@ -116,10 +118,10 @@ typed-parts {P = P} view parts r j next form answer before after declared count 
   declared = declared;
   variables = v;
   counted = l;
-  answered = laws.answer_of-then j next ∙ (ap (λ x. laws.then_answer x (λ y. answer_of (next y))) h
+  answered = laws.answer_of-then j next ∙ (ap (λ x. definitions.then_answer x (λ y. answer_of (next y))) h
       ∙ (by r ∙ (ap (seen (λ s. made s declared)) (sym f) ∙ seen_twice view declared answer)));
 }
   where
-    by : (q : Result P SourceRefusal) → laws.then_answer (seen parts q) (λ y. answer_of (next y)) ≡ seen (λ s. made s declared) (seen form q)
+    by : (q : Result P SourceRefusal) → definitions.then_answer (seen parts q) (λ y. answer_of (next y)) ≡ seen (λ s. made s declared) (seen form q)
     by (Ok p) = ap answer_of (n p)
     by (Err fault) = refl

@@ -12,13 +12,14 @@ use Rattle.gang_model.specs.Types.Calls.{Context}
 use Rattle.gang_model.specs.Types.Typing.{Scope}
 use Rattle.gang_model.specs.Source.Judged.{Judged, Sound, Faulty, ◌>>=◌}
 use Rattle.gang_model.specs.Types.Statements.{Made, alone, scope_after, statement}
-use Rattle.ispc_lexer.specs.declared.fault.SourceFault.{SourceFault}
-use Rattle.ispc_lexer.specs.declared.fault.SourceFault.TheVariants.{Memory, Refused}
+use Rattle.source_answers.specs.declared.fault.SourceFault.{SourceFault}
+use Rattle.source_answers.specs.declared.fault.SourceFault.TheVariants.{Memory, Refused}
 use Rattle.typed_tree.specs.declared.statements.Stmt.{Stmt, Empty}
 use Rattle.typed_tree.specs.Views.{stmt_view}
-use Rattle.type_check_scopes.specs.Answers.{Answers}
+use Rattle.source_answers.specs.Answers.{Answers}
 use Rattle.type_check_parts.specs.Makes.{IfAnswered}
-use Rattle.type_check_parts.specs.Typed.{apart, IsTyped}
+use Rattle.source_answers.specs.Apart.{apart}
+use Rattle.type_check_parts.specs.Typed.{IsTyped}
 use Rattle.type_check_statements.proofs.Judging.{typed-alone}
 
 -- a statement that is judged, and then stands alone

@@ -7,11 +7,11 @@ ghost use Rattle.type_check_calls.specs.Calls.{context_view};
 ghost use Rattle.type_check_parts.specs.Makes.{IfAnswered, Makes};
 
 use crate::statements::statement;
-use ispc_lexer::SourceFault;
 use ispc_parser::Stmt as ParsedStmt;
+use source_answers::{SourceFault, joined};
 use std::alloc::Global;
 use type_check_calls::Context;
-use type_check_parts::{joined, more_statements};
+use type_check_parts::more_statements;
 use type_check_scopes::TypeScope;
 use typed_tree::Stmt;
 

@@ -7,7 +7,7 @@ ghost use Rattle.gang_model.specs.Running.Numbering.{steps_in};
 ghost use Rattle.gang_model.specs.Source.Parsed.{ParsedFor, ParsedForEach, ParsedForEachActive, ParsedForEachUnique, ParsedIf, ParsedIfElse, ParsedWhile, ParsedDo};
 ghost use Rattle.gang_model.specs.Names.Scope.{locals_in};
 ghost use Rattle.gang_model.specs.Types.Statements as model;
-ghost use Rattle.ispc_lexer.specs.declared.fault.SourceFault.TheVariants.{Memory};
+ghost use Rattle.source_answers.specs.declared.fault.SourceFault.TheVariants.{Memory};
 ghost use Rattle.ispc_parser.specs.Tree as parsed;
 ghost use Rattle.typed_tree.specs.Views.{stmt_view};
 ghost use Rattle.type_check_calls.specs.Calls.{context_view};
@@ -15,17 +15,16 @@ ghost use Rattle.type_check_scopes.specs.Entries.{declared_view};
 ghost use Rattle.type_check_parts.specs.Typed.{IsTyped, with_index};
 
 use gang_types::{IntType, Rate, VarId};
-use ispc_lexer::SourceFault;
 use ispc_parser::{Dim, Stmt as ParsedStmt};
 use ispc_parser_expressions::Expr;
+use source_answers::{Answer, SourceFault, both_answers, set_apart};
 use std::alloc::Global;
 use type_check_calls::{Context, WholeCall};
 use type_check_expressions::expression;
 use type_check_parts::{
-    Answer, advanced, assignment, block, body_first, both_answers, called, change, choice,
-    conditional, declare, declare_indices, dimensions, increment, more_statements, one_step,
-    over_lanes, over_rows, over_values, repeated, returning, set_apart, some_test, started,
-    steps_in, test_of, type_of, variable_of,
+    advanced, assignment, block, body_first, called, change, choice, conditional, declare,
+    declare_indices, dimensions, increment, more_statements, one_step, over_lanes, over_rows,
+    over_values, repeated, returning, some_test, started, steps_in, test_of, type_of, variable_of,
 };
 use type_check_scopes::{Declared, TypeScope, index_variable};
 use typed_tree::Stmt;

@@ -1,14 +1,14 @@
 //! Conversions that are written out.
 ghost use Rattle.std.specs.Prelude.{◌≡◌, IfErr, IfOk};
 ghost use Rattle.gang_model.specs.Types.Conversions as model;
-ghost use Rattle.ispc_lexer.specs.declared.fault.SourceFault.TheVariants.{Memory};
+ghost use Rattle.source_answers.specs.declared.fault.SourceFault.TheVariants.{Memory};
 ghost use Rattle.typed_tree.specs.Views.{expr_view};
 ghost use Rattle.type_check_values.specs.Views.{typed_view};
 
 use crate::typed::Typed;
 use crate::types::same_type;
 use gang_types::{BinaryOp, IntType};
-use ispc_lexer::{SourceFault, boxed};
+use source_answers::{SourceFault, boxed};
 use std::alloc::Global;
 use typed_tree::Expr;
 

@@ -1,7 +1,7 @@
 //! Operations on typed values.
 ghost use Rattle.std.specs.Prelude.{◌≡◌, IfErr, IfOk};
 ghost use Rattle.gang_model.specs.Types.Conversions as model;
-ghost use Rattle.ispc_lexer.specs.declared.fault.SourceFault.TheVariants.{Memory};
+ghost use Rattle.source_answers.specs.declared.fault.SourceFault.TheVariants.{Memory};
 ghost use Rattle.type_check_values.specs.Views.{typed_view};
 
 use crate::conversions::{boxed_as_type, right_operand};
@@ -10,7 +10,7 @@ use crate::typed::Typed;
 use crate::types::{given_type, joined, operation_type, promoted};
 use gang_model::Infix;
 use gang_types::{BinaryOp, IntType, UnaryOp};
-use ispc_lexer::{SourceFault, boxed};
+use source_answers::{SourceFault, boxed};
 use std::alloc::Global;
 use typed_tree::Expr;
 

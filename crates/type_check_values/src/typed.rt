@@ -4,7 +4,7 @@ use gang_types::{IntType, Rate};
 use typed_tree::Expr;
 
 /// An expression with its type and rate.
-#[derive(Debug, Drop)]
+#[derive(Drop)]
 pub struct Typed {
     pub expr: Expr,
     pub value_type: IntType,

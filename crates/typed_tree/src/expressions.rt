@@ -48,7 +48,6 @@ pub enum TwoCall {
 
 /// An expression. Its operations name the type that they are made in.
 #[cycle(expression)]
-#[derive(Debug)]
 pub enum Expr {
     Number(u64),
     ProgramIndex,

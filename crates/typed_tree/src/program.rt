@@ -5,7 +5,6 @@ use gang_types::{IntType, Rate, VarId};
 use ispc_names_table::StepScopes;
 
 /// A declared name.
-#[derive(Debug)]
 pub struct Variable {
     pub name: Vec<u8>,
     pub id: VarId,
@@ -32,7 +31,6 @@ impl Drop for Variable {
 
 /// A function: its result's rate and type (of a void function uniform int32, which nothing reads), its body, its variables
 /// by their numbers, and what is in scope at its steps.
-#[derive(Debug)]
 pub struct Function {
     pub name: Vec<u8>,
     pub result: Rate,
@@ -56,7 +54,6 @@ impl Drop for Function {
 }
 
 /// A file-scope variable: its literal's word, or its length if it is an array.
-#[derive(Debug)]
 pub struct Global {
     pub variable: Variable,
     pub word: u64,
@@ -74,7 +71,7 @@ impl Drop for Global {
 }
 
 /// The functions and file-scope variables of a source, in order.
-#[derive(Debug, Drop)]
+#[derive(Drop)]
 pub struct Program {
     pub functions: Vec<Function>,
     pub globals: Vec<Global>,

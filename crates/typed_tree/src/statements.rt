@@ -4,7 +4,6 @@ use crate::expressions::{Expr, Var};
 use gang_types::{BinaryOp, IntType, Rate, VarId};
 
 /// What is assigned: a scalar, or an element of an array.
-#[derive(Debug)]
 pub enum Target {
     Scalar(Var),
     Element {
@@ -28,7 +27,6 @@ impl Drop for Target {
 }
 
 /// What a call passes: a value, or an array from an index on.
-#[derive(Debug)]
 pub enum Arg {
     Value {
         parameter: Var,
@@ -67,7 +65,6 @@ pub enum ResultFor {
 }
 
 /// An index variable with its bounds.
-#[derive(Debug)]
 pub struct Dimension {
     pub index: Var,
     pub low: Expr,
@@ -85,7 +82,6 @@ impl Drop for Dimension {
 }
 
 /// The rounds of a foreach form.
-#[derive(Debug)]
 pub enum Rounds {
     Rows(Vec<Dimension>),
     Tiles(Vec<Dimension>),
@@ -106,7 +102,6 @@ impl Drop for Rounds {
 
 /// A statement.
 #[cycle(statement)]
-#[derive(Debug)]
 pub enum Stmt {
     Empty,
     Block(Vec<Stmt>),

@@ -95,3 +95,26 @@ least_fault (a ∷ others) = Some (least_of a others)
 abbrev pub answer_of : {A : Type 0} → Judged A → Result A SourceRefusal
 answer_of (Sound a) = Ok a
 answer_of (Faulty first others) = Err (least_of first others)
+
+-- the lesser of two faults, where each may be there or not
+abbrev pub merged : Option SourceRefusal → Option SourceRefusal → Option SourceRefusal
+merged None later = later
+merged (Some a) None = Some a
+merged (Some a) (Some b) = Some (lesser a b)
+
+-- the least of a part's own faults, where there are none inside
+abbrev pub or_later : Option SourceRefusal → Option SourceRefusal → Option SourceRefusal
+or_later None own = own
+or_later (Some a) own = Some a
+
+-- the answers for two parts together
+abbrev pub both_answers : {A B : Type 0} → Result A SourceRefusal → Result B SourceRefusal → Result (A × B) SourceRefusal
+both_answers (Ok a) (Ok b) = Ok (a, b)
+both_answers (Ok a) (Err f) = Err f
+both_answers (Err f) (Ok b) = Err f
+both_answers (Err f) (Err g) = Err (lesser f g)
+
+-- an answer, and what is asked only where it is no fault
+abbrev pub then_answer : {A B : Type 0} → Result A SourceRefusal → (A → Result B SourceRefusal) → Result B SourceRefusal
+then_answer (Ok a) next = next a
+then_answer (Err f) next = Err f

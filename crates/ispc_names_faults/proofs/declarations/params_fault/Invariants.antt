@@ -1,8 +1,7 @@
 use Rattle.std.proofs.Common.{◌≡◌, drop, map}
-use Rattle.gang_model.specs.Source.Judged.{least_fault}
+use Rattle.gang_model.specs.Source.Judged.{least_fault, merged}
 use Rattle.gang_model.specs.Names.NameFaults.{params_twice}
 use Rattle.gang_model.specs.Names.Scope.{with_params}
-use Rattle.gang_model.proofs.JudgedLaws.{merged}
 use Rattle.ispc_names_scopes.specs.Scopes.{site}
 use Rattle.ispc_parser.specs.Tree.{param_view}
 use Rattle.ispc_names_faults.proofs.declarations.params_fault.Given as goal

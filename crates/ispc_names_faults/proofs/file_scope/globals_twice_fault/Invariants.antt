@@ -1,6 +1,5 @@
 use Rattle.std.proofs.Common.{◌≡◌, [], drop, map}
-use Rattle.gang_model.specs.Source.Judged.{least_fault}
-use Rattle.gang_model.proofs.JudgedLaws.{merged}
+use Rattle.gang_model.specs.Source.Judged.{least_fault, merged}
 use Rattle.ispc_parser.specs.Tree.{global_view}
 use Rattle.ispc_names_faults.proofs.Collected.{later_globals}
 use Rattle.ispc_names_faults.proofs.file_scope.globals_twice_fault.Given as goal

@@ -1,8 +1,7 @@
 use Rattle.std.proofs.Common.{◌≡◌, drop}
-use Rattle.gang_model.specs.Source.Judged.{least_fault}
+use Rattle.gang_model.specs.Source.Judged.{least_fault, merged}
 use Rattle.gang_model.specs.Names.NameFaults.{stmts_names}
 use Rattle.gang_model.specs.Names.Scope.{after_all}
-use Rattle.gang_model.proofs.JudgedLaws.{merged}
 use Rattle.ispc_names_scopes.specs.Scopes.{site}
 use Rattle.ispc_parser.specs.Tree.{stmts_view}
 use Rattle.ispc_names_faults.specs.MayStand.{allowed_view}

@@ -1,10 +1,10 @@
 use Rattle.std.proofs.Common.{◌∙◌, ap, sym, not, true}
 use Rattle.std.specs.Prelude.{if◌then◌else◌}
 use Rattle.gang_model.specs.declared.refusals.RefusalNumber.TheVariants.{S5, S12}
-use Rattle.gang_model.specs.Source.Judged.{fault_if, least_fault}
+use Rattle.gang_model.specs.Source.Judged.{fault_if, least_fault, or_later}
 use Rattle.gang_model.specs.Types.LibraryTable.{is_library_name}
 use Rattle.gang_model.specs.Names.NameFaults.{names_of_args, stands_whole}
-use Rattle.gang_model.proofs.JudgedLaws.{or_later, least_fault-or_own}
+use Rattle.gang_model.proofs.JudgedLaws.{least_fault-or_own}
 use Rattle.ispc_parser_expressions.specs.Tree.{args_view}
 use Rattle.ispc_names_faults.proofs.right_sides.call_fault.Goals as goal
 

@@ -1,9 +1,8 @@
 use Rattle.std.proofs.Common.{◌≡◌, ◌+◌, ◌*◌, drop}
 use Rattle.std.specs.Prelude.{max}
-use Rattle.gang_model.specs.Source.Judged.{least_fault}
+use Rattle.gang_model.specs.Source.Judged.{least_fault, merged}
 use Rattle.gang_model.specs.Names.NameFaults.{stmts_names}
 use Rattle.gang_model.specs.Names.Scope.{after_all, enclosed}
-use Rattle.gang_model.proofs.JudgedLaws.{merged}
 use Rattle.ispc_names_scopes.specs.Scopes.{site}
 use Rattle.ispc_parser.specs.declared.tree.Stmt.{size-Stmt}
 use Rattle.ispc_parser.specs.Tree.{stmts_view}

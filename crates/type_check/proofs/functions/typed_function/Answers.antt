@@ -4,7 +4,7 @@ use Rattle.gang_model.specs.Types.Resolved.{judged_function}
 use Rattle.ispc_parser.specs.Tree as parsed
 use Rattle.ispc_names_table.specs.Scopes.{standings_view}
 use Rattle.typed_tree.specs.Views as typed
-use Rattle.type_check_scopes.proofs.Answered.{answers-at, answers-refusal}
+use Rattle.source_answers.proofs.Answered.{answers-at, answers-refusal}
 use Rattle.type_check.specs.Bodies.{body_view, judged_body, with_body}
 use Rattle.type_check.proofs.FunctionParts.{views, from_parts, function-of_parts}
 use Rattle.type_check_expressions.proofs.Residuals.{pair-refused}

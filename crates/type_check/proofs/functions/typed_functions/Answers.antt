@@ -10,7 +10,7 @@ use Rattle.std.specs.Vec.Iter.{into_iter_items, into_iter_len}
 use Rattle.gang_model.specs.Source.Parsed.{functions_in}
 use Rattle.gang_model.specs.Types.Resolved.{judged_functions}
 use Rattle.gang_model.proofs.JudgedLaws.{answer_unless}
-use Rattle.ispc_lexer.specs.declared.fault.SourceFault.TheVariants.{Refused}
+use Rattle.source_answers.specs.declared.fault.SourceFault.TheVariants.{Refused}
 use Rattle.typed_tree.specs.declared.program.Function.{Function}
 use Rattle.typed_tree.specs.Views as typed
 use Rattle.type_check.proofs.Collecting.{all_collected, fault_collected}

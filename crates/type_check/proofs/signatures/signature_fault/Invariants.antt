@@ -1,8 +1,7 @@
 use Rattle.std.proofs.Common.{◌≡◌, drop, map}
 use Rattle.std.specs.List.{flat_map}
-use Rattle.gang_model.specs.Source.Judged.{least_fault}
+use Rattle.gang_model.specs.Source.Judged.{least_fault, merged}
 use Rattle.gang_model.specs.Types.TypeFaults.{param_faults, signature_faults}
-use Rattle.gang_model.proofs.JudgedLaws.{merged}
 use Rattle.ispc_parser.specs.Tree.{function_view, param_view}
 use Rattle.type_check.proofs.signatures.signature_fault.Given as goal
 

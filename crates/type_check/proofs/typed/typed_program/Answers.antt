@@ -5,7 +5,7 @@ use Rattle.gang_model.specs.Types.Resolved.{global_entries, judged_functions, ju
 use Rattle.gang_model.specs.Types.Tree as tree
 use Rattle.ispc_parser.specs.Tree.{tree_view}
 use Rattle.typed_tree.specs.Views as typed
-use Rattle.type_check_scopes.proofs.Answered.{answers-at}
+use Rattle.source_answers.proofs.Answered.{answers-at}
 use Rattle.type_check.proofs.FunctionParts as functions
 use Rattle.type_check.proofs.GlobalParts as globals
 use Rattle.type_check_expressions.proofs.Residuals.{pair-refused}

@@ -5,7 +5,7 @@ use Rattle.gang_model.specs.Types.Typing.{arguments}
 use Rattle.ispc_parser_expressions.specs.Tree.{args_view}
 use Rattle.typed_tree.specs.Views.{result_view}
 use Rattle.type_check_scopes.specs.Passings.{passing_view}
-use Rattle.type_check_scopes.proofs.Answered.{answers-at, answers-then}
+use Rattle.source_answers.proofs.Answered.{answers-at, answers-then}
 use Rattle.gang_model.specs.Types.LibraryTable.{statement_call}
 use Rattle.type_check_calls.specs.Calls.{called_view, context_view}
 use Rattle.type_check_calls.proofs.Residuals.{inside-refused}

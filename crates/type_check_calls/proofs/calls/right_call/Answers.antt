@@ -3,7 +3,7 @@ use Rattle.std.specs.Prelude.{Ok}
 use Rattle.gang_model.specs.Source.Judged.{unless}
 use Rattle.gang_model.specs.Types.Calls.{call_of, result_faults}
 use Rattle.typed_tree.specs.Views.{result_view, stmt_view}
-use Rattle.type_check_scopes.proofs.Answered.{answers-then}
+use Rattle.source_answers.proofs.Answered.{answers-then}
 use Rattle.type_check_calls.specs.Calls.{called_view, context_view, whole_call_view}
 use Rattle.type_check_calls.proofs.Residuals.{inside-refused, own-refused, own-sound}
 use Rattle.type_check_calls.proofs.calls.right_call.Goals as goal

@@ -4,7 +4,7 @@ use Rattle.gang_model.specs.Types.LibraryTable.{PackedLoads}
 use Rattle.gang_model.specs.Types.Calls.{library_statement}
 use Rattle.typed_tree.specs.Views.{result_view}
 use Rattle.type_check_scopes.specs.Passings.{passing_view}
-use Rattle.type_check_scopes.proofs.Answered.{answers-at}
+use Rattle.source_answers.proofs.Answered.{answers-at}
 use Rattle.type_check_calls.specs.Calls.{called_view}
 use Rattle.type_check_calls.proofs.CallParts.{only_two, load_refused}
 use Rattle.type_check_calls.proofs.Residuals.{one-refused}

@@ -4,7 +4,7 @@ use Rattle.gang_model.specs.Types.Overloads.{candidates, overload}
 use Rattle.ispc_parser.specs.Tree.{function_view}
 use Rattle.typed_tree.specs.Views.{result_view}
 use Rattle.type_check_scopes.specs.Passings.{passing_view}
-use Rattle.type_check_scopes.proofs.Answered.{answers-at, answers-then, answers-memory}
+use Rattle.source_answers.proofs.Answered.{answers-at, answers-then, answers-memory}
 use Rattle.type_check_calls.specs.Calls.{called_view}
 use Rattle.type_check_calls.specs.Candidates.{candidate_view, called_function}
 use Rattle.type_check_calls.proofs.Residuals.{inside-refused}

@@ -1,4 +1,4 @@
-use Rattle.type_check_scopes.proofs.Answered.{answers-at}
+use Rattle.source_answers.proofs.Answered.{answers-at}
 use Rattle.type_check_expressions.proofs.ArgumentLists.{first_arguments-more, first_arguments-all}
 use Rattle.type_check_expressions.specs.Arguments.{passings_view}
 use Rattle.type_check_expressions.proofs.expressions.arguments.Goals as goal

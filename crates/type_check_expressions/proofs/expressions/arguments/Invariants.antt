@@ -1,4 +1,4 @@
-use Rattle.type_check_scopes.specs.Answers.{Answers}
+use Rattle.source_answers.specs.Answers.{Answers}
 use Rattle.type_check_expressions.specs.Arguments.{passings_view}
 use Rattle.type_check_expressions.proofs.ArgumentLists.{first_arguments}
 use Rattle.type_check_expressions.proofs.expressions.arguments.Given as goal

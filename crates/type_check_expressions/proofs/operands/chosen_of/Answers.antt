@@ -1,8 +1,8 @@
 use Rattle.gang_model.specs.Types.Conversions.{chosen_by}
 use Rattle.gang_model.specs.Source.Judged.{Sound, both}
-use Rattle.type_check_scopes.specs.Answers.{pair_view}
+use Rattle.source_answers.specs.Answers.{pair_view}
 use Rattle.type_check_values.specs.Views.{typed_view}
-use Rattle.type_check_scopes.proofs.Answered.{answers-memory, answers-pair}
+use Rattle.source_answers.proofs.Answered.{answers-memory, answers-pair}
 use Rattle.type_check_expressions.proofs.Residuals.{pair-refused, pair-sound}
 use Rattle.type_check_expressions.proofs.operands.chosen_of.Goals as goal
 

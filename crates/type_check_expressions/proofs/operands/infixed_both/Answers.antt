@@ -1,7 +1,7 @@
 use Rattle.gang_model.specs.Types.Conversions.{infixed}
 use Rattle.gang_model.specs.Source.Judged.{Sound}
 use Rattle.type_check_values.specs.Views.{typed_view}
-use Rattle.type_check_scopes.proofs.Answered.{answers-memory}
+use Rattle.source_answers.proofs.Answered.{answers-memory}
 use Rattle.type_check_expressions.proofs.Residuals.{pair-refused, pair-sound}
 use Rattle.type_check_expressions.proofs.operands.infixed_both.Goals as goal
 

@@ -2,9 +2,8 @@ use Rattle.std.proofs.Common.{◌∙◌, length, drop, not, rules, sym, ap}
 use Rattle.std.proofs.lemmas.List.{length_push}
 use Rattle.std.proofs.lemmas.Slice.Zip.{zip_turn, zip_end}
 use Rattle.gang_model.specs.declared.refusals.RefusalNumber.TheVariants.{S7}
-use Rattle.gang_model.specs.Source.Judged.{least_fault, fault_if}
-use Rattle.gang_model.proofs.JudgedLaws.{merged}
-use Rattle.ispc_names_scopes.proofs.ArgumentFaults.{merged-none}
+use Rattle.gang_model.specs.Source.Judged.{least_fault, fault_if, merged}
+use Rattle.gang_model.proofs.JudgedLaws.{merged-none}
 use Rattle.type_check_library.proofs.GivenValues.{rates_fault, next_rate, no_rates_left}
 use Rattle.type_check_library.proofs.arguments.rate_fault.Goals as goal
 

@@ -1,5 +1,5 @@
+use Rattle.gang_model.specs.Source.Judged.{merged}
 use Rattle.std.proofs.Common.{◌≡◌, length, drop}
-use Rattle.gang_model.proofs.JudgedLaws.{merged}
 use Rattle.type_check_library.proofs.GivenValues.{rates_fault}
 use Rattle.type_check_library.proofs.arguments.rate_fault.Given as goal
 

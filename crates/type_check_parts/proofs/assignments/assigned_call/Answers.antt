@@ -5,7 +5,7 @@ use Rattle.gang_model.specs.Types.Calls.{right_call}
 use Rattle.gang_model.specs.Types.Statements as model
 use Rattle.ispc_parser.specs.Tree as parsed
 use Rattle.typed_tree.specs.Views as typed
-use Rattle.type_check_scopes.specs.Answers.{Answers}
+use Rattle.source_answers.specs.Answers.{Answers}
 use Rattle.type_check_calls.specs.Calls.{context_view, whole_call_view}
 use Rattle.type_check_parts.proofs.Wanted.{variable-refused, variable-stands}
 use Rattle.type_check_parts.proofs.assignments.assigned_call.Goals as goal

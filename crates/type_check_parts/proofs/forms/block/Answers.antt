@@ -1,7 +1,7 @@
 use Rattle.std.proofs.Common.{ap, sym, ◌∙◌}
 use Rattle.std.specs.Prelude.{Ok}
 use Rattle.typed_tree.specs.Views.{stmts_view}
-use Rattle.type_check_parts.specs.Typed.{seen}
+use Rattle.source_answers.specs.Apart.{seen}
 use Rattle.type_check_parts.proofs.TypedBlocks.{view_typed_block}
 use Rattle.type_check_parts.proofs.forms.block.Goals as goal
 

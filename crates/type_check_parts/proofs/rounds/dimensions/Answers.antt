@@ -4,7 +4,7 @@ use Rattle.std.specs.Prelude.{Ok}
 use Rattle.ispc_parser.specs.Tree.{dim_view}
 use Rattle.typed_tree.specs.Views.{dimension_view}
 use Rattle.type_check_parts.specs.Rows.{dimension_of}
-use Rattle.type_check_parts.specs.Typed.{seen}
+use Rattle.source_answers.specs.Apart.{seen}
 use Rattle.type_check_parts.proofs.Counted.{next_item}
 use Rattle.type_check_parts.proofs.InRows.{rows-none, rows-next, rows-all}
 use Rattle.type_check_parts.proofs.Judging.{answers-apart}

@@ -1,7 +1,7 @@
 use Rattle.std.proofs.Common.{drop, length, map}
 use Rattle.ispc_parser.specs.Tree.{dim_view}
 use Rattle.typed_tree.specs.Views.{dimension_view}
-use Rattle.type_check_parts.specs.Typed.{seen}
+use Rattle.source_answers.specs.Apart.{seen}
 use Rattle.type_check_parts.proofs.InRows.{AreBegun}
 use Rattle.type_check_parts.proofs.rounds.dimensions.Given as goal
 

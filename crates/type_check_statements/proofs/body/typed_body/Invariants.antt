@@ -1,7 +1,7 @@
 use Rattle.std.proofs.Common.{drop}
 use Rattle.ispc_parser.specs.Tree.{stmts_view}
 use Rattle.type_check_calls.specs.Calls.{context_view}
-use Rattle.type_check_parts.specs.Typed.{seen}
+use Rattle.source_answers.specs.Apart.{seen}
 use Rattle.type_check_statements.proofs.InSequence.{IsBegun}
 use Rattle.type_check_statements.proofs.body.typed_body.Given as goal
 

@@ -21,12 +21,12 @@ use Rattle.ispc_parser.proofs.Rows.{view_block}
 use Rattle.typed_tree.specs.Views as typed
 use Rattle.type_check_values.specs.Views.{typed_view}
 use Rattle.typed_tree.specs.declared.statements.Stmt.{Break, Continue}
-use Rattle.type_check_scopes.specs.Answers.{Answers}
+use Rattle.source_answers.specs.Answers.{Answers}
 use Rattle.type_check_scopes.specs.Entries.{declared_view}
 use Rattle.type_check_calls.specs.Calls.{context_view, whole_call_view}
 use Rattle.type_check_parts.specs.Changes.{change_of, increment_of}
 use Rattle.type_check_parts.specs.Sequences.{call_statement, type_or_int32}
-use Rattle.type_check_parts.specs.Typed.{seen}
+use Rattle.source_answers.specs.Apart.{seen}
 use Rattle.type_check_parts.proofs.Judging.{answers-apart}
 use Rattle.type_check_parts.proofs.Counted.{next_item}
 use Rattle.type_check_parts.proofs.Named.{index-named}

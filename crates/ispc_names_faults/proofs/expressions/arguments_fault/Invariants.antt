@@ -1,7 +1,7 @@
+use Rattle.gang_model.specs.Source.Judged.{merged}
 use Rattle.std.proofs.Common.{◌≡◌, drop}
-use Rattle.gang_model.proofs.JudgedLaws.{merged}
-use Rattle.ispc_names_scopes.proofs.ArgumentFaults.{in_args}
-use Rattle.ispc_names_scopes.proofs.expressions.arguments_fault.Given as goal
+use Rattle.ispc_names_faults.proofs.ArgumentFaults.{in_args}
+use Rattle.ispc_names_faults.proofs.expressions.arguments_fault.Given as goal
 
 -- what is found so far and what is left decide
 abbrev pub invariant-loop-arg : goal.invariant-loop-arg

@@ -1,10 +1,9 @@
 use Rattle.std.proofs.Common.{◌≡◌, drop}
-use Rattle.gang_model.specs.Source.Judged.{least_fault}
+use Rattle.gang_model.specs.Source.Judged.{least_fault, merged, or_later}
 use Rattle.gang_model.specs.Names.NameFaults.{names_in, inner_call}
-use Rattle.gang_model.proofs.JudgedLaws.{merged, or_later}
 use Rattle.ispc_parser_expressions.specs.Tree.{expr_view}
-use Rattle.ispc_names_scopes.proofs.ArgumentFaults.{in_args}
-use Rattle.ispc_names_scopes.proofs.expressions.+expression.Given as goal
+use Rattle.ispc_names_faults.proofs.ArgumentFaults.{in_args}
+use Rattle.ispc_names_faults.proofs.expressions.+expression.Given as goal
 
 -- what is found in the arguments so far and what is left decide
 abbrev pub invariant-expression_fault-loop-arg : goal.invariant-expression_fault-loop-arg

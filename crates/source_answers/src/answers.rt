@@ -1,13 +1,11 @@
 //! Answers for parts of a tree where want of memory is set apart, so that `?` stops at it alone.
 ghost use Rattle.std.specs.Prelude.{◌≡◌};
 ghost use Rattle.gang_model.specs.Source.Judged as judged;
-ghost use Rattle.gang_model.proofs.JudgedLaws as laws;
-ghost use Rattle.type_check_parts.specs.Sequences.{in_order};
-ghost use Rattle.type_check_parts.specs.Typed.{apart, joined};
+ghost use Rattle.source_answers.specs.Apart.{apart, in_order, joined};
 
+use crate::fault::SourceFault;
+use crate::least_faults::least;
 use gang_model::SourceRefusal;
-use ispc_lexer::SourceFault;
-use ispc_names_scopes::least;
 
 /// What a part of a tree stands for, or its least fault.
 pub type Answer<A> = Result<A, SourceRefusal>;
@@ -34,7 +32,7 @@ pub fn joined<A: Drop>(answer: Answer<A>) -> Result<A, SourceFault>
 }
 
 /// What both parts stand for, or the fault of the first of them that has one.
-pub(crate) fn in_order<A: Drop, B: Drop>(first: Answer<A>, second: Answer<B>) -> Answer<(A, B)>
+pub fn in_order<A: Drop, B: Drop>(first: Answer<A>, second: Answer<B>) -> Answer<(A, B)>
     ensures { result ≡ in_order first second }
 {
     match (first, second) {
@@ -54,7 +52,7 @@ fn lesser(first: SourceRefusal, second: SourceRefusal) -> SourceRefusal
 
 /// What both parts stand for, or the lesser fault of the two.
 pub fn both_answers<A: Drop, B: Drop>(left: Answer<A>, right: Answer<B>) -> Answer<(A, B)>
-    ensures { result ≡ laws.both_answers left right }
+    ensures { result ≡ judged.both_answers left right }
 {
     match (left, right) {
         (Ok(left), Ok(right)) => Ok((left, right)),

@@ -1,6 +1,6 @@
 //! Why a source has no program.
 ghost use Rattle.std.specs.Prelude.{◌≡◌, IfErr, IfOk};
-ghost use Rattle.ispc_lexer.specs.declared.fault.SourceFault.TheVariants.{Memory};
+ghost use Rattle.source_answers.specs.declared.fault.SourceFault.TheVariants.{Memory};
 
 use gang_model::SourceRefusal;
 use std::alloc::{AllocError, AllocFailed, Global};

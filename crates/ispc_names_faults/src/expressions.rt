@@ -7,25 +7,11 @@ ghost use Rattle.gang_model.specs.Source.Parsed.{ParsedEnd};
 ghost use Rattle.gang_model.specs.Names.Scope as scope;
 ghost use Rattle.ispc_parser_expressions.specs.Tree.{expr_view, arg_view, args_view, with_arg};
 
-use crate::functions::FunctionNames;
-use crate::least_faults::{least, least_inside};
-use crate::library::{is_library_name, statement_call};
-use crate::scopes::Scopes;
-use crate::texts::is_same;
 use gang_model::{RefusalNumber, SourceRefusal};
 use gang_types::Place;
+use ispc_names_scopes::{FunctionNames, Scopes, is_library_name, is_same, statement_call};
 use ispc_parser_expressions::{Arg, Expr};
-
-/// A fault at a place, if there is one.
-pub fn fault_if(holds: bool, number: RefusalNumber, place: Place) -> Option<SourceRefusal>
-    ensures { result ≡ least_fault (judged.fault_if holds number place) }
-{
-    if holds {
-        Some(SourceRefusal { number, place })
-    } else {
-        None
-    }
-}
+use source_answers::{fault_if, least, least_inside};
 
 /// Whether every place knows a name that nothing declares.
 pub fn is_built_in(name: &[u8]) -> bool

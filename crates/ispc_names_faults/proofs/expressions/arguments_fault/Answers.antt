@@ -1,7 +1,7 @@
 use Rattle.std.proofs.Common.{◌∙◌, ◌+◌, ◌∷◌, drop, sym, ap}
 use Rattle.std.proofs.lemmas.List.{drop_more}
-use Rattle.ispc_names_scopes.proofs.ArgumentFaults.{next_arg}
-use Rattle.ispc_names_scopes.proofs.expressions.arguments_fault.Goals as goal
+use Rattle.ispc_names_faults.proofs.ArgumentFaults.{next_arg}
+use Rattle.ispc_names_faults.proofs.expressions.arguments_fault.Goals as goal
 
 pub loop-arg-preserved : goal.loop-arg-preserved
 loop-arg-preserved c =

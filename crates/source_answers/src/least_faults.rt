@@ -1,9 +1,10 @@
 //! The least of some faults: that with the first place, at one place that with the least number.
 ghost use Rattle.std.specs.Prelude.{◌≡◌};
 ghost use Rattle.gang_model.specs.Source.Judged as judged;
-ghost use Rattle.gang_model.proofs.JudgedLaws.{merged, or_later};
+ghost use Rattle.gang_model.specs.Source.Judged.{least_fault, merged, or_later};
 
 use gang_model::{RefusalNumber, SourceRefusal};
+use gang_types::Place;
 
 fn rank(number: RefusalNumber) -> u8
     ensures { result ≡ judged.rank number }
@@ -60,4 +61,15 @@ pub fn least_inside(
     ensures { result ≡ or_later inside own }
 {
     inside.or(own)
+}
+
+/// A fault at a place, if there is one.
+pub fn fault_if(holds: bool, number: RefusalNumber, place: Place) -> Option<SourceRefusal>
+    ensures { result ≡ least_fault (judged.fault_if holds number place) }
+{
+    if holds {
+        Some(SourceRefusal { number, place })
+    } else {
+        None
+    }
 }

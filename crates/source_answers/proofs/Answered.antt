@@ -3,10 +3,11 @@ use Rattle.std.proofs.Common.{◌≡◌, refl, sym, ap, subst, ◌∙◌, List, 
 use Rattle.std.specs.Prelude.{Option, Result, Ok, Err, IfOk, IfErr}
 use Rattle.gang_model.specs.declared.refusals.SourceRefusal.{SourceRefusal}
 use Rattle.gang_model.specs.Source.Judged.{Judged, Sound, unless, both, ◌>>=◌, least_fault, answer_of}
+use Rattle.gang_model.specs.Source.Judged as definitions
 use Rattle.gang_model.proofs.JudgedLaws as laws
-use Rattle.ispc_lexer.specs.declared.fault.SourceFault.{SourceFault}
-use Rattle.ispc_lexer.specs.declared.fault.SourceFault.TheVariants.{Memory, Refused}
-use Rattle.type_check_scopes.specs.Answers.{Answers, both_answers, refusal_of, pair_view}
+use Rattle.source_answers.specs.declared.fault.SourceFault.{SourceFault}
+use Rattle.source_answers.specs.declared.fault.SourceFault.TheVariants.{Memory, Refused}
+use Rattle.source_answers.specs.Answers.{Answers, both_answers, refusal_of, pair_view}
 
 -- an answer for a value that is written in another way
 pub answers-same : {A B : Type 0} (view : A → B) (result other : Result A SourceFault) (j : Judged B) → result ≡ other → Answers view other j → Answers view result j
@@ -21,14 +22,14 @@ pub answers-both : {A B C D : Type 0} (f : A → C) (g : B → D) (left : Result
     → Answers f left j → Answers g right k → Answers (pair_view f g) (both_answers left right) (both j k)
 answers-both f g (Ok a) (Ok b) j k h i = ap (λ x. both x k) h ∙ ap (both (Sound (f a))) i
 answers-both f g (Ok a) (Err Memory) j k h i = tt
-answers-both f g (Ok a) (Err (Refused later)) j k h i = laws.answer_of-both j k ∙ (ap (λ x. laws.both_answers (answer_of x) (answer_of k)) h ∙ ap (laws.both_answers (Ok (f a))) i)
+answers-both f g (Ok a) (Err (Refused later)) j k h i = laws.answer_of-both j k ∙ (ap (λ x. definitions.both_answers (answer_of x) (answer_of k)) h ∙ ap (definitions.both_answers (Ok (f a))) i)
 answers-both f g (Err Memory) (Ok b) j k h i = tt
 answers-both f g (Err Memory) (Err later) j k h i = tt
 answers-both f g (Err (Refused fault)) (Ok b) j k h i =
-    laws.answer_of-both j k ∙ (ap (λ x. laws.both_answers x (answer_of k)) h ∙ ap (λ x. laws.both_answers (Err fault) (answer_of x)) i)
+    laws.answer_of-both j k ∙ (ap (λ x. definitions.both_answers x (answer_of k)) h ∙ ap (λ x. definitions.both_answers (Err fault) (answer_of x)) i)
 answers-both f g (Err (Refused fault)) (Err Memory) j k h i = tt
 answers-both f g (Err (Refused fault)) (Err (Refused later)) j k h i =
-    laws.answer_of-both j k ∙ (ap (λ x. laws.both_answers x (answer_of k)) h ∙ ap (laws.both_answers (Err fault)) i)
+    laws.answer_of-both j k ∙ (ap (λ x. definitions.both_answers x (answer_of k)) h ∙ ap (definitions.both_answers (Err fault)) i)
 
 -- the same of a result that is equal to the two answers
 pub answers-pair : {A B C D : Type 0} (f : A → C) (g : B → D) (left : Result A SourceFault) (right : Result B SourceFault) (result : Result (A × B) SourceFault)
@@ -39,7 +40,7 @@ answers-pair f g left right result j k e h i = answers-same (pair_view f g) resu
 pub answers-refused : {A B C D : Type 0} (f : A → C) (g : B → D) (fault : SourceFault) (j : Judged C) (next : C → Judged D)
     → Answers f (Err fault) j → Answers g (Err fault) (j >>= next)
 answers-refused f g Memory j next h = tt
-answers-refused f g (Refused fault) j next h = laws.answer_of-then j next ∙ ap (λ x. laws.then_answer x (λ a. answer_of (next a))) h
+answers-refused f g (Refused fault) j next h = laws.answer_of-then j next ∙ ap (λ x. definitions.then_answer x (λ a. answer_of (next a))) h
 
 -- where the part inside stands for something, the whole is what is judged of that
 pub answers-then : {A C D : Type 0} (g : A → D) (result : Result A SourceFault) (j : Judged C) (c : C) (next : C → Judged D)

@@ -2,11 +2,11 @@
 use Rattle.std.proofs.Common.{◌≡◌, ℕ, List, [], ◌∷◌, ◌++◌, refl, sym, ap, ◌∙◌, append_assoc, append-nil, Option, Some, None, Vec, Global}
 use Rattle.gang_types.specs.declared.places.Place.{Place}
 use Rattle.gang_model.specs.declared.refusals.SourceRefusal.{SourceRefusal}
-use Rattle.gang_model.specs.Source.Judged.{least_fault}
+use Rattle.gang_model.specs.Source.Judged.{least_fault, merged, or_later}
 use Rattle.gang_model.specs.Source.Parsed.{Name, ParsedExpr, ParsedArgs, ParsedEnd, ParsedPartFrom}
 use Rattle.gang_model.specs.Names.Scope.{Environment}
 use Rattle.gang_model.specs.Names.NameFaults.{names_in, names_of_args, unknown_name, inner_call}
-use Rattle.gang_model.proofs.JudgedLaws.{merged, or_later, least_fault-append, least_fault-or_own, lesser-assoc}
+use Rattle.gang_model.proofs.JudgedLaws.{merged-none, merged-assoc, least_fault-append, least_fault-or_own}
 use Rattle.ispc_parser_expressions.specs.declared.tree.Expr.{Expr, Call}
 use Rattle.ispc_parser_expressions.specs.declared.tree.Arg.{Arg}
 use Rattle.ispc_parser_expressions.specs.Tree.{ParsedArg, OfValue, OfPart, OfPartFrom, with_arg, arg_view, expr_view, args_view}
@@ -14,16 +14,6 @@ use Rattle.ispc_parser_expressions.proofs.Rows.{view_call}
 
 abbrev Fault : Type 0
 Fault = Option SourceRefusal
-
-pub merged-none : (a : Fault) → merged a None ≡ a
-merged-none None = refl
-merged-none (Some a) = refl
-
-pub merged-assoc : (a b c : Fault) → merged (merged a b) c ≡ merged a (merged b c)
-merged-assoc None b c = refl
-merged-assoc (Some a) None c = refl
-merged-assoc (Some a) (Some b) None = refl
-merged-assoc (Some a) (Some b) (Some c) = ap Some (lesser-assoc a b c)
 
 -- what stands in one argument
 abbrev pub names_in_arg : ParsedArg → List Name → Environment → List SourceRefusal
@@ -80,10 +70,6 @@ in_part_from p n n' e functions env a b r same left right whole =
     ∙ sym (least_fault-append (unknown_name env p n) (names_in e functions env ++ []))))
 
 -- ---- the parts of an expression
-
-pub in_pair : (xs ys : List SourceRefusal) (a b r : Fault) → a ≡ least_fault xs → b ≡ least_fault ys → r ≡ merged a b → r ≡ least_fault (xs ++ ys)
-in_pair xs ys a b r left right whole =
-    whole ∙ (ap (λ x. merged x b) left ∙ (ap (merged (least_fault xs)) right ∙ sym (least_fault-append xs ys)))
 
 pub in_part : (e part : Expr) (functions : List Name) (env : Environment) (a : Fault) → part ≡ e → a ≡ least_fault (names_in (expr_view part) functions env)
     → a ≡ least_fault (names_in (expr_view e) functions env)

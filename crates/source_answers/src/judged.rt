@@ -1,10 +1,10 @@
 //! Parts of a tree that are judged each by itself.
 ghost use Rattle.std.specs.Prelude.{◌≡◌};
-ghost use Rattle.type_check_scopes.specs.Answers.{both_answers, refusal_of};
+ghost use Rattle.source_answers.specs.Answers.{both_answers, refusal_of};
 
+use crate::fault::SourceFault;
+use crate::least_faults::least;
 use gang_model::SourceRefusal;
-use ispc_lexer::SourceFault;
-use ispc_names_scopes::least;
 
 /// What both parts stand for.
 ///

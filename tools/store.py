@@ -1,0 +1,128 @@
+"""What is proved already: for each crate and each digest of all that its proof rests on, a record and the work that was kept."""
+
+import hashlib
+import json
+import os
+import shutil
+import subprocess
+import threading
+
+PROVED = ("src", "specs", "proofs")
+RUN = ("data", "stdin", "stdout", "args", "status")
+LARGEST = 4_000_000_000
+
+
+def files_in(folder, parts):
+    """Returns the files of these parts of a crate, in order."""
+    found = []
+    for part in parts:
+        path = f"{folder}/{part}"
+        found += [path] if os.path.isfile(path) else []
+        for at, folders, names in os.walk(path):
+            folders.sort()
+            found += [f"{at}/{it}" for it in sorted(names)]
+    return found
+
+
+def sum_of(words, folder, parts):
+    """Returns a digest of some words and of the files of these parts of a crate, with their names."""
+    made = hashlib.sha256(repr(words).encode())
+    for file in files_in(folder, parts):
+        with open(file, "rb") as it:
+            made.update(repr((os.path.relpath(file, folder), it.read())).encode())
+    return made.hexdigest()
+
+
+def digests_of(crates, version):
+    """Returns each crate's digest: of its files, its line of crates.txt, the digests of the crates it stands on, and the toolchain."""
+    found = {}
+    for crate in crates:
+        below = [found[it.name] for it in crate.deps]
+        found[crate.name] = sum_of((version, crate.name, crate.said.get("deps", []), below), crate.folder, PROVED)
+    return found
+
+
+class Store:
+    """The folder that `RINDDECADE_STORE` names, else one in the user's cache. Each record says which steps have passed."""
+
+    def __init__(self):
+        cache = os.environ.get("XDG_CACHE_HOME") or os.path.expanduser("~/.cache")
+        self.top = os.environ.get("RINDDECADE_STORE") or f"{cache}/rinddecade"
+        self.held = threading.Lock()
+        os.makedirs(self.top, exist_ok=True)
+
+    def entry(self, name, digest):
+        return f"{self.top}/{name}/{digest[:32]}"
+
+    def record(self, name, digest):
+        """Returns the steps that have passed for the digest, each with its seconds."""
+        try:
+            with open(f"{self.entry(name, digest)}/record.json", encoding="utf-8") as it:
+                return json.load(it)
+        except (OSError, ValueError):
+            return {}
+
+    def note(self, name, digest, step, seconds):
+        """Notes that a step has passed."""
+        with self.held:
+            entry, passed = self.entry(name, digest), self.record(name, digest)
+            passed[step] = round(seconds, 1)
+            os.makedirs(entry, exist_ok=True)
+            with open(f"{entry}/record.new", "w", encoding="utf-8") as it:
+                json.dump(passed, it)
+            os.replace(f"{entry}/record.new", f"{entry}/record.json")
+
+    def keep(self, name, digest, folder, part):
+        """Keeps a part of a crate's out/ in the digest's entry; kept work only of the newest."""
+        entry = self.entry(name, digest)
+        os.makedirs(entry, exist_ok=True)
+        pack(f"{folder}/out/{part}", f"{entry}/{part}.tar.gz")
+        for other in os.listdir(f"{self.top}/{name}") if part == "incremental" else []:
+            if other != os.path.basename(entry) and os.path.exists(f"{self.top}/{name}/{other}/{part}.tar.gz"):
+                os.remove(f"{self.top}/{name}/{other}/{part}.tar.gz")
+
+    def lay(self, name, digest, folder, part):
+        """Lays a part that was kept under the digest into a crate's out/, and returns whether there was one."""
+        return unpack(f"{self.entry(name, digest)}/{part}.tar.gz", f"{folder}/out/{part}")
+
+    def lay_newest(self, name, folder, part):
+        """Lays the newest kept part of any digest into a crate's out/, and returns whether there was one."""
+        files = [f"{self.top}/{name}/{it}/{part}.tar.gz" for it in os.listdir(f"{self.top}/{name}")] if os.path.isdir(f"{self.top}/{name}") else []
+        files = sorted((it for it in files if os.path.isfile(it)), key=os.path.getmtime)
+        return bool(files) and unpack(files[-1], f"{folder}/out/{part}")
+
+    def shrink(self, digests):
+        """Removes the oldest entries while the store is too large, but none of these digests."""
+        entries = []
+        for name in os.listdir(self.top):
+            for digest in os.listdir(f"{self.top}/{name}") if os.path.isdir(f"{self.top}/{name}") else []:
+                path = f"{self.top}/{name}/{digest}"
+                size = sum(os.path.getsize(it) for it in files_in(path, ("",)))
+                entries.append((os.path.getmtime(path), size, path, digests.get(name, "")[:32] == digest))
+        total = sum(size for _, size, _, _ in entries)
+        for _, size, path, is_current in sorted(entries):
+            if total > LARGEST and not is_current:
+                shutil.rmtree(path, ignore_errors=True)
+                total -= size
+
+
+def pack(folder, file):
+    """Packs a folder into a file, which is whole or not there."""
+    with open(f"{file}.new", "wb") as it:
+        tar = subprocess.Popen(["tar", "cf", "-", "-C", folder, "."], stdout=subprocess.PIPE)
+        zipped = subprocess.run(["gzip", "-1"], stdin=tar.stdout, stdout=it)
+    if tar.wait() or zipped.returncode:
+        raise OSError(f"cannot pack {folder}")
+    os.replace(f"{file}.new", file)
+
+
+def unpack(file, folder):
+    """Unpacks a file of `pack` in place of a folder, and returns whether that went well."""
+    if not os.path.isfile(file):
+        return False
+    shutil.rmtree(folder, ignore_errors=True)
+    os.makedirs(folder)
+    well = subprocess.run(["tar", "xzf", file, "-C", folder]).returncode == 0
+    if not well:
+        shutil.rmtree(folder, ignore_errors=True)
+    return well

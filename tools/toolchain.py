@@ -1,0 +1,66 @@
+"""The toolchain's own gate as a module: its checks of texts, its words for the prover, its runs and its edits."""
+
+import importlib.machinery
+import importlib.util
+import os
+import re
+import shutil
+import sys
+
+
+def load():
+    """Returns the modules `rt` and `rtlib` of the toolchain whose `rt` is on the path."""
+    found = shutil.which("rt")
+    if not found:
+        sys.exit("the toolchain's rt is not on the path")
+    file = os.path.realpath(found)
+    loader = importlib.machinery.SourceFileLoader("rt", file)
+    made = importlib.util.module_from_spec(importlib.util.spec_from_loader("rt", loader))
+    made.__file__, sys.modules["rt"] = file, made
+    loader.exec_module(made)
+    return made, made.rtlib
+
+
+rt, rtlib = load()
+# A verdict of the gate takes nothing from earlier checks. Here the crate's own kept work counts, and nothing else does.
+rtlib.VERDICT = re.compile(rtlib.VERDICT.pattern.replace(r"\n\Z", r"( incremental=trusted)?\n\Z"), re.M)
+rtlib.stop = rt.stop
+rtlib.Crate = rt.Crate
+
+
+def version():
+    """Returns the toolchain's line of identity."""
+    with open(f"{rt.KIT}/KIT-ID", encoding="utf-8") as it:
+        return it.read().strip()
+
+
+def crates_at(root):
+    """Returns the repository's crates, lowest first, held until this run ends."""
+    rt.Crate.allowed = rt.handles_of(root)
+    rtlib.guarded()
+    crates = sorted(rtlib.crates_below(root), key=lambda it: len(it.below()))
+    crates_at.held = rtlib.lock(crates)
+    for name in sorted(os.listdir(root)):
+        if name != ".git" and os.path.isdir(f"{root}/{name}"):
+            rtlib.stop_on_unread(f"{root}/{name}", crates)
+    return crates
+
+
+def why_refused(crate, crates):
+    """Returns why the gate refuses the crate's text before any proof, or None."""
+    try:
+        rtlib.stop_on_links(crate.folder)
+        rtlib.stop_on_unread(crate.folder, crates)
+        rtlib.stop_on_text(crate, "verdict")
+        rt.stop_on_words(crate)
+    except SystemExit:
+        return "its text is refused"
+    code = rtlib.code_of(crate.folder)
+    if re.search(rt.RENAMES, code):
+        return "it renames std, or takes it whole"
+    if re.search(rt.IGNORED, code):
+        return "it has a test under #[ignore]"
+    for handle, words in rt.REACHES.items():
+        if handle not in crate.allowed and re.search(words, code):
+            return f"it names what only the handle {handle} reaches"
+    return "run rt fmt in the crate's folder" if rtlib.fmt(crate.folder, "--check", crate.out) else None
