@@ -23,7 +23,7 @@ use undo_log::SnapshotRing;
 ///
 /// # Errors
 ///
-/// Want of memory.
+/// Out of memory.
 pub fn open<const W: usize>(
     alloc: Global,
     program: Program,

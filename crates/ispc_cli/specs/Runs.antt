@@ -38,7 +38,7 @@ abbrev pub refusal_of : RunEnd → Option Refusal
 refusal_of (end.Refused r) = Some r
 refusal_of end = None
 
--- whether a refusal of a run of this text with this entry asked for is right; want of memory may come at any time
+-- whether a refusal of a run of this text with this entry asked for is right; out of memory may come at any time
 abbrev pub IsRight : (text : List ℕ) → (asked : Option Name) → Refusal → Type 0
 IsRight text asked (refusal.Source r) = IsRightRefusal text r
 IsRight text asked refusal.NoEntry = HasNoEntry text asked

@@ -39,12 +39,12 @@ abbrev pub Compiles : List ℕ → (asked : Option Name) → Option Compiled →
 Compiles text asked None = HasNoEntry text asked
 Compiles text asked (Some compiled) = IsProgramOf text asked (program_view compiled.program) compiled.entry.0 × IsReady compiled
 
--- want of memory, or the refusal that is found
+-- out of memory, or the refusal that is found
 abbrev pub IsFault : Option SourceRefusal → SourceFault → Type 0
 IsFault found Memory = Unit {0}
 IsFault found (Refused refusal) = found ≡ Some refusal
 
--- want of memory, or the right refusal
+-- out of memory, or the right refusal
 abbrev pub IsRefused : List ℕ → SourceFault → Type 0
 IsRefused text Memory = Unit {0}
 IsRefused text (Refused refusal) = IsRightRefusal text refusal

@@ -29,7 +29,7 @@ pub struct Compiled {
 ///
 /// # Errors
 ///
-/// Want of memory, or the refusal of the first phase that finds a fault: S1, S2 or S13 by the tokens, S3, S4 or S13 by the
+/// Out of memory, or the refusal of the first phase that finds a fault: S1, S2 or S13 by the tokens, S3, S4 or S13 by the
 /// tree, S3 at a form that is not let through yet, then S5, S6, S11 or S12 by names, S7 to S10 by types, and S13 by the limits.
 pub fn compile_source(
     alloc: Global,

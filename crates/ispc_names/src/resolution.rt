@@ -33,7 +33,7 @@ fn tables_of(alloc: Global, tree: &Tree) -> Result<Vec<StepScopes>, SourceFault>
 /// The tree with what is in scope at each step of its functions, where it has no fault of names.
 ///
 /// # Errors
-/// The first fault of names: S5, S6, S11 or S12 with its place. Want of memory.
+/// The first fault of names: S5, S6, S11 or S12 with its place. Out of memory.
 pub fn resolve(alloc: Global, tree: Tree) -> Result<Named, SourceFault>
     ensures named { IfOk result (λ named. (named ≡ tree) × (names_refusal (tree_view tree) ≡ None)) }
     ensures refused { IfErr result (λ fault. (fault ≡ Memory)

@@ -19,7 +19,7 @@ use std::alloc::Global;
 ///
 /// # Errors
 ///
-/// Want of memory.
+/// Out of memory.
 pub fn functions_of(alloc: Global, tree: &Tree) -> Result<Vec<&Function>, SourceFault>
     ensures functions { IfOk result (λ functions. map (λ f. function_view f.now) functions.items ≡ functions_in (tree_view tree.now)) }
     ensures memory { IfErr result (λ fault. fault ≡ Memory) }
@@ -37,7 +37,7 @@ pub fn functions_of(alloc: Global, tree: &Tree) -> Result<Vec<&Function>, Source
 ///
 /// # Errors
 ///
-/// Want of memory.
+/// Out of memory.
 pub fn globals_of(alloc: Global, tree: &Tree) -> Result<Vec<&GlobalVariable>, SourceFault>
     ensures globals { IfOk result (λ globals. map (λ g. global_view g.now) globals.items ≡ globals_in (tree_view tree.now)) }
     ensures memory { IfErr result (λ fault. fault ≡ Memory) }

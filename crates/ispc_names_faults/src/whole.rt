@@ -37,7 +37,7 @@ fn inside_functions(
 ///
 /// # Errors
 ///
-/// Want of memory.
+/// Out of memory.
 pub fn names_fault(alloc: Global, tree: &Tree) -> Result<Option<SourceRefusal>, SourceFault>
     ensures fault { IfOk result (λ fault. fault ≡ names_refusal (tree_view tree.now)) }
     ensures memory { IfErr result (λ fault. fault ≡ Memory) }

@@ -41,7 +41,7 @@ impl FunctionNames {
     ///
     /// # Errors
     ///
-    /// Want of memory; the names are then as before.
+    /// Out of memory; the names are then as before.
     pub fn add(&mut self, alloc: Global, name: &[u8]) -> Result<(), SourceFault>
         ensures last { OnOk result (self.new ≡ self.old ++ name.now ∷ []) }
         ensures unchanged { OnErr result (self.new ≡ self.old) }

@@ -56,7 +56,7 @@ impl Scopes {
     ///
     /// # Errors
     ///
-    /// Want of memory; the declarations are then as before.
+    /// Out of memory; the declarations are then as before.
     pub fn declare_in_file(
         &mut self,
         alloc: Global,
@@ -76,7 +76,7 @@ impl Scopes {
     ///
     /// # Errors
     ///
-    /// Want of memory, also where no number is left; the declarations are then as before.
+    /// Out of memory, also where no number is left; the declarations are then as before.
     pub fn declare(&mut self, alloc: Global, name: &[u8]) -> Result<VarId, SourceFault>
         ensures id { IfOk result (λ id. id ≡ Local self.old.next) }
         ensures declared { OnOk result (site self.new ≡ scope.with_name name.now (site self.old)) }

@@ -20,7 +20,7 @@ use std::alloc::Global;
 /// order of the text. At the closing brace what is declared before the first `return` is in scope.
 ///
 /// # Errors
-/// Want of memory.
+/// Out of memory.
 pub fn steps_of(alloc: Global, function: &Function) -> Result<StepScopes, SourceFault>
     ensures steps { IfOk result (λ steps. (source : ParsedSource) → standings_view steps ≡ standings_of (file_scope source) (function_view function.now)) }
     ensures declared { IfOk result (λ steps. numbered 0 steps.declarations.items ≡ function_bindings (function_view function.now)) }

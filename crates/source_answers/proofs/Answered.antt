@@ -76,7 +76,7 @@ pub sound-refuse : {C : Type 0} (fault : Option SourceRefusal) (gone_on : Unit {
     → Ok gone_on ≡ refusal_of fault → fault ≡ least_fault faults → unless faults c ≡ Sound c
 sound-refuse fault gone_on faults c e f = answers-refusal fault (Ok gone_on) faults c e f
 
--- what fails for want of memory alone, and then stands for this value
+-- what fails for out of memory alone, and then stands for this value
 pub answers-memory : {A B : Type 0} (view : A → B) (result : Result A SourceFault) (b : B)
     → IfOk result (λ a. view a ≡ b) → IfErr result (λ fault. fault ≡ Memory) → Answers view result (Sound b)
 answers-memory view (Ok a) b h i = ap Sound (sym h)

@@ -1,4 +1,4 @@
--- What a function answers for a part of a tree that is judged: what the part stands for, its least fault, or want of memory.
+-- What a function answers for a part of a tree that is judged: what the part stands for, its least fault, or out of memory.
 use Rattle.std.specs.Prelude.{◌≡◌, Option, Some, None, Result, Ok, Err}
 use Rattle.gang_model.specs.declared.refusals.SourceRefusal.{SourceRefusal}
 use Rattle.gang_model.specs.Source.Judged.{Judged, Sound, answer_of, lesser}
@@ -10,7 +10,7 @@ Answers view (Ok a) judged = judged ≡ Sound (view a)
 Answers view (Err Memory) judged = Unit {0}
 Answers view (Err (Refused fault)) judged = answer_of judged ≡ Err fault
 
--- both answers, or the lesser fault; want of memory hides every fault
+-- both answers, or the lesser fault; out of memory hides every fault
 abbrev pub both_answers : {A B : Type 0} → Result A SourceFault → Result B SourceFault → Result (A × B) SourceFault
 both_answers (Ok a) (Ok b) = Ok (a, b)
 both_answers (Ok a) (Err fault) = Err fault

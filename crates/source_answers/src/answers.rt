@@ -1,4 +1,4 @@
-//! Answers for parts of a tree where want of memory is set apart, so that `?` stops at it alone.
+//! Answers for parts of a tree where out of memory is set apart, so that `?` stops at it alone.
 ghost use Rattle.std.specs.Prelude.{◌≡◌};
 ghost use Rattle.gang_model.specs.Source.Judged as judged;
 ghost use Rattle.source_answers.specs.Apart.{apart, in_order, joined};
@@ -10,7 +10,7 @@ use gang_model::SourceRefusal;
 /// What a part of a tree stands for, or its least fault.
 pub type Answer<A> = Result<A, SourceRefusal>;
 
-/// The answer for a part, unless memory was wanted.
+/// The answer for a part, unless out of memory.
 pub fn set_apart<A: Drop>(part: Result<A, SourceFault>) -> Result<Answer<A>, SourceFault>
     ensures { result ≡ apart part }
 {
@@ -21,7 +21,7 @@ pub fn set_apart<A: Drop>(part: Result<A, SourceFault>) -> Result<Answer<A>, Sou
     }
 }
 
-/// The answer with want of memory among its errors.
+/// The answer with out of memory among its errors.
 pub fn joined<A: Drop>(answer: Answer<A>) -> Result<A, SourceFault>
     ensures { result ≡ joined answer }
 {

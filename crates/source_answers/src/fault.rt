@@ -5,7 +5,7 @@ ghost use Rattle.source_answers.specs.declared.fault.SourceFault.TheVariants.{Me
 use gang_model::SourceRefusal;
 use std::alloc::{AllocError, AllocFailed, Global};
 
-/// Want of memory, or a refusal with its place.
+/// Out of memory, or a refusal with its place.
 #[derive(Clone, Copy, Debug, PartialEq, Eq, Drop)]
 pub enum SourceFault {
     Memory,
@@ -32,7 +32,7 @@ impl<T: Drop> From<AllocFailed<T>> for SourceFault {
 ///
 /// # Errors
 ///
-/// Want of memory.
+/// Out of memory.
 pub fn boxed<T: Drop>(alloc: Global, value: T) -> Result<Box<T>, SourceFault>
     ensures value { IfOk result (λ place. place.value ≡ value) }
     ensures memory { IfErr result (λ fault. fault ≡ Memory) }
@@ -44,7 +44,7 @@ pub fn boxed<T: Drop>(alloc: Global, value: T) -> Result<Box<T>, SourceFault>
 ///
 /// # Errors
 ///
-/// Want of memory.
+/// Out of memory.
 pub fn both_boxed<A: Drop, B: Drop>(
     alloc: Global,
     first: A,

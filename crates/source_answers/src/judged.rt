@@ -10,7 +10,7 @@ use gang_model::SourceRefusal;
 ///
 /// # Errors
 ///
-/// The lesser fault of the two parts. Want of memory, if one of them wanted it.
+/// The lesser fault of the two parts. Out of memory, if one of them was.
 pub fn both<A: Drop, B: Drop>(
     left: Result<A, SourceFault>,
     right: Result<B, SourceFault>,

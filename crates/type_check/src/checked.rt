@@ -70,7 +70,7 @@ impl Checked {
 ///
 /// # Errors
 ///
-/// The first fault of types: S7, S8, S9 or S10 with its place. Want of memory.
+/// The first fault of types: S7, S8, S9 or S10 with its place. Out of memory.
 pub fn check(alloc: Global, named: Named) -> Result<Checked, SourceFault>
     ensures checked { IfOk result (λ checked. (checked ≡ named) × (types_refusal (tree_view named) ≡ None)) }
     ensures refused { IfErr result (λ fault. (fault ≡ Memory)

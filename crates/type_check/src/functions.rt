@@ -126,7 +126,7 @@ fn typed_function(
 ///
 /// # Errors
 ///
-/// The first of their faults. Want of memory.
+/// The first of their faults. Out of memory.
 pub(crate) fn typed_functions(
     alloc: Global,
     functions: &[&ParsedFunction],

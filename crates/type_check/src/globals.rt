@@ -113,7 +113,7 @@ fn typed_global(
 ///
 /// # Errors
 ///
-/// The first of their faults. Want of memory.
+/// The first of their faults. Out of memory.
 pub(crate) fn typed_globals(
     alloc: Global,
     globals: &[&GlobalVariable],

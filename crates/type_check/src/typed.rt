@@ -18,7 +18,7 @@ use typed_tree::Program;
 ///
 /// # Errors
 ///
-/// The first of the faults S7 to S10 of its types. Want of memory.
+/// The first of the faults S7 to S10 of its types. Out of memory.
 pub fn typed_program(
     alloc: Global,
     tree: &Tree,

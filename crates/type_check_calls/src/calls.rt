@@ -62,7 +62,7 @@ fn call_of_kind(
 /// # Errors
 ///
 /// The first fault of its arguments. Else S9 at its name if no function takes them, S10 there if none of those that do beats
-/// every other, S8 at a constant that a packed call stores to. Want of memory.
+/// every other, S8 at a constant that a packed call stores to. Out of memory.
 pub fn call_of(
     alloc: Global,
     context: &Context,
@@ -104,7 +104,7 @@ fn result_fault(
 /// # Errors
 ///
 /// The first fault of the call; else, at the right side's first token, S8 if it has no result, or S7 if its result is varying
-/// and what it is given to is uniform. Want of memory.
+/// and what it is given to is uniform. Out of memory.
 pub fn right_call(
     alloc: Global,
     context: &Context,

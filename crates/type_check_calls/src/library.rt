@@ -190,7 +190,7 @@ fn load_call(
 ///
 /// # Errors
 ///
-/// S9 at its name for other arguments than it takes, S8 at a constant that it stores to. Want of memory.
+/// S9 at its name for other arguments than it takes, S8 at a constant that it stores to. Out of memory.
 pub(crate) fn library_statement(
     alloc: Global,
     place: Place,

@@ -58,7 +58,7 @@ fn meant_call(
 ///
 /// # Errors
 ///
-/// S9 at the name if no function takes the arguments, S10 there if none of those that do beats every other. Want of memory.
+/// S9 at the name if no function takes the arguments, S10 there if none of those that do beats every other. Out of memory.
 pub(crate) fn user_call(
     alloc: Global,
     context: &Context,

@@ -20,7 +20,7 @@ pub inside-refused : {A B C D : Type 0} (f : A → C) (g : B → D) (fault : Sou
     → IsErrAnd result (λ y. y ≡ fault) → Answers f (Err fault) j → Answers g result (j >>= next)
 inside-refused f g fault result j next e h = answers-fault g fault result (j >>= next) e (answers-refused f g fault j next h)
 
--- want of memory
+-- out of memory
 pub inside-memory : {A B : Type 0} (g : A → B) (fault : SourceFault) (result : Result A SourceFault) (j : Judged B)
     → IsErrAnd result (λ y. y ≡ fault) → fault ≡ Memory → Answers g result j
 inside-memory g fault result j e h = answers-fault g fault result j e (answers-same g (Err fault) (Err Memory) j (ap Err h) tt)

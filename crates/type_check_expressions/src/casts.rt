@@ -36,7 +36,7 @@ fn cast_fault(
 ///
 /// # Errors
 ///
-/// S8 at the `(` of a cast to `void`, S7 there at one of a varying operand to uniform. Want of memory.
+/// S8 at the `(` of a cast to `void`, S7 there at one of a varying operand to uniform. Out of memory.
 pub(crate) fn cast_to(
     alloc: Global,
     place: Place,

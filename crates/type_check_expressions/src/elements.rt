@@ -71,7 +71,7 @@ fn element_value(
 ///
 /// # Errors
 ///
-/// S8 at what is indexed and is no array, or has elements of no value; S8 at an index that is bool. Want of memory.
+/// S8 at what is indexed and is no array, or has elements of no value; S8 at an index that is bool. Out of memory.
 pub(crate) fn element(
     alloc: Global,
     place: Place,

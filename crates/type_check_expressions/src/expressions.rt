@@ -29,7 +29,7 @@ use typed_tree::Expr as TypedExpr;
 ///
 /// # Errors
 ///
-/// The first of its faults S5 and S7 to S9; an expression with a fault inside has none of its own. Want of memory.
+/// The first of its faults S5 and S7 to S9; an expression with a fault inside has none of its own. Out of memory.
 #[cycle(expression)]
 pub fn expression(alloc: Global, expr: &Expr, scope: &TypeScope) -> Result<Typed, SourceFault>
     ensures { Answers typed_view result (typing.expression (expr_view expr.now) scope.now.entries) }
@@ -114,7 +114,7 @@ fn argument<'a>(alloc: Global, arg: &'a Arg, scope: &TypeScope) -> Result<Passin
 ///
 /// # Errors
 ///
-/// The first fault of the arguments, each judged by itself. Want of memory.
+/// The first fault of the arguments, each judged by itself. Out of memory.
 pub fn arguments<'a>(
     alloc: Global,
     args: &'a [Arg],
@@ -133,7 +133,7 @@ pub fn arguments<'a>(
 ///
 /// # Errors
 ///
-/// The first fault of the expression, or S7 at the first token of a varying one that is given to something uniform. Want of memory.
+/// The first fault of the expression, or S7 at the first token of a varying one that is given to something uniform. Out of memory.
 pub fn given_value(
     alloc: Global,
     expr: &Expr,

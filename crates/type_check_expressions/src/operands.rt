@@ -14,7 +14,7 @@ use type_check_values::{Typed, chosen_by, infixed};
 ///
 /// # Errors
 ///
-/// The lesser fault of the two. Want of memory.
+/// The lesser fault of the two. Out of memory.
 pub(crate) fn infixed_both(
     alloc: Global,
     operator: Infix,
@@ -31,7 +31,7 @@ pub(crate) fn infixed_both(
 ///
 /// # Errors
 ///
-/// The least fault of the three. Want of memory.
+/// The least fault of the three. Out of memory.
 pub(crate) fn chosen_of(
     alloc: Global,
     test: Result<Typed, SourceFault>,

@@ -152,7 +152,7 @@ pub(crate) fn view_from<'a>(
 ///
 /// # Errors
 ///
-/// The lesser fault of the two. Want of memory.
+/// The lesser fault of the two. Out of memory.
 pub(crate) fn with_next<'a>(
     given: Result<Vec<Passing<'a>>, SourceFault>,
     next: Result<Passing<'a>, SourceFault>,

@@ -39,7 +39,7 @@ pub none_found : {t : Unit {0}} (found : Option SourceRefusal) → Ok t ≡ refu
 none_found None h = refl
 none_found (Some f) h = cc
 
--- a value or want of memory is the answer
+-- a value or out of memory is the answer
 pub value_answers : {A B : Type 0} (view : A → B) (r : Result A SourceFault) (judged : Judged B)
     → IfOk r (λ a. judged ≡ Sound (view a)) → IfErr r (λ fault. fault ≡ Memory) → Answers view r judged
 value_answers view (Ok a) judged h k = h

@@ -34,7 +34,7 @@ fn value_of(passing: Passing) -> Option<Argument>
 ///
 /// # Errors
 ///
-/// Want of memory.
+/// Out of memory.
 pub(crate) fn all_values(
     alloc: Global,
     given: Vec<Passing>,

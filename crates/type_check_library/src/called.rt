@@ -37,7 +37,7 @@ fn call_value(
 /// # Errors
 ///
 /// S9 at the call's name if nothing of this name takes so many arguments, or one of them is no value; S7 at an argument that
-/// is varying where a uniform one is asked. Want of memory.
+/// is varying where a uniform one is asked. Out of memory.
 pub fn called_value(
     alloc: Global,
     place: Place,

@@ -119,7 +119,7 @@ fn magnitude(alloc: Global, value: Typed) -> Result<Typed, SourceFault>
 ///
 /// # Errors
 ///
-/// Want of memory.
+/// Out of memory.
 pub(crate) fn value_of_one(
     alloc: Global,
     call: CallOfOne,

@@ -101,7 +101,7 @@ fn selected(alloc: Global, test: Typed, first: Typed, second: Typed) -> Result<T
 ///
 /// # Errors
 ///
-/// Want of memory.
+/// Out of memory.
 pub(crate) fn value_of_three(
     alloc: Global,
     call: CallOfThree,

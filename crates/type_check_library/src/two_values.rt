@@ -21,7 +21,7 @@ use typed_tree::{Expr, TwoCall};
 ///
 /// # Errors
 ///
-/// Want of memory.
+/// Out of memory.
 pub(crate) fn both_as_type(
     alloc: Global,
     to: IntType,
@@ -40,7 +40,7 @@ pub(crate) fn both_as_type(
 ///
 /// # Errors
 ///
-/// Want of memory.
+/// Out of memory.
 pub(crate) fn one_of_two(
     alloc: Global,
     function: TwoCall,
@@ -81,7 +81,7 @@ fn compared(
 ///
 /// # Errors
 ///
-/// Want of memory.
+/// Out of memory.
 pub(crate) fn as_index(alloc: Global, index: Typed) -> Result<Box<Expr>, SourceFault>
     ensures index { IfOk result (λ e. expr_view e.value ≡ model.as_type Int32 (typed_view index)) }
     ensures memory { IfErr result (λ fault. fault ≡ Memory) }
@@ -93,7 +93,7 @@ pub(crate) fn as_index(alloc: Global, index: Typed) -> Result<Box<Expr>, SourceF
 ///
 /// # Errors
 ///
-/// Want of memory.
+/// Out of memory.
 pub(crate) fn with_index(
     alloc: Global,
     value: Expr,
@@ -159,7 +159,7 @@ fn shuffled(alloc: Global, value: Typed, places: Typed) -> Result<Typed, SourceF
 ///
 /// # Errors
 ///
-/// Want of memory.
+/// Out of memory.
 pub(crate) fn value_of_two(
     alloc: Global,
     call: CallOfTwo,

@@ -22,7 +22,7 @@ use typed_tree::Expr;
 ///
 /// # Errors
 ///
-/// Want of memory.
+/// Out of memory.
 pub(crate) fn library_value(
     alloc: Global,
     call: LibraryCall,

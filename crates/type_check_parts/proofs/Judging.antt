@@ -1,4 +1,4 @@
--- What is known of an answer where want of memory is set apart.
+-- What is known of an answer where out of memory is set apart.
 use Rattle.std.proofs.Common.{◌≡◌, sym, ap, ◌∙◌}
 use Rattle.std.specs.Prelude.{Result, Ok, Err}
 use Rattle.gang_model.specs.declared.refusals.SourceRefusal.{SourceRefusal}
@@ -8,7 +8,7 @@ use Rattle.source_answers.specs.declared.fault.SourceFault.TheVariants.{Memory, 
 use Rattle.source_answers.specs.Answers.{Answers}
 use Rattle.source_answers.specs.Apart.{apart, seen}
 
--- what is left of an answer where want of memory is set apart
+-- what is left of an answer where out of memory is set apart
 pub answers-apart : {A B : Type 0} (view : A → B) (result : Result A SourceFault) (answer : Result A SourceRefusal) (j : Judged B)
     → Answers view result j → Ok answer ≡ apart result → answer_of j ≡ seen view answer
 answers-apart view (Ok a) answer j h e =

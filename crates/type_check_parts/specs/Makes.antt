@@ -12,7 +12,7 @@ Makes view (Ok s) before after judged = (declared : List Variable) × (after ≡
 Makes view (Err Memory) before after judged = Unit {0}
 Makes view (Err (Refused fault)) before after judged = answer_of judged ≡ Err fault
 
--- what holds unless memory was wanted
+-- what holds unless out of memory
 abbrev pub IfAnswered : {A : Type 0} → Result A SourceFault → Type 0 → Type 0
 IfAnswered (Ok a) holds = holds
 IfAnswered (Err Memory) holds = Unit {0}

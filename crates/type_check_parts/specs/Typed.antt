@@ -1,4 +1,4 @@
--- Answers for statements where want of memory is set apart, and what is known once a statement was typed.
+-- Answers for statements where out of memory is set apart, and what is known once a statement was typed.
 use Rattle.std.specs.Prelude.{◌≡◌, ℕ, ◌∷◌, ◌++◌, List, length, Result, Ok, Err}
 use Rattle.gang_model.specs.declared.refusals.SourceRefusal.{SourceRefusal}
 use Rattle.gang_model.specs.Types.Tree.{Stmt, Variable}

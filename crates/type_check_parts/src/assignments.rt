@@ -97,7 +97,7 @@ fn assigned_call(
 ///
 /// # Errors
 ///
-/// The first fault of the target and the value. Want of memory.
+/// The first fault of the target and the value. Out of memory.
 pub fn assignment(
     alloc: Global,
     context: &Context,
@@ -160,7 +160,7 @@ fn changed(
 ///
 /// # Errors
 ///
-/// The first fault of the target and the operand. Want of memory.
+/// The first fault of the target and the operand. Out of memory.
 pub fn change(
     alloc: Global,
     scope: &TypeScope,
@@ -181,7 +181,7 @@ pub fn change(
 ///
 /// # Errors
 ///
-/// The first fault of the target. Want of memory.
+/// The first fault of the target. Out of memory.
 pub fn increment(
     alloc: Global,
     scope: &TypeScope,

@@ -18,7 +18,7 @@ use typed_tree::Expr as TypedExpr;
 ///
 /// # Errors
 ///
-/// Its first fault. Want of memory.
+/// Its first fault. Out of memory.
 pub fn test_of(alloc: Global, scope: &TypeScope, test: &Expr) -> Result<TypedExpr, SourceFault>
     ensures { Answers typed.expr_view result (model.test_of scope.now.entries (Some (expr_view test.now))) }
 {
@@ -30,7 +30,7 @@ pub fn test_of(alloc: Global, scope: &TypeScope, test: &Expr) -> Result<TypedExp
 ///
 /// # Errors
 ///
-/// Its first fault. Want of memory.
+/// Its first fault. Out of memory.
 pub fn some_test(
     alloc: Global,
     scope: &TypeScope,

@@ -63,7 +63,7 @@ fn first_value(
 ///
 /// # Errors
 ///
-/// The first fault of the value. Want of memory.
+/// The first fault of the value. Out of memory.
 fn declaration(
     alloc: Global,
     context: &Context,

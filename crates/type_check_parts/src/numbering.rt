@@ -8,7 +8,7 @@ ghost use Rattle.source_answers.specs.Apart.{apart};
 use ispc_parser::Stmt;
 use source_answers::{Answer, SourceFault, set_apart};
 
-/// The number that comes so many steps later; one that is too large counts as want of memory.
+/// The number that comes so many steps later; one that is too large counts as out of memory.
 pub fn advanced(step: usize, steps: usize) -> Result<usize, SourceFault>
     ensures number { IfOk result (λ number. number ≡ step + steps) }
     ensures memory { IfErr result (λ fault. fault ≡ Memory) }

@@ -89,7 +89,7 @@ fn value_return(
 /// # Errors
 ///
 /// The first fault of the value; else S8 at the value's first token in a `void` function, at the keyword where a result is
-/// asked. Want of memory.
+/// asked. Out of memory.
 pub fn returning(
     alloc: Global,
     context: &Context,

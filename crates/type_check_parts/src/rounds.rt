@@ -65,7 +65,7 @@ fn one_more(
 ///
 /// # Errors
 ///
-/// Want of memory.
+/// Out of memory.
 pub fn dimensions(
     alloc: Global,
     scope: &TypeScope,
@@ -88,7 +88,7 @@ pub fn dimensions(
 ///
 /// # Errors
 ///
-/// Want of memory.
+/// Out of memory.
 pub fn declare_indices(
     alloc: Global,
     dims: &[Dim],

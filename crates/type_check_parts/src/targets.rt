@@ -125,7 +125,7 @@ fn element_target(
 ///
 /// # Errors
 ///
-/// The first fault of its name and its index. Want of memory.
+/// The first fault of its name and its index. Out of memory.
 pub(crate) fn target_of(
     alloc: Global,
     scope: &TypeScope,

@@ -91,7 +91,7 @@ impl TypeScope {
     ///
     /// # Errors
     ///
-    /// Want of memory; the declarations are then as before.
+    /// Out of memory; the declarations are then as before.
     pub fn declare_in_file(
         &mut self,
         alloc: Global,
@@ -125,7 +125,7 @@ impl TypeScope {
     ///
     /// # Errors
     ///
-    /// Want of memory; the declarations are then as before.
+    /// Out of memory; the declarations are then as before.
     pub fn declare(
         &mut self,
         alloc: Global,
@@ -183,7 +183,7 @@ impl TypeScope {
     ///
     /// # Errors
     ///
-    /// Want of memory.
+    /// Out of memory.
     pub fn take_locals(&mut self, alloc: Global) -> Result<Vec<Variable>, SourceFault>
         ensures taken { IfOk result (λ locals. map variable_view locals.items ≡ self.old.locals) }
         ensures entries { self.new.entries ≡ self.old.entries }

@@ -67,7 +67,7 @@ pub in-any-case : {A E P : Type 0} (result : Result A E) → P → OnOk result P
 in-any-case (Ok a) p = p
 in-any-case (Err e) p = tt
 
--- what holds unless memory was wanted
+-- what holds unless out of memory
 pub unless-memory : {A P : Type 0} (result : Result A SourceFault) → P → IfAnswered result P
 unless-memory (Ok a) p = p
 unless-memory (Err Memory) p = tt

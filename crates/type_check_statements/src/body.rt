@@ -19,7 +19,7 @@ use typed_tree::Stmt;
 ///
 /// # Errors
 ///
-/// The first of its faults S5 and S7 to S10. Want of memory.
+/// The first of its faults S5 and S7 to S10. Out of memory.
 pub fn typed_body(
     alloc: Global,
     stmts: &[ParsedStmt],

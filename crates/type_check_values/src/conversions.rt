@@ -16,7 +16,7 @@ use typed_tree::Expr;
 ///
 /// # Errors
 ///
-/// Want of memory.
+/// Out of memory.
 pub fn as_type(alloc: Global, to: IntType, value: Typed) -> Result<Expr, SourceFault>
     ensures converted { IfOk result (λ e. expr_view e ≡ model.as_type to (typed_view value)) }
     ensures memory { IfErr result (λ fault. fault ≡ Memory) }
@@ -36,7 +36,7 @@ pub fn as_type(alloc: Global, to: IntType, value: Typed) -> Result<Expr, SourceF
 ///
 /// # Errors
 ///
-/// Want of memory.
+/// Out of memory.
 pub fn boxed_as_type(alloc: Global, to: IntType, value: Typed) -> Result<Box<Expr>, SourceFault>
     ensures converted { IfOk result (λ e. expr_view e.value ≡ model.as_type to (typed_view value)) }
     ensures memory { IfErr result (λ fault. fault ≡ Memory) }
@@ -48,7 +48,7 @@ pub fn boxed_as_type(alloc: Global, to: IntType, value: Typed) -> Result<Box<Exp
 ///
 /// # Errors
 ///
-/// Want of memory.
+/// Out of memory.
 pub fn as_bool(alloc: Global, value: Typed) -> Result<Expr, SourceFault>
     ensures converted { IfOk result (λ e. expr_view e ≡ model.as_bool (typed_view value)) }
     ensures memory { IfErr result (λ fault. fault ≡ Memory) }
@@ -60,7 +60,7 @@ pub fn as_bool(alloc: Global, value: Typed) -> Result<Expr, SourceFault>
 ///
 /// # Errors
 ///
-/// Want of memory.
+/// Out of memory.
 pub fn right_operand(
     alloc: Global,
     operator: BinaryOp,

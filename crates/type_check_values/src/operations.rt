@@ -44,7 +44,7 @@ fn operated(
 ///
 /// # Errors
 ///
-/// Want of memory.
+/// Out of memory.
 pub fn infixed(
     alloc: Global,
     operator: Infix,
@@ -75,7 +75,7 @@ pub fn infixed(
 ///
 /// # Errors
 ///
-/// Want of memory.
+/// Out of memory.
 pub fn prefixed(alloc: Global, operator: UnaryOp, value: Typed) -> Result<Typed, SourceFault>
     ensures prefixed { IfOk result (λ e. typed_view e ≡ model.prefixed operator (typed_view value)) }
     ensures memory { IfErr result (λ fault. fault ≡ Memory) }
@@ -101,7 +101,7 @@ pub fn prefixed(alloc: Global, operator: UnaryOp, value: Typed) -> Result<Typed,
 ///
 /// # Errors
 ///
-/// Want of memory.
+/// Out of memory.
 pub fn chosen_by(
     alloc: Global,
     test: Typed,
