@@ -2,6 +2,7 @@
 """Writes the worked rows as proofs of the crate tests_transcripts: `write_rows.py [NAME ..]`, all rows if none is named."""
 
 import pathlib
+import re
 import sys
 
 from rows import ROWS
@@ -44,8 +45,30 @@ def run_term(source, run, name):
     )
 
 
+def code_words(code):
+    """The words of a proof's code, without its comments and the texts in its strings."""
+    lines = [line for line in code.split("\n") if not line.startswith("--")]
+    without_texts = re.sub(r'"(\\.|[^"\\])*"', '""', "\n".join(lines))
+    return set(re.findall(r"[^\s(),.∷≡]+|[∷≡]|\[\]", without_texts))
+
+
+def imports(code):
+    """The lines of HEAD with the names that the code uses."""
+    words = code_words(code)
+    words |= {f"◌{operator}◌" for operator in ("≡", "∷") if operator in words}
+    out = ""
+    for line in HEAD.splitlines():
+        group = re.fullmatch(r"(use .*\.)\{(.*)\}", line)
+        if group is None:
+            out += line + "\n" if line.split()[-1] in words else ""
+            continue
+        used = [name for name in group[2].split(", ") if name in words]
+        out += f"{group[1]}{{{', '.join(used)}}}\n" if used else ""
+    return out
+
+
 def file_of(row):
-    parts = [comment(row.shows[0].upper() + row.shows[1:] + ".") + HEAD]
+    parts = []
     count = 0
     for n, (source, runs) in enumerate(row.parts):
         term = "source" if len(row.parts) == 1 else f"source_{n + 1}"
@@ -53,7 +76,8 @@ def file_of(row):
         for run in runs:
             count += 1
             parts.append(run_term(term, run, f"row_{count}"))
-    return "\n".join(parts)
+    code = "\n".join(parts)
+    return comment(row.shows[0].upper() + row.shows[1:] + ".") + imports(code) + "\n" + code
 
 
 def main():

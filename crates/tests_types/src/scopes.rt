@@ -146,7 +146,7 @@ fn names_of_the_gang(rt: HostRuntime) {
     let lane = built_in(b"programIndex");
     assert!(rt;
         lane.is_some_and(|value| value.rate == Rate::Varying
-            && matches!(value.expr, Expr::ProgramIndex))
+            && matches!(&value.expr, Expr::ProgramIndex))
     );
     let width = built_in(b"programCount");
     assert!(rt; width.is_some_and(|value| value.rate == Rate::Uniform));

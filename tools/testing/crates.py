@@ -1,0 +1,73 @@
+"""The crates of crates.txt."""
+
+import re
+
+from .tried import Result
+
+LINES_OF_README = range(10, 26)
+
+
+class Crate:
+    """A crate: its folder, the crates and libraries that it names, and how many tests stand in its files."""
+
+    def __init__(self, root, name, below, heading):
+        self.name, self.below, self.heading = name, below, heading
+        self.folder = root / "crates" / name
+        files = list((self.folder / "src").rglob("*.rt"))
+        texts = [it.read_text(encoding="utf-8") for it in files]
+        self.size = sum(map(len, texts))
+        self.tests = sum(len(re.findall(r"^\s*#\[test\]", text, re.M)) for text in texts)
+        self.is_program = (self.folder / "src/main.rt").is_file()
+
+
+def listed(root):
+    """The crates in the order of crates.txt."""
+    found, heading = [], None
+    for line in (root / "crates.txt").read_text(encoding="utf-8").splitlines():
+        if line.startswith("#"):
+            heading = line
+        elif line.strip():
+            names, below = line.split("#")[0].split(":")
+            found.append(Crate(root, names.split()[0], below.split(), heading))
+    return found
+
+
+def weight(crate, listed):
+    """About how much is compiled for a crate: what stands in it and in the crates below it."""
+    by_name = {it.name: it for it in listed}
+    seen, left = set(), [crate.name]
+    while left:
+        name = left.pop()
+        if name in by_name and name not in seen:
+            seen.add(name)
+            left += by_name[name].below
+    return sum(by_name[name].size for name in seen)
+
+
+def faults(crate):
+    """What is wrong with a line of crates.txt."""
+    why = [] if crate.heading else ["no heading stands above its line"]
+    if not (crate.folder / "src").is_dir():
+        return why + ["it has no folder crates/NAME/src"]
+    readme = crate.folder / "README.md"
+    if not readme.is_file():
+        return why + ["it has no README.md"]
+    lines = len(readme.read_text(encoding="utf-8").splitlines())
+    if lines not in LINES_OF_README:
+        why.append(f"its README.md has {lines} lines, and not {LINES_OF_README[0]} to {LINES_OF_README[-1]}")
+    return why
+
+
+def check(root, listed):
+    """A result for each crate that is listed or has a folder."""
+    results = []
+    for number, crate in enumerate(listed):
+        why = faults(crate)
+        if crate.name in {it.name for it in listed[:number]}:
+            why.append("it is listed twice")
+        results.append(Result(crate.name, not why, why))
+    names = {crate.name for crate in listed}
+    for folder in sorted(it for it in (root / "crates").iterdir() if it.is_dir()):
+        if folder.name not in names:
+            results.append(Result(folder.name, False, ["its folder is there, and crates.txt has no line for it"]))
+    return results

@@ -1,0 +1,107 @@
+"""What the program is to do as it is called: options, files, statuses and standard error, as docs/COMMANDS.md has them."""
+
+from .tried import Run, shown
+
+CRATE = "ispc_cli"
+
+FIRST = b"export void go() {\n    int x = programIndex * 3;\n    x += 1;\n}\n"
+RATE = b"export void go() {\n    uniform int x = programIndex;\n}\n"
+HIDDEN = b"void go() { }\n"
+MOST_BYTES = 1_048_576
+
+
+def script(source, *lines):
+    return source + b"%%\n" + b"".join(line + b"\n" for line in lines)
+
+
+def begins_with(start):
+    def judged(text):
+        return [] if text.startswith(start) else [f"it does not begin with {start.decode()!r}:", *shown(text)]
+
+    return judged
+
+
+def has_words(*words):
+    def judged(text):
+        return [f"it lacks {word.decode()}" for word in words if word not in text]
+
+    return judged
+
+
+def answered(name, stdin, output, arguments=(), **how):
+    return Run(name, stdin, arguments, output, b"", 0, **how)
+
+
+def refused(name, stdin, errors, arguments=(), **how):
+    return Run(name, stdin, arguments, b"", errors, 2, **how)
+
+
+def runs_of_scripts():
+    """Standard input has the source, a line %% and the commands."""
+    at_start, at_end = b"at 3:5 go depth 1 lanes 1111\n", b"at 4:1 go depth 1 lanes 1111\n"
+    return [
+        answered("no commands", script(FIRST), b""),
+        answered("a last command without its LF", script(FIRST) + b"step", at_start),
+        answered("nothing after quit", script(FIRST, b"step", b"quit", b"step"), at_start),
+        answered("a line that is no command", script(FIRST, b"stop", b"", b"step"), b"C1 BadCommand\n" + at_start),
+        answered("a second line %% is a command", script(FIRST, b"%%"), b"C1 BadCommand\n"),
+        answered("lines that end in CR and LF", script(FIRST, b"step\r", b"s\r"), at_start + at_end),
+        refused("no line %%", FIRST, b"script: E2 NoScript\n"),
+        refused("a line %% with a blank", FIRST + b"%% \nstep\n", b"script: E2 NoScript\n"),
+        refused("nothing on standard input", b"", b"script: E2 NoScript\n"),
+        refused("more bytes than the limit", script(FIRST).ljust(MOST_BYTES + 1, b"\n"), b"script: E2 NoScript\n"),
+        refused("a source with a fault", script(RATE, b"step"), b"2:21: S7 Rate\n"),
+        refused("a source without an entry", script(HIDDEN, b"step"), b"entry: E1 NoEntry\n"),
+        refused("an entry that is not there", script(FIRST, b"step"), b"entry: E1 NoEntry\n", ["--entry", "stop"]),
+    ]
+
+
+def runs_of_files():
+    """A file has the source, and standard input the commands."""
+    first, rate = {"first.ispc": FIRST}, {"rate.ispc": RATE}
+    at = b"at 3:5 go depth 1 lanes 1111\n"
+    return [
+        answered("a file", b"step\nprint x\n", at + b"x = 0 3 6 9\n", ["first.ispc"], data=first),
+        answered("a file, and no line %%", b"%%\nstep\n", b"C1 BadCommand\n" + at, ["first.ispc"], data=first),
+        refused("a file with a fault", b"step\n", b"2:21: S7 Rate\n", ["rate.ispc"], data=rate),
+        refused("a file that is not there", b"step\n", b"cannot read missing.ispc\n", ["missing.ispc"]),
+    ]
+
+
+def runs_of_options():
+    two, wide = [b"step 2", b"print x"], b"1" * 8
+    ended = b"at 4:1 go depth 1 lanes " + wide + b"\nx = 1 4 7 10 13 16 19 22\n"
+    wrong = [
+        ["--nothing"],
+        ["--width", "5"],
+        ["--width"],
+        ["--history", "0"],
+        ["--history", "65537"],
+        ["--history", "many"],
+        ["--steps", "0"],
+        ["--steps", "10000001"],
+        ["first.ispc", "second.ispc"],
+    ]
+    helped = has_words(b"Usage: ispc_cli", b"--input", b"--entry", b"--width", b"--history", b"--steps")
+    history = b"at 4:1 go depth 1 lanes 1111\nhistory end: at 3:5 go depth 1 lanes 1111\n"
+    return [
+        answered("--width 8", script(FIRST, *two), ended, ["--width", "8"]),
+        answered("--history 1", script(FIRST, b"step 2", b"rs 2"), history, ["--history", "1"]),
+        answered("--steps 1", script(FIRST, b"step 2"), b"step limit: at 3:5 go depth 1 lanes 1111\n", ["--steps", "1"]),
+        answered("--help", b"", helped, ["--help"]),
+        *[refused(f"wrong: {' '.join(words)}", script(FIRST), begins_with(b"error: "), words) for words in wrong],
+    ]
+
+
+def runs():
+    return runs_of_scripts() + runs_of_files() + runs_of_options()
+
+
+def runs_of_bytes():
+    """Arguments that are not text, which only a built program can be given."""
+    source = {b"\xff.ispc".decode("utf-8", "surrogateescape"): FIRST}
+    told = begins_with(b"error: ")
+    return [
+        refused("an entry that is not text", script(FIRST), told, ["--entry", b"\xff"]),
+        refused("a file whose name is not text", b"step\n", told, [b"\xff.ispc"], data=source),
+    ]
