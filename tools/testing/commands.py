@@ -11,9 +11,6 @@ REFUSED = b"C1 BadCommand"
 # What stands for the placeholders of the table, on the example.
 VALUES = {"[N]": "1", "N": "1", "T": "x", "NAME": "x", "NAME[K]": "x[0]", "V": "0"}
 
-# Until the table has the column Runs.
-RUNNING_TODAY = ("step", "reverse-step", "print", "quit")
-
 
 class Command:
     """A command line, and whether the table says that it runs: None where it does not say."""
@@ -52,9 +49,7 @@ def lines_of(cell):
 
 def runs_of(row):
     """Whether a row's commands run: None where its column says neither yes nor not yet."""
-    if "Runs" not in row:
-        return row["Command"].strip("`").split("`")[0].split()[0] in RUNNING_TODAY
-    said = row["Runs"].lower()
+    said = row.get("Runs", "").lower()
     return True if said.startswith("yes") else False if said.startswith("not yet") else None
 
 
