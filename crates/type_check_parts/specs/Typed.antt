@@ -1,13 +1,12 @@
 -- Answers for statements where out of memory is set apart, and what is known once a statement was typed.
-use Rattle.std.specs.Prelude.{◌≡◌, ℕ, ◌∷◌, ◌++◌, List, length, Result, Ok, Err}
+use Rattle.std.specs.Prelude.{◌≡◌, ℕ, ◌∷◌, ◌++◌, List, length, Result}
 use Rattle.gang_model.specs.declared.refusals.SourceRefusal.{SourceRefusal}
 use Rattle.gang_model.specs.Types.Tree.{Stmt, Variable}
 use Rattle.gang_model.specs.Types.Typing.{Entry}
 use Rattle.gang_model.specs.Source.Judged.{Judged, Sound, ◌>>=◌, answer_of}
 use Rattle.gang_model.specs.Types.Statements as model
 use Rattle.gang_model.specs.Types.Statements.{Made, made}
-use Rattle.source_answers.specs.declared.fault.SourceFault.{SourceFault}
-use Rattle.source_answers.specs.declared.fault.SourceFault.TheVariants.{Memory, Refused}
+use Rattle.source_answers.specs.Apart.{seen}
 use Rattle.typed_tree.specs.Views.{target_view}
 use Rattle.type_check_parts.specs.declared.targets.Aimed.{Aimed}
 
