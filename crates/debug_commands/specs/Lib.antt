@@ -1,6 +1,5 @@
 pub mod Views
 pub mod LineWords
-pub mod WordViews
 pub mod Digits
 pub mod TargetViews
 pub mod CommandTable

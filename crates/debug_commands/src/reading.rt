@@ -11,7 +11,7 @@ use crate::numbers::number;
 use crate::splitting::{begins_blank, is_blank_line};
 use crate::table::{COMMANDS, Entry, Form, Motion};
 use crate::targets::{set_of, target_of};
-use crate::words::{Words, is_same};
+use crate::words::{is_same, words_of};
 
 /// The most bytes of a line.
 const MOST_LINE: usize = 256;
@@ -29,7 +29,7 @@ pub fn read_command(line: &[u8]) -> Option<Command<'_>>
     if begins_blank(line) {
         return None;
     }
-    let words = Words::of_line(line)?;
+    let words = words_of(line)?;
     command_by(&COMMANDS, words.as_slice())
 }
 

@@ -1,8 +1,12 @@
 //! The words of a line.
-ghost use Rattle.std.specs.Prelude.{◌≡◌, ◌≤◌};
+ghost use Rattle.std.specs.Prelude.{◌≡◌, ◌<◌, length, MatchOption};
 ghost use Rattle.gang_model.specs.Source.Names.{same_text};
+ghost use Rattle.gang_model.specs.Texts.CommandText.{is_mark};
+ghost use Rattle.gang_model.specs.Texts.Spellings.{words_of_line};
+ghost use Rattle.debug_commands.specs.LineWords.{texts};
 
 use crate::splitting::next_word;
+use arrayvec::ArrayVec;
 
 /// Whether two words have the same bytes.
 pub(crate) fn is_same(left: &[u8], right: &[u8]) -> bool
@@ -15,38 +19,21 @@ pub(crate) fn is_same(left: &[u8], right: &[u8]) -> bool
 const MOST_WORDS: usize = 8;
 
 /// At most eight words.
-#[derive(Drop)]
-pub(crate) struct Words<'a> {
-    items: [&'a [u8]; MOST_WORDS],
-    count: usize,
-    ghost within: { count ≤ 8 },
-}
+type Words<'a> = ArrayVec<&'a [u8], MOST_WORDS>;
 
-impl<'a> Words<'a> {
-    ghost use Rattle.debug_commands.specs.WordViews as spec;
-
-    /// The words of a line, unless there are more than eight.
-    pub(crate) fn of_line(line: &'a [u8]) -> Option<Self>
-        ensures { spec.AreWordsOf line.now result }
-    {
-        let mut items = [line; MOST_WORDS];
-        let mut count = 0;
-        let mut rest = line;
-        while let Some((word, after)) = next_word(rest) {
-            if count == MOST_WORDS {
-                return None;
-            }
-            items[count] = word;
-            count += 1;
-            rest = after;
+/// The words of a line in their order, unless there are more than eight.
+pub(crate) fn words_of(line: &[u8]) -> Option<Words<'_>>
+    ensures { MatchOption result (8 < length (words_of_line is_mark line.now)) (λ words.
+        texts words.items ≡ words_of_line is_mark line.now) }
+{
+    let mut words = Words::new();
+    let mut rest = line;
+    while let Some((word, after)) = next_word(rest) {
+        if words.is_full() {
+            return None;
         }
-        Some(Words { items, count })
+        words.push(word);
+        rest = after;
     }
-
-    /// The words in their order.
-    pub(crate) fn as_slice(&self) -> &[&'a [u8]]
-        ensures { result.now ≡ spec.items_of self.now }
-    {
-        &self.items[..self.count]
-    }
+    Some(words)
 }

@@ -1,17 +1,21 @@
 //! Where commands come from, and where answers go.
 ghost use Rattle.std.specs.Prelude.{◌≡◌, ℕ, ◌+◌, ◌<◌, ◌≤◌, Bool, true, false, List, Option, length, MatchResult, IfOk};
 ghost use Rattle.std.specs.Io.KnownBytes.{ReadConsumes, WriteAppends};
-ghost use Rattle.debug_machine.specs.Devices.{tells_of_write};
+ghost use Rattle.debug_machine.specs.Devices.{pieces_in, tells_of_write};
+
+use thiserror::Error;
 
 /// The most reads of one run.
 pub const READS: u32 = 16_777_216;
 
 /// A reader failed, or had been read too often.
-#[derive(Clone, Copy, Debug, PartialEq, Eq)]
+#[derive(Clone, Copy, Debug, PartialEq, Eq, Error)]
+#[error("a read failed")]
 pub struct ReadFault;
 
 /// A writer failed, or took nothing.
-#[derive(Clone, Copy, Debug, PartialEq, Eq)]
+#[derive(Clone, Copy, Debug, PartialEq, Eq, Error)]
+#[error("a write failed")]
 pub struct WriteFault;
 
 /// Gives the bytes of the commands, in pieces. A read of none, into a slice that is not empty, is their end.
@@ -22,6 +26,9 @@ pub trait CommandReader {
     // How often was read so far.
     ghost reads: { Self → ℕ };
 
+    // How many reads so far gave at least one byte.
+    ghost pieces: { Self → ℕ };
+
     // Whether a read failed. Then no other follows.
     ghost has_failed: { Self → Bool };
 
@@ -31,6 +38,7 @@ pub trait CommandReader {
         ensures bound { IfOk result (λ n. n ≤ length into.new) }
         ensures bytes { ReadConsumes (left self.old) (left self.new) result into.new }
         ensures count { reads self.new ≡ reads self.old + 1 }
+        ensures piece { pieces self.new ≡ pieces self.old + pieces_in result }
         ensures failed { MatchResult result (λ _. has_failed self.new ≡ false) (λ _. has_failed self.new ≡ true) };
 }
 

@@ -10,16 +10,17 @@ use Rattle.debug_session.specs.declared.answer.Answer.{Answer}
 use Rattle.debug_session.specs.declared.answer.Answer.TheVariants as answer
 use Rattle.debug_session.specs.declared.answer.Refusal.{Refusal}
 use Rattle.debug_session.specs.declared.answer.Refusal.TheVariants as refusal
+use Rattle.debug_session.specs.declared.session.Session.{Session}
 
 -- no breakpoint or watch is there, and each event that can be taken back is a step
 pub record IsPlain (d : Debugger) : Type 0 where
   pub no_stops : d.stops ≡ []
   pub only_steps : kept_steps d ≡ d.kept
 
--- a machine and the most moves of a forward command stand for a debugger
-pub record StandsFor {M : Type 0} (stands : M → Setting → Debugger → Type 0) (machine : M) (most_steps : ℕ) (s : Setting) (d : Debugger) : Type 0 where
-  pub there : stands machine s d
-  pub limit : s.limit ≡ most_steps
+-- a session stands for a debugger: its machine does, and it makes as many moves for a forward command at most
+pub record StandsFor {M : Type 0} (stands : M → Setting → Debugger → Type 0) (session : Session M) (s : Setting) (d : Debugger) : Type 0 where
+  pub there : stands session.machine s d
+  pub limit : s.limit ≡ session.most_steps
   pub plain : IsPlain d
 
 -- a refusal of the definitions

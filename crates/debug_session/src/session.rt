@@ -1,5 +1,5 @@
 //! A debugger over a recorded machine.
-ghost use Rattle.std.specs.Prelude.{◌≡◌, ◌≤◌, false, Some};
+ghost use Rattle.std.specs.Prelude.{◌≡◌, false, Some};
 ghost use Rattle.gang_model.specs.Texts.CommandText.{command_of};
 ghost use Rattle.gang_model.specs.Debugger.Debugger.{Debugger, Setting};
 ghost use Rattle.gang_model.specs.Source.Known.{as_known};
@@ -27,9 +27,8 @@ pub struct Session<M: RecordedMachine> {
 impl<M: RecordedMachine> Session<M> {
     /// A debugger over a machine, with no breakpoint or watch.
     pub fn open(machine: M, most_steps: u32) -> Self
-        requires { 1 ≤ most_steps }
         ensures { (s : Setting) (d : Debugger) → M.stands machine s d → IsPlain d → s.limit ≡ most_steps
-            → StandsFor M.stands result.machine result.most_steps s d }
+            → StandsFor M.stands result s d }
     {
         Session {
             machine,
@@ -39,7 +38,7 @@ impl<M: RecordedMachine> Session<M> {
 
     /// Does a command. One that is not there yet is answered as a line that spells none, and changes nothing.
     fn do_command<'a>(&mut self, command: Command<'a>) -> Answer<'a>
-        ensures replied { (s : Setting) (d : Debugger) → StandsFor M.stands self.old.machine self.old.most_steps s d
+        ensures replied { (s : Setting) (d : Debugger) → StandsFor M.stands self.old s d
             → Replied M.stands s (replied s (let_through (Some (command_view command.entry))) d) result self.new.machine }
         ensures most { self.new.most_steps ≡ self.old.most_steps }
         ensures held { HoldsWords M.holds self.new.machine result }
@@ -60,9 +59,9 @@ impl<M: RecordedMachine> Session<M> {
         writer: &mut O,
     ) -> Turn
         requires works { O.has_failed writer.old ≡ false }
-        ensures said { (s : Setting) (d : Debugger) (line : Bytes) → StandsFor M.stands self.old.machine self.old.most_steps s d
+        ensures said { (s : Setting) (d : Debugger) (line : Bytes) → StandsFor M.stands self.old s d
             → command_of (as_known line) ≡ let_through (option_view command.entry)
-            → Says (λ session. StandsFor M.stands session.machine session.most_steps) s d line result self.new (O.written writer.old) (O.written writer.new) }
+            → Says (StandsFor M.stands) s d line result self.new (O.written writer.old) (O.written writer.new) }
         ensures failed { O.has_failed writer.new ≡ fails result }
     {
         let answer = match command {
@@ -80,7 +79,7 @@ impl<M: RecordedMachine> Session<M> {
 impl<M: RecordedMachine> LineDebugger for Session<M> {
     ghost use Rattle.debug_session.specs.Sessions.{StandsFor};
 
-    ghost stands = { λ session s d. StandsFor M.stands session.machine session.most_steps s d };
+    ghost stands = { λ session s d. StandsFor M.stands session s d };
 
     fn answer_line<O: AnswerWriter>(&mut self, line: &[u8], writer: &mut O) -> Turn {
         self.answer_command(read_command(line), writer)

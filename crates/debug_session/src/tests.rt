@@ -1,27 +1,23 @@
 //! Worked lines on a machine that counts lines, and texts.
-mod devices;
-
-ghost use Rattle.std.specs.Prelude.{◌≤◌};
+mod machine;
 
 use crate::session::Session;
 use crate::stop_texts::write_stop;
 use debug_machine::{LineDebugger, Position, Turn};
-use devices::{LineMachine, Sink};
 use gang_types::{Mask, Place};
+use machine::LineMachine;
 use std::test::Fail;
+use tests_devices::PieceWriter;
 
 /// What the lines are answered, and how the last one ended.
 fn answered(
-    rt: &HostRuntime,
     machine: LineMachine,
     most_steps: u32,
     lines: &[&[u8]],
     room: usize,
-) -> (Turn, Sink)
-    requires { 1 ≤ most_steps }
-{
+) -> (Turn, PieceWriter) {
     let mut session = Session::open(machine, most_steps);
-    let mut sink = Sink::new(rt.alloc(), 7, room);
+    let mut sink = PieceWriter::new(7, room);
     for line in lines {
         match session.answer_line(line, &mut sink) {
             Turn::Goes => {}
@@ -44,7 +40,7 @@ fn steps_to_the_end_and_back(rt: HostRuntime) {
     ];
     let answers =
         b"at 2:5 main depth 1 lanes 1010\nended\nC4 Ended\nat 3:5 main depth 1 lanes 1010\nhistory end: at 1:5 main depth 1 lanes 1010\nC3 NoHistory\n";
-    let (turn, sink) = answered(&rt, machine, 100, &lines, 1000);
+    let (turn, sink) = answered(machine, 100, &lines, 1000);
     assert_eq!(rt; turn, Turn::Goes);
     assert!(rt; sink.bytes() == answers.as_slice());
 }
@@ -60,7 +56,7 @@ fn goes_back_no_further_than_the_history(rt: HostRuntime) {
     ];
     let answers =
         b"at 6:5 main depth 1 lanes 1010\nat 4:5 main depth 1 lanes 1010\nat 5:5 main depth 1 lanes 1010\nhistory end: at 4:5 main depth 1 lanes 1010\n";
-    let (turn, sink) = answered(&rt, machine, 100, &lines, 1000);
+    let (turn, sink) = answered(machine, 100, &lines, 1000);
     assert_eq!(rt; turn, Turn::Goes);
     assert!(rt; sink.bytes() == answers.as_slice());
 }
@@ -71,7 +67,7 @@ fn stops_at_a_fault_and_at_the_limit(rt: HostRuntime) {
     let lines = [b"step 3".as_slice(), b"step", b"step"];
     let answers =
         b"step limit: at 3:5 main depth 1 lanes 1010\nat 4:5 main depth 1 lanes 1010\nfault F1 DivideByZero lane 2: at 4:5 main depth 1 lanes 1010\n";
-    let (turn, sink) = answered(&rt, machine, 2, &lines, 1000);
+    let (turn, sink) = answered(machine, 2, &lines, 1000);
     assert_eq!(rt; turn, Turn::Goes);
     assert!(rt; sink.bytes() == answers.as_slice());
 }
@@ -87,7 +83,7 @@ fn prints_scalars(rt: HostRuntime) {
         b"step",
     ];
     let answers = b"x = 5 -1 0 2147483647\nflag = false true\nC2 NoSuchName\n";
-    let (turn, sink) = answered(&rt, machine, 100, &lines, 1000);
+    let (turn, sink) = answered(machine, 100, &lines, 1000);
     assert_eq!(rt; turn, Turn::Quits);
     assert!(rt; sink.bytes() == answers.as_slice());
 }
@@ -105,7 +101,7 @@ fn refuses_other_lines(rt: HostRuntime) {
         b"undo",
     ];
     let answers = b"C1 BadCommand\nC1 BadCommand\nC1 BadCommand\nC1 BadCommand\nC1 BadCommand\n";
-    let (turn, sink) = answered(&rt, machine, 100, &lines, 1000);
+    let (turn, sink) = answered(machine, 100, &lines, 1000);
     assert_eq!(rt; turn, Turn::Goes);
     assert!(rt; sink.bytes() == answers.as_slice());
 }
@@ -114,7 +110,7 @@ fn refuses_other_lines(rt: HostRuntime) {
 fn stops_where_the_writer_fails(rt: HostRuntime) {
     for room in 0..31 {
         let machine = LineMachine::new(9, 64, None);
-        let (turn, sink) = answered(&rt, machine, 100, &[b"step".as_slice(), b"step"], room);
+        let (turn, sink) = answered(machine, 100, &[b"step".as_slice(), b"step"], room);
         let whole = b"at 2:5 main depth 1 lanes 1010\n";
         assert_eq!(rt; turn, Turn::Fails, "room for {room}");
         assert!(rt; sink.bytes() == &whole[..room], "room for {room}");
@@ -130,7 +126,7 @@ fn writes_a_wide_gang(rt: HostRuntime) {
         width: 16,
         lanes: Mask::only::<16>(15),
     };
-    let mut sink = Sink::new(rt.alloc(), 64, 1000);
+    let mut sink = PieceWriter::new(64, 1000);
     let written = write_stop(&[b"fault: "], Some(position), &mut sink);
     assert!(rt; written.is_ok());
     let line = b"fault: at 12:1 sum depth 3 lanes 0000000000000001\n";

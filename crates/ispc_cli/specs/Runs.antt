@@ -1,6 +1,5 @@
--- How a run ends.
-use Rattle.std.specs.Prelude.{ℕ, List, Option, Some, None, option_map}
-use Rattle.gang_model.specs.Texts.Endings.{Ending, AtQuit, AtEnd, AtReadFault, AtWriteFault}
+-- What a run is asked for, and which refusals of it are right.
+use Rattle.std.specs.Prelude.{ℕ, List, Option, option_map}
 use Rattle.gang_model.specs.Source.Parsed.{Name}
 use Rattle.gang_model.specs.Source.Sources.{HasNoEntry, IsRightRefusal}
 use Rattle.gang_model.specs.Texts.Transcript.{Options as ModelOptions}
@@ -9,8 +8,6 @@ use Rattle.ispc_cli.specs.declared.options.Width.{Width}
 use Rattle.ispc_cli.specs.declared.options.Width.TheVariants.{Four, Eight, Sixteen}
 use Rattle.ispc_cli.specs.declared.refusal.Refusal.{Refusal}
 use Rattle.ispc_cli.specs.declared.refusal.Refusal.TheVariants as refusal
-use Rattle.ispc_cli.specs.declared.running.RunEnd.{RunEnd}
-use Rattle.ispc_cli.specs.declared.running.RunEnd.TheVariants as end
 
 abbrev pub lanes_of : Width → ℕ
 lanes_of Four = 4
@@ -25,6 +22,7 @@ options_view options = record { width = lanes_of options.width; history = option
 abbrev pub asked_of : Options → Option Name
 asked_of options = option_map (λ name. name.now) options.entry
 
+<<<<<<< HEAD
 -- how the answering of lines ended, unless the run was refused
 abbrev pub ending_of : RunEnd → Option Ending
 ending_of end.Quit = Some AtQuit
@@ -38,6 +36,8 @@ abbrev pub refusal_of : RunEnd → Option Refusal
 refusal_of (end.Refused r) = Some r
 refusal_of end = None
 
+=======
+>>>>>>> b13393d (A read fault comes only where a read failed or pieces came without end; arguments that are not text are wrong arguments; the tests' devices stand in one crate; a session opens for any debugger)
 -- whether a refusal of a run of this text with this entry asked for is right; out of memory may come at any time
 abbrev pub IsRight : (text : List ℕ) → (asked : Option Name) → Refusal → Type 0
 IsRight text asked (refusal.Source r) = IsRightRefusal text r

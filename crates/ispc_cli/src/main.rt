@@ -12,19 +12,24 @@ mod tests;
 ghost use Rattle.ispc_cli.specs.Ranges.{AreInRange};
 
 use clap::error::{Error, ErrorKind};
-use options::{Options, Paths, not_there, read_options};
+use options::{Options, Paths, read_options, wrong_arguments};
 use refusal::{Refusal, write_refusal};
-use running::{RunEnd, run};
+use running::run;
 use script::{MOST_BYTES, split_script};
 use std::alloc::AllocError;
 use std::io::Read;
 use std::process::ExitCode;
 use std::{env, fs, io};
 use streams::{StreamReader, StreamWriter};
+use transcript::Ending;
 
 fn main(rt: HostRuntime) -> ExitCode {
-    let Ok(owned) = arguments(&rt) else {
-        return refuse(&rt, &Refusal::Memory);
+    let owned = match arguments(&rt) {
+        Ok(owned) => owned,
+        Err(fault) if fault.kind() == io::ErrorKind::InvalidData => {
+            return refuse_words(&rt, "invalid UTF-8 was detected in one or more arguments");
+        }
+        Err(_) => return refuse(&rt, &Refusal::Memory),
     };
     let words: Result<Vec<&str>, AllocError> = owned
         .iter()
@@ -51,7 +56,7 @@ fn run_form(rt: &HostRuntime, options: &Options<'_>, paths: &Paths<'_>) -> ExitC
     requires { AreInRange options.now }
 {
     if paths.input.is_some() {
-        return refuse_option(rt, "--input is not there yet");
+        return refuse_words(rt, "--input is not there yet");
     }
     match paths.source {
         None => run_script(rt, options),
@@ -68,7 +73,7 @@ fn run_script(rt: &HostRuntime, options: &Options<'_>) -> ExitCode
     if let Err(fault) = rt.reader().take(most).read_to_end(&mut text) {
         return match fault.kind() {
             io::ErrorKind::OutOfMemory => refuse(rt, &Refusal::Memory),
-            _ => finish(rt, &RunEnd::ReadFault),
+            _ => finish(rt, Ok(Ending::ReadFault)),
         };
     }
     match split_script(text.as_slice()) {
@@ -77,7 +82,7 @@ fn run_script(rt: &HostRuntime, options: &Options<'_>) -> ExitCode
             let mut reader = StreamReader::new(commands);
             let mut writer = StreamWriter::new(rt.stdout());
             let end = run(rt.alloc(), source, b"", options, &mut reader, &mut writer);
-            finish(rt, &end)
+            finish(rt, end)
         }
     }
 }
@@ -106,19 +111,19 @@ fn run_file(rt: &HostRuntime, path: &str, options: &Options<'_>) -> ExitCode
         &mut reader,
         &mut writer,
     );
-    finish(rt, &end)
+    finish(rt, end)
 }
 
 /// The status of a run, and what standard error has of it.
-fn finish(rt: &HostRuntime, end: &RunEnd) -> ExitCode {
+fn finish(rt: &HostRuntime, end: Result<Ending, Refusal>) -> ExitCode {
     match end {
-        RunEnd::Quit | RunEnd::EndOfCommands => ExitCode::SUCCESS,
-        RunEnd::Refused(refusal) => refuse(rt, refusal),
-        RunEnd::ReadFault => {
+        Ok(Ending::Quit | Ending::EndOfCommands) => ExitCode::SUCCESS,
+        Err(refusal) => refuse(rt, &refusal),
+        Ok(Ending::ReadFault) => {
             let _ = eprintln!(rt; "read fault");
             ExitCode::from(3)
         }
-        RunEnd::WriteFault => {
+        Ok(Ending::WriteFault) => {
             let _ = eprintln!(rt; "write fault");
             ExitCode::from(4)
         }
@@ -131,8 +136,9 @@ fn refuse(rt: &HostRuntime, refusal: &Refusal) -> ExitCode {
     ExitCode::from(2)
 }
 
-fn refuse_option(rt: &HostRuntime, message: &str) -> ExitCode {
-    match not_there(rt.alloc(), message) {
+/// Refuses the arguments, and says why.
+fn refuse_words(rt: &HostRuntime, message: &str) -> ExitCode {
+    match wrong_arguments(rt.alloc(), message) {
         Ok(fault) => refuse_arguments(rt, &fault),
         Err(_) => refuse(rt, &Refusal::Memory),
     }

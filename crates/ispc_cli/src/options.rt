@@ -22,7 +22,7 @@ pub enum Width {
     Sixteen,
 }
 
-#[derive(Clone, Copy, Debug)]
+#[derive(Clone, Copy, Debug, PartialEq, Eq)]
 pub struct Options<'a> {
     pub width: Width,
     pub history: u32,
@@ -30,7 +30,7 @@ pub struct Options<'a> {
     pub entry: Option<&'a str>,
 }
 
-#[derive(Clone, Copy, Debug)]
+#[derive(Clone, Copy, Debug, PartialEq, Eq)]
 pub struct Paths<'a> {
     pub source: Option<&'a str>,
     pub input: Option<&'a str>,
@@ -69,8 +69,8 @@ pub fn read_options<'a>(
     Ok((options, paths))
 }
 
-/// The fault of an argument that is not there yet.
-pub fn not_there(alloc: Global, message: &str) -> Result<Error, AllocError> {
+/// A fault of the arguments that no option tells of.
+pub fn wrong_arguments(alloc: Global, message: &str) -> Result<Error, AllocError> {
     command(alloc)?.error(ErrorKind::UnknownArgument, message)
 }
 

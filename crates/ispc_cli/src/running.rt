@@ -1,5 +1,5 @@
 //! A run: a source is compiled, and command lines are answered.
-ghost use Rattle.std.specs.Prelude.{◌≡◌, ◌⊎◌, ℕ, ◌≤◌, true, false, List, [], Some, IfSome, option_map};
+ghost use Rattle.std.specs.Prelude.{◌≡◌, ◌⊎◌, ℕ, ◌+◌, ◌≤◌, true, false, List, [], Ok, IfOk, IfErr, option_map};
 ghost use Rattle.std.specs.Io.KnownBytes.{Appends};
 ghost use Rattle.gang_types.specs.Masks.{IsGangWidth};
 ghost use Rattle.gang_model.specs.Debugger.Debugger.{fresh};
@@ -9,10 +9,10 @@ ghost use Rattle.gang_model.specs.Source.Sources.{IsProgramOf};
 ghost use Rattle.gang_model.specs.Texts.Transcript.{setting};
 ghost use Rattle.gang_model.specs.Types.Tree.{Program as ModelProgram};
 ghost use Rattle.typed_tree.specs.Views.{program_view};
-ghost use Rattle.transcript.specs.LoopEnds.{ending_of as loop_ending};
+ghost use Rattle.transcript.specs.Endings.{ending_of};
 ghost use Rattle.ispc_compiler.specs.Front.{IsReady};
 ghost use Rattle.ispc_cli.specs.Ranges.{AreInRange};
-ghost use Rattle.ispc_cli.specs.Runs.{IsRight, asked_of, ending_of, options_view, refusal_of};
+ghost use Rattle.ispc_cli.specs.Runs.{IsRight, asked_of, options_view};
 
 use crate::options::{Options, Width};
 use crate::refusal::Refusal;
@@ -22,17 +22,7 @@ use gang_machine::open;
 use ispc_compiler::{Compiled, compile_source};
 use source_answers::SourceFault;
 use std::alloc::Global;
-use transcript::{LoopEnd, answer_lines};
-
-/// How a run ended.
-#[derive(Clone, Copy, Debug, PartialEq, Eq, Drop)]
-pub enum RunEnd {
-    Quit,
-    EndOfCommands,
-    ReadFault,
-    WriteFault,
-    Refused(Refusal),
-}
+use transcript::{Ending, answer_lines};
 
 /// Compiles a source, and answers the command lines that the reader gives. It begins with the exported function of the name
 /// that the options ask for, or with the first exported one where they ask for none.
@@ -47,25 +37,26 @@ pub fn run<R: CommandReader, O: AnswerWriter>(
     options: &Options<'_>,
     reader: &mut R,
     writer: &mut O,
-) -> RunEnd
+) -> Result<Ending, Refusal>
     requires input { input.now ≡ [] }
     requires range { AreInRange options.now }
     requires fresh { R.reads reader.old ≡ 0 }
     requires reader_works { R.has_failed reader.old ≡ false }
     requires writer_works { O.has_failed writer.old ≡ false }
-    ensures transcript { IfSome (ending_of result) (λ ending. (program : ModelProgram) × (entry : ℕ) × IsProgramOf source.now (asked_of options.now) program entry
+    ensures transcript { IfOk result (λ ending. (program : ModelProgram) × (entry : ℕ) × IsProgramOf source.now (asked_of options.now) program entry
         × ((out : List ℕ) × Appends (O.written writer.old) (O.written writer.new) out
-        × Ends (setting program entry [] (options_view options.now)) (fresh options.now.history) ending (R.left reader.old) (R.left reader.new) out)) }
-    ensures refused { IfSome (refusal_of result) (λ refusal. IsRight source.now (asked_of options.now) refusal × ((reader.new ≡ reader.old) × (writer.new ≡ writer.old))) }
-    ensures read_fault { result ≡ RunEnd.ReadFault
-        → (R.has_failed reader.new ≡ true) ⊎ (R.reads reader.new ≡ READS) }
-    ensures write_fault { result ≡ RunEnd.WriteFault → O.has_failed writer.new ≡ true }
+        × Ends (setting program entry [] (options_view options.now)) (fresh options.now.history) (ending_of ending) (R.left reader.old) (R.left reader.new) out)) }
+    ensures refused { IfErr result (λ refusal. IsRight source.now (asked_of options.now) refusal × ((reader.new ≡ reader.old) × (writer.new ≡ writer.old))) }
+    ensures read_fault { result ≡ Ok Ending.ReadFault
+        → (R.has_failed reader.new ≡ true)
+        ⊎ ((R.reads reader.new ≡ READS) × (R.pieces reader.new ≡ R.pieces reader.old + READS)) }
+    ensures write_fault { result ≡ Ok Ending.WriteFault → O.has_failed writer.new ≡ true }
     ensures reads { R.reads reader.new ≤ READS }
 {
     match compile_source(alloc, source, asked_entry(options)) {
-        Err(SourceFault::Refused(refusal)) => RunEnd::Refused(Refusal::Source(refusal)),
-        Err(SourceFault::Memory) => RunEnd::Refused(Refusal::Memory),
-        Ok(None) => RunEnd::Refused(Refusal::NoEntry),
+        Err(SourceFault::Refused(refusal)) => Err(Refusal::Source(refusal)),
+        Err(SourceFault::Memory) => Err(Refusal::Memory),
+        Ok(None) => Err(Refusal::NoEntry),
         Ok(Some(compiled)) => match options.width {
             Width::Four => run_wide::<4, R, O>(alloc, compiled, options, reader, writer),
             Width::Eight => run_wide::<8, R, O>(alloc, compiled, options, reader, writer),
@@ -88,7 +79,7 @@ fn run_wide<const W: usize, R: CommandReader, O: AnswerWriter>(
     options: &Options<'_>,
     reader: &mut R,
     writer: &mut O,
-) -> RunEnd
+) -> Result<Ending, Refusal>
     requires width { IsGangWidth W }
     requires ready { IsReady compiled }
     requires numbered { IsNumberedProgram (program_view compiled.program) }
@@ -96,32 +87,21 @@ fn run_wide<const W: usize, R: CommandReader, O: AnswerWriter>(
     requires fresh { R.reads reader.old ≡ 0 }
     requires reader_works { R.has_failed reader.old ≡ false }
     requires writer_works { O.has_failed writer.old ≡ false }
-    ensures transcript { IfSome (ending_of result) (λ ending. (out : List ℕ) × Appends (O.written writer.old) (O.written writer.new) out
+    ensures transcript { IfOk result (λ ending. (out : List ℕ) × Appends (O.written writer.old) (O.written writer.new) out
         × Ends (setting (program_view compiled.program) compiled.entry.0 [] (record { width = W; history = options.now.history; steps = options.now.steps })) (fresh options.now.history)
-        ending (R.left reader.old) (R.left reader.new) out) }
-    ensures refused { IfSome (refusal_of result) (λ refusal. (refusal ≡ Refusal.Memory) × ((reader.new ≡ reader.old) × (writer.new ≡ writer.old))) }
-    ensures read_fault { result ≡ RunEnd.ReadFault
-        → (R.has_failed reader.new ≡ true) ⊎ (R.reads reader.new ≡ READS) }
-    ensures write_fault { result ≡ RunEnd.WriteFault → O.has_failed writer.new ≡ true }
+        (ending_of ending) (R.left reader.old) (R.left reader.new) out) }
+    ensures refused { IfErr result (λ refusal. (refusal ≡ Refusal.Memory) × ((reader.new ≡ reader.old) × (writer.new ≡ writer.old))) }
+    ensures read_fault { result ≡ Ok Ending.ReadFault
+        → (R.has_failed reader.new ≡ true)
+        ⊎ ((R.reads reader.new ≡ READS) × (R.pieces reader.new ≡ R.pieces reader.old + READS)) }
+    ensures write_fault { result ≡ Ok Ending.WriteFault → O.has_failed writer.new ≡ true }
     ensures reads { R.reads reader.new ≤ READS }
 {
     match open::<W>(alloc, compiled.program, compiled.entry, options.history) {
-        Err(_) => RunEnd::Refused(Refusal::Memory),
+        Err(_) => Err(Refusal::Memory),
         Ok(machine) => {
             let mut session = Session::open(machine, options.steps);
-            end_of(answer_lines(&mut session, reader, writer))
+            Ok(answer_lines(&mut session, reader, writer))
         }
-    }
-}
-
-/// The end of a run that was not refused.
-fn end_of(end: LoopEnd) -> RunEnd
-    ensures { ending_of result ≡ Some (loop_ending end) }
-{
-    match end {
-        LoopEnd::Quit => RunEnd::Quit,
-        LoopEnd::EndOfCommands => RunEnd::EndOfCommands,
-        LoopEnd::ReadFault => RunEnd::ReadFault,
-        LoopEnd::WriteFault => RunEnd::WriteFault,
     }
 }

@@ -1,5 +1,5 @@
 //! std's readers and writers as the devices of a run.
-ghost use Rattle.std.specs.Prelude.{◌≡◌, false};
+ghost use Rattle.std.specs.Prelude.{◌≡◌, ◌≤◌, false};
 
 use debug_machine::{AnswerWriter, CommandReader, ReadFault, WriteFault};
 use std::io::{Read, Write};
@@ -9,7 +9,9 @@ use std::io::{Read, Write};
 pub struct StreamReader<R> {
     inner: R,
     reads: u32,
+    pieces: u32,
     has_failed: bool,
+    ghost within: { pieces ≤ reads },
 }
 
 impl<R: Read> StreamReader<R> {
@@ -21,6 +23,7 @@ impl<R: Read> StreamReader<R> {
         StreamReader {
             inner,
             reads: 0,
+            pieces: 0,
             has_failed: false,
         }
     }
@@ -31,12 +34,17 @@ impl<R: Read> CommandReader for StreamReader<R> {
 
     ghost reads = { λ s. s.reads };
 
+    ghost pieces = { λ s. s.pieces };
+
     ghost has_failed = { λ s. s.has_failed };
 
     fn read(&mut self, into: &mut [u8]) -> Result<usize, ReadFault> {
         self.reads += 1;
         match self.inner.read(into) {
-            Ok(n) => Ok(n),
+            Ok(n) => {
+                self.pieces += u32::from(n > 0);
+                Ok(n)
+            }
             Err(_) => {
                 self.has_failed = true;
                 Err(ReadFault)

@@ -1,6 +1,6 @@
 //! Worked rows, refusals, and devices that fail or give little.
-mod devices;
 mod entries;
+mod options;
 mod programs;
 mod sources;
 
@@ -8,13 +8,14 @@ ghost use Rattle.ispc_cli.specs.Ranges.{AreInRange};
 
 use crate::options::{Options, Width};
 use crate::refusal::{Refusal, write_refusal};
-use crate::running::{RunEnd, run};
+use crate::running::run;
 use crate::script::split_script;
-use devices::{BlankReader, PieceReader, PieceWriter};
 use gang_model::{RefusalNumber, SourceRefusal};
 use gang_types::Place;
 use std::alloc::Global;
 use std::test::Fail;
+use tests_devices::{BlankReader, PieceReader, PieceWriter};
+use transcript::Ending;
 
 const SOURCE: &[u8] = b"export void go() {\n    int x = programIndex * 3;\n    x += 1;\n}\n";
 
@@ -31,7 +32,12 @@ const OPTIONS: Options<'static> = Options {
 };
 
 /// What a run of the commands on a source writes, through devices that give and take a few bytes at a time.
-fn transcript(alloc: Global, source: &[u8], commands: &[u8], most: usize) -> (RunEnd, PieceWriter) {
+fn transcript(
+    alloc: Global,
+    source: &[u8],
+    commands: &[u8],
+    most: usize,
+) -> (Result<Ending, Refusal>, PieceWriter) {
     transcript_with(alloc, &OPTIONS, source, commands, most)
 }
 
@@ -42,7 +48,7 @@ fn transcript_with(
     source: &[u8],
     commands: &[u8],
     most: usize,
-) -> (RunEnd, PieceWriter)
+) -> (Result<Ending, Refusal>, PieceWriter)
     requires { AreInRange options.now }
 {
     let mut reader = PieceReader::new(commands, most, 100_000);
@@ -76,7 +82,7 @@ fn answers(
         512,
     );
     let told = str::from_utf8(writer.bytes()).unwrap_or("?");
-    if end == RunEnd::EndOfCommands && told == wanted.as_str() {
+    if end == Ok(Ending::EndOfCommands) && told == wanted.as_str() {
         return Ok(());
     }
     Err(Fail::new(format_args!("{end:?} after {told}")))
@@ -89,7 +95,7 @@ fn refusal_of(alloc: Global, options: &Options<'_>, source: &[u8]) -> PieceWrite
     let (end, written) = transcript_with(alloc, options, source, COMMANDS, 512);
     let mut text = PieceWriter::new(512, 512);
     match end {
-        RunEnd::Refused(refusal) if written.bytes().is_empty() => {
+        Err(refusal) if written.bytes().is_empty() => {
             let _ = write_refusal(&refusal, &mut text);
             text
         }
@@ -101,7 +107,7 @@ fn refusal_of(alloc: Global, options: &Options<'_>, source: &[u8]) -> PieceWrite
 fn runs_forwards_and_back(rt: HostRuntime) {
     for most in [1, 2, 7, 29, 512] {
         let (end, writer) = transcript(rt.alloc(), SOURCE, COMMANDS, most);
-        assert_eq!(rt; end, RunEnd::EndOfCommands, "at {most}");
+        assert_eq!(rt; end, Ok(Ending::EndOfCommands), "at {most}");
         assert!(rt; writer.bytes() == ANSWERS, "at {most}");
     }
 }
@@ -111,7 +117,7 @@ fn runs_an_empty_function(rt: HostRuntime) {
     let commands = b"step\nstep\nreverse-step\nreverse-step\n";
     let answers = b"ended\nC4 Ended\nat 1:20 go depth 1 lanes 1111\nC3 NoHistory\n";
     let (end, writer) = transcript(rt.alloc(), b"export void go() { }", commands, 512);
-    assert_eq!(rt; end, RunEnd::EndOfCommands);
+    assert_eq!(rt; end, Ok(Ending::EndOfCommands));
     assert!(rt; writer.bytes() == answers.as_slice());
 }
 
@@ -122,7 +128,7 @@ fn answers_other_lines(rt: HostRuntime) {
     let answers =
         b"C2 NoSuchName\nat 3:5 go depth 1 lanes 1111\nC1 BadCommand\nC2 NoSuchName\nx = 0 3 6 9\nC1 BadCommand\nended\nC4 Ended\n";
     let (end, writer) = transcript(rt.alloc(), SOURCE, commands, 512);
-    assert_eq!(rt; end, RunEnd::Quit);
+    assert_eq!(rt; end, Ok(Ending::Quit));
     assert!(rt; writer.bytes() == answers.as_slice());
 }
 
@@ -134,7 +140,7 @@ fn skips_a_long_line(rt: HostRuntime) {
     commands[258..262].copy_from_slice(b"step");
     commands[514] = b'\n';
     let (end, writer) = transcript(rt.alloc(), SOURCE, &commands, 512);
-    assert_eq!(rt; end, RunEnd::EndOfCommands);
+    assert_eq!(rt; end, Ok(Ending::EndOfCommands));
     assert!(rt; writer.bytes() == b"C1 BadCommand\nat 3:5 go depth 1 lanes 1111\n".as_slice());
 }
 
@@ -154,7 +160,7 @@ fn stops_at_a_failed_write(rt: HostRuntime) {
         let mut reader = PieceReader::new(COMMANDS, 7, 1000);
         let mut writer = PieceWriter::new(3, room);
         let end = run(rt.alloc(), SOURCE, b"", &OPTIONS, &mut reader, &mut writer);
-        assert_eq!(rt; end, RunEnd::WriteFault, "at {room}");
+        assert_eq!(rt; end, Ok(Ending::WriteFault), "at {room}");
         assert!(rt; writer.bytes() == &ANSWERS[..room], "at {room}");
     }
 }
@@ -165,7 +171,7 @@ fn stops_at_a_failed_read(rt: HostRuntime) {
         let mut reader = PieceReader::new(COMMANDS, 1, given);
         let mut writer = PieceWriter::new(100, 1000);
         let end = run(rt.alloc(), SOURCE, b"", &OPTIONS, &mut reader, &mut writer);
-        assert_eq!(rt; end, RunEnd::ReadFault, "at {given}");
+        assert_eq!(rt; end, Ok(Ending::ReadFault), "at {given}");
         let written = match given {
             0..5 => 0,
             5..10 => 29,
@@ -182,7 +188,7 @@ fn reads_no_more_than_the_limit(rt: HostRuntime) {
     let mut reader = BlankReader::new();
     let mut writer = PieceWriter::new(100, 1000);
     let end = run(rt.alloc(), SOURCE, b"", &OPTIONS, &mut reader, &mut writer);
-    assert_eq!(rt; end, RunEnd::ReadFault);
+    assert_eq!(rt; end, Ok(Ending::ReadFault));
     assert_eq!(rt; reader.reads(), 16_777_216);
     assert!(rt; writer.bytes().is_empty());
 }

@@ -12,9 +12,9 @@ use Rattle.gang_model.specs.Texts.Endings.{Ends, known_lines}
 use Rattle.debug_machine.specs.declared.debugger.Turn.{Turn}
 use Rattle.debug_machine.specs.declared.debugger.Turn.TheVariants.{Goes, Quits, Fails}
 use Rattle.transcript.specs.Answered.{AnswersLines, AnswersPiece, AfterPiece, Written, after_lines, begun_after, ended_lines, held_of, known_line}
-use Rattle.transcript.specs.declared.answering.LoopEnd.{LoopEnd}
-use Rattle.transcript.specs.declared.answering.LoopEnd.TheVariants.{ReadFault}
-use Rattle.transcript.specs.LoopEnds.{end_of, ending_of}
+use Rattle.transcript.specs.declared.answering.Ending.{Ending}
+use Rattle.transcript.specs.declared.answering.Ending.TheVariants.{ReadFault}
+use Rattle.transcript.specs.Endings.{end_of, ending_of}
 use Rattle.transcript.proofs.CutLines.{begun_byte, begun_split, ended_split, held_byte, held_spells, known_end, known_split, none_ended}
 use Rattle.transcript.proofs.LineAnswers.{after_split, answers_then, says_answers, says_leads, written_before}
 
@@ -115,7 +115,7 @@ written_ends s d Fails None b out h = tt
 written_ends s d Fails (Some x) b out h = h
 
 -- how the answering ended, and what was written by then
-abbrev pub IsEnded : Setting → Debugger → LoopEnd → (left left' old new : Option Bytes) → Type 0
+abbrev pub IsEnded : Setting → Debugger → Ending → (left left' old new : Option Bytes) → Type 0
 IsEnded s d end left left' old new = (out : Bytes) × Appends old new out × Ends s d (ending_of end) left left' out
 
 -- at the end of the input

@@ -1,12 +1,12 @@
 //! The loop that reads command lines in pieces and has each answered.
-ghost use Rattle.std.specs.Prelude.{◌≡◌, ◌⊎◌, ◌≤◌, ℕ, true, false, List};
+ghost use Rattle.std.specs.Prelude.{◌≡◌, ◌⊎◌, ◌+◌, ◌≤◌, ℕ, true, false, List};
 ghost use Rattle.std.specs.Io.KnownBytes.{Appends};
 ghost use Rattle.gang_model.specs.Debugger.Debugger.{Debugger, Setting};
 ghost use Rattle.gang_model.specs.Texts.Text.{Bytes};
 ghost use Rattle.debug_machine.specs.Lines.{fails};
 ghost use Rattle.gang_model.specs.Texts.Endings.{Ends};
 ghost use Rattle.transcript.specs.Answered.{AnswersLines, AnswersPiece, held_of, known_line};
-ghost use Rattle.transcript.specs.LoopEnds.{end_of, ending_of};
+ghost use Rattle.transcript.specs.Endings.{end_of, ending_of};
 
 use arrayvec::ArrayVec;
 use debug_machine::{AnswerWriter, CommandReader, LineDebugger, READS, Turn};
@@ -18,26 +18,26 @@ const HELD: usize = 257;
 
 /// How the answering of command lines ended.
 #[derive(Clone, Copy, Debug, PartialEq, Eq)]
-pub enum LoopEnd {
+pub enum Ending {
     /// A line spelled `quit`.
     Quit,
     /// The reader had no more bytes.
     EndOfCommands,
-    /// A read failed, or `READS` reads did not reach the end.
+    /// A read failed; or each of `READS` reads gave some bytes, and none was the end.
     ReadFault,
     /// The writer failed.
     WriteFault,
 }
 
-impl LoopEnd {
+impl Ending {
     /// The end that the turn of the last line leads to.
-    fn after(turn: Turn) -> LoopEnd
+    fn after(turn: Turn) -> Ending
         ensures { result ≡ end_of turn }
     {
         match turn {
-            Turn::Goes => LoopEnd::EndOfCommands,
-            Turn::Quits => LoopEnd::Quit,
-            Turn::Fails => LoopEnd::WriteFault,
+            Turn::Goes => Ending::EndOfCommands,
+            Turn::Quits => Ending::Quit,
+            Turn::Fails => Ending::WriteFault,
         }
     }
 }
@@ -48,30 +48,31 @@ pub fn answer_lines<D: LineDebugger, R: CommandReader, O: AnswerWriter>(
     debugger: &mut D,
     reader: &mut R,
     writer: &mut O,
-) -> LoopEnd
+) -> Ending
     requires fresh { R.reads reader.old ≡ 0 }
     requires reader_works { R.has_failed reader.old ≡ false }
     requires writer_works { O.has_failed writer.old ≡ false }
     ensures transcript { (s : Setting) (d : Debugger) → D.stands debugger.old s d → (out : List ℕ)
         × Appends (O.written writer.old) (O.written writer.new) out
         × Ends s d (ending_of result) (R.left reader.old) (R.left reader.new) out }
-    ensures read_fault { result ≡ LoopEnd.ReadFault → (R.has_failed reader.new ≡ true) ⊎ (R.reads reader.new ≡ READS) }
-    ensures write_fault { result ≡ LoopEnd.WriteFault → O.has_failed writer.new ≡ true }
+    ensures read_fault { result ≡ Ending.ReadFault → (R.has_failed reader.new ≡ true)
+        ⊎ ((R.reads reader.new ≡ READS) × (R.pieces reader.new ≡ R.pieces reader.old + READS)) }
+    ensures write_fault { result ≡ Ending.WriteFault → O.has_failed writer.new ≡ true }
     ensures reads { R.reads reader.new ≤ READS }
 {
     let mut piece = [0; 512];
     let mut line = ArrayVec::new();
     for _count in 0..READS {
         match reader.read(&mut piece) {
-            Err(_) => return LoopEnd::ReadFault,
-            Ok(0) => return LoopEnd::after(answer_last_line(debugger, &line, writer)),
+            Err(_) => return Ending::ReadFault,
+            Ok(0) => return Ending::after(answer_last_line(debugger, &line, writer)),
             Ok(n) => match answer_piece(debugger, &mut line, &piece[..n], writer) {
                 Turn::Goes => {}
-                turn => return LoopEnd::after(turn),
+                turn => return Ending::after(turn),
             },
         }
     }
-    LoopEnd::ReadFault
+    Ending::ReadFault
 }
 
 /// Answers the lines that end in a piece, and holds the front of the line that has begun.

@@ -5,4 +5,4 @@ mod answering;
 #[cfg(test)]
 mod tests;
 
-pub use answering::{LoopEnd, answer_lines};
+pub use answering::{Ending, answer_lines};

@@ -1,15 +1,16 @@
 //! Lines in pieces, `quit`, long lines, and devices that fail.
-mod devices;
+mod debugger;
 
-use crate::{LoopEnd, answer_lines};
-use devices::{BlankReader, PieceReader, PieceWriter, RepeatingDebugger};
+use crate::{Ending, answer_lines};
+use debugger::RepeatingDebugger;
+use tests_devices::{BlankReader, PieceReader, PieceWriter};
 
 const COMMANDS: &[u8] = b"one\n\nthree\nlast";
 
 const ANSWERS: &[u8] = b"one;;three;last;";
 
 /// How the answering of some commands ends, and what is written, by devices that give and take a few bytes at a time.
-fn repeated(commands: &[u8], most: usize) -> (LoopEnd, PieceWriter) {
+fn repeated(commands: &[u8], most: usize) -> (Ending, PieceWriter) {
     let mut debugger = RepeatingDebugger::new();
     let mut reader = PieceReader::new(commands, most, 100_000);
     let mut writer = PieceWriter::new(most, 100_000);
@@ -21,7 +22,7 @@ fn repeated(commands: &[u8], most: usize) -> (LoopEnd, PieceWriter) {
 fn answers_each_line(rt: HostRuntime) {
     for most in [1, 2, 7, 512] {
         let (end, writer) = repeated(COMMANDS, most);
-        assert_eq!(rt; end, LoopEnd::EndOfCommands, "at {most}");
+        assert_eq!(rt; end, Ending::EndOfCommands, "at {most}");
         assert!(rt; writer.bytes() == ANSWERS, "at {most}");
     }
 }
@@ -30,11 +31,11 @@ fn answers_each_line(rt: HostRuntime) {
 fn answers_no_line_after_quit(rt: HostRuntime) {
     for most in [1, 9, 512] {
         let (end, writer) = repeated(b"one\nquit\nthree\nquit", most);
-        assert_eq!(rt; end, LoopEnd::Quit, "at {most}");
+        assert_eq!(rt; end, Ending::Quit, "at {most}");
         assert!(rt; writer.bytes() == b"one;".as_slice(), "at {most}");
     }
     let (end, writer) = repeated(b"one\nquit", 512);
-    assert_eq!(rt; end, LoopEnd::Quit);
+    assert_eq!(rt; end, Ending::Quit);
     assert!(rt; writer.bytes() == b"one;".as_slice());
 }
 
@@ -43,7 +44,7 @@ fn holds_257_bytes_of_a_line(rt: HostRuntime) {
     let mut commands = [b'a'; 302];
     commands[300] = b'\n';
     let (end, writer) = repeated(&commands, 512);
-    assert_eq!(rt; end, LoopEnd::EndOfCommands);
+    assert_eq!(rt; end, Ending::EndOfCommands);
     assert_eq!(rt; writer.bytes().len(), 257 + 1 + 2);
     assert!(rt; writer.bytes().ends_with(b"a;a;"));
 }
@@ -55,7 +56,7 @@ fn stops_at_a_failed_write(rt: HostRuntime) {
         let mut reader = PieceReader::new(COMMANDS, 7, 1000);
         let mut writer = PieceWriter::new(3, room);
         let end = answer_lines(&mut debugger, &mut reader, &mut writer);
-        assert_eq!(rt; end, LoopEnd::WriteFault, "at {room}");
+        assert_eq!(rt; end, Ending::WriteFault, "at {room}");
         assert!(rt; writer.bytes() == &ANSWERS[..room], "at {room}");
         assert_eq!(rt; writer.calls() as usize, room + 1, "at {room}");
     }
@@ -77,7 +78,7 @@ fn stops_at_a_failed_read(rt: HostRuntime) {
         let mut reader = PieceReader::new(COMMANDS, 2, given);
         let mut writer = PieceWriter::new(100, 1000);
         let end = answer_lines(&mut debugger, &mut reader, &mut writer);
-        assert_eq!(rt; end, LoopEnd::ReadFault, "at {given}");
+        assert_eq!(rt; end, Ending::ReadFault, "at {given}");
         assert_eq!(rt; debugger.lines(), lines, "at {given}");
     }
 }
@@ -88,7 +89,7 @@ fn reads_no_more_than_the_limit(rt: HostRuntime) {
     let mut reader = BlankReader::new();
     let mut writer = PieceWriter::new(100, 1000);
     let end = answer_lines(&mut debugger, &mut reader, &mut writer);
-    assert_eq!(rt; end, LoopEnd::ReadFault);
+    assert_eq!(rt; end, Ending::ReadFault);
     assert_eq!(rt; reader.reads(), 16_777_216);
     assert!(rt; writer.bytes().is_empty());
 }

@@ -7,31 +7,34 @@ use Rattle.transcript.proofs.answering.answer_lines.Goals as goal
 
 pub loop-count-init : goal.loop-count-init
 loop-count-init g c =
-    ([], Consumes-nil _, (λ s d st. piece_none g.D.LineDebugger.stands s d [] _ _ _ st c.new-line.ensures), c.requires.fresh, c.requires.reader_works, c.requires.writer_works)
+    (omega arith, ([], Consumes-nil _, (λ s d st. piece_none g.D.LineDebugger.stands s d [] _ _ _ st c.new-line.ensures), c.requires.fresh, c.requires.reader_works, c.requires.writer_works))
 
 pub loop-count-preserved : goal.loop-count-preserved
 loop-count-preserved g c =
-    let (came, used, answered, reads, r, w) = c.loop-count.invariant in
+    let (pieces, (came, used, answered, reads, r, w)) = c.loop-count.invariant in
     let piece = take c.in-Ok.n c.read.new.into in (
-      came ++ piece,
-      Consumes-trans _ _ _ came piece used c.in-Ok.ensures.bytes.0,
-      (λ s d st.
-          let before = answered s d st in
-          let leads = before.1 refl in
-          piece_then g.D.LineDebugger.stands s d [] came piece Goes _ _ _ _ _ _ _ before (c.in-Goes.ensures.answered s (after_lines s d (ended_lines [] came)) (begun_after [] came) leads.debugger leads.line)),
-      omega (arith, c.in-Ok.ensures.count),
-      c.in-Ok.ensures.failed,
-      c.in-Goes.ensures.failed,
+      search rules,
+      (
+        came ++ piece,
+        Consumes-trans _ _ _ came piece used c.in-Ok.ensures.bytes.0,
+        (λ s d st.
+            let before = answered s d st in
+            let leads = before.1 refl in
+            piece_then g.D.LineDebugger.stands s d [] came piece Goes _ _ _ _ _ _ _ before (c.in-Goes.ensures.answered s (after_lines s d (ended_lines [] came)) (begun_after [] came) leads.debugger leads.line)),
+        omega (arith, c.in-Ok.ensures.count),
+        c.in-Ok.ensures.failed,
+        c.in-Goes.ensures.failed,
+      ),
     )
 
 pub returns-in-Err-clause-transcript : goal.returns-in-Err-clause-transcript
 returns-in-Err-clause-transcript g c s d st =
-    let (came, used, answered, reads, r, w) = c.loop-count.invariant in
+    let (pieces, (came, used, answered, reads, r, w)) = c.loop-count.invariant in
     ends_fault s d came _ _ _ _ (Consumes-kept _ _ _ came used c.in-Err.ensures.bytes) (answered s d st).0
 
 pub returns-in-Ok-eq0-clause-transcript : goal.returns-in-Ok-eq0-clause-transcript
 returns-in-Ok-eq0-clause-transcript g c s d st =
-    let (came, used, answered, reads, r, w) = c.loop-count.invariant in
+    let (pieces, (came, used, answered, reads, r, w)) = c.loop-count.invariant in
     let left = g.R.CommandReader.left in
     let written = g.O.AnswerWriter.written in
     let before = answered s d st in
@@ -44,7 +47,7 @@ returns-in-Ok-eq0-clause-transcript g c s d st =
 
 pub returns-in_default-clause-transcript : goal.returns-in_default-clause-transcript
 returns-in_default-clause-transcript g c s d st =
-    let (came, used, answered, reads, r, w) = c.loop-count.invariant in
+    let (pieces, (came, used, answered, reads, r, w)) = c.loop-count.invariant in
     let left = g.R.CommandReader.left in
     let written = g.O.AnswerWriter.written in
     let piece = take c.in-Ok.n c.read.new.into in
@@ -56,5 +59,5 @@ returns-in_default-clause-transcript g c s d st =
 
 pub returns-clause-transcript : goal.returns-clause-transcript
 returns-clause-transcript g c s d st =
-    let (came, used, answered, reads, r, w) = c.loop-count.invariant in
+    let (pieces, (came, used, answered, reads, r, w)) = c.loop-count.invariant in
     ends_fault s d came _ _ _ _ used (answered s d st).0

@@ -1,6 +1,6 @@
 use Rattle.std.proofs.Common.{◌≡◌, ◌<◌, ◌++◌, length, take, drop, sym, ap, ◌∙◌, arith, length-append, length-drop, length-take}
 use Rattle.std.proofs.lemmas.List.{take_at, take-append-drop, drop_all}
-use Rattle.transcript.proofs.tests.devices.PieceReaderCommandReader.read.Goals as goal
+use Rattle.tests_devices.proofs.readers.PieceReaderCommandReader.read.Goals as goal
 
 pub returns-clause-bytes : goal.returns-clause-bytes
 returns-clause-bytes c =

@@ -1,9 +1,6 @@
-//! A machine that counts lines, and a writer that keeps what it is given.
-ghost use Rattle.std.specs.Prelude.{◌≡◌, [], Some, false};
-
-use debug_machine::{AnswerWriter, Fault, Position, RecordedMachine, Shown, StepEnd, WriteFault};
+//! A machine that counts lines.
+use debug_machine::{Fault, Position, RecordedMachine, Shown, StepEnd};
 use gang_types::{FaultName, IntType, Mask, Place, VarId};
-use std::alloc::Global;
 use undo_log::{NoHistory, Undone};
 
 /// Has a step on each line from 1 to `last`, and keeps at most so many. The step on one line may fault.
@@ -103,50 +100,5 @@ impl RecordedMachine for LineMachine {
             _ => [0, 1, 0, 0],
         };
         words.get(index).copied().unwrap_or(0)
-    }
-}
-
-/// Takes at most so many bytes a call, and fails once it has as many as it has room for.
-#[derive(Drop)]
-pub struct Sink {
-    bytes: Vec<u8>,
-    most: usize,
-    room: usize,
-    has_failed: bool,
-}
-
-impl Sink {
-    pub fn new(alloc: Global, most: usize, room: usize) -> Self
-        ensures works { result.has_failed ≡ false }
-        ensures empty { result.bytes.items ≡ [] }
-    {
-        Sink {
-            bytes: Vec::new(alloc),
-            most: most.max(1),
-            room,
-            has_failed: false,
-        }
-    }
-
-    pub fn bytes(&self) -> &[u8]
-        ensures { result.now ≡ self.now.bytes.items }
-    {
-        self.bytes.as_slice()
-    }
-}
-
-impl AnswerWriter for Sink {
-    ghost written = { λ s. Some (s.bytes.items) };
-
-    ghost has_failed = { λ s. s.has_failed };
-
-    fn write(&mut self, bytes: &[u8]) -> Result<usize, WriteFault> {
-        let n = self.most.min(self.room).min(bytes.len());
-        if n == 0 && !bytes.is_empty() || self.bytes.extend_from_slice(&bytes[..n]).is_err() {
-            self.has_failed = true;
-            return Err(WriteFault);
-        }
-        self.room -= n;
-        Ok(n)
     }
 }
