@@ -31,7 +31,25 @@ pub enum Refusal {
     NoRoom,
 }
 
-/// The value of the expression that the code computes: a word in each lane of the mask, and 0 in the others.
+/// The stacks that an evaluation works on: made once, and lent to each.
+#[derive(Drop)]
+pub struct Stacks<const W: usize> {
+    vectors: ArrayVec<[u64; W], ROOM>,
+    masks: ArrayVec<u64, NESTING>,
+}
+
+impl<const W: usize> Stacks<W> {
+    /// Empty stacks.
+    pub fn new() -> Self {
+        Stacks {
+            vectors: ArrayVec::new(),
+            masks: ArrayVec::new(),
+        }
+    }
+}
+
+/// The value of the expression that the code computes: a word in each lane of the mask, and 0 in the others. What an
+/// earlier evaluation left on the stacks is cleared.
 ///
 /// # Errors
 ///
@@ -40,15 +58,16 @@ pub fn evaluate<const W: usize, S: Words<W>>(
     code: &[Instruction],
     words: &S,
     mask: Mask,
+    stacks: &mut Stacks<W>,
 ) -> Result<[u64; W], Refusal>
     requires { IsGangWidth W }
     ensures { (e : Expr) (state : State) → Computes e code.now → depth e ≤ ROOM → suc (nesting e) ≤ NESTING → S.shows words.now state → IsValue result (value (expr_view e) (lanes_of W mask) state) }
 {
-    let mut stack = ArrayVec::<[u64; W], ROOM>::new();
-    let mut masks = ArrayVec::<u64, NESTING>::new();
-    push_mask::<W, NESTING>(&mut masks, mask);
-    match run(code, words, &mut stack, &mut masks) {
-        RunEnd::Finished => match take_vector(&mut stack) {
+    stacks.vectors.clear();
+    stacks.masks.clear();
+    push_mask::<W, NESTING>(&mut stacks.masks, mask);
+    match run(code, words, &mut stacks.vectors, &mut stacks.masks) {
+        RunEnd::Finished => match take_vector(&mut stacks.vectors) {
             Some(vector) => Ok(vector),
             None => Err(Refusal::NoRoom),
         },

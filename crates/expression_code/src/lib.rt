@@ -11,6 +11,6 @@ mod words;
 
 pub use code::{Gate, Instruction, Joining, Leaf, OneOperand, TwoOperands};
 pub use emission::{compile, is_scalar};
-pub use evaluation::{NESTING, ROOM, Refusal, evaluate};
+pub use evaluation::{NESTING, ROOM, Refusal, Stacks, evaluate};
 pub use machine::{RunEnd, Then};
 pub use words::Words;

@@ -8,6 +8,7 @@ pub mod Gangs
 pub mod HandMade
 pub mod Keeping
 pub mod Lines
+pub mod Listed
 pub mod Openings
 pub mod Reading
 pub mod Remains

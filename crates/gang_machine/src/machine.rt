@@ -10,6 +10,7 @@ use crate::names::{global_named, local_named};
 use crate::slots::{count_of, place_of, record_step, slot};
 use crate::variables::Variables;
 use debug_machine::{Fault, Position, RecordedMachine, Shown, StepEnd};
+use expression_code::Stacks;
 use gang_types::{Mask, VarId};
 use scalar_steps::{Assignment, values};
 use std::marker::Model;
@@ -27,6 +28,7 @@ pub struct Machine<const W: usize, T: Timeline> {
     pub(crate) code: Vec<Assignment>,
     pub(crate) locals: usize,
     pub(crate) timeline: T,
+    pub(crate) stacks: Box<Stacks<W>>,
 }
 
 impl<const W: usize, T: Timeline> Model for Machine<W, T> {
@@ -66,7 +68,8 @@ impl<const W: usize, T: Timeline> RecordedMachine for Machine<W, T> {
             globals,
             locals: self.locals,
         };
-        let words = match values::<W, Variables<'_, W, T>>(assignment, &variables) {
+        let values = values::<W, Variables<'_, W, T>>(assignment, &variables, &mut self.stacks);
+        let words = match values {
             Ok(words) => words,
             Err((lane, name)) => return StepEnd::Fault(Fault { name, lane }),
         };

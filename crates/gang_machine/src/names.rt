@@ -21,9 +21,11 @@ pub(crate) fn local_named<const W: usize>(
 ) -> Option<Shown>
     ensures { SeesFound W (named name.now (scope_of (slice_get (function_view function.now).standings step))) result }
 {
-    for place in 0..function.scopes.declarations.len() {
-        let number = function.scopes.listed(step, place)?;
-        if is_called(&function.variables, number, name) {
+    let scopes = &function.scopes;
+    for (number, declaration) in scopes.declarations.iter().enumerate() {
+        if is_called(&function.variables, number, name)
+            && scopes.find(step, &declaration.name) == Some(number)
+        {
             return Some(shown_local::<W>(&function.variables, number));
         }
     }

@@ -13,6 +13,7 @@ ghost use Rattle.gang_machine.specs.Standings.{Stands};
 
 use crate::machine::Machine;
 use crate::slots::store_globals;
+use expression_code::Stacks;
 use gang_types::{FuncId, VarId};
 use scalar_steps::{Assignment, assignments};
 use std::alloc::{AllocError, Global};
@@ -49,6 +50,7 @@ pub fn open<const W: usize>(
     let Some(words) = word_count::<W>(globals.len(), locals) else {
         return Err(AllocError);
     };
+    let stacks = Box::new(alloc, Stacks::new())?;
     let mut timeline = SnapshotRing::new(alloc, words, history as usize)?;
     store_globals::<W, SnapshotRing>(&mut timeline, &globals);
     Ok(Machine {
@@ -58,6 +60,7 @@ pub fn open<const W: usize>(
         code,
         locals,
         timeline,
+        stacks,
     })
 }
 

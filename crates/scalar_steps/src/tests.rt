@@ -3,7 +3,7 @@ ghost use Rattle.std.specs.Prelude.{◌≡◌};
 ghost use Rattle.gang_types.specs.declared.places.VarId.TheVariants.{Local};
 
 use crate::{Assignment, assignments, values};
-use expression_code::Words;
+use expression_code::{Stacks, Words};
 use gang_types::{BinaryOp, FaultName, IntType, Rate, VarId};
 use std::alloc::AllocError;
 use typed_tree::{Expr, Stmt, Target, Var};
@@ -23,7 +23,7 @@ impl Words<4> for SameWords {
 // What the last assignment gives, where the old words are these.
 fn last_words(made: &[Assignment], old: [u64; 4]) -> Option<Result<[u64; 4], (usize, FaultName)>> {
     let last = made.last()?;
-    Some(values(last, &SameWords(old)))
+    Some(values(last, &SameWords(old), &mut Stacks::new()))
 }
 
 fn variable() -> Var

@@ -9,11 +9,12 @@ ghost use Rattle.scalar_steps.specs.Performed.{IsAnswer, Performs};
 ghost use Rattle.scalar_steps.specs.Written.{changed, written_value, written_words};
 
 use crate::assignment::{Assignment, Change};
-use expression_code::{Refusal, Words, evaluate};
+use expression_code::{Refusal, Stacks, Words, evaluate};
 use gang_types::{FaultName, Mask};
 use masked_operations::{binary, convert};
 
-/// The words that an assignment gives its variable, one for each lane of the whole gang.
+/// The words that an assignment gives its variable, one for each lane of the whole gang. What the stacks hold at first
+/// does not count.
 ///
 /// # Errors
 ///
@@ -21,11 +22,12 @@ use masked_operations::{binary, convert};
 pub fn values<const W: usize, S: Words<W>>(
     assignment: &Assignment,
     words: &S,
+    stacks: &mut Stacks<W>,
 ) -> Result<[u64; W], (usize, FaultName)>
     requires { IsGangWidth W }
     ensures { (s : Stmt) (state : State) → Performs assignment.now s → S.shows words.now state → IsAnswer result (written_words s (replicate W true) state) }
 {
-    let operands = operands(assignment, words)?;
+    let operands = operands(assignment, words, stacks)?;
     match assignment.change {
         Some(change) => changed(change, words.words(assignment.variable), operands),
         None => Ok(operands),
@@ -36,11 +38,12 @@ pub fn values<const W: usize, S: Words<W>>(
 fn operands<const W: usize, S: Words<W>>(
     assignment: &Assignment,
     words: &S,
+    stacks: &mut Stacks<W>,
 ) -> Result<[u64; W], (usize, FaultName)>
     requires { IsGangWidth W }
     ensures { (s : Stmt) (state : State) → Performs assignment.now s → S.shows words.now state → IsAnswer result (value (written_value s) (replicate W true) state) }
 {
-    match evaluate(&assignment.code, words, Mask::all::<W>()) {
+    match evaluate(&assignment.code, words, Mask::all::<W>(), stacks) {
         Ok(operands) => Ok(operands),
         Err(Refusal::Fault(found)) => Err(found),
         // A step's code has room, wherever the words are those of a state.

@@ -76,6 +76,11 @@ pub total_last : (m : Mark) (ms : List Mark) → Some m ≡ last_item ms → tot
 total_last m [] e = cc
 total_last m (x ∷ ms) e = total_at m (length (x ∷ ms) - 1) (x ∷ ms) (omega arith) e
 
+-- the changes of the newest event
+pub total_first : (m : Mark) (ms : List Mark) → Some m ≡ slice_get ms 0 → total ms ≡ m.count + total (drop 1 ms)
+total_first m [] e = cc
+total_first m (x ∷ ms) e = let same : x ≡ m = cc in rw same refl
+
 -- each event has at most so many changes
 pub total_le : (cells : ℕ) (ms : List Mark) → All (λ m. m.count ≤ cells) ms → total ms ≤ length ms * cells
 total_le cells [] h = omega arith

@@ -1,9 +1,9 @@
 -- What the fields of a DeltaRing mean.
-use Rattle.std.specs.Prelude.{◌≡◌, ℕ, ◌+◌, ◌*◌, ◌≤◌, ◌<◌, List, [], ◌∷◌, length, map, All, take, drop, slice_set}
+use Rattle.std.specs.Prelude.{◌≡◌, ℕ, ◌+◌, ◌*◌, ◌≤◌, ◌<◌, List, [], ◌∷◌, length, map, All, take, drop, slice_set, count_by}
 use Rattle.undo_log.specs.declared.changes.Change.{Change}
 use Rattle.undo_log.specs.declared.events.Mark.{Mark}
 use Rattle.undo_log.specs.declared.delta_ring.DeltaRing.TheInside.{Inside}
-use Rattle.undo_log.specs.History.{Moment, moment}
+use Rattle.undo_log.specs.History.{Moment, moment, is_step}
 use Rattle.undo_log.specs.Deltas.{Deltas, deltas}
 
 -- the words as they were before these changes, of which the newest comes first
@@ -24,10 +24,11 @@ total (m ∷ ms) = m.count + total ms
 abbrev pub deltas_seen : Inside → Deltas
 deltas_seen a = deltas (record { words = a.words.items; past = moments a.marks.items a.changes.items a.words.items; limit = a.limit; room = a.cells }) (map (λ m. m.count) a.marks.items)
 
--- The rings have room for as many events and old words as may be kept, and each kept event has all its old words.
+-- The rings have room for as many events and old words as may be kept, and each kept event has all its old words. The steps are counted.
 pub record AreDeltas (a : Inside) : Type 0 where
   pub some : (1 ≤ a.limit) × (a.limit ≤ 65536) × (a.cells ≤ 65536)
   pub marks : (a.limit ≤ a.marks.capacity) × (length a.marks.items ≤ a.limit)
   pub changes : (a.limit * a.cells ≤ a.changes.capacity) × (length a.changes.items ≡ total a.marks.items)
   pub small : All (λ m. m.count ≤ a.cells) a.marks.items
   pub in_range : All (λ c. c.index < length a.words.items) a.changes.items
+  pub steps : a.steps ≡ count_by (λ m. is_step m.event) a.marks.items

@@ -3,7 +3,7 @@ ghost use Rattle.std.specs.Prelude.{◌≡◌, ◌+◌, ◌-◌, ◌^◌, ◌<�
 ghost use Rattle.circular_buffer.specs.Buffer.{buffer};
 
 use crate::changes::{Change, write_back};
-use crate::events::{Mark, steps_among_marks};
+use crate::events::{Mark, steps_of};
 use crate::timeline::{Back, NoHistory, Timeline, Undone};
 use circular_buffer::HeapCircularBuffer;
 use std::alloc::{AllocError, Global};
@@ -16,6 +16,7 @@ pub struct DeltaRing {
     /// The newest comes first, here and in `marks`.
     changes: HeapCircularBuffer<Change>,
     marks: HeapCircularBuffer<Mark>,
+    steps: usize,
     limit: usize,
     cells: usize,
 }
@@ -50,6 +51,7 @@ impl DeltaRing {
             words,
             changes,
             marks,
+            steps: 0,
             limit,
             cells,
         })
@@ -63,6 +65,7 @@ impl DeltaRing {
         let Some(oldest) = self.marks.pop_back() else {
             return;
         };
+        self.steps -= steps_of(oldest.event);
         let rest = self.changes.len() - oldest.count;
         self.changes.truncate_back(rest);
     }
@@ -142,6 +145,7 @@ impl Timeline for DeltaRing {
         ensures counts { self.new.counts ≡ take self.old.history.limit (0 ∷ self.old.counts) }
     {
         self.make_room();
+        self.steps += steps_of(event);
         let _ = self.marks.push_front(Mark { event, count: 0 });
     }
 
@@ -154,6 +158,7 @@ impl Timeline for DeltaRing {
         let Some(mark) = self.marks.pop_front() else {
             return Err(NoHistory);
         };
+        self.steps -= steps_of(mark.event);
         let written = write_back(self.words.as_mut_slice(), &mut self.changes, mark.count);
         Ok(Back {
             event: mark.event,
@@ -166,7 +171,7 @@ impl Timeline for DeltaRing {
     }
 
     fn kept_steps(&self) -> usize {
-        steps_among_marks(&self.marks)
+        self.steps
     }
 
     fn limit(&self) -> usize {

@@ -2,7 +2,7 @@
 ghost use Rattle.std.specs.Prelude.{◌≡◌, ◌^◌, ◌<◌, ◌≤◌, [], length, replicate, IfOk, OnOk, OnErr};
 ghost use Rattle.undo_log.specs.History.{new_history, limited, TakenBack};
 
-use crate::events::steps_among;
+use crate::events::{forget_at, steps_among, steps_of};
 use crate::timeline::{Back, NoHistory, Timeline, Undone};
 use circular_buffer::HeapCircularBuffer;
 use std::alloc::{AllocError, Global};
@@ -16,6 +16,7 @@ pub struct SnapshotRing {
     /// In front the words before the kept events, from the newest to the oldest. The others are spare.
     lists: HeapCircularBuffer<Vec<u64>>,
     events: HeapCircularBuffer<Undone>,
+    steps: usize,
     limit: usize,
 }
 
@@ -47,6 +48,7 @@ impl SnapshotRing {
             words,
             lists,
             events,
+            steps: 0,
             limit,
         })
     }
@@ -87,7 +89,8 @@ impl Timeline for SnapshotRing {
         };
         list.as_mut_slice().copy_from_slice(self.words.as_slice());
         let _ = self.lists.push_front(list);
-        self.events.truncate_back(self.limit - 1);
+        self.steps -= forget_at(&mut self.events, self.limit);
+        self.steps += steps_of(event);
         let _ = self.events.push_front(event);
     }
 
@@ -103,6 +106,7 @@ impl Timeline for SnapshotRing {
         let Some(mut list) = self.lists.pop_front() else {
             return Err(NoHistory);
         };
+        self.steps -= steps_of(event);
         mem::swap(&mut self.words, &mut list);
         let written = list.len();
         let _ = self.lists.push_back(list);
@@ -114,7 +118,7 @@ impl Timeline for SnapshotRing {
     }
 
     fn kept_steps(&self) -> usize {
-        steps_among(&self.events)
+        self.steps
     }
 
     fn limit(&self) -> usize {
@@ -124,6 +128,7 @@ impl Timeline for SnapshotRing {
     fn set_limit(&mut self, limit: usize) -> Result<(), AllocError> {
         if limit <= self.limit {
             self.events.truncate_back(limit);
+            self.steps = steps_among(&self.events);
             self.limit = limit;
             return Ok(());
         }

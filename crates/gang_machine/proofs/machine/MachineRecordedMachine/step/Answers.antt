@@ -1,5 +1,6 @@
 use Rattle.std.proofs.Common.{◌≡◌, ◌+◌, ◌≤◌, length, set, slice_index, true, replicate, sym, ap, subst, ◌∙◌, arith}
 use Rattle.std.proofs.lemmas.Bool.Decides.{nat_tests}
+use Rattle.std.proofs.lemmas.List.{length-set}
 use Rattle.std.specs.Prelude.{Some, Ok, Err, slice_get}
 use Rattle.undo_log.specs.History.{History}
 use Rattle.cross_lane.specs.Calls.{fault_of}
@@ -59,7 +60,30 @@ returns-in-Err g c s d stands =
     let fault = fault_of (c.in-Err.lane, c.in-Err.name) in
     let is : Err fault ≡ written_words x (replicate w true) state = c.in-Err.ensures x state performs shown in
     let ran = line_fault s.program x (var_view a.variable) (all_lanes w) state fault performs.writes.variable_is is in
-    (faults w m.entry m.locals m.function m.globals.items h running s d here x get fault ran, stands)
+    (faults w m.entry m.locals m.function m.globals.items h running s d here x get fault ran, here)
+
+-- the record of a step is again a machine's
+pub invariant_of-self-2 : goal.invariant_of-self-2
+invariant_of-self-2 g c =
+    let m = c.self.inside in
+    let running = c.self.invariant.running in
+    let (mid, stored, words) = c.record_step.ensures.words in
+    let same : length (g.T.Timeline.history c.record_step.new.timeline).words ≡ length (g.T.Timeline.history m.timeline).words =
+    ap length words ∙ length-set mid 0 (c.word-at.result + 1) ∙ stored.long in
+    record {
+      running = record {
+        width_is = running.width_is;
+        straight = running.straight;
+        numbered = running.numbered;
+        scalars = running.scalars;
+        enough = running.enough;
+        long = same ∙ running.long;
+        small = omega (arith, same, running.small);
+        room = omega (arith, same, running.room, c.record_step.ensures.size);
+        limit = omega (arith, running.limit, c.record_step.ensures.limit);
+      };
+      performs = c.self.invariant.performs;
+    }
 
 pub place_of-place-requires : goal.place_of-place-requires
 place_of-place-requires g c =

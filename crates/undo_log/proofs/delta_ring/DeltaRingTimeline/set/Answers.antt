@@ -4,6 +4,7 @@ use Rattle.std.proofs.lemmas.List.Elements.{All-cons}
 use Rattle.undo_log.specs.declared.changes.Change.{Change}
 use Rattle.undo_log.specs.Deltas.{left_of}
 use Rattle.undo_log.proofs.Deltas.{left_head, some_first, total_lt, total_set, length_set, small_set, moments_set, length-moments, mark, seen}
+use Rattle.undo_log.proofs.Steps.{steps_set}
 use Rattle.undo_log.proofs.delta_ring.DeltaRingTimeline.set.Goals as goal
 
 below : (c : goal.After-push_front-2) → c.in-Some.mark.count < c.self.inside.cells
@@ -45,6 +46,7 @@ invariant_of-self-2 c =
       changes = (i.changes.0, ap suc i.changes.1 ∙ sym (total_set c.in-Some.mark a.marks.items c.in-Some.ensures.value));
       small = small_set a.cells c.in-Some.mark a.marks.items i.small (below c);
       in_range = rw longer (All-cons (λ k. k.index < length a.words.items) _ a.changes.items (within c) i.in_range);
+      steps = i.steps ∙ sym (steps_set c.in-Some.mark a.marks.items c.in-Some.ensures.value);
     }
 
 pub returns-clause-history : goal.returns-clause-history

@@ -20,6 +20,7 @@ loop-self-preserved c =
         full = (omega arith, omega arith);
         events = i.good.events;
         long = All-push (λ w. length w.items ≡ length a.words.items) a.lists.items v i.good.long copy;
+        steps = i.good.steps;
       };
       same = ap (seen a.words.items a.limit) (ap (moments a.events.items) (map_push items_of a.lists.items v) ∙ moments-append a.events.items (map items_of a.lists.items) (v.items ∷ []) (rw length-map (omega arith))) ∙ i.same;
       lists = i.lists;
