@@ -1,5 +1,5 @@
 //! Values worked out by hand, on gangs of 4 lanes.
-use expression_code::{Refusal, Words, compile, evaluate, is_scalar};
+use expression_code::{Refusal, Stacks, Words, compile, evaluate, is_scalar};
 use gang_types::{BinaryOp, FaultName, IntType, Mask, Rate, VarId};
 use std::alloc::{AllocError, Global};
 use typed_tree::{Expr, Var};
@@ -37,7 +37,12 @@ fn the_lowest_lane_faults(rt: HostRuntime) -> Result<(), AllocError> {
     let expression = quotient(rt.alloc())?;
     if is_scalar(&expression) {
         let code = compile(rt.alloc(), &expression)?;
-        let answer = evaluate(&code, &SameWords([3, 0, 2, 0]), Mask::all::<4>());
+        let answer = evaluate(
+            &code,
+            &SameWords([3, 0, 2, 0]),
+            Mask::all::<4>(),
+            &mut Stacks::new(),
+        );
         assert!(&rt; answer == Err(Refusal::Fault((1, FaultName::DivideByZero))));
     }
     Ok(())
@@ -52,7 +57,12 @@ fn a_lane_that_is_left_out_does_not_fault(rt: HostRuntime) -> Result<(), AllocEr
     };
     if is_scalar(&expression) {
         let code = compile(rt.alloc(), &expression)?;
-        let answer = evaluate(&code, &SameWords([3, 0, 2, 0]), Mask::all::<4>());
+        let answer = evaluate(
+            &code,
+            &SameWords([3, 0, 2, 0]),
+            Mask::all::<4>(),
+            &mut Stacks::new(),
+        );
         assert!(&rt; answer == Ok([4, 7, 6, 7]));
     }
     Ok(())
