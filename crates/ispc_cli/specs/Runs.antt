@@ -22,22 +22,6 @@ options_view options = record { width = lanes_of options.width; history = option
 abbrev pub asked_of : Options → Option Name
 asked_of options = option_map (λ name. name.now) options.entry
 
-<<<<<<< HEAD
--- how the answering of lines ended, unless the run was refused
-abbrev pub ending_of : RunEnd → Option Ending
-ending_of end.Quit = Some AtQuit
-ending_of end.EndOfCommands = Some AtEnd
-ending_of end.ReadFault = Some AtReadFault
-ending_of end.WriteFault = Some AtWriteFault
-ending_of (end.Refused r) = None
-
--- why the run was refused, if it was
-abbrev pub refusal_of : RunEnd → Option Refusal
-refusal_of (end.Refused r) = Some r
-refusal_of end = None
-
-=======
->>>>>>> b13393d (A read fault comes only where a read failed or pieces came without end; arguments that are not text are wrong arguments; the tests' devices stand in one crate; a session opens for any debugger)
 -- whether a refusal of a run of this text with this entry asked for is right; out of memory may come at any time
 abbrev pub IsRight : (text : List ℕ) → (asked : Option Name) → Refusal → Type 0
 IsRight text asked (refusal.Source r) = IsRightRefusal text r
