@@ -17,7 +17,7 @@ fn reads(
     options: Options<'_>,
     paths: Paths<'_>,
 ) -> Result<(), Fail> {
-    match read_options(alloc, words) {
+    match read_options(alloc, &*words) {
         Ok(read) if read == (options, paths) => Ok(()),
         Ok(read) => Err(Fail::new(format_args!("{words:?} are read as {read:?}"))),
         Err(fault) => Err(Fail::new(format_args!("{words:?}: {}", fault.kind()))),
@@ -26,7 +26,7 @@ fn reads(
 
 /// A failure unless the words are refused as wrong arguments.
 fn refuses(alloc: Global, words: &[&str]) -> Result<(), Fail> {
-    match read_options(alloc, words) {
+    match read_options(alloc, &*words) {
         Err(fault) if fault.exit_code() == 2 && fault.kind() != ErrorKind::OutOfMemory => Ok(()),
         Err(fault) => Err(Fail::new(format_args!("{words:?}: {}", fault.kind()))),
         Ok(read) => Err(Fail::new(format_args!("{words:?} are read as {read:?}"))),
