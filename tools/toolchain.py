@@ -47,6 +47,17 @@ rt, rtlib = load()
 rtlib.VERDICT = re.compile(rtlib.VERDICT.pattern.replace(r"\n\Z", r"( incremental=trusted)?\n\Z"), re.M)
 rtlib.stop = rt.stop
 rtlib.Crate = rt.Crate
+sum_of_crate, sums = rtlib.Crate.stamp, {}
+
+
+def remembered_stamp(crate):
+    """The toolchain's sum of all that a crate is made from, taken once: it walks every path of the graph of crates."""
+    if crate.folder not in sums:
+        sums[crate.folder] = sum_of_crate(crate)
+    return sums[crate.folder]
+
+
+rt.Crate.stamp = remembered_stamp
 
 
 def version():
