@@ -1,3 +1,4 @@
 pub mod Devices
+pub mod KnownLines
 pub mod Lines
 pub mod Machines

@@ -3,7 +3,7 @@ use Rattle.std.specs.Prelude.{◌≡◌, ℕ, ◌<◌, Bool, true, false, List, 
 use Rattle.std.specs.Io.KnownBytes.{Appends}
 use Rattle.gang_model.specs.Texts.CommandText.{command_of}
 use Rattle.gang_model.specs.Debugger.Debugger.{Debugger, Reply, Setting}
-use Rattle.gang_model.specs.Source.Known.{as_known}
+use Rattle.debug_machine.specs.KnownLines.{as_known}
 use Rattle.gang_model.specs.Texts.Text.{Bytes, text}
 use Rattle.gang_model.specs.Texts.Transcript.{is_quit, replied}
 use Rattle.debug_machine.specs.declared.debugger.Turn.{Turn}

@@ -2,7 +2,7 @@
 use Rattle.std.proofs.Common.{◌≡◌, refl, ℕ, Bool, true, false, List, None, codes}
 use Rattle.std.specs.Prelude.{if◌then◌else◌}
 use Rattle.gang_model.specs.Texts.CommandText.{command_of}
-use Rattle.gang_model.specs.Source.Known.{as_known, known_command}
+use Rattle.debug_machine.specs.KnownLines.{as_known, known_command}
 use Rattle.debug_session.specs.Sessions.{let_through}
 
 either : (known : Bool) (line : List ℕ) → command_of (if known then line else codes "?") ≡ (if known then command_of line else None)

@@ -4,7 +4,7 @@ use Rattle.gang_types.specs.declared.places.VarId.{VarId}
 use Rattle.gang_model.specs.Types.Tree.{Variable}
 use Rattle.gang_model.specs.Debugger.Debugger as model
 use Rattle.gang_model.specs.Debugger.Debugger.{Debugger, Command, Reply, Setting, kept_steps}
-use Rattle.gang_model.specs.Source.Known.{known_command}
+use Rattle.debug_machine.specs.KnownLines.{known_command}
 use Rattle.debug_machine.specs.Machines.{IsShown, fault_view}
 use Rattle.debug_session.specs.declared.answer.Answer.{Answer}
 use Rattle.debug_session.specs.declared.answer.Answer.TheVariants as answer

@@ -2,7 +2,7 @@
 ghost use Rattle.std.specs.Prelude.{◌≡◌, false, Some};
 ghost use Rattle.gang_model.specs.Texts.CommandText.{command_of};
 ghost use Rattle.gang_model.specs.Debugger.Debugger.{Debugger, Setting};
-ghost use Rattle.gang_model.specs.Source.Known.{as_known};
+ghost use Rattle.debug_machine.specs.KnownLines.{as_known};
 ghost use Rattle.gang_model.specs.Texts.Text.{Bytes};
 ghost use Rattle.gang_model.specs.Texts.Transcript.{replied};
 ghost use Rattle.debug_commands.specs.Views.{command_view, option_view};

@@ -5,10 +5,10 @@ use Rattle.std.proofs.lemmas.Bool.{cases_lt, cases_Bool}
 use Rattle.std.proofs.lemmas.Bool.Decides.{nat_tests}
 use Rattle.std.proofs.lemmas.List.{drop_more, map-append, nil_from_length, take_at, take_more}
 use Rattle.gang_model.specs.Texts.CommandText.{command_of}
-use Rattle.gang_model.specs.Source.Known.{as_known, known_command}
+use Rattle.debug_machine.specs.KnownLines.{as_known, known_command}
 use Rattle.gang_model.specs.Texts.Text.{Bytes}
 use Rattle.gang_model.specs.Texts.Transcript.{complete_lines_after, lines_after}
-use Rattle.gang_model.specs.Texts.Endings.{known_lines}
+use Rattle.debug_machine.specs.KnownLines.{known_lines}
 use Rattle.transcript.specs.Answered.{begun_after, ended_lines, held_of, known_line}
 
 -- ---- lines

@@ -7,7 +7,7 @@ use Rattle.std.proofs.Math.Seq.{take-append-add}
 use Rattle.std.proofs.KnownBytes.{Appends-nil, Appends-trans}
 use Rattle.std.specs.Io.KnownBytes.{Appends}
 use Rattle.gang_model.specs.Texts.CommandText.{command_of}
-use Rattle.gang_model.specs.Source.Known.{as_known}
+use Rattle.debug_machine.specs.KnownLines.{as_known}
 use Rattle.gang_model.specs.Debugger.Debugger.{Command, Debugger, Reply, Setting}
 use Rattle.gang_model.specs.Texts.Text.{Bytes, text}
 use Rattle.gang_model.specs.Texts.Transcript.{has_quit, is_quit, replied, text_and_rest, transcript_from}

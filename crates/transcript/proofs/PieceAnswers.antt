@@ -3,12 +3,12 @@ use Rattle.std.proofs.Common.{◌≡◌, ◌≢◌, ℕ, [], ◌∷◌, ◌++◌
 use Rattle.std.specs.Prelude.{IfSome}
 use Rattle.std.proofs.KnownBytes.{Appends-nil}
 use Rattle.std.specs.Io.KnownBytes.{Appends, Consumes, IsAtEnd, Keeps}
-use Rattle.gang_model.specs.Source.Known.{as_known}
+use Rattle.debug_machine.specs.KnownLines.{as_known}
 use Rattle.gang_model.specs.Debugger.Debugger.{Debugger, Setting}
 use Rattle.gang_model.specs.Texts.Text.{Bytes}
 use Rattle.gang_model.specs.Texts.Transcript.{lines_after}
 use Rattle.debug_machine.specs.Lines.{Says}
-use Rattle.gang_model.specs.Texts.Endings.{Ends, known_lines}
+use Rattle.debug_machine.specs.KnownLines.{EndsKnown, known_lines}
 use Rattle.debug_machine.specs.declared.debugger.Turn.{Turn}
 use Rattle.debug_machine.specs.declared.debugger.Turn.TheVariants.{Goes, Quits, Fails}
 use Rattle.transcript.specs.Answered.{AnswersLines, AnswersPiece, AfterPiece, Written, after_lines, begun_after, ended_lines, held_of, known_line}
@@ -106,7 +106,7 @@ told_more (Some x) None came P used p = absurd used
 told_more (Some x) (Some y) came P used p = subst P (sym used) (p y)
 
 -- what the reader had was answered
-written_ends : (s : Setting) (d : Debugger) (turn : Turn) (a b : Option Bytes) (out : Bytes) → IfSome a (λ bytes. Written s d (known_lines bytes) turn out) → Ends s d (ending_of (end_of turn)) a b out
+written_ends : (s : Setting) (d : Debugger) (turn : Turn) (a b : Option Bytes) (out : Bytes) → IfSome a (λ bytes. Written s d (known_lines bytes) turn out) → EndsKnown s d (ending_of (end_of turn)) a b out
 written_ends s d Goes None b out h = tt
 written_ends s d Goes (Some x) b out h = h
 written_ends s d Quits None b out h = tt
@@ -116,7 +116,7 @@ written_ends s d Fails (Some x) b out h = h
 
 -- how the answering ended, and what was written by then
 abbrev pub IsEnded : Setting → Debugger → Ending → (left left' old new : Option Bytes) → Type 0
-IsEnded s d end left left' old new = (out : Bytes) × Appends old new out × Ends s d (ending_of end) left left' out
+IsEnded s d end left left' old new = (out : Bytes) × Appends old new out × EndsKnown s d (ending_of end) left left' out
 
 -- at the end of the input
 pub ends_at : (s : Setting) (d : Debugger) (turn : Turn) (came : Bytes) (a b old new : Option Bytes) → Consumes a b came → IsAtEnd b → AnswersLines s d (known_lines came) turn old new → IsEnded s d (end_of turn) a b old new

@@ -2,7 +2,7 @@
 use Rattle.std.specs.Prelude.{◌≡◌, ℕ, ◌==◌, ◌<◌, true, false, List, [], ◌∷◌, ◌++◌, length, map, take, Option, if◌then◌else◌}
 use Rattle.std.specs.Io.KnownBytes.{Appends}
 use Rattle.gang_model.specs.Debugger.Debugger.{Debugger, Setting}
-use Rattle.gang_model.specs.Source.Known.{as_known}
+use Rattle.debug_machine.specs.KnownLines.{as_known}
 use Rattle.gang_model.specs.Texts.CommandText.{command_of}
 use Rattle.gang_model.specs.Texts.Text.{Bytes}
 use Rattle.gang_model.specs.Texts.Transcript.{complete_lines_after, has_quit, replied, transcript_from}

@@ -1,6 +1,6 @@
 -- The forms of the language that the program accepts today; the definitions have the whole language
 -- (a choice of this project: forms are let through in the order in which their running code is proved).
-use Rattle.std.specs.Prelude.{ℕ, if◌then◌else◌, ◌≡◌, ◌^◌, Bool, true, false, not, ◌&&◌, ◌||◌, nat_lt, List, [], ◌∷◌, length, ◌==◌, Option, Some, None, codes, is_none, is_some}
+use Rattle.std.specs.Prelude.{ℕ, ◌≡◌, ◌^◌, Bool, true, false, not, ◌&&◌, ◌||◌, nat_lt, List, [], ◌∷◌, length, ◌==◌, Option, Some, None, codes, is_none, is_some}
 use Rattle.std.specs.List.{list_all}
 use Rattle.gang_types.specs.declared.types.IntType.{IntType}
 use Rattle.gang_types.specs.declared.types.IntType.TheVariants as t
@@ -13,8 +13,6 @@ use Rattle.gang_model.specs.declared.forms.GlobalForm.{GlobalForm}
 use Rattle.gang_model.specs.declared.forms.GlobalForm.TheVariants.{Array}
 use Rattle.gang_model.specs.Source.Names.{same_text}
 use Rattle.gang_model.specs.Types.LibraryTable.{is_library_name, statement_call}
-use Rattle.gang_model.specs.Debugger.Debugger.{Command, DoStep, DoReverseStep, DoPrint, DoNothing, DoQuit}
-use Rattle.gang_model.specs.Texts.CommandText.{command_of}
 use Rattle.gang_model.specs.Source.Parsed.{Name, ParsedExpr, ParsedNumber, ParsedBool, ParsedName, ParsedIndex, ParsedCall, ParsedParen, ParsedUnary, ParsedCast, ParsedBinary, ParsedChoice, ParsedArgs, ParsedEnd, ParsedValue, ParsedPart, ParsedPartFrom, ParsedDim, ParsedTarget, ParsedStmt, ParsedEmpty, ParsedBlock, ParsedDeclare, ParsedAssign, ParsedChange, ParsedIncrement, ParsedDoCall, ParsedBreak, ParsedContinue, ParsedReturn, ParsedIf, ParsedIfElse, ParsedWhile, ParsedDo, ParsedFor, ParsedSwitch, ParsedForEach, ParsedForEachActive, ParsedForEachUnique, ParsedStmts, ParsedLast, ParsedNext, ParsedSegments, ParsedNoMore, ParsedSegment, ParsedParam, ParsedFunction, ParsedItem, ParsedFunctionItem, ParsedGlobalItem, ParsedSource}
 
 -- which groups of forms are let through, beside one exported function of declarations `int x = e;`, assignments `x = e;`
@@ -162,19 +160,3 @@ is_known forms source = (forms.scalars || nat_lt (length source) 2) && list_all 
 -- a source that the program accepts today, if it has no fault
 abbrev pub Known : ParsedSource → Type 0
 Known source = is_known today source ≡ true
-
--- ---- commands
-
--- whether the program does a command today, of those that a line spells
-abbrev pub known_command : Option Command → Bool
-known_command None = true
-known_command (Some (DoStep n)) = true
-known_command (Some (DoReverseStep n)) = true
-known_command (Some (DoPrint target)) = is_none target.at
-known_command (Some DoNothing) = true
-known_command (Some DoQuit) = true
-known_command (Some command) = false
-
--- a line as the program reads it today: one whose command is not let through counts as one that spells no command
-abbrev pub as_known : List ℕ → List ℕ
-as_known line = if known_command (command_of line) then line else codes "?"

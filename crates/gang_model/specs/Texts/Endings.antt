@@ -1,14 +1,9 @@
 -- How the answering of command lines ends, and what is written by then (a choice of this project).
-use Rattle.std.specs.Prelude.{◌≡◌, ℕ, ◌<◌, Bool, true, false, List, length, map, take, Option, IfSome}
+use Rattle.std.specs.Prelude.{◌≡◌, ℕ, ◌<◌, Bool, true, false, List, length, take, Option, IfSome}
 use Rattle.std.specs.Io.KnownBytes.{Consumes}
 use Rattle.gang_model.specs.Debugger.Debugger.{Debugger, Setting}
-use Rattle.gang_model.specs.Source.Known.{as_known}
 use Rattle.gang_model.specs.Texts.Text.{Bytes}
 use Rattle.gang_model.specs.Texts.Transcript.{complete_lines, has_quit, lines_of, transcript_from}
-
--- the lines of a text, as the program reads them
-abbrev pub known_lines : Bytes → List Bytes
-known_lines bytes = map as_known (lines_of bytes)
 
 -- how the answering of lines ends
 pub data Ending : Type 0 where
@@ -17,9 +12,9 @@ pub data Ending : Type 0 where
 -- out is written from this state on, by what the reader had left before and after: up to `quit`, or for all lines; for the
 -- lines that were whole when reading failed; or the front of it, where the writer failed
 abbrev pub Ends : Setting → Debugger → Ending → Option Bytes → Option Bytes → Bytes → Type 0
-Ends s d AtQuit left left' out = IfSome left (λ bytes. (has_quit (known_lines bytes) ≡ true) × (out ≡ transcript_from s (known_lines bytes) d))
-Ends s d AtEnd left left' out = IfSome left (λ bytes. (has_quit (known_lines bytes) ≡ false) × (out ≡ transcript_from s (known_lines bytes) d))
+Ends s d AtQuit left left' out = IfSome left (λ bytes. (has_quit (lines_of bytes) ≡ true) × (out ≡ transcript_from s (lines_of bytes) d))
+Ends s d AtEnd left left' out = IfSome left (λ bytes. (has_quit (lines_of bytes) ≡ false) × (out ≡ transcript_from s (lines_of bytes) d))
 Ends s d AtReadFault left left' out = (came : Bytes) × Consumes left left' came
-    × (has_quit (map as_known (complete_lines came)) ≡ false) × (out ≡ transcript_from s (map as_known (complete_lines came)) d)
-Ends s d AtWriteFault left left' out = IfSome left (λ bytes. (k : ℕ) × (k < length (transcript_from s (known_lines bytes) d))
-    × (out ≡ take k (transcript_from s (known_lines bytes) d)))
+    × (has_quit (complete_lines came) ≡ false) × (out ≡ transcript_from s (complete_lines came) d)
+Ends s d AtWriteFault left left' out = IfSome left (λ bytes. (k : ℕ) × (k < length (transcript_from s (lines_of bytes) d))
+    × (out ≡ take k (transcript_from s (lines_of bytes) d)))

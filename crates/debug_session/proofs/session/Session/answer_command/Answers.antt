@@ -2,7 +2,7 @@ use Rattle.std.proofs.Common.{◌≡◌, ◌<◌, ◌∙◌, ℕ, refl, sym, ap,
 use Rattle.std.specs.Io.KnownBytes.{Appends}
 use Rattle.gang_model.specs.Texts.CommandText.{command_of}
 use Rattle.gang_model.specs.Debugger.Debugger as model
-use Rattle.gang_model.specs.Source.Known.{as_known}
+use Rattle.debug_machine.specs.KnownLines.{as_known}
 use Rattle.gang_model.specs.Texts.Transcript.{is_quit, replied}
 use Rattle.debug_commands.specs.Views.{command_view, option_view}
 use Rattle.debug_machine.specs.Lines.{quits, reply_text}
