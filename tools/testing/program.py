@@ -46,6 +46,8 @@ def runs_of_scripts():
         answered("a line that is no command", script(FIRST, b"stop", b"", b"step"), b"C1 BadCommand\n" + at_start),
         answered("a second line %% is a command", script(FIRST, b"%%"), b"C1 BadCommand\n"),
         answered("lines that end in CR and LF", script(FIRST, b"step\r", b"s\r"), at_start + at_end),
+        answered("blanks behind a command", script(FIRST, b" \t", b"step  ", b"print \t x ", b" step"), at_start + b"x = 0 3 6 9\nC1 BadCommand\n"),
+        answered("lines of 256 and 257 bytes", script(FIRST, b"step".ljust(257), b"step".ljust(256)), b"C1 BadCommand\n" + at_start),
         refused("no line %%", FIRST, b"script: E2 NoScript\n"),
         refused("a line %% with a blank", FIRST + b"%% \nstep\n", b"script: E2 NoScript\n"),
         refused("nothing on standard input", b"", b"script: E2 NoScript\n"),
@@ -93,8 +95,38 @@ def runs_of_options():
     ]
 
 
+def long_sum(operators):
+    """A function of one declaration, whose value is a sum of so many ones and one more."""
+    return b"export void go() { int x = 1" + b" + 1" * operators + b"; }\n"
+
+
+def declarations(count):
+    """A function that declares so many variables, each in a line of its own."""
+    return b"export void go() {\n" + b"".join(b"int v%d;\n" % number for number in range(1, count + 1)) + b"}\n"
+
+
+def runs_at_limits():
+    """Sources at a limit and past it, and entries that are none."""
+    functions = b"void a() { }\nexport void b() { int x = 1; }\nexport void c() { }\n"
+    deep = b"export void go() { int x = " + b"(" * 64 + b"1; }\n"
+    sum_is = b"at 1:1055 go depth 1 lanes 1111\nx = 257 257 257 257\n"
+    last_is = b"at 258:1 go depth 1 lanes 1111\nv256 = 0 0 0 0\n"
+    return [
+        refused("a source of 65,537 bytes", b" " * 65_536 + b"\n%%\nstep\n", b"1:1: S13 Limit\n"),
+        refused("65 nestings", script(deep, b"step"), b"1:91: S4 TooDeep\n"),
+        refused("257 operators", script(long_sum(257), b"step"), b"1:1054: S13 Limit\n"),
+        answered("256 operators", script(long_sum(256), b"step", b"print x"), sum_is),
+        refused("257 variables", script(declarations(257), b"step"), b"258:5: S13 Limit\n"),
+        answered("256 variables", script(declarations(256), b"step 256", b"print v256"), last_is),
+        *[
+            refused(f"the entry {name!r}", script(functions, b"step"), b"entry: E1 NoEntry\n", ["--entry", name])
+            for name in ("a", "d", "bb", "x", "go")
+        ],
+    ]
+
+
 def runs():
-    return runs_of_scripts() + runs_of_files() + runs_of_options()
+    return runs_of_scripts() + runs_of_files() + runs_of_options() + runs_at_limits()
 
 
 def runs_of_bytes():
@@ -103,5 +135,6 @@ def runs_of_bytes():
     told = begins_with(b"error: ")
     return [
         refused("an entry that is not text", script(FIRST), told, ["--entry", b"\xff"]),
+        refused("an empty entry", script(FIRST), b"entry: E1 NoEntry\n", ["--entry", ""]),
         refused("a file whose name is not text", b"step\n", told, [b"\xff.ispc"], data=source),
     ]

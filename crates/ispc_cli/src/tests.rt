@@ -1,10 +1,5 @@
-//! Worked rows, refusals, and devices that fail or give little.
-mod entries;
+//! A worked row through devices that fail or give little, and refusals.
 mod options;
-mod programs;
-mod sources;
-
-ghost use Rattle.ispc_cli.specs.Ranges.{AreInRange};
 
 use crate::options::{Options, Width};
 use crate::refusal::{Refusal, write_refusal};
@@ -12,8 +7,6 @@ use crate::running::run;
 use crate::script::split_script;
 use gang_model::{RefusalNumber, SourceRefusal};
 use gang_types::Place;
-use std::alloc::Global;
-use std::test::Fail;
 use tests_devices::{BlankReader, PieceReader, PieceWriter};
 use transcript::Ending;
 
@@ -31,127 +24,15 @@ const OPTIONS: Options<'static> = Options {
     entry: None,
 };
 
-/// What a run of the commands on a source writes, through devices that give and take a few bytes at a time.
-fn transcript(
-    alloc: Global,
-    source: &[u8],
-    commands: &[u8],
-    most: usize,
-) -> (Result<Ending, Refusal>, PieceWriter) {
-    transcript_with(alloc, &OPTIONS, source, commands, most)
-}
-
-/// The same with options.
-fn transcript_with(
-    alloc: Global,
-    options: &Options<'_>,
-    source: &[u8],
-    commands: &[u8],
-    most: usize,
-) -> (Result<Ending, Refusal>, PieceWriter)
-    requires { AreInRange options.now }
-{
-    let mut reader = PieceReader::new(commands, most, 100_000);
-    let mut writer = PieceWriter::new(most, 100_000);
-    let end = run(alloc, source, b"", options, &mut reader, &mut writer);
-    (end, writer)
-}
-
-/// Runs a source; a failure unless each command has the answer beside it.
-fn answers(
-    alloc: Global,
-    options: &Options<'_>,
-    source: &str,
-    script: &[(&str, &str)],
-) -> Result<(), Fail>
-    requires { AreInRange options.now }
-{
-    let mut commands = String::new(alloc);
-    let mut wanted = String::new(alloc);
-    for (command, answer) in script {
-        commands.push_str(command)?;
-        commands.push('\n')?;
-        wanted.push_str(answer)?;
-        wanted.push('\n')?;
-    }
-    let (end, writer) = transcript_with(
-        alloc,
-        options,
-        source.as_bytes(),
-        commands.as_bytes(),
-        512,
-    );
-    let told = str::from_utf8(writer.bytes()).unwrap_or("?");
-    if end == Ok(Ending::EndOfCommands) && told == wanted.as_str() {
-        return Ok(());
-    }
-    Err(Fail::new(format_args!("{end:?} after {told}")))
-}
-
-/// The text of the refusal of a source, or what the run wrote.
-fn refusal_of(alloc: Global, options: &Options<'_>, source: &[u8]) -> PieceWriter
-    requires { AreInRange options.now }
-{
-    let (end, written) = transcript_with(alloc, options, source, COMMANDS, 512);
-    let mut text = PieceWriter::new(512, 512);
-    match end {
-        Err(refusal) if written.bytes().is_empty() => {
-            let _ = write_refusal(&refusal, &mut text);
-            text
-        }
-        _ => written,
-    }
-}
-
 #[test]
 fn runs_forwards_and_back(rt: HostRuntime) {
     for most in [1, 2, 7, 29, 512] {
-        let (end, writer) = transcript(rt.alloc(), SOURCE, COMMANDS, most);
+        let mut reader = PieceReader::new(COMMANDS, most, 1000);
+        let mut writer = PieceWriter::new(most, 1000);
+        let end = run(rt.alloc(), SOURCE, b"", &OPTIONS, &mut reader, &mut writer);
         assert_eq!(rt; end, Ok(Ending::EndOfCommands), "at {most}");
         assert!(rt; writer.bytes() == ANSWERS, "at {most}");
     }
-}
-
-#[test]
-fn runs_an_empty_function(rt: HostRuntime) {
-    let commands = b"step\nstep\nreverse-step\nreverse-step\n";
-    let answers = b"ended\nC4 Ended\nat 1:20 go depth 1 lanes 1111\nC3 NoHistory\n";
-    let (end, writer) = transcript(rt.alloc(), b"export void go() { }", commands, 512);
-    assert_eq!(rt; end, Ok(Ending::EndOfCommands));
-    assert!(rt; writer.bytes() == answers.as_slice());
-}
-
-#[test]
-fn answers_other_lines(rt: HostRuntime) {
-    let commands =
-        b"print x\n \t\r\nstep  \n print x\nprint y\np  x \nfinish\nstep 2\ns\nquit\nstep\n";
-    let answers =
-        b"C2 NoSuchName\nat 3:5 go depth 1 lanes 1111\nC1 BadCommand\nC2 NoSuchName\nx = 0 3 6 9\nC1 BadCommand\nended\nC4 Ended\n";
-    let (end, writer) = transcript(rt.alloc(), SOURCE, commands, 512);
-    assert_eq!(rt; end, Ok(Ending::Quit));
-    assert!(rt; writer.bytes() == answers.as_slice());
-}
-
-#[test]
-fn skips_a_long_line(rt: HostRuntime) {
-    let mut commands = [b' '; 515];
-    commands[..4].copy_from_slice(b"step");
-    commands[257] = b'\n';
-    commands[258..262].copy_from_slice(b"step");
-    commands[514] = b'\n';
-    let (end, writer) = transcript(rt.alloc(), SOURCE, &commands, 512);
-    assert_eq!(rt; end, Ok(Ending::EndOfCommands));
-    assert!(rt; writer.bytes() == b"C1 BadCommand\nat 3:5 go depth 1 lanes 1111\n".as_slice());
-}
-
-#[test]
-fn wraps_at_32_bits(rt: HostRuntime) {
-    let source = b"export void go() { int x = 2147483647 * programIndex + 2; x += x * x; }";
-    let commands = b"step\nprint x\nstep\nprint x\n";
-    let answers =
-        b"at 1:59 go depth 1 lanes 1111\nx = 2 -2147483647 0 2147483647\nat 1:71 go depth 1 lanes 1111\nx = 6 -2147483646 0 -2147483648\n";
-    let (_, writer) = transcript(rt.alloc(), source, commands, 512);
-    assert!(rt; writer.bytes() == answers.as_slice());
 }
 
 #[test]
