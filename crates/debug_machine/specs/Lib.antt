@@ -1,4 +1,2 @@
 pub mod Devices
-pub mod KnownLines
-pub mod Lines
 pub mod Machines

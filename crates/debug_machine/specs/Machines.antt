@@ -1,21 +1,70 @@
 -- What a machine's calls do, where it stands for a debugger's state.
-use Rattle.std.specs.Prelude.{◌≡◌, ℕ, ◌+◌, Bool, true, false, List, [], ◌∷◌, ◌++◌, length, Option, Some, None, Result, Ok, Err, codes, decimal}
+use Rattle.std.specs.Prelude.{◌≡◌, ℕ, ◌+◌, ◌==◌, ◌⊎◌, false, not, List, [], ◌∷◌, ◌++◌, filter, length, map, slice_get, Option, Some, None, Result, Ok, Err, codes, decimal, if◌then◌else◌}
 use Rattle.gang_types.specs.Masks.{lanes_of}
 use Rattle.undo_log.specs.declared.timeline.Undone.{Undone}
 use Rattle.undo_log.specs.declared.timeline.Undone.TheVariants as undone
 use Rattle.undo_log.specs.declared.timeline.NoHistory.{NoHistory}
-use Rattle.gang_model.specs.Types.Tree.{Variable}
+use Rattle.undo_log.specs.History.{History, marked, moment}
+use Rattle.gang_model.specs.Types.Tree.{Variable, Program}
 use Rattle.gang_model.specs.Running.Lanes.{Fault as ModelFault}
-use Rattle.gang_model.specs.Running.State.{State, words_in}
+use Rattle.gang_model.specs.Running.State.{Frame, State}
 use Rattle.gang_model.specs.Running.Step.{step, Goes, Fails, Over}
 use Rattle.gang_model.specs.Debugger.Events.{Event, Step, Poke}
-use Rattle.gang_model.specs.Debugger.Debugger.{Debugger, Setting, found, moved, now, taken_back}
-use Rattle.gang_model.specs.Texts.Text.{Bytes, bits, line_and_column}
+use Rattle.gang_model.specs.Debugger.Positions.{scope_now}
+use Rattle.gang_model.specs.Debugger.Debugger.{Debugger, Setting, bad_part, found, global_named, moved, now, poked_by, shown_words, taken_back}
+use Rattle.gang_model.specs.Texts.Text.{Bytes, bits, call_line, line, line_and_column}
 use Rattle.debug_machine.specs.declared.machine.Fault.{Fault}
+use Rattle.debug_machine.specs.declared.machine.NamedVariable.{NamedVariable}
 use Rattle.debug_machine.specs.declared.machine.Position.{Position}
 use Rattle.debug_machine.specs.declared.machine.Shown.{Shown}
 use Rattle.debug_machine.specs.declared.machine.StepEnd.{StepEnd}
 use Rattle.debug_machine.specs.declared.machine.StepEnd.TheVariants as end
+
+-- ---- names
+
+-- the variables of the file
+abbrev pub file_variables : Setting → List Variable
+file_variables s = map (λ g. g.variable) s.program.globals
+
+-- the local variables in scope, without the parameters
+abbrev pub listed : Setting → Debugger → List Variable
+listed s d = filter (λ v. not v.is_parameter) (scope_now s.program (now s d))
+
+-- a variable is one of a list
+abbrev pub IsOneOf : List Variable → Variable → Type 0
+IsOneOf variables v = (k : ℕ) × (slice_get variables k ≡ Some v)
+
+-- a variable in scope or of the file, and what can be shown of it
+pub record IsShown (s : Setting) (d : Debugger) (v : Variable) (shown : Shown) : Type 0 where
+  pub there : IsOneOf (scope_now s.program (now s d)) v ⊎ IsOneOf (file_variables s) v
+  pub id : v.id ≡ shown.id
+  pub type : v.type ≡ shown.value_type
+  pub rate : v.rate ≡ shown.rate
+  pub is_array : v.is_array ≡ shown.is_array
+  pub is_constant : v.is_constant ≡ shown.is_constant
+  pub count : length (shown_words (now s d) v) ≡ shown.count
+
+-- the variable of a name in scope, else at file scope; none where the name stands for nothing
+abbrev pub Finds : Setting → Debugger → List ℕ → Option Shown → Type 0
+Finds s d name None = found s.program (now s d) name ≡ None
+Finds s d name (Some shown) = (v : Variable) × (found s.program (now s d) name ≡ Some v) × IsShown s d v shown
+
+-- the number of the file-scope variable of a name; none where there is no such variable
+abbrev pub FindsInFile : Setting → List ℕ → Option ℕ → Type 0
+FindsInFile s name None = global_named s.program name ≡ None
+FindsInFile s name (Some number) = (v : Variable) × (global_named s.program name ≡ Some v) × (slice_get (file_variables s) number ≡ Some v)
+
+-- a variable is told by its name with what can be shown of it, or there is none
+abbrev pub ShowsNamed : Setting → Debugger → Option Variable → Option NamedVariable → Type 0
+ShowsNamed s d None None = Unit {0}
+ShowsNamed s d (Some v) (Some given) = (given.name.now ≡ v.name) × IsShown s d v given.shown
+ShowsNamed s d v given = ⊥
+
+-- a whole scalar, a lane of a varying one, or an element, inside what can be shown
+abbrev pub IsPart : Option ℕ → Shown → Type 0
+IsPart at shown = bad_part false at shown.is_array shown.rate shown.count ≡ None
+
+-- ---- events
 
 -- a fault of the definitions
 abbrev pub fault_view : Fault → ModelFault
@@ -38,20 +87,58 @@ Undoes stands s d (Ok kind) new = (event : Event) × (events : List Event) × (k
     × (d.events ≡ event ∷ events) × (d.kept ≡ kept + 1) × (kind ≡ kind_of event) × stands new s (taken_back d)
 Undoes stands s d (Err none) new = (d.kept ≡ 0) × stands new s d
 
+-- a value was set and recorded, and as many words can be shown as before
+abbrev pub Pokes : {M : Type 0} → (M → Setting → Debugger → Type 0) → Setting → Debugger → Variable → Shown → Option ℕ → (word : ℕ) → M → Type 0
+Pokes stands s d v shown at word new =
+    stands new s (moved (Poke (poked_by v at) word) d) × IsShown s (moved (Poke (poked_by v at) word) d) v shown
+
+-- ---- all words
+
+-- an event is kept with all words before it, the oldest one going past the limit; there are as many words as before
+abbrev pub RecordsWords : Undone → History → History → Type 0
+RecordsWords kind old new = (new.past ≡ (marked kind old).past) × (new.limit ≡ old.limit) × (length new.words ≡ length old.words)
+
+-- a step that was done is recorded; else all words, now and before each event, are as they were
+abbrev pub StepsWords : History → StepEnd → History → Type 0
+StepsWords old end.Done new = RecordsWords undone.Step old new
+StepsWords old (end.Fault fault) new = new ≡ old
+StepsWords old end.Ended new = new ≡ old
+
+-- a poke is recorded
+abbrev pub PokesWords : History → History → Type 0
+PokesWords old new = RecordsWords undone.Poke old new
+
+-- all words are those before the newest event kept, and those before the other events are as they were; or none is kept, and nothing changed
+abbrev pub UndoesWords : History → Result Undone NoHistory → History → Type 0
+UndoesWords old (Ok kind) new = (old.past ≡ moment kind new.words ∷ new.past) × (new.limit ≡ old.limit)
+UndoesWords old (Err none) new = (old.past ≡ []) × (new ≡ old)
+
+-- ---- places
+
 -- AT LINE:COL FUNCTION depth D lanes BITS, or `ended`
 abbrev pub position_text : Option Position → Bytes
 position_text None = codes "ended"
 position_text (Some p) =
     codes "at " ++ line_and_column p.place ++ codes " " ++ p.function.now ++ codes " depth " ++ decimal p.depth ++ codes " lanes " ++ bits (lanes_of p.width p.lanes)
 
--- a variable that is shown as its words in this order
-pub record IsShown (s : Setting) (d : Debugger) (v : Variable) (shown : Shown) : Type 0 where
-  pub id : v.id ≡ shown.id
-  pub type : v.type ≡ shown.value_type
-  pub is_scalar : v.is_array ≡ false
-  pub count : length (words_in (now s d) v.id) ≡ shown.count
+-- the line of a position
+abbrev pub line_of_position : Option Position → Option ℕ
+line_of_position None = None
+line_of_position (Some p) = Some p.place.line
 
--- the scalar of a name in scope, else at file scope; none where the name stands for nothing
-abbrev pub Finds : Setting → Debugger → List ℕ → Option Shown → Type 0
-Finds s d name None = found s.program (now s d) name ≡ None
-Finds s d name (Some shown) = (v : Variable) × (found s.program (now s d) name ≡ Some v) × IsShown s d v shown
+-- how many frames there are; a program that has ended counts as depth 1
+abbrev pub depth_of : Option Position → ℕ
+depth_of None = 1
+depth_of (Some p) = p.depth
+
+-- the line of the call that the frame at a depth made
+abbrev pub call_text : Program → (depth : ℕ) → List Frame → Bytes
+call_text p deep [] = []
+call_text p deep (inner ∷ []) = []
+call_text p deep (inner ∷ frame ∷ frames) =
+    if length (frame ∷ frames) == deep then call_line p inner.call frame.function deep inner.lanes else call_text p deep (frame ∷ frames)
+
+-- a position as a line, nothing where there is none
+abbrev pub position_line : Option Position → Bytes
+position_line None = []
+position_line (Some p) = line (position_text (Some p))

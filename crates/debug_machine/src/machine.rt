@@ -1,13 +1,13 @@
-//! A machine whose steps are recorded.
-ghost use Rattle.std.specs.Prelude.{◌≡◌, ℕ, ◌<◌, false, length, slice_index, IfSome};
+//! A machine whose events are recorded.
+ghost use Rattle.std.specs.Prelude.{◌≡◌, ℕ, ◌<◌, ◌≤◌, false, is_none, length, slice_get, slice_index, IfSome, None};
 ghost use Rattle.gang_types.specs.Masks.{IsGangWidth};
 ghost use Rattle.gang_model.specs.Types.Tree.{Variable};
-ghost use Rattle.gang_model.specs.Running.State.{words_in};
-ghost use Rattle.gang_model.specs.Debugger.Debugger.{Debugger, Setting, kept_steps, now};
+ghost use Rattle.gang_model.specs.Debugger.Positions.{line_now};
+ghost use Rattle.gang_model.specs.Debugger.Debugger.{Debugger, Setting, bad_part, depth, found, has_ended, kept_steps, least_from, now, shown_words, step_lines};
 ghost use Rattle.gang_model.specs.Texts.Text.{where_text};
-ghost use Rattle.debug_machine.specs.Machines.{Finds, Steps, Undoes, position_text};
+ghost use Rattle.debug_machine.specs.Machines.{Finds, FindsInFile, IsPart, IsShown, Pokes, PokesWords, ShowsNamed, Steps, StepsWords, Undoes, UndoesWords, call_text, depth_of, file_variables, line_of_position, listed, position_line, position_text};
 
-use gang_types::{FaultName, IntType, Mask, Place, VarId};
+use gang_types::{FaultName, IntType, Mask, Place, Rate, VarId};
 use undo_log::{NoHistory, Undone};
 
 /// A fault, at its lane.
@@ -27,8 +27,8 @@ pub enum StepEnd {
     Ended,
 }
 
-/// Where a machine stands: the next step's place, its function's name, how many calls have not been left, how many lanes
-/// the gang has, and the active ones.
+/// Where a frame stands: the place of its next step, or of the call that it made, its function's name, its depth, how many
+/// lanes the gang has, and the active ones.
 #[derive(Clone, Copy)]
 pub struct Position<'a> {
     pub place: Place,
@@ -38,51 +38,106 @@ pub struct Position<'a> {
     pub lanes: Mask,
 }
 
-/// A scalar that can be shown: the variable, its type, and how many words it has.
+/// What can be shown of a variable: its words, so many, are those of a scalar or the elements of an array.
 #[derive(Clone, Copy, Debug, PartialEq, Eq)]
 pub struct Shown {
     pub id: VarId,
     pub value_type: IntType,
+    pub rate: Rate,
+    pub is_array: bool,
+    pub is_constant: bool,
     pub count: usize,
 }
 
-/// Runs a program step by step, and takes steps back. No call takes memory.
+/// A variable by its name.
+#[derive(Clone, Copy, Debug)]
+pub struct NamedVariable<'a> {
+    pub name: &'a [u8],
+    pub shown: Shown,
+}
+
+/// Runs a program step by step, takes values from outside, and takes both back. No call takes memory.
+///
+/// What a call tells of a variable or of a place is said of each state of the debugger of the definitions that the machine
+/// stands for. A variable that is none of that state has no meaning, and any word may be answered for it.
 pub trait RecordedMachine {
-    ghost use Rattle.std.specs.Prelude.{ℕ};
-    ghost use Rattle.gang_types.specs.declared.places.VarId.{VarId};
+    ghost use Rattle.undo_log.specs.History.{History};
     ghost use Rattle.gang_model.specs.Debugger.Debugger.{Debugger, Setting};
 
     // Whether it stands where the debugger of the definitions stands: its words show the state after the events, and the
     // words that it keeps show the states before the events that can be taken back.
     ghost stands: { Self → Setting → Debugger → Type 0 };
 
-    // Whether it has a word of this number for a variable.
-    ghost holds: { Self → VarId → ℕ → Type 0 };
+    // All its words, and the words before each event that can be taken back.
+    ghost history: { Self → History };
 
     /// Does the next step and records it.
     fn step(&mut self) -> StepEnd
-        ensures { (s : Setting) (d : Debugger) → stands self.old s d → Steps stands s d result self.new };
+        ensures step { (s : Setting) (d : Debugger) → stands self.old s d → Steps stands s d result self.new }
+        ensures words { StepsWords (history self.old) result (history self.new) };
 
     /// Takes the newest event back.
     fn undo(&mut self) -> Result<Undone, NoHistory>
-        ensures { (s : Setting) (d : Debugger) → stands self.old s d → Undoes stands s d result self.new };
+        ensures undo { (s : Setting) (d : Debugger) → stands self.old s d → Undoes stands s d result self.new }
+        ensures words { UndoesWords (history self.old) result (history self.new) };
+
+    /// Sets a scalar, in all lanes or in one, or an element of an array, and records it.
+    fn poke(&mut self, shown: Shown, at: Option<u32>, word: u64)
+        ensures poke { (s : Setting) (d : Debugger) (v : Variable) → stands self.old s d → IsShown s d v shown → IsPart at shown
+            → Pokes stands s d v shown at word self.new }
+        ensures words { PokesWords (history self.old) (history self.new) };
+
+    /// The number of events that can be taken back.
+    fn kept(&self) -> usize
+        ensures { (s : Setting) (d : Debugger) → stands self.now s d → result ≡ d.kept };
 
     /// The number of steps that can be taken back.
     fn kept_steps(&self) -> usize
         ensures { (s : Setting) (d : Debugger) → stands self.now s d → result ≡ kept_steps d };
 
+    /// The most events that can be taken back.
+    fn limit(&self) -> usize
+        ensures { (s : Setting) (d : Debugger) → stands self.now s d → result ≡ d.history };
+
     /// Where it stands, unless the program has ended.
     fn position(&self) -> Option<Position<'_>>
         ensures place { (s : Setting) (d : Debugger) → stands self.now s d → where_text s.program (now s d) ≡ position_text result }
+        ensures line { (s : Setting) (d : Debugger) → stands self.now s d → line_now s.program (now s d) ≡ line_of_position result }
+        ensures depth { (s : Setting) (d : Debugger) → stands self.now s d → depth (now s d) ≡ depth_of result }
         ensures width { IfSome result (λ position. IsGangWidth position.width) };
 
-    /// The scalar of a name in scope, else at file scope.
-    fn find(&self, name: &[u8]) -> Option<Shown>
-        ensures found { (s : Setting) (d : Debugger) → stands self.now s d → Finds s d name.now result }
-        ensures held { IfSome result (λ shown. (k : ℕ) → k < shown.count → holds self.now shown.id k) };
+    /// Where the call stands that the frame at a depth made, if it made one that has not been left.
+    fn call(&self, depth: usize) -> Option<Position<'_>>
+        ensures place { (s : Setting) (d : Debugger) → stands self.now s d → call_text s.program depth (now s d).frames ≡ position_line result }
+        ensures width { IfSome result (λ position. IsGangWidth position.width) };
 
-    /// A word of a scalar that was found.
-    fn word(&self, variable: VarId, index: usize) -> u64
-        requires { holds self.now variable index }
-        ensures { (s : Setting) (d : Debugger) → stands self.now s d → result ≡ slice_index (words_in (now s d) variable) index };
+    /// The variable of a name in scope, else at file scope.
+    fn find(&self, name: &[u8]) -> Option<Shown>
+        ensures { (s : Setting) (d : Debugger) → stands self.now s d → Finds s d name.now result };
+
+    /// The number of the file-scope variable of a name.
+    fn find_in_file(&self, name: &[u8]) -> Option<usize>
+        ensures { (s : Setting) (d : Debugger) → stands self.now s d → FindsInFile s name.now result };
+
+    /// The file-scope variable of a number.
+    fn file_variable(&self, number: usize) -> Option<NamedVariable<'_>>
+        ensures shown { (s : Setting) (d : Debugger) → stands self.now s d → ShowsNamed s d (slice_get (file_variables s) number) result }
+        ensures few { IfSome result (λ v. v.shown.is_array ≡ false → v.shown.count ≤ 16) };
+
+    /// How many local variables are in scope where it stands, parameters left out.
+    fn local_count(&self) -> usize
+        ensures { (s : Setting) (d : Debugger) → stands self.now s d → result ≡ length (listed s d) };
+
+    /// A local variable in scope where it stands, parameters left out, by its number among them.
+    fn local_variable(&self, number: usize) -> Option<NamedVariable<'_>>
+        ensures { (s : Setting) (d : Debugger) → stands self.now s d → ShowsNamed s d (slice_get (listed s d) number) result };
+
+    /// A word of a variable.
+    fn word(&self, shown: Shown, index: usize) -> u64
+        ensures { (s : Setting) (d : Debugger) (v : Variable) → stands self.now s d → IsShown s d v shown → index < shown.count
+            → result ≡ slice_index (shown_words (now s d) v) index };
+
+    /// The first line from this one on that has a step or a closing brace.
+    fn line_from(&self, line: u32) -> Option<u32>
+        ensures { (s : Setting) (d : Debugger) → stands self.now s d → result ≡ least_from line (step_lines s.program) };
 }
