@@ -13,7 +13,7 @@ use Rattle.gang_model.specs.Running.Lanes.{Fault}
 use Rattle.gang_model.specs.Types.Tree.{Stmt, Var}
 use Rattle.gang_model.specs.Running.State.{State, with_words_in, words_in}
 use Rattle.gang_model.specs.Running.Step.{run, step, stepped, Goes, Fails, Over}
-use Rattle.gang_model.specs.Debugger.Events.{Step}
+use Rattle.gang_model.specs.Debugger.Events.{Step, gone}
 use Rattle.gang_model.specs.Debugger.Debugger.{Debugger, Setting, moved, now}
 use Rattle.scalar_programs.specs.Scalars.{declared_before, declared_by, steps_in_line, var_at}
 use Rattle.typed_tree.specs.declared.program.Function.{Function as TreeFunction}
@@ -35,7 +35,7 @@ length_kept : (w : ℕ) (rate : Rate) (values : List ℕ) → length values ≡ 
 length_kept w Uniform values long = refl
 length_kept w Varying values long = long
 
-module _ (w entry locals : ℕ) (f : TreeFunction) (globals : List TreeGlobal) (h : History) (machine : IsRunning w f globals locals h) where
+module _ (w entry locals : ℕ) (f : TreeFunction) (globals : List TreeGlobal) (lines : List ℕ) (h : History) (machine : IsRunning w f globals locals h) where
   abbrev steps : List Stmt
   steps = steps_in_line (function_view f).body
 
@@ -63,21 +63,21 @@ module _ (w entry locals : ℕ) (f : TreeFunction) (globals : List TreeGlobal) (
       omega (arith, inside, more, within, machine.enough)
 
   pub target_lies : (x : Stmt) (v : Var) → Next x v → (place_of (length globals) v.id < 2 ^ 64) × (slot_of w (place_of (length globals) v.id + 1) 0 ≤ length h.words)
-  target_lies x v next = place_inside w entry locals f globals h machine (place_of (length globals) v.id) (target_place x v next v.id (alters_next x v next).here)
+  target_lies x v next = place_inside w entry locals f globals lines h machine (place_of (length globals) v.id) (target_place x v next v.id (alters_next x v next).here)
 
-  module _ (s : Setting) (d : Debugger) (stands : Stands (view_of w entry f globals h) s d) where
+  module _ (s : Setting) (d : Debugger) (stands : Stands (view_of w entry f globals lines h) s d) where
     -- the program had ended
     pub ended : (at : ℕ) → at ≡ position h.words → length steps < at → step s.program (now s d) ≡ Over
     ended at at_is past = over w entry (file_of globals) (function_view f) s.program h.words (now s d) stands.words (omega (arith, at_is, past))
 
     -- the function is left
     pub left_behind : (new : History) (at : ℕ) → at ≡ position h.words → at ≡ length steps → new.words ≡ set h.words 0 (at + 1) → new.past ≡ take h.limit (moment undone.Step h.words ∷ h.past) → new.limit ≡ h.limit
-        → (next : State) × (step s.program (now s d) ≡ Goes next) × Stands (view_of w entry f globals new) s (moved Step d)
+        → (next : State) × (step s.program (now s d) ≡ Goes next) × Stands (view_of w entry f globals lines new) s (moved Step d)
     left_behind new at at_is last words past limit =
         let next_is : position new.words ≡ suc (position h.words) = ap position words ∙ (get_or-set_same h.words 0 (at + 1) 0 (omega (arith, machine.long)) ∙ omega (arith, at_is)) in
         let same : (place lane : ℕ) → slice_index new.words (slot_of w place lane) ≡ slice_index h.words (slot_of w place lane) = λ place lane. ap (λ ws. slice_index ws (slot_of w place lane)) words ∙ beside_position h.words w place lane (at + 1) in
         let (next, goes, shows) = leaves w entry (file_of globals) (function_view f) s.program h.words new.words (now s d) stands.function stands.words (omega (arith, at_is, last)) next_is same in
-        (next, goes, stands_moved w entry f globals h s d stands new next goes shows past limit)
+        (next, goes, stands_moved w entry f globals lines h s d stands Step new next (ap (λ r. gone r (now s d)) goes) shows past limit)
 
     -- the frame of the next step
     abbrev frame_next : (x : Stmt) → slice_get steps (position h.words) ≡ Some x → RunsIn w entry (file_of globals) (function_view f) h.words (now s d) x
@@ -120,7 +120,7 @@ module _ (w entry locals : ℕ) (f : TreeFunction) (globals : List TreeGlobal) (
         → run s.program x (all_lanes w) (state_next x next.get) ≡ Ok (with_words_in (state_next x next.get) v.id (kept_words v.rate values))
         → Stored w (place_of (length globals) v.id) (rate_words w v.rate) (λ lane. slice_index values lane) h.words mid → new.words ≡ set mid 0 (at + 1)
         → new.past ≡ take h.limit (moment undone.Step h.words ∷ h.past) → new.limit ≡ h.limit
-        → (next : State) × (step s.program (now s d) ≡ Goes next) × Stands (view_of w entry f globals new) s (moved Step d)
+        → (next : State) × (step s.program (now s d) ≡ Goes next) × Stands (view_of w entry f globals lines new) s (moved Step d)
     advanced new mid values at x v next at_is long ran stored words past limit =
         let some = some_lanes w machine.width_is in
         let file = length_file w globals machine.scalars in
@@ -136,4 +136,4 @@ module _ (w entry locals : ℕ) (f : TreeFunction) (globals : List TreeGlobal) (
           long = length_kept w v.rate values long;
         } in
         let (after, goes, shows) = steps_on w entry (file_of globals) (function_view f) s.program h.words new.words values (now s d) x v some stands.words at_step (frame_next x next.get) ran in
-        (after, goes, stands_moved w entry f globals h s d stands new after goes shows past limit)
+        (after, goes, stands_moved w entry f globals lines h s d stands Step new after (ap (λ r. gone r (now s d)) goes) shows past limit)

@@ -1,5 +1,5 @@
 -- The first variable of a name in a list.
-use Rattle.std.proofs.Common.{◌≡◌, refl, sym, ap, subst, ◌∙◌, ℕ, zero, suc, ◌+◌, ◌<◌, Bool, true, false, List, [], ◌∷◌, length, drop, get_or, Some, arith}
+use Rattle.std.proofs.Common.{◌≡◌, refl, sym, ap, ◌∙◌, ℕ, zero, suc, ◌+◌, ◌<◌, Bool, true, false, List, [], ◌∷◌, length, drop, get_or, Some, arith}
 use Rattle.std.proofs.lemmas.Option.{get_or_from_slice_get, slice_get-map, slice_get_read}
 use Rattle.std.specs.Prelude.{bytes_eq, map, option_map, slice_get, if◌then◌else◌}
 use Rattle.gang_types.specs.declared.places.VarId.TheVariants.{Local}
@@ -31,14 +31,14 @@ named_later name vs k v get other more =
     let next : k + 1 ≡ suc k = omega arith in
     ap (λ n. named name (drop n vs)) next ∙ sym (named_here name v (drop (suc k) vs) false other) ∙ sym (ap (named name) (drop_first vs k v get)) ∙ more
 
--- what is so of all variables is so of one that is found
-pub found_all : (P : Variable → Type 0) (vs : List Variable) (name : List ℕ) (v : Variable) → ((k : ℕ) (u : Variable) → slice_get vs k ≡ Some u → P u) → named name vs ≡ Some v → P v
-found_all P [] name v all e = cc
-found_all P (u ∷ vs) name v all e = either (same_text u.name name) e (λ f. found_all P vs name v (λ k w get. all (suc k) w get) f)
+-- a variable that is found is one of them
+pub named_there : (name : List ℕ) (vs : List Variable) (v : Variable) → named name vs ≡ Some v → (k : ℕ) × (slice_get vs k ≡ Some v)
+named_there name [] v e = cc
+named_there name (u ∷ vs) v e = either (same_text u.name name) e (named_there name vs v)
   where
-    either : (b : Bool) → (if b then Some u else named name vs) ≡ Some v → (named name vs ≡ Some v → P v) → P v
-    either true is more = let same : u ≡ v = cc in subst P same (all 0 u refl)
-    either false is more = more is
+    either : (b : Bool) → (if b then Some u else named name vs) ≡ Some v → (named name vs ≡ Some v → (k : ℕ) × (slice_get vs k ≡ Some v)) → (k : ℕ) × (slice_get (u ∷ vs) k ≡ Some v)
+    either true is more = (0, is)
+    either false is more = let (k, get) = more is in (suc k, get)
 
 -- ---- the variables of a function
 

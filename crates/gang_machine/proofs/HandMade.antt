@@ -49,10 +49,11 @@ abbrev pub declaration_of : Vec ℕ Global → Declaration
 declaration_of name = record { name = name; outside = None }
 
 -- what the program is made of
-pub record IsMade (p : Program) (f : Function) (v d n : Vec ℕ Global) : Type 0 where
-  pub functions : p.functions.items ≡ f ∷ []
+pub record IsMade (p : Program) (f other : Function) (v d n : Vec ℕ Global) : Type 0 where
+  pub functions : p.functions.items ≡ f ∷ other ∷ []
   pub globals : p.globals.items ≡ file_variable n ∷ []
   pub body_is : f.body.items ≡ body
+  pub other_is_empty : other.body.items ≡ []
   pub variables : f.variables.items ≡ local_of v ∷ []
   pub declarations : f.scopes.declarations.items ≡ declaration_of d ∷ []
   pub standings : f.scopes.standings.items ≡ places
@@ -96,8 +97,8 @@ scopes_made v d n (suc (suc zero)) s get = subst (λ (s : ModelStanding). All (I
 scopes_made v d n (suc (suc (suc zero))) s get = subst (λ (s : ModelStanding). All (IsName n) s.scope) (same_some (there v d (standing 6 (Some 0))) s get) (one_named v n)
 scopes_made v d n (suc (suc (suc (suc i)))) s get = absurd (none_some s get)
 
-pub scalar_made : (p : Program) (f : Function) (v d n : Vec ℕ Global) → IsMade p f v d n → IsScalarProgram (program_view p) 0
-scalar_made p f v d n made = record {
+pub scalar_made : (p : Program) (f other : Function) (v d n : Vec ℕ Global) → IsMade p f other v d n → IsScalarProgram (program_view p) 0
+scalar_made p f other v d n made = record {
   function = function_view f;
   is_entry = ap (λ fs. slice_get (map function_view fs) 0) made.functions;
   straight = record {
@@ -118,12 +119,16 @@ scalar_made p f v d n made = record {
     first_made n zero u get = let same = same_some (global_view (file_variable n)).variable u get in (sym (ap (λ (w : ModelVariable). w.id) same), sym (ap (λ (w : ModelVariable). w.is_array) same))
     first_made n (suc k) u get = absurd (none_some u get)
 
-pub numbered_made : (p : Program) (f : Function) (v d n : Vec ℕ Global) → IsMade p f v d n → IsNumberedProgram (program_view p)
-numbered_made p f v d n made = subst (λ fs. (i : ℕ) (x : ModelFunction) → slice_get (map function_view fs) i ≡ Some x → IsNumbered 0 x.body) (sym made.functions) one
+pub numbered_made : (p : Program) (f other : Function) (v d n : Vec ℕ Global) → IsMade p f other v d n → IsNumberedProgram (program_view p)
+numbered_made p f other v d n made = subst (λ fs. (i : ℕ) (x : ModelFunction) → slice_get (map function_view fs) i ≡ Some x → IsNumbered 0 x.body) (sym made.functions) one
   where
     here : IsNumbered 0 (function_view f).body
     here = subst (λ b. IsNumbered 0 (stmts_view b)) (sym made.body_is) (refl, (refl, (refl, tt)))
 
-    one : (i : ℕ) (x : ModelFunction) → slice_get (function_view f ∷ []) i ≡ Some x → IsNumbered 0 x.body
+    empty : IsNumbered 0 (function_view other).body
+    empty = subst (λ b. IsNumbered 0 (stmts_view b)) (sym made.other_is_empty) tt
+
+    one : (i : ℕ) (x : ModelFunction) → slice_get (function_view f ∷ function_view other ∷ []) i ≡ Some x → IsNumbered 0 x.body
     one zero x get = let same = same_some (function_view f) x get in subst (λ (x : ModelFunction). IsNumbered 0 x.body) same here
-    one (suc i) x get = absurd (none_some x get)
+    one (suc zero) x get = let same = same_some (function_view other) x get in subst (λ (x : ModelFunction). IsNumbered 0 x.body) same empty
+    one (suc (suc i)) x get = absurd (none_some x get)

@@ -3,13 +3,11 @@ use Rattle.std.proofs.Common.{◌≡◌, ℕ, zero, suc, ◌+◌, List, [], ◌�
 use Rattle.std.proofs.lemmas.List.{length-take}
 use Rattle.std.specs.Prelude.{cond, filter, fold}
 use Rattle.undo_log.specs.declared.timeline.Undone.{Undone}
-use Rattle.undo_log.specs.declared.timeline.Undone.TheVariants as undone
 use Rattle.undo_log.specs.History.{History, Moment, moment, steps_in, is_step as is_kept_step}
 use Rattle.debug_machine.specs.Machines.{kind_of}
 use Rattle.gang_model.specs.Types.Tree.{Var, Function}
 use Rattle.gang_model.specs.Running.State.{State}
-use Rattle.gang_model.specs.Running.Step.{step, Goes}
-use Rattle.gang_model.specs.Debugger.Events.{Event, Step, Poke, gone}
+use Rattle.gang_model.specs.Debugger.Events.{Event, Step, Poke, happen}
 use Rattle.gang_model.specs.Debugger.Debugger.{Debugger, Setting, is_step, kept_steps, moved, now, taken_back}
 use Rattle.typed_tree.specs.declared.program.Function.{Function as TreeFunction}
 use Rattle.typed_tree.specs.declared.program.Global.{Global as TreeGlobal}
@@ -38,26 +36,27 @@ count_from (Poke what word ∷ events) n = count_from events (n + 0) ∙ omega a
 
 -- ---- a machine
 
-module _ (w entry : ℕ) (f : TreeFunction) (globals : List TreeGlobal) (old : History) (s : Setting) (d : Debugger) (stands : Stands (view_of w entry f globals old) s d) where
-  -- a step that is recorded, and does what the definitions' does
-  pub stands_moved : (new : History) (next : State) → step s.program (now s d) ≡ Goes next → Shows w entry (file_of globals) (function_view f) new.words next
-      → new.past ≡ take old.limit (moment undone.Step old.words ∷ old.past) → new.limit ≡ old.limit → Stands (view_of w entry f globals new) s (moved Step d)
-  stands_moved new next goes shows past limit = record {
+module _ (w entry : ℕ) (f : TreeFunction) (globals : List TreeGlobal) (lines : List ℕ) (old : History) (s : Setting) (d : Debugger) (stands : Stands (view_of w entry f globals lines old) s d) where
+  -- an event that is recorded, and does what the definitions' does
+  pub stands_moved : (event : Event) (new : History) (next : State) → happen s.program event (now s d) ≡ next → Shows w entry (file_of globals) (function_view f) new.words next
+      → new.past ≡ take old.limit (moment (kind_of event) old.words ∷ old.past) → new.limit ≡ old.limit → Stands (view_of w entry f globals lines new) s (moved event d)
+  stands_moved event new next happens shows past limit = record {
     function = stands.function;
     globals = stands.globals;
-    words = subst (λ r. Shows w entry (file_of globals) (function_view f) new.words (gone r (now s d))) (sym goes) shows;
-    past = rw past (kept_front w entry (file_of globals) (function_view f) s old.limit (Step ∷ d.events) (moment undone.Step old.words ∷ old.past) (refl, stands.words, stands.past));
+    lines = stands.lines;
+    words = subst (Shows w entry (file_of globals) (function_view f) new.words) (sym happens) shows;
+    past = rw past (kept_front w entry (file_of globals) (function_view f) s old.limit (event ∷ d.events) (moment (kind_of event) old.words ∷ old.past) (refl, stands.words, stands.past));
     kept = rw (past, length-take, stands.kept, stands.limit) (omega arith);
     limit = stands.limit ∙ sym limit;
   }
 
   -- the newest event is taken back
   pub stands_undone : (new : History) (kind : Undone) → old.past ≡ moment kind new.words ∷ new.past → new.limit ≡ old.limit
-      → (event : Event) × (events : List Event) × (kept : ℕ) × (d.events ≡ event ∷ events) × (d.kept ≡ kept + 1) × (kind ≡ kind_of event) × Stands (view_of w entry f globals new) s (taken_back d)
+      → (event : Event) × (events : List Event) × (kept : ℕ) × (d.events ≡ event ∷ events) × (d.kept ≡ kept + 1) × (kind ≡ kind_of event) × Stands (view_of w entry f globals lines new) s (taken_back d)
   stands_undone new kind past limit = go d.events refl (subst (AreKept w entry (file_of globals) (function_view f) s d.events) past stands.past) (stands.kept ∙ ap length past)
     where
       go : (events : List Event) → d.events ≡ events → AreKept w entry (file_of globals) (function_view f) s d.events (moment kind new.words ∷ new.past) → d.kept ≡ suc (length new.past)
-          → (event : Event) × (events : List Event) × (kept : ℕ) × (d.events ≡ event ∷ events) × (d.kept ≡ kept + 1) × (kind ≡ kind_of event) × Stands (view_of w entry f globals new) s (taken_back d)
+          → (event : Event) × (events : List Event) × (kept : ℕ) × (d.events ≡ event ∷ events) × (d.kept ≡ kept + 1) × (kind ≡ kind_of event) × Stands (view_of w entry f globals lines new) s (taken_back d)
       go [] is are count = absurd (subst (λ events. AreKept w entry (file_of globals) (function_view f) s events (moment kind new.words ∷ new.past)) is are)
       go (event ∷ events) is are count =
           let all = subst (λ events. AreKept w entry (file_of globals) (function_view f) s events (moment kind new.words ∷ new.past)) is are in (
@@ -70,6 +69,7 @@ module _ (w entry : ℕ) (f : TreeFunction) (globals : List TreeGlobal) (old : H
             record {
               function = stands.function;
               globals = stands.globals;
+              lines = stands.lines;
               words = rw is all.1;
               past = rw is all.2;
               kept = omega (arith, count);

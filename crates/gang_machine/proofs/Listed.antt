@@ -1,7 +1,6 @@
 -- The variables that are listed at a step, by their numbers: the first one of a name.
-use Rattle.std.proofs.Common.{◌≡◌, refl, sym, ap, ◌∙◌, ℕ, suc, ◌+◌, ◌-◌, ◌<◌, ◌≤◌, cond, eqb, Bool, true, false, List, [], ◌∷◌, length, get_or, Option, Some, None, arith}
-use Rattle.std.specs.Prelude.{map, filter, option_map, slice_get, if◌then◌else◌}
-use Rattle.std.specs.List.{range_with_len}
+use Rattle.std.proofs.Common.{◌≡◌, refl, sym, ap, ◌∙◌, ℕ, suc, ◌+◌, ◌-◌, ◌<◌, cond, eqb, Bool, true, false, List, [], ◌∷◌, length, get_or, Option, Some, None, arith}
+use Rattle.std.specs.Prelude.{map, filter, not, option_map, slice_get, if◌then◌else◌}
 use Rattle.std.specs.Option.{option_eq}
 use Rattle.std.proofs.lemmas.Option.{slice_get-map}
 use Rattle.std.proofs.lemmas.Simd.{map-map}
@@ -98,3 +97,59 @@ number_other vs test name a n lt other = sym (front_named vs test name a n false
 pub number_hidden : (vs : List Variable) (test : ℕ → Bool) (name : List ℕ) (a n : ℕ) → a < n → test a ≡ false
     → named name (from_number vs test (a + 1) n) ≡ named name (from_number vs test a n)
 number_hidden vs test name a n lt hidden = sym (front_named vs test name a n (same_text (local_at vs (Local a)).name name) false lt hidden refl)
+
+-- ---- those without parameters
+
+-- the variables that are listed from a number on, without parameters
+abbrev pub locals_from : List Variable → (ℕ → Bool) → (a n : ℕ) → List Variable
+locals_from vs test a n = filter (λ v. not v.is_parameter) (from_number vs test a n)
+
+front_local : (vs : List Variable) (test : ℕ → Bool) (a n : ℕ) (t p : Bool) → a < n → test a ≡ t → (local_at vs (Local a)).is_parameter ≡ p
+    → locals_from vs test a n ≡ cond t (cond (not p) (local_at vs (Local a) ∷ locals_from vs test (a + 1) n) (locals_from vs test (a + 1) n)) (locals_from vs test (a + 1) n)
+front_local vs test a n t p lt passes is = ap (λ js. filter (λ v. not v.is_parameter) (map (λ j. local_at vs (Local j)) js)) (front_number test a n lt) ∙ ap pick passes ∙ chosen t
+  where
+    rest : List ℕ
+    rest = passing test (a + 1) n
+
+    pick : Bool → List Variable
+    pick t = filter (λ v. not v.is_parameter) (map (λ j. local_at vs (Local j)) (cond t (a ∷ rest) rest))
+
+    chosen : (t : Bool) → pick t ≡ cond t (cond (not p) (local_at vs (Local a) ∷ locals_from vs test (a + 1) n) (locals_from vs test (a + 1) n)) (locals_from vs test (a + 1) n)
+    chosen true = ap (λ p. cond (not p) (local_at vs (Local a) ∷ locals_from vs test (a + 1) n) (locals_from vs test (a + 1) n)) is
+    chosen false = refl
+
+-- the variable of a number is the first of them
+pub local_first : (vs : List Variable) (test : ℕ → Bool) (a n left : ℕ) → a < n → test a ≡ true → (local_at vs (Local a)).is_parameter ≡ false → left ≡ 0
+    → slice_get (locals_from vs test a n) left ≡ Some (local_at vs (Local a))
+local_first vs test a n left lt passes own none =
+    ap (λ us. slice_get us left) (front_local vs test a n true false lt passes own) ∙ ap (slice_get (local_at vs (Local a) ∷ locals_from vs test (a + 1) n)) none
+
+-- another one is wanted
+pub local_later : (vs : List Variable) (test : ℕ → Bool) (a n left : ℕ) → a < n → test a ≡ true → (local_at vs (Local a)).is_parameter ≡ false → (left ≡ 0 → ⊥)
+    → slice_get (locals_from vs test (a + 1) n) (left - 1) ≡ slice_get (locals_from vs test a n) left
+local_later vs test a n left lt passes own some =
+    let more : left ≡ suc (left - 1) = omega arith in
+    sym (ap (λ us. slice_get us left) (front_local vs test a n true false lt passes own) ∙ ap (slice_get (local_at vs (Local a) ∷ locals_from vs test (a + 1) n)) more)
+
+-- it is one more of them
+pub local_counted : (vs : List Variable) (test : ℕ → Bool) (a n : ℕ) → a < n → test a ≡ true → (local_at vs (Local a)).is_parameter ≡ false
+    → length (locals_from vs test a n) ≡ suc (length (locals_from vs test (a + 1) n))
+local_counted vs test a n lt passes own = ap length (front_local vs test a n true false lt passes own)
+
+-- it is not listed
+pub locals_hidden : (vs : List Variable) (test : ℕ → Bool) (a n : ℕ) → a < n → test a ≡ false → locals_from vs test (a + 1) n ≡ locals_from vs test a n
+locals_hidden vs test a n lt hidden = sym (front_local vs test a n false (local_at vs (Local a)).is_parameter lt hidden refl)
+
+pub local_hidden : (vs : List Variable) (test : ℕ → Bool) (a n left : ℕ) → a < n → test a ≡ false → slice_get (locals_from vs test (a + 1) n) left ≡ slice_get (locals_from vs test a n) left
+local_hidden vs test a n left lt hidden = ap (λ us. slice_get us left) (locals_hidden vs test a n lt hidden)
+
+-- it is a parameter
+pub locals_parameter : (vs : List Variable) (test : ℕ → Bool) (a n : ℕ) → a < n → (local_at vs (Local a)).is_parameter ≡ true → locals_from vs test (a + 1) n ≡ locals_from vs test a n
+locals_parameter vs test a n lt is = sym (front_local vs test a n (test a) true lt refl is ∙ either (test a))
+  where
+    either : (t : Bool) → cond t (locals_from vs test (a + 1) n) (locals_from vs test (a + 1) n) ≡ locals_from vs test (a + 1) n
+    either true = refl
+    either false = refl
+
+pub local_parameter : (vs : List Variable) (test : ℕ → Bool) (a n left : ℕ) → a < n → (local_at vs (Local a)).is_parameter ≡ true → slice_get (locals_from vs test (a + 1) n) left ≡ slice_get (locals_from vs test a n) left
+local_parameter vs test a n left lt is = ap (λ us. slice_get us left) (locals_parameter vs test a n lt is)

@@ -3,11 +3,10 @@ use Rattle.std.proofs.Common.{◌≡◌, refl, sym, ap, subst, ◌∙◌, ℕ, �
 use Rattle.std.proofs.lemmas.Bool.{cases_lt}
 use Rattle.std.proofs.lemmas.Option.{get_or_from_slice_get, slice_get_cases, slice_get_past, slice_get_within}
 use Rattle.std.proofs.Math.ListN.{drop_of_length-le}
-use Rattle.std.specs.Prelude.{All, codes, decimal, slice_get}
+use Rattle.std.specs.Prelude.{codes, decimal, slice_get}
 use Rattle.gang_types.specs.declared.places.Place.{Place}
 use Rattle.gang_types.specs.Lanes.{Lanes}
-use Rattle.gang_model.specs.Source.Names.{named}
-use Rattle.gang_model.specs.Debugger.Positions.{frame_lanes, next_lanes, next_number, scope_now, scope_of, spot_in, standing_at, standing_in, standing_of, top_spot}
+use Rattle.gang_model.specs.Debugger.Positions.{frame_lanes, line_now, line_of, next_lanes, next_number, scope_now, scope_of, spot_in, standing_at, standing_in, standing_of, top_spot}
 use Rattle.gang_model.specs.Running.State.{Frame, State}
 use Rattle.gang_model.specs.Texts.Text.{Bytes, bits, frames_text, line_and_column, standing_text, where_text}
 use Rattle.gang_model.specs.Types.Tree.{Function, Program, Standing, Var, Variable}
@@ -16,7 +15,6 @@ use Rattle.scalar_programs.specs.Scalars.{IsScalarName, IsStraightFunction, decl
 use Rattle.gang_machine.specs.Layout.{all_lanes, position}
 use Rattle.gang_machine.specs.Remaining.{AreRemaining}
 use Rattle.gang_machine.specs.Standings.{Shows, ShowsFrame, step_count}
-use Rattle.gang_machine.proofs.FirstNamed.{found_all}
 use Rattle.gang_machine.proofs.Lines.{step_number, straight_line}
 use Rattle.gang_machine.proofs.Showing.{next_here, no_tasks}
 
@@ -38,18 +36,15 @@ module _ (w entry : ℕ) (file : List Var) (f : Function) (straight : IsStraight
       let all = straight.counted in
       omega (arith, below, all)
 
-  -- a name that is found at a step stands for a scalar that is declared there
-  pub local_found : (i : ℕ) (name : List ℕ) (v : Variable) → named name (scope_of (slice_get f.standings i)) ≡ Some v → (i ≤ step_count f) × IsScalarName file (declared_before i f.body) v
-  local_found i name v e = go (slice_get f.standings i) refl e
+  -- a name in scope at a step stands for a scalar that is declared there
+  pub in_scope : (i k : ℕ) (v : Variable) → slice_get (scope_of (slice_get f.standings i)) k ≡ Some v → (i ≤ step_count f) × IsScalarName file (declared_before i f.body) v
+  in_scope i k v e = go (slice_get f.standings i) refl e
     where
-      each_of : (standing : Standing) → All (IsScalarName file (declared_before i f.body)) standing.scope → (k : ℕ) (u : Variable) → slice_get standing.scope k ≡ Some u → IsScalarName file (declared_before i f.body) u
-      each_of standing all k u get = subst (IsScalarName file (declared_before i f.body)) (get_or_from_slice_get standing.scope k u u get) (all k u (slice_get_within standing.scope k u get))
-
-      go : (o : Option Standing) → slice_get f.standings i ≡ o → named name (scope_of o) ≡ Some v → (i ≤ step_count f) × IsScalarName file (declared_before i f.body) v
+      go : (o : Option Standing) → slice_get f.standings i ≡ o → slice_get (scope_of o) k ≡ Some v → (i ≤ step_count f) × IsScalarName file (declared_before i f.body) v
       go None is e = cc
       go (Some standing) is e = (
         within_steps i standing is,
-        found_all (IsScalarName file (declared_before i f.body)) standing.scope name v (each_of standing (straight.scopes i standing is)) e,
+        subst (IsScalarName file (declared_before i f.body)) (get_or_from_slice_get standing.scope k v v e) (straight.scopes i standing is k v (slice_get_within standing.scope k v e)),
       )
 
   module _ (words : List ℕ) (state : State) (shows : Shows w entry file f words state) where
@@ -107,6 +102,16 @@ module _ (w entry : ℕ) (file : List Var) (f : Function) (straight : IsStraight
       text_ended past =
           let all = straight.counted in
           ap (frames_text p) (shows.ended (omega (arith, past, all)))
+
+      pub line_shown : (standing : Standing) → slice_get f.standings (position words) ≡ Some standing → line_now p state ≡ Some standing.place.line
+      line_shown standing get =
+          let (frame, frames_are, sh) = shows.running (within_steps (position words) standing get) in
+          ap (λ frames. line_of (standing_of p (top_spot p frames))) frames_are ∙ ap line_of (standing_shown frame sh (within_steps (position words) standing get) ∙ get)
+
+      pub line_ended : length f.standings ≤ position words → line_now p state ≡ None
+      line_ended past =
+          let all = straight.counted in
+          ap (λ frames. line_of (standing_of p (top_spot p frames))) (shows.ended (omega (arith, past, all)))
 
       -- what is in scope
       pub scope_shown : scope_now p state ≡ scope_of (slice_get f.standings (position words))

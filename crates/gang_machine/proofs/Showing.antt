@@ -1,5 +1,5 @@
 -- Words that show a state, one step on.
-use Rattle.std.proofs.Common.{◌≡◌, ◌≢◌, refl, sym, ap, subst, ◌∙◌, ℕ, suc, ◌+◌, ◌<◌, inl, inr, List, [], ◌∷◌, ◌++◌, length, drop, slice_index, arith}
+use Rattle.std.proofs.Common.{◌≡◌, refl, sym, ap, subst, ◌∙◌, ℕ, suc, ◌<◌, List, [], ◌∷◌, ◌++◌, length, drop, slice_index, arith}
 use Rattle.std.proofs.lemmas.Option.{slice_get_within}
 use Rattle.std.proofs.Math.ListN.{drop_of_length-le}
 use Rattle.std.specs.Prelude.{Ok, Some, flat_map, slice_get}
@@ -7,17 +7,17 @@ use Rattle.gang_types.specs.declared.places.VarId.{VarId}
 use Rattle.gang_types.specs.declared.places.VarId.TheVariants.{File, Local}
 use Rattle.gang_types.specs.Lanes.{Lanes}
 use Rattle.gang_model.specs.Types.Tree.{Var, Stmt, Declare, Assign, Change, Function, Program}
-use Rattle.gang_model.specs.Running.State.{Run, Frame, State, Store, Task, words_of, with_words, with_words_in, seen}
+use Rattle.gang_model.specs.Running.State.{Run, Frame, State, Store, Task, with_words, with_words_in, seen}
 use Rattle.gang_model.specs.Running.Step.{deliver, left, run, settle, settled, step, step_frame, step_task, stepped, task, Goes, Over}
-use Rattle.scalar_programs.specs.Scalars.{declared_before, declared_by, steps_in_line, var_at}
+use Rattle.scalar_programs.specs.Scalars.{declared_before, declared_by, steps_in_line}
 use Rattle.scalar_steps.specs.Written.{kept_words}
-use Rattle.gang_machine.specs.Layout.{StandsAt, all_lanes, place_of, position, rate_words, slot_of, words_count}
+use Rattle.gang_machine.specs.Layout.{all_lanes, position, rate_words, slot_of, words_count}
 use Rattle.gang_machine.specs.Remaining.{AreLines, AreRemaining, BeginWithStep, IsSimple, tasks_of}
 use Rattle.gang_machine.specs.Standings.{Shows, ShowsFrame, ShowsMemory, step_count}
-use Rattle.gang_machine.proofs.Alterations.{Alters, Written, same_or_not}
+use Rattle.gang_machine.proofs.Alterations.{Alters, Written}
 use Rattle.gang_machine.proofs.Lines.{declared_more, drop_first}
+use Rattle.gang_machine.proofs.Overwriting.{Overwritten, ShowsLocals, file_kept, file_written, locals_kept, locals_written}
 use Rattle.gang_machine.proofs.Remains.{settled_remains, some_lane}
-use Rattle.gang_machine.proofs.Stores.{words_kept, words_set}
 
 -- ---- tasks
 
@@ -108,96 +108,19 @@ module _ (w entry : ℕ) (file : List Var) (f : Function) where
     declared_next : declared_before (position new) f.body ≡ declared_before (position words) f.body ++ declared_by s
     declared_next = ap (λ n. declared_before n f.body) here.wrote.next ∙ declared_more f.body (position words) s here.get
 
-    -- a variable of the file that is not written
-    file_kept : (n : ℕ) → v.id ≡ Local n → (memory : Store) → ShowsMemory w file words memory → ShowsMemory w file new memory
-    file_kept n is memory shown = record {
-      counts = shown.counts;
-      stand = λ k inside lane below.
-          here.wrote.others k lane (λ e. let place : place_of (length file) v.id ≡ length file + n = ap (place_of (length file)) is in omega (arith, e, place, inside)) below ∙ shown.stand k inside lane below;
+    overwrites : Overwritten w file (declared_before (position words) f.body) (declared_before (position words) f.body ++ declared_by s) v (kept_words v.rate values) words new
+    overwrites = record {
+      there = here.alters.here;
+      kept = here.alters.others;
+      here = here.wrote.here;
+      others = here.wrote.others;
+      long = here.long;
     }
-
-    -- one that is
-    file_written : (n : ℕ) → v.id ≡ File n → (memory : Store) → ShowsMemory w file words memory → ShowsMemory w file new (with_words memory (File n) (kept_words v.rate values))
-    file_written n is memory shown = record { counts = count; stand = stand }
-      where
-        there : slice_get file n ≡ Some v
-        there = subst (λ i. var_at file (declared_before (position words) f.body ++ declared_by s) i ≡ Some v) is here.alters.here
-
-        count : (k : ℕ) → length (words_of (with_words memory (File n) (kept_words v.rate values)) (File k)) ≡ words_count w (slice_get file k)
-        count k = elim (same_or_not k n) [
-          | inl same ↦
-              subst (λ m. length (words_of (with_words memory (File n) (kept_words v.rate values)) (File m)) ≡ words_count w (slice_get file m)) (sym same)
-              (ap length (words_set memory (File n) (kept_words v.rate values)) ∙ here.long ∙ sym (ap (words_count w) there))
-          | inr other ↦ ap length (words_kept memory (File n) (File k) (kept_words v.rate values) (λ e. other (cc))) ∙ shown.counts k
-        ]
-
-        stand : (k : ℕ) → k < length file → StandsAt w k new (words_of (with_words memory (File n) (kept_words v.rate values)) (File k))
-        stand k inside = elim (same_or_not k n) [
-          | inl same ↦
-              subst (λ m. StandsAt w m new (words_of (with_words memory (File n) (kept_words v.rate values)) (File m))) (sym same)
-              (λ lane below. subst (λ i. slice_index new (slot_of w (place_of (length file) i) lane) ≡ slice_index (kept_words v.rate values) lane) is (here.wrote.here lane below)
-              ∙ sym (ap (λ ws. slice_index ws lane) (words_set memory (File n) (kept_words v.rate values))))
-          | inr other ↦
-              λ lane below.
-              here.wrote.others k lane (λ e. other (e ∙ ap (place_of (length file)) is)) below ∙ shown.stand k inside lane below
-              ∙ sym (ap (λ ws. slice_index ws lane) (words_kept memory (File n) (File k) (kept_words v.rate values) (λ e. other (cc))))
-        ]
-
-    -- the variables of the function, by a store
-    abbrev Locals : List ℕ → List Var → Store → Type 0
-    Locals now declared vars =
-        ((k : ℕ) → length (words_of vars (Local k)) ≡ words_count w (slice_get declared k)) × ((k : ℕ) → StandsAt w (length file + k) now (words_of vars (Local k)))
-
-    -- a variable of the file is written
-    locals_kept : (n : ℕ) → v.id ≡ File n → (vars : Store) → Locals words (declared_before (position words) f.body) vars → Locals new (declared_before (position words) f.body ++ declared_by s) vars
-    locals_kept n is vars shown =
-        let there : slice_get file n ≡ Some v = subst (λ i. var_at file (declared_before (position words) f.body ++ declared_by s) i ≡ Some v) is here.alters.here in
-        let inside = slice_get_within file n v there in (
-          λ k. shown.0 k ∙ sym (ap (words_count w) (here.alters.others (Local k) (λ e. absurd (local_file k n (e ∙ is))))),
-          λ k lane below.
-              here.wrote.others (length file + k) lane (λ e. let place : place_of (length file) v.id ≡ n = ap (place_of (length file)) is in omega (arith, e, place, inside)) below ∙ shown.1 k lane below,
-        )
-      where
-        local_file : (k n : ℕ) → Local k ≡ File n → ⊥
-        local_file k n e = cc
-
-    -- one of the function is
-    locals_written : (n : ℕ) → v.id ≡ Local n → (vars : Store) → Locals words (declared_before (position words) f.body) vars
-        → Locals new (declared_before (position words) f.body ++ declared_by s) (with_words vars (Local n) (kept_words v.rate values))
-    locals_written n is vars shown = (count, stand)
-      where
-        there : slice_get (declared_before (position words) f.body ++ declared_by s) n ≡ Some v
-        there = subst (λ i. var_at file (declared_before (position words) f.body ++ declared_by s) i ≡ Some v) is here.alters.here
-
-        apart : (k : ℕ) → k ≢ n → Local k ≢ Local n
-        apart k other e = other (cc)
-
-        count : (k : ℕ) → length (words_of (with_words vars (Local n) (kept_words v.rate values)) (Local k)) ≡ words_count w (slice_get (declared_before (position words) f.body ++ declared_by s) k)
-        count k = elim (same_or_not k n) [
-          | inl same ↦
-              subst (λ m. length (words_of (with_words vars (Local n) (kept_words v.rate values)) (Local m)) ≡ words_count w (slice_get (declared_before (position words) f.body ++ declared_by s) m)) (sym same)
-              (ap length (words_set vars (Local n) (kept_words v.rate values)) ∙ here.long ∙ sym (ap (words_count w) there))
-          | inr other ↦
-              ap length (words_kept vars (Local n) (Local k) (kept_words v.rate values) (apart k other)) ∙ shown.0 k
-              ∙ sym (ap (words_count w) (here.alters.others (Local k) (λ e. apart k other (e ∙ is))))
-        ]
-
-        stand : (k : ℕ) → StandsAt w (length file + k) new (words_of (with_words vars (Local n) (kept_words v.rate values)) (Local k))
-        stand k = elim (same_or_not k n) [
-          | inl same ↦
-              subst (λ m. StandsAt w (length file + m) new (words_of (with_words vars (Local n) (kept_words v.rate values)) (Local m))) (sym same)
-              (λ lane below. subst (λ i. slice_index new (slot_of w (place_of (length file) i) lane) ≡ slice_index (kept_words v.rate values) lane) is (here.wrote.here lane below)
-              ∙ sym (ap (λ ws. slice_index ws lane) (words_set vars (Local n) (kept_words v.rate values))))
-          | inr other ↦
-              λ lane below.
-              here.wrote.others (length file + k) lane (λ e. let place : place_of (length file) v.id ≡ length file + n = ap (place_of (length file)) is in other (omega (arith, e, place))) below ∙ shown.1 k lane below
-              ∙ sym (ap (λ ws. slice_index ws lane) (words_kept vars (Local n) (Local k) (kept_words v.rate values) (apart k other)))
-        ]
 
     -- a frame after the step shows again
     frame_after : (frame after : Frame) → ShowsFrame w entry file f words frame → after.function ≡ frame.function → after.lanes ≡ frame.lanes → after.result_for ≡ frame.result_for
         → AreRemaining (all_lanes w) (drop (suc (position words)) (steps_in_line f.body)) after.tasks
-        → Locals new (declared_before (position words) f.body ++ declared_by s) after.vars → ShowsFrame w entry file f new after
+        → ShowsLocals w file new (declared_before (position words) f.body ++ declared_by s) after.vars → ShowsFrame w entry file f new after
     frame_after frame after sh function lanes result_for remaining locals = record {
       function = function ∙ sh.function;
       lanes = lanes ∙ sh.lanes;
@@ -219,20 +142,20 @@ module _ (w entry : ℕ) (file : List Var) (f : Function) where
         let inside = slice_get_within (steps_in_line f.body) (position words) s here.get in
         let remaining = subst (λ steps. AreRemaining (all_lanes w) steps (settled (tasks_of (all_lanes w) rest))) come (settled_remains (all_lanes w) rest (some_lane w some) lines) in
         record {
-          memory = file_written n is state.memory memory;
-          running = λ within. (_, refl, frame_after frame (record frame { tasks = settled (tasks_of (all_lanes w) rest) }) sh refl refl refl remaining (locals_kept n is frame.vars (sh.counts, sh.stand)));
+          memory = file_written w file (declared_before (position words) f.body) (declared_before (position words) f.body ++ declared_by s) v (kept_words v.rate values) words new overwrites n is state.memory memory;
+          running = λ within. (_, refl, frame_after frame (record frame { tasks = settled (tasks_of (all_lanes w) rest) }) sh refl refl refl remaining (locals_kept w file (declared_before (position words) f.body) (declared_before (position words) f.body ++ declared_by s) v (kept_words v.rate values) words new overwrites n is frame.vars (sh.counts, sh.stand)));
           ended = λ past. absurd (omega (arith, inside, here.wrote.next, past));
         }
     shows_after state frame rest some memory sh lines come (Local n) is =
         let inside = slice_get_within (steps_in_line f.body) (position words) s here.get in
         let remaining = subst (λ steps. AreRemaining (all_lanes w) steps (settled (tasks_of (all_lanes w) rest))) come (settled_remains (all_lanes w) rest (some_lane w some) lines) in
         record {
-          memory = file_kept n is state.memory memory;
+          memory = file_kept w file (declared_before (position words) f.body) (declared_before (position words) f.body ++ declared_by s) v (kept_words v.rate values) words new overwrites n is state.memory memory;
           running = λ within. (
             _,
             refl,
             frame_after frame (record frame { vars = with_words frame.vars (Local n) (kept_words v.rate values); tasks = settled (tasks_of (all_lanes w) rest) }) sh refl refl refl remaining
-                (locals_written n is frame.vars (sh.counts, sh.stand)),
+                (locals_written w file (declared_before (position words) f.body) (declared_before (position words) f.body ++ declared_by s) v (kept_words v.rate values) words new overwrites n is frame.vars (sh.counts, sh.stand)),
           );
           ended = λ past. absurd (omega (arith, inside, here.wrote.next, past));
         }

@@ -9,7 +9,7 @@ use Rattle.gang_types.specs.declared.places.VarId.TheVariants.{File}
 use Rattle.gang_types.specs.declared.types.Rate.{Rate}
 use Rattle.gang_types.specs.declared.types.Rate.TheVariants.{Uniform, Varying}
 use Rattle.undo_log.specs.History.{History}
-use Rattle.gang_model.specs.Debugger.Debugger.{fresh}
+use Rattle.gang_model.specs.Debugger.Debugger.{fresh, step_lines}
 use Rattle.gang_model.specs.Debugger.Events.{global_words, initial_memory, scalar_words, started}
 use Rattle.gang_model.specs.Running.State.{words_of}
 use Rattle.gang_model.specs.Running.Step.{settled}
@@ -135,12 +135,13 @@ module _ (w entry : ℕ) (globals : List TreeGlobal) (scalars : AreFileScalars g
         ended = λ past. absurd (omega (arith, at, past));
       }
 
-pub opened_stands : (w entry history steps : ℕ) (p : Program) (f : TreeFunction) (globals : List TreeGlobal) (h : History) → 0 < w → AreFileScalars globals → IsLine (function_view f).body
-    → slice_get p.functions entry ≡ Some (function_view f) → p.globals ≡ map global_view globals → AreFirst w globals h.words → h.past ≡ [] → h.limit ≡ history
-    → Stands (view_of w entry f globals h) (setting p entry [] (record { width = w; history = history; steps = steps })) (fresh history)
-opened_stands w entry history steps p f globals h some scalars line function file first none limit = record {
+pub opened_stands : (w entry history steps : ℕ) (p : Program) (f : TreeFunction) (globals : List TreeGlobal) (lines : List ℕ) (h : History) → 0 < w → AreFileScalars globals → IsLine (function_view f).body
+    → slice_get p.functions entry ≡ Some (function_view f) → p.globals ≡ map global_view globals → step_lines p ≡ lines → AreFirst w globals h.words → h.past ≡ [] → h.limit ≡ history
+    → Stands (view_of w entry f globals lines h) (setting p entry [] (record { width = w; history = history; steps = steps })) (fresh history)
+opened_stands w entry history steps p f globals lines h some scalars line function file lines_are first none limit = record {
   function = function;
   globals = file;
+  lines = lines_are;
   words = subst (λ gs. Shows w entry (file_of globals) (function_view f) h.words (started (slice_get p.functions entry) entry w (record { passed = record { views = []; vars = [] }; memory = initial_memory w gs }))) (sym file)
       (subst (λ o. Shows w entry (file_of globals) (function_view f) h.words (started o entry w (record { passed = record { views = []; vars = [] }; memory = initial_memory w (map global_view globals) }))) (sym function)
       (starts w entry globals scalars (function_view f) line some h.words first));

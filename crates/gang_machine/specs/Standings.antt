@@ -1,6 +1,5 @@
 -- What a machine stands for.
-use Rattle.std.specs.Prelude.{◌≡◌, ℕ, ◌^◌, ◌+◌, ◌<◌, ◌≤◌, false, List, [], ◌∷◌, drop, length, map, Some, slice_get}
-use Rattle.gang_types.specs.declared.places.VarId.{VarId}
+use Rattle.std.specs.Prelude.{◌≡◌, ℕ, ◌^◌, ◌+◌, ◌<◌, ◌≤◌, false, List, [], ◌∷◌, drop, flat_map, length, map, Some, slice_get}
 use Rattle.gang_types.specs.declared.places.VarId.TheVariants.{File, Local}
 use Rattle.gang_types.specs.Masks.{IsGangWidth}
 use Rattle.undo_log.specs.History.{History, Moment}
@@ -9,7 +8,7 @@ use Rattle.gang_model.specs.Types.Tree.{Var, Variable, Function, Nothing}
 use Rattle.gang_model.specs.Running.State.{Frame, State, Store, words_of}
 use Rattle.gang_model.specs.Types.Typing.{var_of}
 use Rattle.gang_model.specs.Debugger.Events.{Event, after}
-use Rattle.gang_model.specs.Debugger.Debugger.{Debugger, Setting, now}
+use Rattle.gang_model.specs.Debugger.Debugger.{Debugger, Setting, now, step_lines}
 use Rattle.gang_model.specs.Running.RunningOrder.{IsNumbered}
 use Rattle.typed_tree.specs.declared.program.Function.{Function as TreeFunction}
 use Rattle.typed_tree.specs.declared.program.Global.{Global as TreeGlobal}
@@ -19,16 +18,24 @@ use Rattle.gang_machine.specs.Layout.{StandsAt, all_lanes, position, words_count
 use Rattle.gang_machine.specs.Remaining.{AreRemaining}
 
 -- what a contract sees of a machine: how many lanes a gang has, the number of the entry, the entry, the variables of the
--- file, and the words with those before each kept step
+-- file, the lines of all functions' steps, and the words with those before each kept event
 pub record View : Type 0 where
   pub width : ℕ
   pub entry : ℕ
   pub function : TreeFunction
   pub globals : List TreeGlobal
+  pub lines : List ℕ
   pub history : History
 
-abbrev pub view_of : (width entry : ℕ) → TreeFunction → List TreeGlobal → History → View
-view_of width entry function globals history = record { width = width; entry = entry; function = function; globals = globals; history = history }
+abbrev pub view_of : (width entry : ℕ) → TreeFunction → List TreeGlobal → (lines : List ℕ) → History → View
+view_of width entry function globals lines history = record { width = width; entry = entry; function = function; globals = globals; lines = lines; history = history }
+
+abbrev pub history_of : View → History
+history_of m = m.history
+
+-- the lines of all steps and closing braces of functions
+abbrev pub lines_in : List Function → List ℕ
+lines_in functions = flat_map (λ f. map (λ standing. standing.place.line) f.standings) functions
 
 -- the variables of the file, and as expressions read them
 abbrev pub file_variables : List TreeGlobal → List Variable
@@ -73,17 +80,11 @@ AreKept width entry file f s (event ∷ events) (m ∷ past) =
 pub record Stands (m : View) (s : Setting) (d : Debugger) : Type 0 where
   pub function : slice_get s.program.functions m.entry ≡ Some (function_view m.function)
   pub globals : s.program.globals ≡ map global_view m.globals
+  pub lines : step_lines s.program ≡ m.lines
   pub words : Shows m.width m.entry (file_of m.globals) (function_view m.function) m.history.words (now s d)
   pub past : AreKept m.width m.entry (file_of m.globals) (function_view m.function) s d.events m.history.past
   pub kept : d.kept ≡ length m.history.past
   pub limit : d.history ≡ m.history.limit
-
--- a variable of the file has a word of this number; a local one is declared where the machine stands, and has one
-abbrev pub Holds : View → VarId → ℕ → Type 0
-Holds m (File k) index = index < words_count m.width (slice_get (file_of m.globals) k)
-Holds m (Local k) index =
-    (position m.history.words ≤ step_count (function_view m.function))
-    × (index < words_count m.width (slice_get (declared_before (position m.history.words) (function_view m.function).body) k))
 
 -- the file-scope variables are scalars, by their numbers
 abbrev pub AreFileScalars : List TreeGlobal → Type 0

@@ -2,9 +2,12 @@
 //! declarations and assignments of scalars, in any blocks, with variables of the file.
 #![tactic(auto)]
 
+mod breakpoint_lines;
+mod listing;
 mod machine;
 mod names;
 mod opening;
+mod poking;
 mod slots;
 mod variables;
 

@@ -5,12 +5,12 @@ ghost use Rattle.gang_model.specs.Debugger.Positions.{scope_of};
 ghost use Rattle.gang_model.specs.Types.Resolved.{local_at};
 ghost use Rattle.gang_types.specs.declared.places.VarId.TheVariants.{Local};
 ghost use Rattle.typed_tree.specs.Views.{function_view, variable_view};
-ghost use Rattle.gang_machine.specs.Found.{IsSeen, SeesFound};
+ghost use Rattle.gang_machine.specs.Found.{FindsNumber, IsNamed, IsSeen, SeesFound};
 ghost use Rattle.gang_machine.specs.Standings.{file_variables};
 
 use crate::slots::count_of;
-use debug_machine::Shown;
-use gang_types::{IntType, VarId};
+use debug_machine::{NamedVariable, Shown};
+use gang_types::{IntType, Rate, VarId};
 use typed_tree::{Function, Global, Variable};
 
 /// What is shown of the variable that a name stands for at a step, if it is one of the function's.
@@ -48,13 +48,19 @@ fn shown_local<const W: usize>(variables: &[Variable], number: usize) -> Shown
 {
     match variables.get(number) {
         Some(variable) => shown::<W>(variable),
-        None => Shown {
-            id: VarId::Local(0),
-            value_type: IntType::Int32,
-            count: 1,
-        },
+        None => NOTHING,
     }
 }
+
+/// What is shown of a variable that nothing declares.
+pub(crate) const NOTHING: Shown = Shown {
+    id: VarId::Local(0),
+    value_type: IntType::Int32,
+    rate: Rate::Uniform,
+    is_array: false,
+    is_constant: true,
+    count: 1,
+};
 
 fn shown<const W: usize>(variable: &Variable) -> Shown
     ensures { IsSeen W (variable_view variable.now) result }
@@ -62,18 +68,39 @@ fn shown<const W: usize>(variable: &Variable) -> Shown
     Shown {
         id: variable.id,
         value_type: variable.value_type,
+        rate: variable.rate,
+        is_array: variable.is_array,
+        is_constant: variable.is_constant,
         count: count_of::<W>(variable.rate),
     }
 }
 
-/// What is shown of the variable of the file that a name stands for.
-pub(crate) fn global_named<const W: usize>(globals: &[Global], name: &[u8]) -> Option<Shown>
-    ensures { SeesFound W (named name.now (file_variables globals.now)) result }
+/// A variable by its name.
+pub(crate) fn named<const W: usize>(variable: &Variable) -> NamedVariable<'_>
+    ensures { IsNamed W (variable_view variable.now) result }
 {
-    for global in globals {
+    NamedVariable {
+        name: variable.name.as_slice(),
+        shown: shown::<W>(variable),
+    }
+}
+
+/// The number of the variable of the file that a name stands for.
+pub(crate) fn file_number(globals: &[Global], name: &[u8]) -> Option<usize>
+    ensures { FindsNumber (file_variables globals.now) name.now result }
+{
+    for (number, global) in globals.iter().enumerate() {
         if global.variable.name.as_slice() == name {
-            return Some(shown::<W>(&global.variable));
+            return Some(number);
         }
     }
     None
+}
+
+/// What is shown of the variable of the file that a name stands for.
+pub(crate) fn file_named<const W: usize>(globals: &[Global], name: &[u8]) -> Option<Shown>
+    ensures { SeesFound W (named name.now (file_variables globals.now)) result }
+{
+    let number = file_number(globals, name)?;
+    Some(shown::<W>(&globals[number].variable))
 }

@@ -11,6 +11,7 @@ ghost use Rattle.typed_tree.specs.Views.{program_view};
 ghost use Rattle.gang_machine.specs.Layout.{words_needed};
 ghost use Rattle.gang_machine.specs.Standings.{Stands};
 
+use crate::breakpoint_lines::step_lines;
 use crate::machine::Machine;
 use crate::slots::store_globals;
 use expression_code::Stacks;
@@ -42,6 +43,7 @@ pub fn open<const W: usize>(
         mut functions,
         globals,
     } = program;
+    let lines = step_lines(alloc, &functions)?;
     let function = functions.remove(entry.0);
     let code = assignments(alloc, &function.body)?;
     let Some(locals) = local_count(&code) else {
@@ -57,6 +59,7 @@ pub fn open<const W: usize>(
         entry: entry.0,
         function,
         globals,
+        lines,
         code,
         locals,
         timeline,

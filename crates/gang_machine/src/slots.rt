@@ -4,7 +4,7 @@ ghost use Rattle.gang_types.specs.Masks.{IsGangWidth};
 ghost use Rattle.undo_log.specs.History.{moment};
 ghost use Rattle.undo_log.specs.declared.timeline.Undone.TheVariants.{Step};
 ghost use Rattle.gang_machine.specs.Layout.{Stored, place_of, rate_words, slot_of, words_needed};
-ghost use Rattle.gang_machine.specs.Stored.{AreFirst};
+ghost use Rattle.gang_machine.specs.Stored.{AreFirst, place_among};
 
 use gang_types::{Rate, VarId};
 use typed_tree::Global;
@@ -18,6 +18,23 @@ pub(crate) fn place_of(globals: usize, variable: VarId) -> usize
     match variable {
         VarId::File(number) => number,
         VarId::Local(number) => globals + number,
+    }
+}
+
+/// The place of a variable, if it is one of so many of the file or of the function.
+pub(crate) fn place_among<const W: usize>(
+    globals: usize,
+    locals: usize,
+    variable: VarId,
+) -> Option<usize>
+    requires width { IsGangWidth W }
+    requires small { words_needed W (globals + locals) < 2 ^ 64 }
+    ensures { result ≡ place_among globals locals variable }
+{
+    match variable {
+        VarId::File(number) if number < globals => Some(number),
+        VarId::Local(number) if number < locals => Some(globals + number),
+        _ => None,
     }
 }
 

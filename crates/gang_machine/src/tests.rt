@@ -1,4 +1,4 @@
-//! A program that is made by hand, run forwards to its fault and back.
+//! A program that is made by hand, run forwards to its fault and back, and poked.
 ghost use Rattle.std.specs.Prelude.{◌≡◌, ◌∷◌, [], Some, None, IfOk};
 ghost use Rattle.gang_types.specs.Masks.{IsGangWidth};
 ghost use Rattle.gang_types.specs.declared.operators.BinaryOp.TheVariants.{Add, Div};
@@ -13,7 +13,7 @@ ghost use Rattle.typed_tree.specs.declared.statements.Stmt.{Change, Declare};
 ghost use Rattle.typed_tree.specs.declared.statements.Target.TheVariants.{Scalar};
 
 use crate::open;
-use debug_machine::{Fault, RecordedMachine, StepEnd};
+use debug_machine::{Fault, RecordedMachine, Shown, StepEnd};
 use gang_types::{BinaryOp, FaultName, FuncId, IntType, Place, Rate, VarId};
 use ispc_names_table::{Declaration, Standing, StepScopes};
 use std::alloc::{AllocError, Global as Memory};
@@ -85,6 +85,23 @@ fn text(alloc: Memory, bytes: &[u8]) -> Result<Vec<u8>, AllocError> {
     Vec::from_slice(alloc, bytes)
 }
 
+/// A function that nothing calls: its closing brace is on line 9.
+fn empty(alloc: Memory) -> Result<Function, AllocError>
+    ensures { IfOk result (λ f. f.body.items ≡ []) }
+{
+    Ok(Function {
+        name: text(alloc, b"h")?,
+        result: Rate::Uniform,
+        result_type: IntType::Int32,
+        body: Vec::new(alloc),
+        variables: Vec::new(alloc),
+        scopes: StepScopes {
+            declarations: Vec::new(alloc),
+            standings: vec![in alloc; standing(9, None)]?,
+        },
+    })
+}
+
 fn program(alloc: Memory) -> Result<Program, AllocError>
     ensures scalars { IfOk result (λ p. IsScalarProgram (program_view p) 0) }
     ensures numbered { IfOk result (λ p. IsNumberedProgram (program_view p)) }
@@ -116,7 +133,7 @@ fn program(alloc: Memory) -> Result<Program, AllocError>
         word: 5,
         length: 0,
     };
-    let function = Function {
+    let entry = Function {
         name: text(alloc, b"f")?,
         result: Rate::Uniform,
         result_type: IntType::Int32,
@@ -128,7 +145,7 @@ fn program(alloc: Memory) -> Result<Program, AllocError>
         },
     };
     Ok(Program {
-        functions: vec![in alloc; function]?,
+        functions: vec![in alloc; entry, empty(alloc)?]?,
         globals: vec![in alloc; global]?,
     })
 }
@@ -139,7 +156,7 @@ fn last_word<M: RecordedMachine>(machine: &M, name: &[u8]) -> Option<u64> {
     if shown.count == 0 {
         return None;
     }
-    Some(machine.word(shown.id, shown.count - 1))
+    Some(machine.word(shown, shown.count - 1))
 }
 
 /// What was seen of a machine: the last words of `a` and of `g` before and after two steps, and how the calls ended.
@@ -197,5 +214,99 @@ fn a_program_runs_to_its_fault_and_back(rt: HostRuntime) -> Result<(), Fail> {
         assert_eq!(rt; seen.undone, Ok(Undone::Step));
         assert_eq!(rt; seen.global, Some(5));
     }
+    Ok(())
+}
+
+/// A word of a variable that is in scope.
+fn word_of<M: RecordedMachine>(machine: &M, name: &[u8], index: usize) -> Option<u64> {
+    let shown = machine.find(name)?;
+    Some(machine.word(shown, index))
+}
+
+/// The first two words of `a` and the word of `g`.
+fn words<M: RecordedMachine>(machine: &M) -> [Option<u64>; 3] {
+    let first = word_of(machine, b"a", 0);
+    let second = word_of(machine, b"a", 1);
+    [first, second, word_of(machine, b"g", 0)]
+}
+
+/// Sets a variable that is in scope.
+fn poke<M: RecordedMachine>(machine: &mut M, name: &[u8], at: Option<u32>, word: u64) {
+    if let Some(shown) = machine.find(name) {
+        machine.poke(shown, at, word);
+    }
+}
+
+/// What was seen of pokes: the words after each event, and after each of two that were taken back.
+#[derive(Drop)]
+struct Poked {
+    words: [[Option<u64>; 3]; 6],
+    undone: [Result<Undone, NoHistory>; 2],
+    kept: usize,
+    kept_steps: usize,
+}
+
+/// Sets `g`, does a step, sets one lane of `a` and then all, and does a step; then two events are taken back.
+fn pokes<M: RecordedMachine>(machine: &mut M) -> Poked {
+    poke(machine, b"g", None, 40);
+    let file = words(machine);
+    machine.step();
+    poke(machine, b"a", Some(1), 9);
+    let lane = words(machine);
+    poke(machine, b"a", None, 6);
+    let all = words(machine);
+    machine.step();
+    let stepped = words(machine);
+    let step = machine.undo();
+    let before_step = words(machine);
+    let set = machine.undo();
+    Poked {
+        words: [file, lane, all, stepped, before_step, words(machine)],
+        undone: [step, set],
+        kept: machine.kept(),
+        kept_steps: machine.kept_steps(),
+    }
+}
+
+#[test]
+fn variables_are_set_and_set_back(rt: HostRuntime) -> Result<(), Fail> {
+    let mut machine = open::<4>(rt.alloc(), program(rt.alloc())?, FuncId(0), 4)?;
+    let seen = pokes(&mut machine);
+    let [file, lane, all, stepped, before_step, before_set] = seen.words;
+    assert_eq!(rt; file, [None, None, Some(40)]);
+    assert_eq!(rt; lane, [Some(0), Some(9), Some(40)]);
+    assert_eq!(rt; all, [Some(6), Some(6), Some(40)]);
+    assert_eq!(rt; stepped, [Some(6), Some(6), Some(42)]);
+    assert_eq!(rt; before_step, all);
+    assert_eq!(rt; before_set, lane);
+    assert_eq!(rt; seen.undone, [Ok(Undone::Step), Ok(Undone::Poke)]);
+    assert_eq!(rt; seen.kept, 2);
+    assert_eq!(rt; seen.kept_steps, 1);
+    Ok(())
+}
+
+#[test]
+fn variables_and_lines_are_found(rt: HostRuntime) -> Result<(), Fail> {
+    let mut machine = open::<4>(rt.alloc(), program(rt.alloc())?, FuncId(0), 4)?;
+    assert_eq!(rt; machine.find_in_file(b"g"), Some(0));
+    assert_eq!(rt; machine.find_in_file(b"a"), None);
+    assert_eq!(rt; machine.file_variable(0).is_some(), true);
+    assert_eq!(rt; machine.file_variable(1).is_none(), true);
+    assert_eq!(rt; machine.local_variable(0).is_none(), true);
+    machine.step();
+    assert_eq!(rt; machine.local_variable(0).is_some(), true);
+    assert_eq!(rt; machine.local_variable(1).is_none(), true);
+    assert_eq!(rt; machine.line_from(4), Some(4));
+    assert_eq!(rt; machine.line_from(7), Some(9));
+    assert_eq!(rt; machine.line_from(10), None);
+    let absent = Shown {
+        id: VarId::Local(7),
+        value_type: IntType::Int32,
+        rate: Rate::Varying,
+        is_array: false,
+        is_constant: false,
+        count: 4,
+    };
+    assert_eq!(rt; machine.word(absent, 3), 0);
     Ok(())
 }

@@ -3,11 +3,11 @@ ghost use Rattle.std.specs.Prelude.{◌≡◌, ℕ, ◌+◌, ◌^◌, ◌<◌, �
 ghost use Rattle.gang_types.specs.Masks.{IsGangWidth};
 ghost use Rattle.expression_code.specs.Read.{place_in};
 ghost use Rattle.gang_machine.specs.Layout.{slot_of, words_needed};
-ghost use Rattle.gang_machine.specs.Stored.{AreThoseOf, place_among};
+ghost use Rattle.gang_machine.specs.Stored.{AreThoseOf};
 
-use crate::slots::slot;
+use crate::slots::{place_among, slot};
 use expression_code::Words;
-use gang_types::{Rate, VarId};
+use gang_types::Rate;
 use typed_tree::Var;
 use undo_log::Timeline;
 
@@ -29,19 +29,6 @@ impl<const W: usize, T: Timeline> Words<W> for Variables<'_, W, T> {
             Some(place) => words_at::<W, T>(self.timeline, place, variable.rate),
             None => [0; W],
         }
-    }
-}
-
-/// The place of a variable, if it is one of so many of the file or of the function.
-fn place_among<const W: usize>(globals: usize, locals: usize, variable: VarId) -> Option<usize>
-    requires width { IsGangWidth W }
-    requires small { words_needed W (globals + locals) < 2 ^ 64 }
-    ensures { result ≡ place_among globals locals variable }
-{
-    match variable {
-        VarId::File(number) if number < globals => Some(number),
-        VarId::Local(number) if number < locals => Some(globals + number),
-        _ => None,
     }
 }
 

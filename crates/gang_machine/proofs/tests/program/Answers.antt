@@ -19,8 +19,10 @@ returns c =
       scopes = record { declarations = c.in_ok-vec-2.field-0; standings = c.in_ok-standings.field-0 };
     } in
     let p : Program = record { functions = c.in_ok-vec-3.field-0; globals = c.in_ok-vec-4.field-0 } in
-    let made : IsMade p f v d n = record {
+    let other = c.in_ok-empty.field-0 in
+    let made : IsMade p f other v d n = record {
       functions = c.in_ok-vec-3.ensures.items;
+      other_is_empty = c.in_ok-empty.ensures;
       globals = c.in_ok-vec-4.ensures.items;
       body_is = c.in_ok-statements.ensures;
       variables = c.in_ok-vec.ensures.items;
@@ -28,6 +30,6 @@ returns c =
       standings = c.in_ok-standings.ensures;
     } in
     record {
-      scalars = scalar_made p f v d n made;
-      numbered = numbered_made p f v d n made;
+      scalars = scalar_made p f other v d n made;
+      numbered = numbered_made p f other v d n made;
     }

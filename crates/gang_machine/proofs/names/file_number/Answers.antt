@@ -1,0 +1,26 @@
+use Rattle.std.proofs.Common.{◌<◌, length, refl, true, false, arith}
+use Rattle.std.specs.Prelude.{map}
+use Rattle.typed_tree.specs.Views.{global_view}
+use Rattle.gang_machine.specs.Standings.{file_variables}
+use Rattle.gang_machine.proofs.FirstNamed.{get_mapped, named_first, named_later, read_at, same_name}
+use Rattle.gang_machine.proofs.names.file_number.Goals as goal
+
+pub returns-then-eq : goal.returns-then-eq
+returns-then-eq c =
+    let gs = c.args.globals.now in
+    let i = c.loop-number.number in
+    let x = c.index-globals-number.result in
+    let below : i < length gs = omega arith in
+    let get = get_mapped (λ g. g.variable) (map global_view gs) i (global_view x) (get_mapped global_view gs i x (read_at gs gs i x refl below c.index-globals-number.is)) in
+    let same = same_name x.variable.name.items c.as_slice.result.now c.args.name.now true c.as_slice.ensures.value c.if-eq.ensures in
+    ((global_view x).variable, named_first c.args.name.now (file_variables gs) i (global_view x).variable get same c.loop-number.invariant, get)
+
+pub loop-number-preserved : goal.loop-number-preserved
+loop-number-preserved c =
+    let gs = c.args.globals.now in
+    let i = c.loop-number.number in
+    let x = c.index-globals-number.result in
+    let below : i < length gs = omega arith in
+    let get = get_mapped (λ g. g.variable) (map global_view gs) i (global_view x) (get_mapped global_view gs i x (read_at gs gs i x refl below c.index-globals-number.is)) in
+    let other = same_name x.variable.name.items c.as_slice.result.now c.args.name.now false c.as_slice.ensures.value c.if-eq.ensures in
+    named_later c.args.name.now (file_variables gs) i (global_view x).variable get other c.loop-number.invariant
