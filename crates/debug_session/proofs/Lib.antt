@@ -1,6 +1,9 @@
-pub mod KnownLines
-pub mod LaneDigits
-pub mod Pieces
-pub mod Plain
-pub mod Replying
-pub mod Writing
+pub mod Bare
+pub mod Ending
+pub mod Listing
+pub mod Moves
+pub mod Replies
+pub mod SameTexts
+pub mod Stepping
+pub mod Turns
+pub mod Watches

@@ -1,2 +1,5 @@
+pub mod Goals
+pub mod Moves
 pub mod Sessions
-pub mod Wording
+pub mod Stops
+pub mod Tables

@@ -1,17 +1,17 @@
-//! The debugger over a recorded machine: it does commands on the machine, and writes their answers.
+//! The debugger over a recorded machine: every command, and what it is answered.
 #![tactic(auto)]
 
-mod answer;
-mod backward;
-mod forward;
-mod print;
+mod changing;
+mod goal;
+mod moving;
+mod places;
+mod refusing;
 mod session;
-mod stop_texts;
+mod showing;
+mod stopping;
+mod table;
 #[cfg(test)]
 mod tests;
-mod texts;
-mod value_texts;
-mod write_answer;
+mod watching;
 
 pub use session::Session;
-pub use texts::{write_all, write_pieces};

@@ -1,87 +1,117 @@
 //! A debugger over a recorded machine.
-ghost use Rattle.std.specs.Prelude.{◌≡◌, false, Some};
-ghost use Rattle.gang_model.specs.Texts.CommandText.{command_of};
-ghost use Rattle.gang_model.specs.Debugger.Debugger.{Debugger, Setting};
-ghost use Rattle.debug_machine.specs.KnownLines.{as_known};
-ghost use Rattle.gang_model.specs.Texts.Text.{Bytes};
-ghost use Rattle.gang_model.specs.Texts.Transcript.{replied};
-ghost use Rattle.debug_commands.specs.Views.{command_view, option_view};
-ghost use Rattle.debug_machine.specs.Lines.{Says, fails};
-ghost use Rattle.debug_session.specs.Sessions.{HoldsWords, IsPlain, Replied, StandsFor, let_through};
+ghost use Rattle.std.specs.Prelude.{◌≡◌, [], true};
+ghost use Rattle.gang_model.specs.Debugger.Debugger.{Debugger, Setting, do_backward, do_command, do_forward};
+ghost use Rattle.debug_commands.specs.Views.{command_view};
+ghost use Rattle.debug_session.specs.Goals.{goal_view};
+ghost use Rattle.debug_session.specs.Sessions.{IsUnchanged, Replied, StandsFor, is_refused};
 
-use crate::answer::{Answer, Refusal};
-use crate::backward::step_backward;
-use crate::forward::step_forward;
-use crate::print::print;
-use crate::write_answer::write_answer;
-use debug_commands::{Command, Target, read_command};
-use debug_machine::{AnswerWriter, LineDebugger, RecordedMachine, Turn};
+use crate::changing::{set, undo};
+use crate::goal::Goal;
+use crate::moving::{move_backward, move_forward};
+use crate::refusing::{backward_refusal, depth, forward_refusal};
+use crate::showing::print;
+use crate::stopping::{delete, set_breakpoint, set_watch};
+use crate::table::StopTable;
+use debug_answers::{Answer, NumberedStop};
+use debug_commands::Command;
+use debug_machine::RecordedMachine;
 
 /// A debugger over a machine. It does at most so many moves for one forward command.
 #[derive(Drop)]
 pub struct Session<M: RecordedMachine> {
     machine: M,
     most_steps: u32,
+    stops: StopTable,
 }
 
 impl<M: RecordedMachine> Session<M> {
     /// A debugger over a machine, with no breakpoint or watch.
     pub fn open(machine: M, most_steps: u32) -> Self
-        ensures { (s : Setting) (d : Debugger) → M.stands machine s d → IsPlain d → s.limit ≡ most_steps
+        ensures { (s : Setting) (d : Debugger) → M.stands machine s d → d.stops ≡ [] → d.next ≡ 1 → s.limit ≡ most_steps
             → StandsFor M.stands result s d }
     {
         Session {
             machine,
             most_steps,
+            stops: StopTable::new(),
         }
     }
 
-    /// Does a command. One that is not there yet is answered as a line that spells none, and changes nothing.
-    fn do_command<'a>(&mut self, command: Command<'a>) -> Answer<'a>
+    /// Does a command.
+    pub fn do_command<'a>(&mut self, command: Command<'a>) -> Answer<'a>
         ensures replied { (s : Setting) (d : Debugger) → StandsFor M.stands self.old s d
-            → Replied M.stands s (replied s (let_through (Some (command_view command.entry))) d) result self.new.machine }
-        ensures most { self.new.most_steps ≡ self.old.most_steps }
-        ensures held { HoldsWords M.holds self.new.machine result }
+            → Replied M.stands s (do_command s (command_view command.entry) d) result self.new }
+        ensures refused { is_refused result ≡ true → IsUnchanged M.history self.old self.new }
     {
         match command {
-            Command::Step(count) => step_forward(&mut self.machine, self.most_steps, count),
-            Command::ReverseStep(count) => step_backward(&mut self.machine, count),
-            Command::Print(Target { name, at: None }) => print(&self.machine, name),
+            Command::Step(count) => self.go_forward(Goal::Moves(count), false),
+            Command::Next(count) => {
+                let base = depth(&self.machine);
+                self.go_forward(Goal::Groups { left: count, base }, false)
+            }
+            Command::Finish => {
+                let base = depth(&self.machine);
+                self.go_forward(Goal::Above(base), true)
+            }
+            Command::Continue => self.go_forward(Goal::Endless, false),
+            Command::ReverseStep(count) => self.go_backward(Goal::Moves(count), false),
+            Command::ReverseNext(count) => {
+                let base = depth(&self.machine);
+                self.go_backward(Goal::Groups { left: count, base }, false)
+            }
+            Command::ReverseFinish => {
+                let base = depth(&self.machine);
+                self.go_backward(Goal::Above(base), true)
+            }
+            Command::ReverseContinue => self.go_backward(Goal::Endless, false),
+            Command::Undo => undo(&mut self.machine),
+            Command::Print(target) => print(&self.machine, target),
+            Command::Set { target, value } => set(&mut self.machine, target, value),
+            Command::Break(line) => set_breakpoint(&self.machine, &mut self.stops, line),
+            Command::Watch(target) => set_watch(&self.machine, &mut self.stops, target),
+            Command::Delete(number) => delete(&mut self.stops, number),
+            Command::InfoBreakpoints => Answer::ListsStops,
+            Command::InfoLocals => Answer::ListsLocals,
+            Command::Backtrace => Answer::ListsFrames,
             Command::Nothing | Command::Quit => Answer::Silent,
-            _ => Answer::Refused(Refusal::BadCommand),
         }
     }
 
-    /// Does a command, or tells that a line spells none, and writes the answer. Nothing is written at `quit`.
-    fn answer_command<O: AnswerWriter>(
-        &mut self,
-        command: Option<Command<'_>>,
-        writer: &mut O,
-    ) -> Turn
-        requires works { O.has_failed writer.old ≡ false }
-        ensures said { (s : Setting) (d : Debugger) (line : Bytes) → StandsFor M.stands self.old s d
-            → command_of (as_known line) ≡ let_through (option_view command.entry)
-            → Says (StandsFor M.stands) s d line result self.new (O.written writer.old) (O.written writer.new) }
-        ensures failed { O.has_failed writer.new ≡ fails result }
+    /// The machine.
+    pub fn machine(&self) -> &M
+        ensures { result.now ≡ self.now.machine }
     {
-        let answer = match command {
-            None => Answer::Refused(Refusal::BadCommand),
-            Some(Command::Quit) => return Turn::Quits,
-            Some(command) => self.do_command(command),
-        };
-        match write_answer(&answer, &self.machine, writer) {
-            Ok(()) => Turn::Goes,
-            Err(_) => Turn::Fails,
+        &self.machine
+    }
+
+    /// The breakpoints and watches, in the order of their numbers.
+    pub fn stops(&self) -> &[NumberedStop]
+        ensures { result.now ≡ self.now.stops.items }
+    {
+        self.stops.as_slice()
+    }
+
+    /// Moves forward to a goal, unless the program has ended, or a frame below is needed and there is none.
+    fn go_forward<'a>(&mut self, goal: Goal, needs_frame: bool) -> Answer<'a>
+        ensures replied { (s : Setting) (d : Debugger) → StandsFor M.stands self.old s d
+            → Replied M.stands s (do_forward s needs_frame (goal_view goal) d) result self.new }
+        ensures refused { is_refused result ≡ true → IsUnchanged M.history self.old self.new }
+    {
+        match forward_refusal(&self.machine, needs_frame) {
+            Some(refusal) => Answer::Refused(refusal),
+            None => move_forward(&mut self.machine, &self.stops, self.most_steps, goal),
         }
     }
-}
 
-impl<M: RecordedMachine> LineDebugger for Session<M> {
-    ghost use Rattle.debug_session.specs.Sessions.{StandsFor};
-
-    ghost stands = { λ session s d. StandsFor M.stands session s d };
-
-    fn answer_line<O: AnswerWriter>(&mut self, line: &[u8], writer: &mut O) -> Turn {
-        self.answer_command(read_command(line), writer)
+    /// Moves backward to a goal, unless no step is kept, or a frame below is needed and there is none.
+    fn go_backward<'a>(&mut self, goal: Goal, needs_frame: bool) -> Answer<'a>
+        ensures replied { (s : Setting) (d : Debugger) → StandsFor M.stands self.old s d
+            → Replied M.stands s (do_backward s needs_frame (goal_view goal) d) result self.new }
+        ensures refused { is_refused result ≡ true → IsUnchanged M.history self.old self.new }
+    {
+        match backward_refusal(&self.machine, needs_frame) {
+            Some(refusal) => Answer::Refused(refusal),
+            None => move_backward(&mut self.machine, &self.stops, goal),
+        }
     }
 }

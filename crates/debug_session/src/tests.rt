@@ -1,134 +1,286 @@
-//! Worked lines on a machine that counts lines, and texts.
+//! Commands on a machine with two frames.
 mod machine;
 
 use crate::session::Session;
-use crate::stop_texts::write_stop;
-use debug_machine::{LineDebugger, Position, Turn};
-use gang_types::{Mask, Place};
-use machine::LineMachine;
+use debug_answers::{Answer, Refusal};
+use debug_commands::{Command, Target};
+use debug_machine::RecordedMachine;
+use machine::TwoFrames;
+use std::process::Abort;
 use std::test::Fail;
-use tests_devices::PieceWriter;
 
-/// What the lines are answered, and how the last one ended.
-fn answered(
-    machine: LineMachine,
-    most_steps: u32,
-    lines: &[&[u8]],
-    room: usize,
-) -> (Turn, PieceWriter) {
-    let mut session = Session::open(machine, most_steps);
-    let mut sink = PieceWriter::new(7, room);
-    for line in lines {
-        match session.answer_line(line, &mut sink) {
-            Turn::Goes => {}
-            turn => return (turn, sink),
-        }
-    }
-    (Turn::Goes, sink)
+/// What is looked at of an answer.
+#[derive(Clone, Copy, Debug, PartialEq, Eq)]
+enum Said {
+    Here,
+    Breakpoint(u32),
+    Watch(u32),
+    Fault,
+    HistoryEnd,
+    StepLimit,
+    Undone,
+    UndonePoke,
+    Shows(usize),
+    BreaksAt(u32, u32),
+    Watches(u32),
+    Deleted,
+    Lists,
+    Silent,
+    Refused(Refusal),
 }
 
-#[test]
-fn steps_to_the_end_and_back(rt: HostRuntime) {
-    let machine = LineMachine::new(3, 64, None);
-    let lines = [
-        b"step".as_slice(),
-        b"step 5",
-        b"step",
-        b"reverse-step",
-        b"rs 9",
-        b"reverse-step",
-    ];
-    let answers =
-        b"at 2:5 main depth 1 lanes 1010\nended\nC4 Ended\nat 3:5 main depth 1 lanes 1010\nhistory end: at 1:5 main depth 1 lanes 1010\nC3 NoHistory\n";
-    let (turn, sink) = answered(machine, 100, &lines, 1000);
-    assert_eq!(rt; turn, Turn::Goes);
-    assert!(rt; sink.bytes() == answers.as_slice());
-}
-
-#[test]
-fn goes_back_no_further_than_the_history(rt: HostRuntime) {
-    let machine = LineMachine::new(9, 2, None);
-    let lines = [
-        b"step 5".as_slice(),
-        b"reverse-step 2",
-        b"step",
-        b"reverse-step 2",
-    ];
-    let answers =
-        b"at 6:5 main depth 1 lanes 1010\nat 4:5 main depth 1 lanes 1010\nat 5:5 main depth 1 lanes 1010\nhistory end: at 4:5 main depth 1 lanes 1010\n";
-    let (turn, sink) = answered(machine, 100, &lines, 1000);
-    assert_eq!(rt; turn, Turn::Goes);
-    assert!(rt; sink.bytes() == answers.as_slice());
-}
-
-#[test]
-fn stops_at_a_fault_and_at_the_limit(rt: HostRuntime) {
-    let machine = LineMachine::new(9, 64, Some(4));
-    let lines = [b"step 3".as_slice(), b"step", b"step"];
-    let answers =
-        b"step limit: at 3:5 main depth 1 lanes 1010\nat 4:5 main depth 1 lanes 1010\nfault F1 DivideByZero lane 2: at 4:5 main depth 1 lanes 1010\n";
-    let (turn, sink) = answered(machine, 2, &lines, 1000);
-    assert_eq!(rt; turn, Turn::Goes);
-    assert!(rt; sink.bytes() == answers.as_slice());
-}
-
-#[test]
-fn prints_scalars(rt: HostRuntime) {
-    let machine = LineMachine::new(9, 64, None);
-    let lines = [
-        b"print x".as_slice(),
-        b"p flag",
-        b"print y",
-        b"quit",
-        b"step",
-    ];
-    let answers = b"x = 5 -1 0 2147483647\nflag = false true\nC2 NoSuchName\n";
-    let (turn, sink) = answered(machine, 100, &lines, 1000);
-    assert_eq!(rt; turn, Turn::Quits);
-    assert!(rt; sink.bytes() == answers.as_slice());
-}
-
-#[test]
-fn refuses_other_lines(rt: HostRuntime) {
-    let machine = LineMachine::new(9, 64, None);
-    let lines = [
-        b"".as_slice(),
-        b" \t",
-        b"leap",
-        b"next",
-        b"print x[1]",
-        b"step 0",
-        b"undo",
-    ];
-    let answers = b"C1 BadCommand\nC1 BadCommand\nC1 BadCommand\nC1 BadCommand\nC1 BadCommand\n";
-    let (turn, sink) = answered(machine, 100, &lines, 1000);
-    assert_eq!(rt; turn, Turn::Goes);
-    assert!(rt; sink.bytes() == answers.as_slice());
-}
-
-#[test]
-fn stops_where_the_writer_fails(rt: HostRuntime) {
-    for room in 0..31 {
-        let machine = LineMachine::new(9, 64, None);
-        let (turn, sink) = answered(machine, 100, &[b"step".as_slice(), b"step"], room);
-        let whole = b"at 2:5 main depth 1 lanes 1010\n";
-        assert_eq!(rt; turn, Turn::Fails, "room for {room}");
-        assert!(rt; sink.bytes() == &whole[..room], "room for {room}");
+fn told_by(answer: Answer<'_>) -> Said {
+    match answer {
+        Answer::Here => Said::Here,
+        Answer::AtBreakpoint(number) => Said::Breakpoint(number),
+        Answer::AtWatch(number) => Said::Watch(number),
+        Answer::AtFault(_) => Said::Fault,
+        Answer::HistoryEnd => Said::HistoryEnd,
+        Answer::StepLimit => Said::StepLimit,
+        Answer::UndoneStep => Said::Undone,
+        Answer::UndonePoke => Said::UndonePoke,
+        Answer::Shows { target: _, shown } => Said::Shows(shown.count),
+        Answer::BreaksAt { number, line } => Said::BreaksAt(number, line),
+        Answer::Watches { number, target: _ } => Said::Watches(number),
+        Answer::Deleted(_) => Said::Deleted,
+        Answer::ListsStops | Answer::ListsLocals | Answer::ListsFrames => Said::Lists,
+        Answer::Silent => Said::Silent,
+        Answer::Refused(refusal) => Said::Refused(refusal),
     }
 }
 
+/// Does commands, each with what is said then and the line where the program stands, 0 where it has ended.
+fn does(rt: &impl Abort, session: &mut Session<TwoFrames>, rows: &[(Command<'static>, Said, u32)]) {
+    for (command, wanted, wanted_line) in rows {
+        let answer = told_by(session.do_command(*command));
+        let line = session.machine().position().map_or(0, |at| at.place.line);
+        assert_eq!(rt; answer, *wanted, "{command:?}");
+        assert_eq!(rt; line, *wanted_line, "{command:?}");
+    }
+}
+
+fn whole(name: &'static [u8]) -> Target<'static> {
+    Target { name, at: None }
+}
+
+fn part(name: &'static [u8], index: u32) -> Target<'static> {
+    Target {
+        name,
+        at: Some(index),
+    }
+}
+
+fn set(target: Target<'static>, value: i128) -> Command<'static> {
+    Command::Set { target, value }
+}
+
 #[test]
-fn writes_a_wide_gang(rt: HostRuntime) {
-    let position = Position {
-        place: Place { line: 12, col: 1 },
-        function: b"sum",
-        depth: 3,
-        width: 16,
-        lanes: Mask::only::<16>(15),
-    };
-    let mut sink = PieceWriter::new(64, 1000);
-    let written = write_stop(&[b"fault: "], Some(position), &mut sink);
-    assert!(rt; written.is_ok());
-    let line = b"fault: at 12:1 sum depth 3 lanes 0000000000000001\n";
-    assert!(rt; sink.bytes() == line.as_slice());
+fn moves_by_steps_and_frames(rt: HostRuntime) -> Result<(), Fail> {
+    let mut session = Session::open(TwoFrames::new(rt.alloc(), 64, None)?, 100);
+    let rows = [
+        (
+            Command::ReverseStep(1),
+            Said::Refused(Refusal::NoHistory),
+            10,
+        ),
+        (Command::Undo, Said::Refused(Refusal::NoHistory), 10),
+        (Command::Step(1), Said::Here, 11),
+        (Command::Next(1), Said::Here, 12),
+        (Command::ReverseNext(1), Said::Here, 11),
+        (Command::Step(2), Said::Here, 4),
+        (Command::Finish, Said::Here, 12),
+        (Command::ReverseStep(1), Said::Here, 5),
+        (Command::ReverseFinish, Said::Here, 11),
+        (Command::Finish, Said::Refused(Refusal::Outermost), 11),
+        (
+            Command::ReverseFinish,
+            Said::Refused(Refusal::Outermost),
+            11,
+        ),
+        (Command::Undo, Said::Undone, 10),
+        (
+            Command::ReverseFinish,
+            Said::Refused(Refusal::NoHistory),
+            10,
+        ),
+        (Command::Next(3), Said::Here, 13),
+        (Command::Continue, Said::Here, 0),
+        (Command::Step(1), Said::Refused(Refusal::Ended), 0),
+        (Command::Finish, Said::Refused(Refusal::Ended), 0),
+        (Command::ReverseFinish, Said::Refused(Refusal::Outermost), 0),
+        (Command::ReverseContinue, Said::HistoryEnd, 10),
+    ];
+    does(&rt, &mut session, &rows);
+    Ok(())
+}
+
+#[test]
+fn stops_at_breakpoints_and_watches(rt: HostRuntime) -> Result<(), Fail> {
+    let mut session = Session::open(TwoFrames::new(rt.alloc(), 64, None)?, 100);
+    let rows = [
+        (Command::Break(15), Said::Refused(Refusal::NoLine), 10),
+        (Command::Break(1), Said::BreaksAt(1, 3), 10),
+        (
+            Command::Watch(whole(b"n")),
+            Said::Refused(Refusal::NoSuchName),
+            10,
+        ),
+        (
+            Command::Watch(whole(b"marks")),
+            Said::Refused(Refusal::NoSuchName),
+            10,
+        ),
+        (
+            Command::Watch(part(b"size", 0)),
+            Said::Refused(Refusal::NoSuchName),
+            10,
+        ),
+        (
+            Command::Watch(part(b"total", 4)),
+            Said::Refused(Refusal::OutOfRange),
+            10,
+        ),
+        (Command::Watch(whole(b"total")), Said::Watches(2), 10),
+        (Command::Watch(part(b"marks", 2)), Said::Watches(3), 10),
+        (Command::Watch(part(b"total", 0)), Said::Watches(4), 10),
+        (Command::Break(4), Said::BreaksAt(5, 4), 10),
+        (Command::Continue, Said::Breakpoint(1), 3),
+        (Command::Continue, Said::Breakpoint(5), 4),
+        (
+            Command::Delete(Some(9)),
+            Said::Refused(Refusal::NoSuchNumber),
+            4,
+        ),
+        (Command::Delete(Some(5)), Said::Deleted, 4),
+        (Command::Continue, Said::Watch(3), 5),
+        (Command::ReverseContinue, Said::Watch(3), 4),
+        (Command::ReverseContinue, Said::Breakpoint(1), 3),
+        (Command::Delete(Some(1)), Said::Deleted, 3),
+        (Command::Continue, Said::Watch(2), 4),
+        (Command::InfoBreakpoints, Said::Lists, 4),
+        (Command::Delete(None), Said::Deleted, 4),
+        (Command::Continue, Said::Here, 0),
+    ];
+    does(&rt, &mut session, &rows);
+    assert!(rt; session.stops().is_empty());
+    Ok(())
+}
+
+#[test]
+fn shows_and_sets(rt: HostRuntime) -> Result<(), Fail> {
+    let mut session = Session::open(TwoFrames::new(rt.alloc(), 64, None)?, 100);
+    let rows = [
+        (Command::Print(whole(b"marks")), Said::Shows(3), 10),
+        (
+            Command::Print(part(b"marks", 3)),
+            Said::Refused(Refusal::OutOfRange),
+            10,
+        ),
+        (
+            Command::Print(part(b"n", 0)),
+            Said::Refused(Refusal::NoSuchName),
+            10,
+        ),
+        (
+            Command::Print(whole(b"m")),
+            Said::Refused(Refusal::NoSuchName),
+            10,
+        ),
+        (
+            set(whole(b"marks"), 1),
+            Said::Refused(Refusal::NoSuchName),
+            10,
+        ),
+        (
+            set(part(b"marks", 3), 128),
+            Said::Refused(Refusal::OutOfRange),
+            10,
+        ),
+        (
+            set(part(b"marks", 1), 128),
+            Said::Refused(Refusal::OutOfRange),
+            10,
+        ),
+        (
+            set(whole(b"size"), 2147483648),
+            Said::Refused(Refusal::OutOfRange),
+            10,
+        ),
+        (set(whole(b"size"), 3), Said::Refused(Refusal::Constant), 10),
+        (set(part(b"i", 1), 3), Said::Refused(Refusal::Constant), 10),
+        (set(part(b"marks", 1), -128), Said::Shows(3), 10),
+        (set(whole(b"total"), -1), Said::Shows(4), 10),
+        (
+            Command::ReverseStep(1),
+            Said::Refused(Refusal::NoHistory),
+            10,
+        ),
+        (Command::Step(1), Said::Here, 11),
+        (set(whole(b"n"), 5), Said::Shows(1), 11),
+        (set(part(b"total", 3), 6), Said::Shows(4), 11),
+        (Command::ReverseStep(1), Said::Here, 10),
+        (Command::Undo, Said::UndonePoke, 10),
+        (Command::Undo, Said::UndonePoke, 10),
+        (Command::Undo, Said::Refused(Refusal::NoHistory), 10),
+        (Command::InfoLocals, Said::Lists, 10),
+        (Command::Backtrace, Said::Lists, 10),
+        (Command::Nothing, Said::Silent, 10),
+        (Command::Quit, Said::Silent, 10),
+    ];
+    does(&rt, &mut session, &rows);
+    Ok(())
+}
+
+#[test]
+fn keeps_one_event(rt: HostRuntime) -> Result<(), Fail> {
+    let mut session = Session::open(TwoFrames::new(rt.alloc(), 1, None)?, 100);
+    let rows = [
+        (Command::Step(3), Said::Here, 4),
+        (Command::ReverseStep(2), Said::HistoryEnd, 3),
+        (Command::Step(1), Said::Here, 4),
+        (set(whole(b"n"), 7), Said::Shows(1), 4),
+        (
+            Command::ReverseStep(1),
+            Said::Refused(Refusal::NoHistory),
+            4,
+        ),
+        (Command::Undo, Said::UndonePoke, 4),
+        (Command::Undo, Said::Refused(Refusal::NoHistory), 4),
+    ];
+    does(&rt, &mut session, &rows);
+    Ok(())
+}
+
+#[test]
+fn ends_at_a_fault_and_at_the_limit(rt: HostRuntime) -> Result<(), Fail> {
+    let mut session = Session::open(TwoFrames::new(rt.alloc(), 64, Some(6))?, 3);
+    let rows = [
+        (Command::Continue, Said::StepLimit, 4),
+        (Command::Step(3), Said::Here, 13),
+        (Command::Step(1), Said::Fault, 13),
+        (Command::ReverseContinue, Said::HistoryEnd, 10),
+    ];
+    does(&rt, &mut session, &rows);
+    Ok(())
+}
+
+#[test]
+fn holds_sixty_four(rt: HostRuntime) -> Result<(), Fail> {
+    let mut session = Session::open(TwoFrames::new(rt.alloc(), 64, None)?, 100);
+    for _ in 0..64 {
+        let _ = session.do_command(Command::Break(12));
+    }
+    let rows = [
+        (Command::Break(12), Said::Refused(Refusal::TableFull), 10),
+        (
+            Command::Watch(whole(b"total")),
+            Said::Refused(Refusal::TableFull),
+            10,
+        ),
+        (Command::Delete(Some(1)), Said::Deleted, 10),
+        (Command::Break(12), Said::BreaksAt(65, 12), 10),
+        (Command::Continue, Said::Breakpoint(2), 12),
+    ];
+    does(&rt, &mut session, &rows);
+    Ok(())
 }

@@ -1,0 +1,80 @@
+-- The words that watches show, one watch after the other.
+use Rattle.std.proofs.Common.{◌≡◌, refl, sym, subst, ap, ◌∙◌, ℕ, zero, suc, ◌+◌, ◌<◌, ◌≤◌, Bool, true, false, List, [], ◌∷◌, ◌++◌, length, get_or, drop, map, Option, Some, None, append_assoc, arith}
+use Rattle.std.specs.Prelude.{if◌then◌else◌, not}
+use Rattle.std.proofs.lemmas.List.{map-append}
+use Rattle.arrayvec.specs.ArrayVec.{ArrayVec}
+use Rattle.gang_model.specs.Source.Names.{same_text}
+use Rattle.gang_model.specs.Types.Tree.{Variable}
+use Rattle.gang_model.specs.Running.State.{State}
+use Rattle.gang_model.specs.Debugger.Debugger as model
+use Rattle.gang_model.specs.Debugger.Debugger.{Setting, differs, first_stop, target_words}
+use Rattle.debug_answers.specs.declared.stops.NumberedStop.{NumberedStop}
+use Rattle.debug_answers.specs.declared.stops.Stop.{Stop}
+use Rattle.debug_answers.specs.declared.stops.Stop.TheVariants as stop
+use Rattle.debug_answers.specs.Meanings.{IsStop, IsWatch}
+use Rattle.debug_session.specs.Moves.{noted, stop_words, watch_words}
+use Rattle.debug_session.proofs.Turns.{Turn, first_stop_at}
+
+-- ---- the first of some breakpoints and watches is a watch, or a breakpoint
+
+pub record WatchTurn (s : Setting) (x : NumberedStop) (stops : List NumberedStop) (rest : List (ℕ × model.Stop)) (variable : ℕ) (at : Option ℕ) (t : Turn s x stops rest) : Type 0 where
+  pub target : model.Target
+  pub v : Variable
+  pub is : t.entry.1 ≡ model.Watch target v
+  pub watch : IsWatch s variable at target v
+
+watch_of : (s : Setting) (x : NumberedStop) (stops : List NumberedStop) (rest : List (ℕ × model.Stop)) (variable : ℕ) (at : Option ℕ) (t : Turn s x stops rest) (meant : model.Stop) → t.entry.1 ≡ meant → IsStop s (stop.Watch variable at) meant → WatchTurn s x stops rest variable at t
+watch_of s x stops rest variable at t (model.Line l) e h = absurd h
+watch_of s x stops rest variable at t (model.Watch target v) e h = record { target = target; v = v; is = e; watch = h }
+
+pub watch_turn : (s : Setting) (x : NumberedStop) (stops : List NumberedStop) (rest : List (ℕ × model.Stop)) (variable : ℕ) (at : Option ℕ) (t : Turn s x stops rest) → x.stop ≡ stop.Watch variable at → WatchTurn s x stops rest variable at t
+watch_turn s x stops rest variable at t is = watch_of s x stops rest variable at t t.entry.1 refl (subst (λ given. IsStop s given t.entry.1) is t.stop)
+
+module _ (s : Setting) (x : NumberedStop) (stops : List NumberedStop) (rest : List (ℕ × model.Stop)) (t : Turn s x stops rest) where
+  words_at : (state : State) (meant : model.Stop) → t.entry.1 ≡ meant → watch_words state rest ≡ stop_words state meant ++ watch_words state t.rest
+  words_at state meant e = ap (watch_words state) t.is ∙ ap (λ m. stop_words state m ++ watch_words state t.rest) e
+
+  pub words_of_watch : (state : State) (target : model.Target) (v : Variable) → t.entry.1 ≡ model.Watch target v → watch_words state rest ≡ target_words state target v ∷ watch_words state t.rest
+  words_of_watch state target v e = words_at state (model.Watch target v) e
+
+  pub test_of_watch : (old new : State) (target : model.Target) (v : Variable) (same : Bool) → t.entry.1 ≡ model.Watch target v → same_text (target_words old target v) (target_words new target v) ≡ same
+      → first_stop (differs old new) rest ≡ (if not same then Some x.number else first_stop (differs old new) t.rest)
+  test_of_watch old new target v same e h =
+      first_stop_at (differs old new) rest t.entry t.rest (not same) t.is (ap (differs old new) e ∙ ap not h)
+      ∙ ap (λ n. if not same then Some n else first_stop (differs old new) t.rest) (sym t.number)
+
+  line_of : (given : Stop) (meant : model.Stop) → ((variable : ℕ) (at : Option ℕ) → given ≡ stop.Watch variable at → ⊥) → IsStop s given meant → (l : ℕ) × (meant ≡ model.Line l)
+  line_of (stop.Line line) (model.Line l) other h = (l, refl)
+  line_of (stop.Line line) (model.Watch target v) other h = absurd h
+  line_of (stop.Watch variable at) meant other h = absurd (other variable at refl)
+
+  pub words_of_line : (state : State) → ((variable : ℕ) (at : Option ℕ) → x.stop ≡ stop.Watch variable at → ⊥) → watch_words state rest ≡ watch_words state t.rest
+  words_of_line state other = let (l, e) = line_of x.stop t.entry.1 other t.stop in words_at state (model.Line l) e
+
+  pub test_of_line : (old new : State) → ((variable : ℕ) (at : Option ℕ) → x.stop ≡ stop.Watch variable at → ⊥) → first_stop (differs old new) rest ≡ first_stop (differs old new) t.rest
+  test_of_line old new other = let (l, e) = line_of x.stop t.entry.1 other t.stop in first_stop_at (differs old new) rest t.entry t.rest false t.is (ap (differs old new) e)
+
+-- ---- noted words
+
+-- one more is noted
+pub noted_more : (before : List (ArrayVec ℕ)) (words : ArrayVec ℕ) (xs : List ℕ) (others : List (List ℕ)) → words.items ≡ xs → noted (before ++ words ∷ []) ++ others ≡ noted before ++ xs ∷ others
+noted_more [] words xs others e = ap (λ ys. ys ∷ others) e
+noted_more (b ∷ before) words xs others e = ap (λ ys. b.items ∷ ys) (noted_more before words xs others e)
+
+drop_next : (xs : List (List ℕ)) (k : ℕ) (y : List ℕ) (ys : List (List ℕ)) → drop k xs ≡ y ∷ ys → drop (suc k) xs ≡ ys
+drop_next [] zero y ys e = cc e
+drop_next [] (suc k) y ys e = cc e
+drop_next (x ∷ xs) zero y ys e = cc e
+drop_next (x ∷ xs) (suc k) y ys e = drop_next xs k y ys e
+
+pub noted_on : (xs : List (List ℕ)) (k : ℕ) (y : List ℕ) (ys : List (List ℕ)) → drop k xs ≡ y ∷ ys → drop (k + 1) xs ≡ ys
+noted_on xs k y ys e =
+    let one : k + 1 ≡ suc k = omega arith in
+    ap (λ n. drop n xs) one ∙ drop_next xs k y ys e
+
+-- what is noted at a place
+pub noted_at : (before : List (ArrayVec ℕ)) (k : ℕ) (x : ArrayVec ℕ) (y : List ℕ) (ys : List (List ℕ)) → drop k (noted before) ≡ y ∷ ys → (k < length before) × ((get_or before k x).items ≡ y)
+noted_at [] zero x y ys e = cc e
+noted_at [] (suc k) x y ys e = cc e
+noted_at (b ∷ before) zero x y ys e = let same : b.items ≡ y = cc e in (omega arith, same)
+noted_at (b ∷ before) (suc k) x y ys e = let (inside, same) = noted_at before k x y ys e in (omega (arith, inside), same)

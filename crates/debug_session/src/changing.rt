@@ -1,0 +1,59 @@
+//! Values that are set, and events that are taken back.
+ghost use Rattle.std.specs.Prelude.{◌≡◌, true};
+ghost use Rattle.gang_model.specs.Debugger.Debugger.{Debugger, Setting, do_set, do_undo, is_value};
+ghost use Rattle.debug_commands.specs.Views.{target_view};
+ghost use Rattle.debug_session.specs.Moves.{Done};
+ghost use Rattle.debug_session.specs.Sessions.{bare, is_refused};
+
+use crate::refusing::part_refusal;
+use debug_answers::{Answer, Refusal};
+use debug_commands::Target;
+use debug_machine::RecordedMachine;
+use gang_types::{IntType, value, wrap};
+use undo_log::Undone;
+
+/// Sets a scalar, a lane of one or an element.
+pub(crate) fn set<'a, M: RecordedMachine>(
+    machine: &mut M,
+    target: Target<'a>,
+    number: i128,
+) -> Answer<'a>
+    ensures replied { (s : Setting) (d : Debugger) → M.stands machine.old s (bare d)
+        → Done M.stands s d (do_set s (target_view target.entry) number d) result machine.new }
+    ensures refused { is_refused result ≡ true → M.history machine.new ≡ M.history machine.old }
+{
+    let Some(shown) = machine.find(target.name) else {
+        return Answer::Refused(Refusal::NoSuchName);
+    };
+    if let Some(refusal) = part_refusal(shown, target.at, false) {
+        return Answer::Refused(refusal);
+    }
+    if !is_value(shown.value_type, number) {
+        return Answer::Refused(Refusal::OutOfRange);
+    }
+    if shown.is_constant {
+        return Answer::Refused(Refusal::Constant);
+    }
+    machine.poke(shown, target.at, wrap(shown.value_type, number));
+    Answer::Shows { target, shown }
+}
+
+/// Whether a type has this value.
+fn is_value(value_type: IntType, number: i128) -> bool
+    ensures { result ≡ is_value value_type number }
+{
+    value(value_type, wrap(value_type, number)) == number
+}
+
+/// Takes the last step or poke back.
+pub(crate) fn undo<'a, M: RecordedMachine>(machine: &mut M) -> Answer<'a>
+    ensures replied { (s : Setting) (d : Debugger) → M.stands machine.old s (bare d)
+        → Done M.stands s d (do_undo d) result machine.new }
+    ensures refused { is_refused result ≡ true → M.history machine.new ≡ M.history machine.old }
+{
+    match machine.undo() {
+        Err(_) => Answer::Refused(Refusal::NoHistory),
+        Ok(Undone::Step) => Answer::UndoneStep,
+        Ok(Undone::Poke) => Answer::UndonePoke,
+    }
+}

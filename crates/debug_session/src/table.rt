@@ -1,0 +1,128 @@
+//! The breakpoints and watches, in the order of their numbers.
+ghost use Rattle.std.specs.Prelude.{◌≡◌, ℕ, ◌≤◌, List, [], Some, length};
+ghost use Rattle.gang_model.specs.Debugger.Debugger as model;
+ghost use Rattle.gang_model.specs.Debugger.Debugger.{Setting, first_stop, on_line};
+ghost use Rattle.debug_answers.specs.Meanings.{AreStops, IsStop};
+ghost use Rattle.debug_session.specs.Tables.{given_number, has_number, with_stop, without_number};
+
+use debug_answers::{NumberedStop, Stop};
+use std::marker::Model;
+
+/// How many breakpoints and watches can be there.
+pub(crate) const ROOM: usize = 64;
+
+/// The last number that a breakpoint or watch is given.
+const LAST_NUMBER: u32 = 10_000_000;
+
+/// At most 64 breakpoints and watches, and the number that the next one is given.
+#[derive(Drop)]
+pub(crate) struct StopTable {
+    entries: [NumberedStop; ROOM],
+    count: usize,
+    next: u32,
+}
+
+impl Model for StopTable {
+    ghost use Rattle.std.specs.Prelude.{take, ◌≤◌};
+    ghost use Rattle.debug_session.specs.Stops.{Table};
+
+    ghost Value = { Table };
+
+    ghost view = { λ t. record { items = take t.count t.entries; next = t.next } };
+
+    ghost invariant = { λ t. t.count ≤ 64 };
+}
+
+impl StopTable {
+    /// A table with nothing in it.
+    pub(crate) fn new() -> Self
+        ensures { result ≡ record { items = []; next = 1 } }
+    {
+        let blank = NumberedStop {
+            number: 0,
+            stop: Stop::Line(0),
+        };
+        StopTable {
+            entries: [blank; ROOM],
+            count: 0,
+            next: 1,
+        }
+    }
+
+    /// What is in it.
+    pub(crate) fn as_slice(&self) -> &[NumberedStop]
+        ensures value { result.now ≡ self.now.items }
+        ensures fits { length result.now ≤ 64 }
+    {
+        &self.entries[..self.count]
+    }
+
+    /// Puts a breakpoint or watch behind the others and gives it the next number, unless the table is full or there is no
+    /// number left.
+    pub(crate) fn add(&mut self, stop: Stop) -> Option<u32>
+        ensures number { result ≡ given_number self.old }
+        ensures table { self.new ≡ with_stop stop self.old }
+    {
+        let number = self.next;
+        if self.count >= ROOM || number > LAST_NUMBER {
+            return None;
+        }
+        self.entries[self.count] = NumberedStop { number, stop };
+        self.count += 1;
+        self.next += 1;
+        Some(number)
+    }
+
+    /// Whether one has this number.
+    pub(crate) fn has(&self, number: u32) -> bool
+        ensures { result ≡ has_number number self.now }
+    {
+        self.as_slice().iter().any(|entry| entry.number == number)
+    }
+
+    /// Takes out those of a number.
+    pub(crate) fn remove(&mut self, number: u32)
+        ensures { self.new ≡ without_number number self.old }
+    {
+        let count = self.count;
+        let mut kept = 0;
+        for index in 0..count {
+            let entry = self.entries[index];
+            if entry.number != number {
+                self.entries[kept] = entry;
+                kept += 1;
+            }
+        }
+        self.count = kept;
+    }
+
+    /// Takes all out.
+    pub(crate) fn clear(&mut self)
+        ensures { self.new ≡ record self.old { items = [] } }
+    {
+        self.count = 0;
+    }
+
+    /// The least number of a breakpoint on a line.
+    pub(crate) fn breakpoint_on(&self, line: Option<u32>) -> Option<u32>
+        ensures { (s : Setting) (meant : List (ℕ × model.Stop)) → AreStops s self.now.items meant → result ≡ first_stop (on_line line) meant }
+    {
+        let line = line?;
+        for entry in self.as_slice() {
+            if is_on_line(entry.stop, line) {
+                return Some(entry.number);
+            }
+        }
+        None
+    }
+}
+
+/// Whether this is a breakpoint on a line.
+fn is_on_line(stop: Stop, line: u32) -> bool
+    ensures { (s : Setting) (meant : model.Stop) → IsStop s stop meant → result ≡ on_line (Some line) meant }
+{
+    match stop {
+        Stop::Line(own) => line == own,
+        Stop::Watch { .. } => false,
+    }
+}
