@@ -1,26 +1,18 @@
 -- The lines of bytes that come in two parts, and what is held of a line.
-use Rattle.std.proofs.Common.{◌≡◌, ◌≢◌, ℕ, zero, suc, ◌+◌, ◌<◌, true, false, [], ◌∷◌, ◌++◌, length, take, drop, map, get_or, None, nat_lt, refl, sym, ap, ◌∙◌, inl, inr, arith, append_assoc, append-nil, take_all, take-append-drop, length-append, length-take}
-use Rattle.std.specs.Prelude.{◌==◌, if◌then◌else◌, codes}
+use Rattle.std.proofs.Common.{◌≡◌, ◌≢◌, ℕ, zero, suc, ◌+◌, ◌<◌, true, false, [], ◌∷◌, ◌++◌, length, take, drop, get_or, None, nat_lt, refl, sym, ap, ◌∙◌, inl, inr, arith, append_assoc, append-nil, take_all, take-append-drop, length-append, length-take}
+use Rattle.std.specs.Prelude.{◌==◌}
 use Rattle.std.proofs.lemmas.Bool.{cases_lt, cases_Bool}
 use Rattle.std.proofs.lemmas.Bool.Decides.{nat_tests}
-use Rattle.std.proofs.lemmas.List.{drop_more, map-append, nil_from_length, take_at, take_more}
+use Rattle.std.proofs.lemmas.List.{drop_more, nil_from_length, take_at, take_more}
 use Rattle.gang_model.specs.Texts.CommandText.{command_of}
-use Rattle.debug_machine.specs.KnownLines.{as_known, known_command}
 use Rattle.gang_model.specs.Texts.Text.{Bytes}
-use Rattle.gang_model.specs.Texts.Transcript.{complete_lines_after, lines_after}
-use Rattle.debug_machine.specs.KnownLines.{known_lines}
-use Rattle.transcript.specs.Answered.{begun_after, ended_lines, held_of, known_line}
+use Rattle.gang_model.specs.Texts.Transcript.{complete_lines_after, lines_after, lines_of}
+use Rattle.transcript.specs.Answered.{begun_after, held_of, line_alone}
 
 -- ---- lines
 
-lines_split : (begun came more : Bytes) → lines_after begun (came ++ more) ≡ complete_lines_after begun came ++ lines_after (begun_after begun came) more
-lines_split begun [] more = refl
-lines_split begun (b ∷ came) more = elim (cases_Bool (b == 10)) [
-  | inl e ↦ rw e (ap (λ l. begun ∷ l) (lines_split [] came more))
-  | inr e ↦ rw e (lines_split (begun ++ b ∷ []) came more)
-]
-
-complete_split : (begun came more : Bytes) → complete_lines_after begun (came ++ more) ≡ complete_lines_after begun came ++ complete_lines_after (begun_after begun came) more
+-- the lines that end in two pieces
+pub complete_split : (begun came more : Bytes) → complete_lines_after begun (came ++ more) ≡ complete_lines_after begun came ++ complete_lines_after (begun_after begun came) more
 complete_split begun [] more = refl
 complete_split begun (b ∷ came) more = elim (cases_Bool (b == 10)) [
   | inl e ↦ rw e (ap (λ l. begun ∷ l) (complete_split [] came more))
@@ -35,23 +27,23 @@ begun_split begun (b ∷ came) more = elim (cases_Bool (b == 10)) [
   | inr e ↦ rw e (begun_split (begun ++ b ∷ []) came more)
 ]
 
--- the lines that end in two pieces
-pub ended_split : (begun came more : Bytes) → ended_lines begun (came ++ more) ≡ ended_lines begun came ++ ended_lines (begun_after begun came) more
-ended_split begun came more = ap (map as_known) (complete_split begun came more) ∙ map-append as_known (complete_lines_after begun came) (complete_lines_after (begun_after begun came) more)
-
 -- all lines: those that end in the bytes that came, and the others
-pub known_split : (came more : Bytes) → known_lines (came ++ more) ≡ ended_lines [] came ++ map as_known (lines_after (begun_after [] came) more)
-known_split came more = ap (map as_known) (lines_split [] came more) ∙ map-append as_known (complete_lines_after [] came) (lines_after (begun_after [] came) more)
+pub lines_split : (begun came more : Bytes) → lines_after begun (came ++ more) ≡ complete_lines_after begun came ++ lines_after (begun_after begun came) more
+lines_split begun [] more = refl
+lines_split begun (b ∷ came) more = elim (cases_Bool (b == 10)) [
+  | inl e ↦ rw e (ap (λ l. begun ∷ l) (lines_split [] came more))
+  | inr e ↦ rw e (lines_split (begun ++ b ∷ []) came more)
+]
 
 -- the last line may lack its line feed
-pub known_end : (came : Bytes) → known_lines came ≡ ended_lines [] came ++ known_line (begun_after [] came)
-known_end came = ap known_lines (sym (append-nil came)) ∙ known_split came []
+pub lines_end : (came : Bytes) → lines_of came ≡ complete_lines_after [] came ++ line_alone (begun_after [] came)
+lines_end came = ap lines_of (sym (append-nil came)) ∙ lines_split [] came []
 
 other_byte : (b : ℕ) → b ≢ 10 → (b == 10) ≡ false
 other_byte b other = grind (arith, nat_tests)
 
 -- at a byte that is no line feed no line ends
-pub none_ended : (begun : Bytes) (b : ℕ) → b ≢ 10 → ended_lines begun (b ∷ []) ≡ []
+pub none_ended : (begun : Bytes) (b : ℕ) → b ≢ 10 → complete_lines_after begun (b ∷ []) ≡ []
 none_ended begun b other = rw (other_byte b other) refl
 
 pub begun_byte : (begun : Bytes) (b : ℕ) → b ≢ 10 → begun_after begun (b ∷ []) ≡ begun ++ b ∷ []
@@ -90,19 +82,16 @@ pub none_held : (begun held : Bytes) → held ≡ held_of begun → length held 
 none_held begun held is empty = nil_from_length begun (omega (arith, length-take 257 begun, ap length is))
 
 -- a line of more than 256 bytes spells no command
-long_line : (line : Bytes) → nat_lt 256 (length line) ≡ true → command_of (as_known line) ≡ None
-long_line line long =
-    let none : command_of line ≡ None = rw long refl in
-    let same : as_known line ≡ line = ap (λ c. if known_command c then line else codes "?") none in
-    ap command_of same ∙ none
+long_line : (line : Bytes) → nat_lt 256 (length line) ≡ true → command_of line ≡ None
+long_line line long = rw long refl
 
 -- what is held of a line spells what the line spells
-pub held_spells : (line : Bytes) → command_of (as_known (held_of line)) ≡ command_of (as_known line)
+pub held_spells : (line : Bytes) → command_of (held_of line) ≡ command_of line
 held_spells line = elim (cases_lt 256 (length line)) [
   | inl long ↦
       let kept : length (held_of line) ≡ 257 = omega (arith, length-take 257 line) in
       let first : nat_lt 256 (length (held_of line)) ≡ true = grind (arith, nat_tests) in
       let second : nat_lt 256 (length line) ≡ true = grind (arith, nat_tests) in
       long_line (held_of line) first ∙ sym (long_line line second)
-  | inr short ↦ ap (λ l. command_of (as_known l)) (take_all 257 line (omega arith))
+  | inr short ↦ ap command_of (take_all 257 line (omega arith))
 ]

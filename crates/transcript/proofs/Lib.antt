@@ -1,3 +1,10 @@
 mod CutLines
 mod LineAnswers
 mod PieceAnswers
+pub mod Frames
+pub mod LaneDigits
+pub mod Locals
+pub mod Meant
+pub mod Pieces
+pub mod Stops
+pub mod Writing

@@ -7,14 +7,13 @@ use Rattle.std.proofs.Math.Seq.{take-append-add}
 use Rattle.std.proofs.KnownBytes.{Appends-nil, Appends-trans}
 use Rattle.std.specs.Io.KnownBytes.{Appends}
 use Rattle.gang_model.specs.Texts.CommandText.{command_of}
-use Rattle.debug_machine.specs.KnownLines.{as_known}
 use Rattle.gang_model.specs.Debugger.Debugger.{Command, Debugger, Reply, Setting}
 use Rattle.gang_model.specs.Texts.Text.{Bytes, text}
 use Rattle.gang_model.specs.Texts.Transcript.{has_quit, is_quit, replied, text_and_rest, transcript_from}
-use Rattle.debug_machine.specs.Lines.{Says, reply_text}
-use Rattle.debug_machine.specs.declared.debugger.Turn.{Turn}
-use Rattle.debug_machine.specs.declared.debugger.Turn.TheVariants.{Goes, Quits, Fails}
-use Rattle.transcript.specs.Answered.{AnswersLines, Written, after_lines, known_line}
+use Rattle.transcript.specs.Lines.{Says, reply_text}
+use Rattle.transcript.specs.declared.debugger.Turn.{Turn}
+use Rattle.transcript.specs.declared.debugger.Turn.TheVariants.{Goes, Quits, Fails}
+use Rattle.transcript.specs.Answered.{AnswersLines, Written, after_lines, line_alone}
 
 -- ---- lines that quit or do not
 
@@ -126,7 +125,7 @@ module _ (s : Setting) where
   SaysOf stands d c Fails next old new = (is_quit c ≡ false) × ((k : ℕ) × (k < length (reply_text s (replied s c d))) × Appends old new (take k (reply_text s (replied s c d))))
 
   says_of : {D : Type 0} (stands : D → Setting → Debugger → Type 0) (d : Debugger) (line : Bytes) (turn : Turn) (next : D) (old new : Option Bytes)
-      → Says stands s d line turn next old new → SaysOf stands d (command_of (as_known line)) turn next old new
+      → Says stands s d line turn next old new → SaysOf stands d (command_of line) turn next old new
   says_of stands d line Goes next old new says = says
   says_of stands d line Quits next old new says = says
   says_of stands d line Fails next old new says = says
@@ -144,27 +143,27 @@ module _ (s : Setting) where
   no_text false r quits = absurd (true≢false (sym quits))
 
   answers_of : {D : Type 0} (stands : D → Setting → Debugger → Type 0) (d : Debugger) (line : Bytes) (turn : Turn) (next : D) (old new : Option Bytes)
-      → SaysOf stands d (command_of (as_known line)) turn next old new → AnswersLines s d (known_line line) turn old new
+      → SaysOf stands d (command_of line) turn next old new → AnswersLines s d (line_alone line) turn old new
   answers_of stands d line Goes next old new (goes, wrote, st) =
-      let c = command_of (as_known line) in
+      let c = command_of line in
       (reply_text s (replied s c d), wrote, (quits_alone (is_quit c) false goes, sym (text_alone (is_quit c) (replied s c d) goes)))
   answers_of stands d line Quits next old new (quits, wrote) =
-      let c = command_of (as_known line) in
+      let c = command_of line in
       ([], wrote, (quits_alone (is_quit c) true quits, sym (no_text (is_quit c) (replied s c d) quits)))
   answers_of stands d line Fails next old new (goes, (k, below, wrote)) =
-      let c = command_of (as_known line) in
+      let c = command_of line in
       let alone = sym (text_alone (is_quit c) (replied s c d) goes) in
       (take k (reply_text s (replied s c d)), wrote, (k, subst (λ t. k < length t) alone below, ap (take k) alone))
 
   -- a line is answered by another one that spells the same
-  module _ {D : Type 0} (stands : D → Setting → Debugger → Type 0) (d : Debugger) (line held : Bytes) (same : command_of (as_known held) ≡ command_of (as_known line)) where
-    pub says_answers : (turn : Turn) (next : D) (old new : Option Bytes) → Says stands s d held turn next old new → AnswersLines s d (known_line line) turn old new
+  module _ {D : Type 0} (stands : D → Setting → Debugger → Type 0) (d : Debugger) (line held : Bytes) (same : command_of held ≡ command_of line) where
+    pub says_answers : (turn : Turn) (next : D) (old new : Option Bytes) → Says stands s d held turn next old new → AnswersLines s d (line_alone line) turn old new
     says_answers turn next old new says =
         answers_of stands d line turn next old new (subst (λ c. SaysOf stands d c turn next old new) same (says_of stands d held turn next old new says))
 
-    pub says_leads : (next : D) (old new : Option Bytes) → Says stands s d held Goes next old new → stands next s (after_lines s d (known_line line))
+    pub says_leads : (next : D) (old new : Option Bytes) → Says stands s d held Goes next old new → stands next s (after_lines s d (line_alone line))
     says_leads next old new says = subst (λ c. stands next s (replied s c d).next) same says.2
 
   -- an empty line has no answer
-  pub answers_empty : (d : Debugger) (w : Option Bytes) → AnswersLines s d (known_line []) Goes w w
+  pub answers_empty : (d : Debugger) (w : Option Bytes) → AnswersLines s d (line_alone []) Goes w w
   answers_empty d w = ([], Appends-nil w, (refl, refl))

@@ -1,21 +1,20 @@
 -- What is written for one piece, and then for another, and how the answering ends.
-use Rattle.std.proofs.Common.{◌≡◌, ◌≢◌, ℕ, [], ◌∷◌, ◌++◌, map, take, Option, Some, None, refl, sym, ap, subst, ◌∙◌, append-nil}
+use Rattle.std.proofs.Common.{◌≡◌, ◌≢◌, ℕ, [], ◌∷◌, ◌++◌, take, Option, Some, None, refl, sym, ap, subst, ◌∙◌, append-nil}
 use Rattle.std.specs.Prelude.{IfSome}
 use Rattle.std.proofs.KnownBytes.{Appends-nil}
 use Rattle.std.specs.Io.KnownBytes.{Appends, Consumes, IsAtEnd, Keeps}
-use Rattle.debug_machine.specs.KnownLines.{as_known}
 use Rattle.gang_model.specs.Debugger.Debugger.{Debugger, Setting}
+use Rattle.gang_model.specs.Texts.Endings.{Ends}
 use Rattle.gang_model.specs.Texts.Text.{Bytes}
-use Rattle.gang_model.specs.Texts.Transcript.{lines_after}
-use Rattle.debug_machine.specs.Lines.{Says}
-use Rattle.debug_machine.specs.KnownLines.{EndsKnown, known_lines}
-use Rattle.debug_machine.specs.declared.debugger.Turn.{Turn}
-use Rattle.debug_machine.specs.declared.debugger.Turn.TheVariants.{Goes, Quits, Fails}
-use Rattle.transcript.specs.Answered.{AnswersLines, AnswersPiece, AfterPiece, Written, after_lines, begun_after, ended_lines, held_of, known_line}
+use Rattle.gang_model.specs.Texts.Transcript.{complete_lines_after, lines_after, lines_of}
+use Rattle.transcript.specs.Lines.{Says}
+use Rattle.transcript.specs.declared.debugger.Turn.{Turn}
+use Rattle.transcript.specs.declared.debugger.Turn.TheVariants.{Goes, Quits, Fails}
+use Rattle.transcript.specs.Answered.{AnswersLines, AnswersPiece, AfterPiece, Written, after_lines, begun_after, held_of, line_alone}
 use Rattle.transcript.specs.declared.answering.Ending.{Ending}
 use Rattle.transcript.specs.declared.answering.Ending.TheVariants.{ReadFault}
 use Rattle.transcript.specs.Endings.{end_of, ending_of}
-use Rattle.transcript.proofs.CutLines.{begun_byte, begun_split, ended_split, held_byte, held_spells, known_end, known_split, none_ended}
+use Rattle.transcript.proofs.CutLines.{begun_byte, begun_split, complete_split, held_byte, held_spells, lines_end, lines_split, none_ended}
 use Rattle.transcript.proofs.LineAnswers.{after_split, answers_then, says_answers, says_leads, written_before}
 
 module _ {D : Type 0} (stands : D → Setting → Debugger → Type 0) (s : Setting) where
@@ -36,7 +35,7 @@ module _ {D : Type 0} (stands : D → Setting → Debugger → Type 0) (s : Sett
       )
 
   -- the line that has begun is answered by what is held of it
-  pub says_held : (d : Debugger) (begun held : Bytes) (turn : Turn) (y : D) (old new : Option Bytes) → held ≡ held_of begun → Says stands s d held turn y old new → AnswersLines s d (known_line begun) turn old new
+  pub says_held : (d : Debugger) (begun held : Bytes) (turn : Turn) (y : D) (old new : Option Bytes) → held ≡ held_of begun → Says stands s d held turn y old new → AnswersLines s d (line_alone begun) turn old new
   says_held d begun held turn y old new is says = says_answers s stands d begun (held_of begun) (held_spells begun) turn y old new (subst (λ l. Says stands s d l turn y old new) is says)
 
   leads_held : (d : Debugger) (begun held held' : Bytes) (turn : Turn) (y : D) (old new : Option Bytes) → held ≡ held_of begun → Says stands s d held turn y old new
@@ -53,13 +52,13 @@ module _ {D : Type 0} (stands : D → Setting → Debugger → Type 0) (s : Sett
 
   -- after one piece, another
   pub piece_then : (d : Debugger) (begun came piece : Bytes) (turn : Turn) (x y : D) (held held' : Bytes) (old mid new : Option Bytes) → AnswersPiece stands s d begun came Goes x held old mid
-      → AnswersPiece stands s (after_lines s d (ended_lines begun came)) (begun_after begun came) piece turn y held' mid new → AnswersPiece stands s d begun (came ++ piece) turn y held' old new
+      → AnswersPiece stands s (after_lines s d (complete_lines_after begun came)) (begun_after begun came) piece turn y held' mid new → AnswersPiece stands s d begun (came ++ piece) turn y held' old new
   piece_then d begun came piece turn x y held held' old mid new first second = (
-    subst (λ l. AnswersLines s d l turn old new) (sym (ended_split begun came piece)) (answers_then s d (ended_lines begun came) (ended_lines (begun_after begun came) piece) turn old mid new first.0 second.0),
+    subst (λ l. AnswersLines s d l turn old new) (sym (complete_split begun came piece)) (answers_then s d (complete_lines_after begun came) (complete_lines_after (begun_after begun came) piece) turn old mid new first.0 second.0),
     λ goes.
         let leads = second.1 goes in
         record {
-          debugger = subst (stands y s) (sym (ap (after_lines s d) (ended_split begun came piece) ∙ after_split s (ended_lines begun came) (ended_lines (begun_after begun came) piece) d)) leads.debugger;
+          debugger = subst (stands y s) (sym (ap (after_lines s d) (complete_split begun came piece) ∙ after_split s (complete_lines_after begun came) (complete_lines_after (begun_after begun came) piece) d)) leads.debugger;
           line = leads.line ∙ ap held_of (sym (begun_split begun came piece));
         },
   )
@@ -71,7 +70,7 @@ module _ {D : Type 0} (stands : D → Setting → Debugger → Type 0) (s : Sett
     (
       out,
       wrote,
-      subst (λ l. Written s d l turn out) (sym (ended_split begun came more)) (written_before s d (ended_lines begun came) (ended_lines (begun_after begun came) more) turn out ends written),
+      subst (λ l. Written s d l turn out) (sym (complete_split begun came more)) (written_before s d (complete_lines_after begun came) (complete_lines_after (begun_after begun came) more) turn out ends written),
     ),
     λ goes. absurd (ends goes),
   )
@@ -81,14 +80,14 @@ module _ {D : Type 0} (stands : D → Setting → Debugger → Type 0) (s : Sett
       → b ≢ 10 → held' ≡ held_of (held ++ b ∷ []) → AnswersPiece stands s d begun (came ++ b ∷ []) Goes x held' old new
   piece_and_byte d begun came x held held' old new b answered other more =
       let leads = answered.1 refl in
-      piece_then d begun came (b ∷ []) Goes x x held held' old new new answered (piece_byte (after_lines s d (ended_lines begun came)) (begun_after begun came) x held held' new b other leads.debugger leads.line more)
+      piece_then d begun came (b ∷ []) Goes x x held held' old new new answered (piece_byte (after_lines s d (complete_lines_after begun came)) (begun_after begun came) x held held' new b other leads.debugger leads.line more)
 
   -- one line feed more
   pub piece_and_line : (d : Debugger) (begun came : Bytes) (turn : Turn) (x y : D) (held held' : Bytes) (old mid new : Option Bytes) → AnswersPiece stands s d begun came Goes x held old mid
       → ((d : Debugger) → stands x s d → Says stands s d held turn y mid new) → (turn ≡ Goes → held' ≡ []) → AnswersPiece stands s d begun (came ++ 10 ∷ []) turn y held' old new
   piece_and_line d begun came turn x y held held' old mid new answered says none =
       let leads = answered.1 refl in
-      let next = after_lines s d (ended_lines begun came) in
+      let next = after_lines s d (complete_lines_after begun came) in
       piece_then d begun came (10 ∷ []) turn x y held held' old mid new answered (piece_line next (begun_after begun came) held held' turn y mid new leads.line (says next leads.debugger) none)
 
 -- ---- ends
@@ -106,7 +105,7 @@ told_more (Some x) None came P used p = absurd used
 told_more (Some x) (Some y) came P used p = subst P (sym used) (p y)
 
 -- what the reader had was answered
-written_ends : (s : Setting) (d : Debugger) (turn : Turn) (a b : Option Bytes) (out : Bytes) → IfSome a (λ bytes. Written s d (known_lines bytes) turn out) → EndsKnown s d (ending_of (end_of turn)) a b out
+written_ends : (s : Setting) (d : Debugger) (turn : Turn) (a b : Option Bytes) (out : Bytes) → IfSome a (λ bytes. Written s d (lines_of bytes) turn out) → Ends s d (ending_of (end_of turn)) a b out
 written_ends s d Goes None b out h = tt
 written_ends s d Goes (Some x) b out h = h
 written_ends s d Quits None b out h = tt
@@ -116,29 +115,29 @@ written_ends s d Fails (Some x) b out h = h
 
 -- how the answering ended, and what was written by then
 abbrev pub IsEnded : Setting → Debugger → Ending → (left left' old new : Option Bytes) → Type 0
-IsEnded s d end left left' old new = (out : Bytes) × Appends old new out × EndsKnown s d (ending_of end) left left' out
+IsEnded s d end left left' old new = (out : Bytes) × Appends old new out × Ends s d (ending_of end) left left' out
 
 -- at the end of the input
-pub ends_at : (s : Setting) (d : Debugger) (turn : Turn) (came : Bytes) (a b old new : Option Bytes) → Consumes a b came → IsAtEnd b → AnswersLines s d (known_lines came) turn old new → IsEnded s d (end_of turn) a b old new
+pub ends_at : (s : Setting) (d : Debugger) (turn : Turn) (came : Bytes) (a b old new : Option Bytes) → Consumes a b came → IsAtEnd b → AnswersLines s d (lines_of came) turn old new → IsEnded s d (end_of turn) a b old new
 ends_at s d turn came a b old new used end (out, wrote, written) =
-    (out, wrote, written_ends s d turn a b out (told_all a b came (λ bytes. Written s d (known_lines bytes) turn out) used end written))
+    (out, wrote, written_ends s d turn a b out (told_all a b came (λ bytes. Written s d (lines_of bytes) turn out) used end written))
 
 -- before it
-pub ends_before : (s : Setting) (d : Debugger) (turn : Turn) (came : Bytes) (a b old new : Option Bytes) → turn ≢ Goes → Consumes a b came → AnswersLines s d (ended_lines [] came) turn old new → IsEnded s d (end_of turn) a b old new
+pub ends_before : (s : Setting) (d : Debugger) (turn : Turn) (came : Bytes) (a b old new : Option Bytes) → turn ≢ Goes → Consumes a b came → AnswersLines s d (complete_lines_after [] came) turn old new → IsEnded s d (end_of turn) a b old new
 ends_before s d turn came a b old new ends used (out, wrote, written) =
-    let whatever : (more : Bytes) → Written s d (known_lines (came ++ more)) turn out =
-    λ more. subst (λ l. Written s d l turn out) (sym (known_split came more)) (written_before s d (ended_lines [] came) (map as_known (lines_after (begun_after [] came) more)) turn out ends written) in
-    (out, wrote, written_ends s d turn a b out (told_more a b came (λ bytes. Written s d (known_lines bytes) turn out) used whatever))
+    let whatever : (more : Bytes) → Written s d (lines_of (came ++ more)) turn out =
+    λ more. subst (λ l. Written s d l turn out) (sym (lines_split [] came more)) (written_before s d (complete_lines_after [] came) (lines_after (begun_after [] came) more) turn out ends written) in
+    (out, wrote, written_ends s d turn a b out (told_more a b came (λ bytes. Written s d (lines_of bytes) turn out) used whatever))
 
 -- at a fault of the reader
-pub ends_fault : (s : Setting) (d : Debugger) (came : Bytes) (a b old new : Option Bytes) → Consumes a b came → AnswersLines s d (ended_lines [] came) Goes old new → IsEnded s d ReadFault a b old new
+pub ends_fault : (s : Setting) (d : Debugger) (came : Bytes) (a b old new : Option Bytes) → Consumes a b came → AnswersLines s d (complete_lines_after [] came) Goes old new → IsEnded s d ReadFault a b old new
 ends_fault s d came a b old new used (out, wrote, written) = (out, wrote, (came, used, written.0, written.1))
 
 -- in the last line, behind those that ended
-pub answers_last : (s : Setting) (d : Debugger) (came : Bytes) (turn : Turn) (old mid new : Option Bytes) → AnswersLines s d (ended_lines [] came) Goes old mid
-    → AnswersLines s (after_lines s d (ended_lines [] came)) (known_line (begun_after [] came)) turn mid new → AnswersLines s d (known_lines came) turn old new
+pub answers_last : (s : Setting) (d : Debugger) (came : Bytes) (turn : Turn) (old mid new : Option Bytes) → AnswersLines s d (complete_lines_after [] came) Goes old mid
+    → AnswersLines s (after_lines s d (complete_lines_after [] came)) (line_alone (begun_after [] came)) turn mid new → AnswersLines s d (lines_of came) turn old new
 answers_last s d came turn old mid new first second =
-    subst (λ l. AnswersLines s d l turn old new) (sym (known_end came)) (answers_then s d (ended_lines [] came) (known_line (begun_after [] came)) turn old mid new first second)
+    subst (λ l. AnswersLines s d l turn old new) (sym (lines_end came)) (answers_then s d (complete_lines_after [] came) (line_alone (begun_after [] came)) turn old mid new first second)
 
 -- a read of nothing
 pub consumes_none : (a b : Option Bytes) (n : ℕ) (piece : Bytes) → n ≡ 0 → Consumes a b (take n piece) → Keeps a b

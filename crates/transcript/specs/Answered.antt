@@ -1,23 +1,18 @@
 -- What is written for the lines of a piece, of which the first had begun before it.
-use Rattle.std.specs.Prelude.{◌≡◌, ℕ, ◌==◌, ◌<◌, true, false, List, [], ◌∷◌, ◌++◌, length, map, take, Option, if◌then◌else◌}
+use Rattle.std.specs.Prelude.{◌≡◌, ℕ, ◌==◌, ◌<◌, true, false, List, [], ◌∷◌, ◌++◌, length, take, Option, if◌then◌else◌}
 use Rattle.std.specs.Io.KnownBytes.{Appends}
 use Rattle.gang_model.specs.Debugger.Debugger.{Debugger, Setting}
-use Rattle.debug_machine.specs.KnownLines.{as_known}
 use Rattle.gang_model.specs.Texts.CommandText.{command_of}
 use Rattle.gang_model.specs.Texts.Text.{Bytes}
 use Rattle.gang_model.specs.Texts.Transcript.{complete_lines_after, has_quit, replied, transcript_from}
-use Rattle.debug_machine.specs.declared.debugger.Turn.{Turn}
-use Rattle.debug_machine.specs.declared.debugger.Turn.TheVariants.{Goes, Quits, Fails}
+use Rattle.transcript.specs.declared.debugger.Turn.{Turn}
+use Rattle.transcript.specs.declared.debugger.Turn.TheVariants.{Goes, Quits, Fails}
 
 -- ---- lines
 
--- a line alone, as the program reads it
-abbrev pub known_line : Bytes → List Bytes
-known_line line = as_known line ∷ []
-
--- the lines that end in a piece, behind one that has begun, as the program reads them
-abbrev pub ended_lines : (begun piece : Bytes) → List Bytes
-ended_lines begun piece = map as_known (complete_lines_after begun piece)
+-- a line alone
+abbrev pub line_alone : Bytes → List Bytes
+line_alone line = line ∷ []
 
 -- the line that has begun behind a piece
 abbrev pub begun_after : (begun piece : Bytes) → Bytes
@@ -48,9 +43,9 @@ AnswersLines s d lines turn old new = (out : Bytes) × Appends old new out × Wr
 
 -- where the lines that end in a piece lead, if none quits and the writer works: the debugger after them, and the line that has begun
 pub record AfterPiece {D : Type 0} (stands : D → Setting → Debugger → Type 0) (s : Setting) (d : Debugger) (begun piece : Bytes) (new : D) (held : Bytes) : Type 0 where
-  pub debugger : stands new s (after_lines s d (ended_lines begun piece))
+  pub debugger : stands new s (after_lines s d (complete_lines_after begun piece))
   pub line : held ≡ held_of (begun_after begun piece)
 
 -- the lines that end in a piece were answered
 abbrev pub AnswersPiece : {D : Type 0} → (D → Setting → Debugger → Type 0) → Setting → Debugger → (begun piece : Bytes) → Turn → D → (held : Bytes) → (old new : Option Bytes) → Type 0
-AnswersPiece stands s d begun piece turn next held old new = AnswersLines s d (ended_lines begun piece) turn old new × (turn ≡ Goes → AfterPiece stands s d begun piece next held)
+AnswersPiece stands s d begun piece turn next held old new = AnswersLines s d (complete_lines_after begun piece) turn old new × (turn ≡ Goes → AfterPiece stands s d begun piece next held)

@@ -1,7 +1,7 @@
 -- How the answering of command lines ended.
 use Rattle.gang_model.specs.Texts.Endings.{Ending as ModelEnding, AtQuit, AtEnd, AtReadFault, AtWriteFault}
-use Rattle.debug_machine.specs.declared.debugger.Turn.{Turn}
-use Rattle.debug_machine.specs.declared.debugger.Turn.TheVariants.{Goes, Quits, Fails}
+use Rattle.transcript.specs.declared.debugger.Turn.{Turn}
+use Rattle.transcript.specs.declared.debugger.Turn.TheVariants.{Goes, Quits, Fails}
 use Rattle.transcript.specs.declared.answering.Ending.{Ending}
 use Rattle.transcript.specs.declared.answering.Ending.TheVariants.{Quit, EndOfCommands, ReadFault, WriteFault}
 

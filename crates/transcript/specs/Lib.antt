@@ -1,2 +1,4 @@
 pub mod Answered
 pub mod Endings
+pub mod Lines
+pub mod Wording

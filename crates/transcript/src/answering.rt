@@ -2,14 +2,15 @@
 ghost use Rattle.std.specs.Prelude.{◌≡◌, ◌⊎◌, ◌+◌, ◌≤◌, ℕ, true, false, List};
 ghost use Rattle.std.specs.Io.KnownBytes.{Appends};
 ghost use Rattle.gang_model.specs.Debugger.Debugger.{Debugger, Setting};
+ghost use Rattle.gang_model.specs.Texts.Endings.{Ends};
 ghost use Rattle.gang_model.specs.Texts.Text.{Bytes};
-ghost use Rattle.debug_machine.specs.Lines.{fails};
-ghost use Rattle.debug_machine.specs.KnownLines.{EndsKnown};
-ghost use Rattle.transcript.specs.Answered.{AnswersLines, AnswersPiece, held_of, known_line};
+ghost use Rattle.transcript.specs.Lines.{fails};
+ghost use Rattle.transcript.specs.Answered.{AnswersLines, AnswersPiece, held_of, line_alone};
 ghost use Rattle.transcript.specs.Endings.{end_of, ending_of};
 
+use crate::debugger::{LineDebugger, Turn};
 use arrayvec::ArrayVec;
-use debug_machine::{AnswerWriter, CommandReader, LineDebugger, READS, Turn};
+use debug_machine::{AnswerWriter, CommandReader, READS};
 
 const LINE_FEED: u8 = 10;
 
@@ -54,7 +55,7 @@ pub fn answer_lines<D: LineDebugger, R: CommandReader, O: AnswerWriter>(
     requires writer_works { O.has_failed writer.old ≡ false }
     ensures transcript { (s : Setting) (d : Debugger) → D.stands debugger.old s d → (out : List ℕ)
         × Appends (O.written writer.old) (O.written writer.new) out
-        × EndsKnown s d (ending_of result) (R.left reader.old) (R.left reader.new) out }
+        × Ends s d (ending_of result) (R.left reader.old) (R.left reader.new) out }
     ensures read_fault { result ≡ Ending.ReadFault → (R.has_failed reader.new ≡ true)
         ⊎ ((R.reads reader.new ≡ READS) × (R.pieces reader.new ≡ R.pieces reader.old + READS)) }
     ensures write_fault { result ≡ Ending.WriteFault → O.has_failed writer.new ≡ true }
@@ -108,7 +109,7 @@ fn answer_last_line<D: LineDebugger, O: AnswerWriter>(
 ) -> Turn
     requires works { O.has_failed writer.old ≡ false }
     ensures answered { (s : Setting) (d : Debugger) (begun : Bytes) → D.stands debugger.old s d → line.now.items ≡ held_of begun
-        → AnswersLines s d (known_line begun) result (O.written writer.old) (O.written writer.new) }
+        → AnswersLines s d (line_alone begun) result (O.written writer.old) (O.written writer.new) }
     ensures failed { O.has_failed writer.new ≡ fails result }
 {
     if line.is_empty() {

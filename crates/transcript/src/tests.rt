@@ -1,5 +1,7 @@
 //! Lines in pieces, `quit`, long lines, and devices that fail.
+mod answers;
 mod debugger;
+mod machine;
 
 use crate::{Ending, answer_lines};
 use debugger::RepeatingDebugger;

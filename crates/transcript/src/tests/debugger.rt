@@ -1,8 +1,9 @@
 //! A debugger that repeats its lines.
 ghost use Rattle.std.specs.Prelude.{◌≡◌, false};
-ghost use Rattle.debug_machine.specs.Lines.{fails};
+ghost use Rattle.transcript.specs.Lines.{fails};
 
-use debug_machine::{AnswerWriter, LineDebugger, Turn};
+use crate::{LineDebugger, Turn};
+use debug_machine::AnswerWriter;
 
 /// Answers each line by the line itself and a `;`, and counts the lines. It stands for no debugger of the definitions.
 #[derive(Drop)]

@@ -3,7 +3,7 @@ use Rattle.std.proofs.Common.{◌≡◌, ◌+◌, [], false}
 use Rattle.std.specs.Io.KnownBytes.{Consumes}
 use Rattle.gang_model.specs.Debugger.Debugger.{Debugger, Setting}
 use Rattle.gang_model.specs.Texts.Text.{Bytes}
-use Rattle.debug_machine.specs.declared.debugger.Turn.TheVariants.{Goes}
+use Rattle.transcript.specs.declared.debugger.Turn.TheVariants.{Goes}
 use Rattle.transcript.specs.Answered.{AnswersPiece}
 use Rattle.transcript.proofs.answering.answer_lines.Given as goal
 

@@ -1,6 +1,6 @@
 use Rattle.std.proofs.Common.{rules, ◌≡◌, ◌<◌, ◌+◌, [], ◌∷◌, ◌++◌, length, get_or, take, take_all, arith, drop, subst, sym, refl}
-use Rattle.debug_machine.specs.Lines.{Says}
-use Rattle.debug_machine.specs.declared.debugger.Turn.TheVariants.{Goes}
+use Rattle.transcript.specs.Lines.{Says}
+use Rattle.transcript.specs.declared.debugger.Turn.TheVariants.{Goes}
 use Rattle.transcript.specs.Answered.{AnswersPiece, held_of}
 use Rattle.transcript.proofs.CutLines.{held_full, held_more, piece_at, take_at_byte}
 use Rattle.transcript.proofs.PieceAnswers.{piece_before, piece_and_line, piece_and_byte}

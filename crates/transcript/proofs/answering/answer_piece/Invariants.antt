@@ -2,7 +2,7 @@
 use Rattle.std.proofs.Common.{◌≡◌, take, false}
 use Rattle.gang_model.specs.Debugger.Debugger.{Debugger, Setting}
 use Rattle.gang_model.specs.Texts.Text.{Bytes}
-use Rattle.debug_machine.specs.declared.debugger.Turn.TheVariants.{Goes}
+use Rattle.transcript.specs.declared.debugger.Turn.TheVariants.{Goes}
 use Rattle.transcript.specs.Answered.{AnswersPiece, held_of}
 use Rattle.transcript.proofs.answering.answer_piece.Given as goal
 

@@ -1,0 +1,130 @@
+//! A machine that stands still.
+use debug_machine::{NamedVariable, Position, RecordedMachine, Shown, StepEnd};
+use gang_types::{IntType, Mask, Place, Rate, VarId};
+use undo_log::{NoHistory, Undone};
+
+/// The array of the file.
+pub const ARRAY: Shown = Shown {
+    id: VarId::File(0),
+    value_type: IntType::Int16,
+    rate: Rate::Uniform,
+    is_array: true,
+    is_constant: false,
+    count: 3,
+};
+
+/// A local variable that is not set.
+pub const CONSTANT: Shown = Shown {
+    id: VarId::Local(1),
+    value_type: IntType::Bool,
+    rate: Rate::Varying,
+    is_array: false,
+    is_constant: true,
+    count: 2,
+};
+
+/// Stands in `f`, which `m` called; or at its end, where it has no variables.
+#[derive(Drop)]
+pub struct StillMachine {
+    pub has_ended: bool,
+}
+
+// It stands for no program, so that only its answers count.
+impl RecordedMachine for StillMachine {
+    ghost use Rattle.std.specs.Prelude.{[]};
+
+    ghost stands = { λ _ _ _. ⊥ };
+
+    ghost history = { λ _. record { words = []; past = []; limit = 0; room = 0 } };
+
+    fn step(&mut self) -> StepEnd {
+        StepEnd::Ended
+    }
+
+    fn undo(&mut self) -> Result<Undone, NoHistory> {
+        Err(NoHistory)
+    }
+
+    fn poke(&mut self, _shown: Shown, _at: Option<u32>, _word: u64) {}
+
+    fn kept(&self) -> usize {
+        0
+    }
+
+    fn kept_steps(&self) -> usize {
+        0
+    }
+
+    fn limit(&self) -> usize {
+        0
+    }
+
+    fn position(&self) -> Option<Position<'_>> {
+        if self.has_ended {
+            return None;
+        }
+        Some(Position {
+            place: Place { line: 2, col: 5 },
+            function: b"f",
+            depth: 2,
+            width: 4,
+            lanes: Mask::only::<4>(1).with::<4>(3),
+        })
+    }
+
+    fn call(&self, depth: usize) -> Option<Position<'_>> {
+        if self.has_ended || depth != 1 {
+            return None;
+        }
+        Some(Position {
+            place: Place { line: 9, col: 3 },
+            function: b"m",
+            depth: 1,
+            width: 4,
+            lanes: Mask::only::<4>(0),
+        })
+    }
+
+    fn find(&self, _name: &[u8]) -> Option<Shown> {
+        None
+    }
+
+    fn find_in_file(&self, _name: &[u8]) -> Option<usize> {
+        None
+    }
+
+    fn file_variable(&self, number: usize) -> Option<NamedVariable<'_>> {
+        match number {
+            0 => Some(NamedVariable {
+                name: b"a",
+                shown: ARRAY,
+            }),
+            _ => None,
+        }
+    }
+
+    fn local_count(&self) -> usize {
+        if self.has_ended { 0 } else { 1 }
+    }
+
+    fn local_variable(&self, number: usize) -> Option<NamedVariable<'_>> {
+        match number {
+            0 if !self.has_ended => Some(NamedVariable {
+                name: b"on",
+                shown: CONSTANT,
+            }),
+            _ => None,
+        }
+    }
+
+    fn word(&self, shown: Shown, index: usize) -> u64 {
+        if shown.id != ARRAY.id {
+            return if index == 0 { 0 } else { 1 };
+        }
+        [7, u64::MAX, 0].get(index).copied().unwrap_or(0)
+    }
+
+    fn line_from(&self, _line: u32) -> Option<u32> {
+        None
+    }
+}
