@@ -25,6 +25,7 @@ build:
 	cd crates/ispc_cli && rt run -- $$(cat args) < stdin
 	@echo "The proved program is crates/ispc_cli/out/ispc_cli"
 
-# Times of the lane kernels beside their plain loops, as ratios.
+# Times of the lane kernels beside their plain loops, as ratios; and of the built program: steps, prints and moves a second.
 bench:
 	cd crates/kernel_bench && rt run -- signed && rt run -- unsigned
+	tools/bench_program

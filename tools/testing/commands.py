@@ -1,4 +1,4 @@
-"""The table of commands in docs/COMMANDS.md: a command that it marks as running is answered, and any other is C1 BadCommand."""
+"""The table of commands in docs/COMMANDS.md: each of its commands is answered, and not as a line that spells none."""
 
 import re
 
@@ -10,13 +10,6 @@ REFUSED = b"C1 BadCommand"
 
 # What stands for the placeholders of the table, on the example.
 VALUES = {"[N]": "1", "N": "1", "T": "x", "NAME": "x", "NAME[K]": "x[0]", "V": "0"}
-
-
-class Command:
-    """A command line, and whether the table says that it runs: None where it does not say."""
-
-    def __init__(self, line, runs):
-        self.line, self.runs = line, runs
 
 
 def cells(line):
@@ -47,37 +40,26 @@ def lines_of(cell):
     return lines
 
 
-def runs_of(row):
-    """Whether a row's commands run: None where its column says neither yes nor not yet."""
-    said = row.get("Runs", "").lower()
-    return True if said.startswith("yes") else False if said.startswith("not yet") else None
-
-
 def commands(root):
-    return [Command(line, runs_of(row)) for row in rows(root) for line in lines_of(row["Command"])]
+    return [line for row in rows(root) for line in lines_of(row["Command"])]
 
 
 def check(root):
-    """A result for each command of the table: it says whether it runs."""
+    """A result for each command of the table: it stands there once."""
     found = commands(root)
     if not found:
         return [Result("the table of commands", False, ["docs/COMMANDS.md has no table with the columns Command and Does"])]
-    why = ["the column Runs says neither `yes` nor `not yet`"]
-    return [Result(it.line, it.runs is not None, why) for it in found]
+    return [Result(it, found.count(it) == 1, ["it is there twice"]) for it in found]
 
 
 def runs(root):
     """A run for each command, after one step of the example."""
-    return [run(root, it) for it in commands(root) if it.runs is not None]
+    return [run(root, it) for it in commands(root)]
 
 
-def run(root, command):
+def run(root, line):
     def judged(output):
         answers = output.splitlines()[1:]
-        if (REFUSED in answers) != command.runs:
-            return []
-        said = b" / ".join(answers).decode(errors="replace")
-        return [f"docs/COMMANDS.md marks it {'yes' if command.runs else 'not yet'}, and it is answered: {said}"]
+        return [f"it is answered: {REFUSED.decode()}"] if REFUSED in answers else []
 
-    name = f"command {command.line}"
-    return Run(name, script(root, EXAMPLE, f"step\n{command.line}\n".encode()), [], judged, b"")
+    return Run(f"command {line}", script(root, EXAMPLE, f"step\n{line}\n".encode()), [], judged, b"")

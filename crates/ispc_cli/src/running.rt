@@ -3,7 +3,7 @@ ghost use Rattle.std.specs.Prelude.{◌≡◌, ◌⊎◌, ℕ, ◌+◌, ◌≤�
 ghost use Rattle.std.specs.Io.KnownBytes.{Appends};
 ghost use Rattle.gang_types.specs.Masks.{IsGangWidth};
 ghost use Rattle.gang_model.specs.Debugger.Debugger.{fresh};
-ghost use Rattle.debug_machine.specs.KnownLines.{EndsKnown};
+ghost use Rattle.gang_model.specs.Texts.Endings.{Ends};
 ghost use Rattle.gang_model.specs.Running.RunningOrder.{IsNumberedProgram};
 ghost use Rattle.gang_model.specs.Source.Sources.{IsProgramOf};
 ghost use Rattle.gang_model.specs.Texts.Transcript.{setting};
@@ -45,7 +45,7 @@ pub fn run<R: CommandReader, O: AnswerWriter>(
     requires writer_works { O.has_failed writer.old ≡ false }
     ensures transcript { IfOk result (λ ending. (program : ModelProgram) × (entry : ℕ) × IsProgramOf source.now (asked_of options.now) program entry
         × ((out : List ℕ) × Appends (O.written writer.old) (O.written writer.new) out
-        × EndsKnown (setting program entry [] (options_view options.now)) (fresh options.now.history) (ending_of ending) (R.left reader.old) (R.left reader.new) out)) }
+        × Ends (setting program entry [] (options_view options.now)) (fresh options.now.history) (ending_of ending) (R.left reader.old) (R.left reader.new) out)) }
     ensures refused { IfErr result (λ refusal. IsRight source.now (asked_of options.now) refusal × ((reader.new ≡ reader.old) × (writer.new ≡ writer.old))) }
     ensures read_fault { result ≡ Ok Ending.ReadFault
         → (R.has_failed reader.new ≡ true)
@@ -88,7 +88,7 @@ fn run_wide<const W: usize, R: CommandReader, O: AnswerWriter>(
     requires reader_works { R.has_failed reader.old ≡ false }
     requires writer_works { O.has_failed writer.old ≡ false }
     ensures transcript { IfOk result (λ ending. (out : List ℕ) × Appends (O.written writer.old) (O.written writer.new) out
-        × EndsKnown (setting (program_view compiled.program) compiled.entry.0 [] (record { width = W; history = options.now.history; steps = options.now.steps })) (fresh options.now.history)
+        × Ends (setting (program_view compiled.program) compiled.entry.0 [] (record { width = W; history = options.now.history; steps = options.now.steps })) (fresh options.now.history)
         (ending_of ending) (R.left reader.old) (R.left reader.new) out) }
     ensures refused { IfErr result (λ refusal. (refusal ≡ Refusal.Memory) × ((reader.new ≡ reader.old) × (writer.new ≡ writer.old))) }
     ensures read_fault { result ≡ Ok Ending.ReadFault

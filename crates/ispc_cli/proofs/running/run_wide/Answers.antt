@@ -9,4 +9,4 @@ returns-in-Ok-clause-transcript g c =
     let options = c.args.options.now in
     let s = setting (program_view c.args.compiled.program) c.args.compiled.entry.0 [] (record { width = g.row.W; history = options.history; steps = options.steps }) in
     let d = fresh options.history in
-    c.answer_lines.ensures.transcript s d (c.open-session.ensures s d (c.in-Ok.ensures options.steps) (record { no_stops = refl; only_steps = refl }) refl)
+    c.answer_lines.ensures.transcript s d (c.open-session.ensures s d (c.in-Ok.ensures options.steps) refl refl refl)
