@@ -1,0 +1,6 @@
+pub mod Recorded
+pub mod Parts
+pub mod Elements
+pub mod Packed
+pub mod ScalarWords
+pub mod Layouts

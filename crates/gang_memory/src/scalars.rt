@@ -1,0 +1,109 @@
+//! The words of scalars, read and written by the lanes of a mask.
+ghost use Rattle.std.specs.Prelude.{◌≡◌, ℕ, ◌+◌, ◌^◌, ◌<◌, ◌≤◌, false, List, length, slice_index};
+ghost use Rattle.gang_types.specs.declared.types.Rate.TheVariants.{Varying};
+ghost use Rattle.gang_types.specs.Lanes.{no_lane};
+ghost use Rattle.gang_types.specs.Masks.{IsGangWidth, lanes_of};
+ghost use Rattle.gang_model.specs.Running.State.{assigned_words, declared_words, seen};
+ghost use Rattle.gang_memory.specs.Elements.{IsKeptOutside};
+ghost use Rattle.gang_memory.specs.ScalarWords.{IsScalarAt, rate_words};
+
+use crate::reading::words_at;
+use crate::store::WordStore;
+use crate::writing::set_words;
+use gang_types::{Mask, Rate};
+use masked_operations::only;
+
+/// How many words a scalar has: a uniform one has one, a varying one has one for each lane.
+pub fn word_count<const W: usize>(rate: Rate) -> usize
+    ensures { result ≡ rate_words W rate }
+{
+    match rate {
+        Rate::Uniform => 1,
+        Rate::Varying => W,
+    }
+}
+
+/// In each lane of the mask the value of the scalar whose words begin at `first`, and 0 in the others.
+pub fn read_scalar<const W: usize, S: WordStore>(
+    store: &S,
+    first: usize,
+    rate: Rate,
+    mask: Mask,
+) -> [u64; W]
+    requires width { IsGangWidth W }
+    requires small { first + W < 2 ^ 64 }
+    requires inside { first + rate_words W rate ≤ length (S.words store.now) }
+    ensures { (scalar : List ℕ) → IsScalarAt W rate first scalar (S.words store.now) → result ≡ seen rate (lanes_of W mask) scalar }
+{
+    match rate {
+        Rate::Uniform => words_at(store, mask, [first; W]),
+        Rate::Varying => words_at(store, mask, consecutive(first)),
+    }
+}
+
+/// Assigns to the scalar whose words begin at `first`, in the lanes of the mask; a uniform one gets the value once.
+pub fn assign_scalar<const W: usize, S: WordStore>(
+    store: &mut S,
+    first: usize,
+    rate: Rate,
+    mask: Mask,
+    values: [u64; W],
+)
+    requires width { IsGangWidth W }
+    requires lane { no_lane (lanes_of W mask) ≡ false }
+    requires small { first + W < 2 ^ 64 }
+    requires inside { first + rate_words W rate ≤ length (S.words store.old) }
+    requires left { W ≤ S.left store.old }
+    ensures scalar { (scalar : List ℕ) → IsScalarAt W rate first scalar (S.words store.old) → IsScalarAt W rate first (assigned_words rate (lanes_of W mask) values.entry scalar) (S.words store.new) }
+    ensures others { IsKeptOutside first (rate_words W rate) (S.words store.old) (S.words store.new) }
+    ensures left { S.left store.old ≤ S.left store.new + W }
+    ensures rest { S.rest store.new ≡ S.rest store.old }
+{
+    match rate {
+        Rate::Uniform => store.set(first, values[mask.lowest::<W>()]),
+        Rate::Varying => set_words(store, mask, consecutive(first), values),
+    }
+}
+
+/// Declares the scalar whose words begin at `first`: it has the values in the lanes of the mask and 0 in the others; a
+/// uniform one gets the value once.
+pub fn declare_scalar<const W: usize, S: WordStore>(
+    store: &mut S,
+    first: usize,
+    rate: Rate,
+    mask: Mask,
+    values: [u64; W],
+)
+    requires width { IsGangWidth W }
+    requires lane { no_lane (lanes_of W mask) ≡ false }
+    requires small { first + W < 2 ^ 64 }
+    requires inside { first + rate_words W rate ≤ length (S.words store.old) }
+    requires left { W ≤ S.left store.old }
+    ensures scalar { IsScalarAt W rate first (declared_words rate (lanes_of W mask) values.entry) (S.words store.new) }
+    ensures others { IsKeptOutside first (rate_words W rate) (S.words store.old) (S.words store.new) }
+    ensures left { S.left store.old ≤ S.left store.new + W }
+    ensures rest { S.rest store.new ≡ S.rest store.old }
+{
+    match rate {
+        Rate::Uniform => store.set(first, values[mask.lowest::<W>()]),
+        Rate::Varying => set_words(
+            store,
+            Mask::all::<W>(),
+            consecutive(first),
+            only(mask, values),
+        ),
+    }
+}
+
+// The slots from `first` on, one for each lane.
+fn consecutive<const W: usize>(first: usize) -> [usize; W]
+    requires width { IsGangWidth W }
+    requires small { first + W < 2 ^ 64 }
+    ensures { (k : ℕ) → k < W → slice_index result k ≡ first + k }
+{
+    let mut slots = [first; W];
+    for lane in 0..W {
+        slots[lane] = first + lane;
+    }
+    slots
+}

@@ -1,0 +1,49 @@
+//! Words that are read and set by their numbers.
+ghost use Rattle.std.specs.Prelude.{◌≡◌, ℕ, ◌+◌, ◌-◌, ◌^◌, ◌<◌, ◌≤◌, List, length, slice_index, slice_set};
+
+/// Words that are read and set by their numbers.
+pub trait WordStore {
+    /// What a store has besides its words.
+    ghost Rest: { Type 0 };
+
+    /// The words.
+    ghost words: { Self → List ℕ };
+
+    /// How many words may still be set.
+    ghost left: { Self → ℕ };
+
+    /// What setting words leaves as it is.
+    ghost rest: { Self → Rest };
+
+    /// The word at `index`.
+    fn word(&self, index: usize) -> u64
+        requires { index < length (words self.now) }
+        ensures { result ≡ slice_index (words self.now) index };
+
+    /// Sets the word at `index`.
+    fn set(&mut self, index: usize, value: u64)
+        requires in_range { index < length (words self.old) }
+        requires left { 0 < left self.old }
+        ensures words { words self.new ≡ slice_set (words self.old) index value }
+        ensures left { left self.old ≤ left self.new + 1 }
+        ensures rest { rest self.new ≡ rest self.old };
+}
+
+/// A list of words in memory; any number of them may be set.
+impl WordStore for Vec<u64> {
+    ghost Rest = { Unit {0} };
+
+    ghost words = { λ list. list.items };
+
+    ghost left = { λ _. 2 ^ 64 - 1 };
+
+    ghost rest = { λ _. tt };
+
+    fn word(&self, index: usize) -> u64 {
+        self[index]
+    }
+
+    fn set(&mut self, index: usize, value: u64) {
+        self[index] = value;
+    }
+}

@@ -1,0 +1,233 @@
+ghost use Rattle.std.specs.Prelude.{◌≡◌};
+
+use crate::{
+    Frames, Layout, Part, Recorded, WordStore, assign_scalar, declare_scalar, gather, packed_load,
+    packed_store, part_from, read_scalar, scatter,
+};
+use gang_types::{FaultName, IntType, Mask, Rate, wrap};
+use std::test::*;
+use typed_tree::Program;
+use undo_log::{SnapshotRing, Timeline, Undone};
+
+fn part(first: usize, len: usize) -> Part
+    ensures first { result.first ≡ first }
+    ensures len { result.len ≡ len }
+{
+    Part { first, len }
+}
+
+#[test]
+fn of_lanes_that_name_one_element_the_highest_stays(rt: HostRuntime) -> Result<(), Fail> {
+    let mut store = vec![in rt.alloc(); 0, 0, 0, 0]?;
+    let stored = scatter(
+        &mut store,
+        part(0, 4),
+        Mask::all::<4>(),
+        [0, 0, 1, 1],
+        [0, 1, 2, 3],
+    );
+    assert_eq!(rt; stored, Ok(()));
+    assert!(rt; store.as_slice() == [1, 3, 0, 0].as_slice());
+    Ok(())
+}
+
+#[test]
+fn a_missing_element_leaves_all_as_it_was(rt: HostRuntime) -> Result<(), Fail> {
+    let mut store = vec![in rt.alloc(); 5, 6, 7, 8]?;
+    let stored = scatter(
+        &mut store,
+        part(1, 2),
+        Mask::from_word::<4>(14),
+        [9, 0, 2, 9],
+        [1, 2, 3, 4],
+    );
+    assert_eq!(rt; stored, Err((2, FaultName::Index)));
+    assert!(rt; store.as_slice() == [5, 6, 7, 8].as_slice());
+    Ok(())
+}
+
+#[test]
+fn a_packed_load_gives_the_first_elements(rt: HostRuntime) -> Result<(), Fail> {
+    let store = vec![in rt.alloc(); 0, 10, 20, 30]?;
+    let mask = Mask::from_word::<4>(10);
+    assert_eq!(rt;
+        packed_load::<4, _>(&store, part(1, 3), mask).map(|loaded| loaded.words),
+        Ok([0, 10, 0, 20])
+    );
+    assert_eq!(rt;
+        packed_load::<4, _>(&store, part(1, 3), mask).map(|loaded| loaded.count),
+        Ok(2)
+    );
+    assert_eq!(rt;
+        packed_load::<4, _>(&store, part(3, 1), mask).map(|loaded| loaded.count),
+        Err((3, FaultName::Index))
+    );
+    Ok(())
+}
+
+#[test]
+fn a_packed_store_writes_the_first_elements(rt: HostRuntime) -> Result<(), Fail> {
+    let mut store = vec![in rt.alloc(); 0, 0, 0, 0]?;
+    let stored = packed_store(
+        &mut store,
+        part(1, 3),
+        Mask::from_word::<8>(10),
+        [1, 2, 3, 4, 5, 6, 7, 8],
+    );
+    assert_eq!(rt; stored, Ok(2));
+    assert!(rt; store.as_slice() == [0, 2, 4, 0].as_slice());
+    Ok(())
+}
+
+#[test]
+fn every_mask_takes_as_many_elements_as_it_has_lanes(rt: HostRuntime) -> Result<(), Fail> {
+    let store = vec![in rt.alloc(); 1, 2, 3, 4, 5, 6, 7, 8]?;
+    for word in 0..256 {
+        let mask = Mask::from_word::<8>(word);
+        assert_eq!(rt;
+            packed_load::<8, _>(&store, part(0, 8), mask).map(|loaded| loaded.count),
+            Ok(mask.count::<8>())
+        );
+    }
+    Ok(())
+}
+
+#[test]
+fn arrays_of_no_element_and_of_one(rt: HostRuntime) -> Result<(), Fail> {
+    let store = vec![in rt.alloc(); 7]?;
+    let mask = Mask::from_word::<4>(12);
+    assert_eq!(rt;
+        gather(&store, part(1, 0), mask, [0; 4]),
+        Err((2, FaultName::Index))
+    );
+    assert_eq!(rt;
+        gather(&store, part(0, 1), mask, [1, 1, 0, 0]),
+        Ok([0, 0, 7, 7])
+    );
+    assert_eq!(rt;
+        gather(&store, part(0, 1), mask, [0, 0, 0, 1]),
+        Err((3, FaultName::Index))
+    );
+    Ok(())
+}
+
+#[test]
+fn the_ends_of_the_index_types_name_no_element(rt: HostRuntime) -> Result<(), Fail> {
+    let store = vec![in rt.alloc(); 5, 6]?;
+    let ends = [
+        wrap(IntType::Int8, -1),
+        wrap(IntType::Int8, 127),
+        wrap(IntType::Int64, -1),
+        1 << 63,
+        u64::MAX,
+        1 << 32,
+    ];
+    for end in ends {
+        assert_eq!(rt;
+            gather(&store, part(0, 2), Mask::all::<4>(), [0, end, 1, end]),
+            Err((1, FaultName::Index))
+        );
+    }
+    Ok(())
+}
+
+#[test]
+fn a_part_may_begin_at_the_end(rt: HostRuntime) {
+    let mask = Mask::only::<4>(1);
+    assert_eq!(rt; part_from::<4>(part(2, 3), mask, 1), Ok(part(3, 2)));
+    assert_eq!(rt; part_from::<4>(part(2, 3), mask, 3), Ok(part(5, 0)));
+    assert_eq!(rt;
+        part_from::<4>(part(2, 3), mask, 4),
+        Err((1, FaultName::Index))
+    );
+    assert_eq!(rt;
+        part_from::<4>(part(2, 3), mask, u64::MAX),
+        Err((1, FaultName::Index))
+    );
+}
+
+#[test]
+fn a_declared_scalar_is_0_in_other_lanes(rt: HostRuntime) -> Result<(), Fail> {
+    let mut store = vec![in rt.alloc(); 1, 2, 3, 4, 5, 6]?;
+    declare_scalar(
+        &mut store,
+        1,
+        Rate::Varying,
+        Mask::only::<4>(2),
+        [7, 8, 9, 10],
+    );
+    assert!(rt; store.as_slice() == [1, 0, 0, 9, 0, 6].as_slice());
+    Ok(())
+}
+
+#[test]
+fn an_assigned_scalar_keeps_the_words_of_other_lanes(rt: HostRuntime) -> Result<(), Fail> {
+    let mut store = vec![in rt.alloc(); 1, 2, 3, 4, 5, 6]?;
+    assign_scalar(
+        &mut store,
+        1,
+        Rate::Varying,
+        Mask::only::<4>(2),
+        [7, 8, 9, 10],
+    );
+    assert!(rt; store.as_slice() == [1, 2, 3, 9, 5, 6].as_slice());
+    Ok(())
+}
+
+#[test]
+fn a_uniform_scalar_is_read_by_each_lane(rt: HostRuntime) -> Result<(), Fail> {
+    let mut store = vec![in rt.alloc(); 1, 2, 3, 4, 5, 6]?;
+    assign_scalar(
+        &mut store,
+        5,
+        Rate::Uniform,
+        Mask::only::<4>(2),
+        [0, 0, 2, 3],
+    );
+    assert_eq!(rt;
+        read_scalar(&store, 5, Rate::Uniform, Mask::from_word::<4>(3)),
+        [2, 2, 0, 0]
+    );
+    Ok(())
+}
+
+#[test]
+fn what_a_record_took_is_taken_back(rt: HostRuntime) -> Result<(), Fail> {
+    let mut store = Recorded {
+        timeline: SnapshotRing::new(rt.alloc(), 4, 2)?,
+    };
+    store.timeline.mark(Undone::Step);
+    let stored = packed_store(
+        &mut store,
+        part(0, 4),
+        Mask::from_word::<4>(10),
+        [1, 2, 3, 4],
+    );
+    assert_eq!(rt; stored, Ok(2));
+    assert_eq!(rt; [store.word(0), store.word(1)], [2, 4]);
+    assert!(rt; store.timeline.back().is_ok());
+    assert_eq!(rt; [store.word(0), store.word(1)], [0, 0]);
+    Ok(())
+}
+
+#[test]
+fn frames_lie_behind_the_arrays(rt: HostRuntime) -> Result<(), Fail> {
+    let program = Program {
+        functions: Vec::new(rt.alloc()),
+        globals: Vec::new(rt.alloc()),
+    };
+    let layout = Layout::plan::<4>(rt.alloc(), &program, &[3, 0], 5)?;
+    assert!(rt; layout.entry.as_slice() == [part(0, 3), part(3, 0)].as_slice());
+    assert_eq!(rt; layout.frames.first, 3);
+    assert_eq!(rt; layout.words, 323);
+    let frames = Frames {
+        first: 10,
+        head: 5,
+        variables: 3,
+        count: 64,
+    };
+    assert_eq!(rt; frames.head::<4>(0), part(10, 5));
+    assert_eq!(rt; frames.variable::<4>(0, 2), part(23, 4));
+    assert_eq!(rt; frames.head::<4>(1), part(27, 5));
+    Ok(())
+}
