@@ -1,5 +1,5 @@
 -- Breakpoints and watches that are added and deleted.
-use Rattle.std.proofs.Common.{◌≡◌, refl, sym, subst, ap, ◌∙◌, ℕ, suc, ◌+◌, Bool, true, false, ◌||◌, List, [], ◌∷◌, ◌++◌, length, Option, Some, None, arith}
+use Rattle.std.proofs.Common.{◌≡◌, refl, sym, subst, ap, ◌∙◌, ℕ, suc, Bool, true, false, ◌||◌, List, [], ◌∷◌, ◌++◌, length, Option, Some, None}
 use Rattle.std.specs.Prelude.{◌==◌, cond, filter, find, if◌then◌else◌, is_some, nat_le, nat_lt, not}
 use Rattle.std.specs.List.{list_any}
 use Rattle.gang_model.specs.Types.Tree.{Variable}

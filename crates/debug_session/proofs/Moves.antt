@@ -1,5 +1,5 @@
 -- What a move comes to.
-use Rattle.std.proofs.Common.{◌≡◌, refl, sym, subst, ap, ◌∙◌, ℕ, suc, ◌<◌, Bool, true, false, arith}
+use Rattle.std.proofs.Common.{◌≡◌, sym, subst, ap, ◌∙◌, ℕ, suc, Bool}
 use Rattle.std.specs.Prelude.{◌==◌}
 use Rattle.gang_model.specs.Running.Lanes.{Fault}
 use Rattle.gang_model.specs.Running.State.{State}
@@ -10,7 +10,6 @@ use Rattle.gang_model.specs.Debugger.Debugger.{AtFault, Debugger, Goal, Here, Hi
 use Rattle.debug_answers.specs.declared.answer.Answer.{Answer}
 use Rattle.debug_session.specs.declared.moving.AfterMove.{AfterMove}
 use Rattle.debug_session.specs.declared.moving.AfterMove.TheVariants.{Ends, GoesOn}
-use Rattle.debug_session.specs.Goals.{goal_view}
 use Rattle.debug_session.specs.Moves.{Done, Follows, IfGoesOn, MeansAfter, Moved}
 
 module _ {M : Type 0} (stands : M → Setting → Debugger → Type 0) (s : Setting) where

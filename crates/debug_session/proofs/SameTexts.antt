@@ -1,6 +1,6 @@
 -- Lists of words and names that are the same.
 use Rattle.std.proofs.Common.{◌≡◌, ℕ, List, [], ◌∷◌, Bool, true, false, ◌&&◌, refl, sym, ap, ◌∙◌}
-use Rattle.std.specs.Prelude.{nat_eq, if◌then◌else◌, Option, Some, None, find, cond}
+use Rattle.std.specs.Prelude.{nat_eq, if◌then◌else◌, Some, cond}
 use Rattle.std.specs.Cmp.Lexicographic.{same_text as same}
 use lib.Pointwise.{pointwise}
 use Rattle.gang_model.specs.Source.Names.{named, same_text}

@@ -1,5 +1,5 @@
 -- Backward moves, event by event.
-use Rattle.std.proofs.Common.{◌≡◌, refl, sym, subst, ap, ◌∙◌, ℕ, zero, suc, ◌-◌, ◌+◌, ◌<◌, List, [], ◌∷◌, length, take, drop, arith}
+use Rattle.std.proofs.Common.{◌≡◌, refl, sym, subst, ap, ◌∙◌, ℕ, suc, ◌-◌, ◌+◌, ◌<◌, List, ◌∷◌, length, take, drop, arith}
 use Rattle.std.specs.Prelude.{filter}
 use Rattle.undo_log.specs.declared.timeline.Undone.TheVariants as undone
 use Rattle.gang_model.specs.Debugger.Events.{Event, Step, Poke, Poked}

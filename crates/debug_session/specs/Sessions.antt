@@ -1,5 +1,5 @@
 -- What a session stands for, and what its commands come to.
-use Rattle.std.specs.Prelude.{◌≡◌, ℕ, [], Bool, true, false}
+use Rattle.std.specs.Prelude.{◌≡◌, [], Bool, true, false}
 use Rattle.undo_log.specs.History.{History}
 use Rattle.gang_model.specs.Debugger.Debugger.{Debugger, Reply, Setting}
 use Rattle.debug_answers.specs.declared.answer.Answer.{Answer}

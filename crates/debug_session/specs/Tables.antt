@@ -1,10 +1,9 @@
 -- The table of breakpoints and watches.
-use Rattle.std.specs.Prelude.{◌≡◌, ℕ, suc, Bool, true, false, ◌||◌, ◌==◌, not, nat_le, nat_lt, if◌then◌else◌, List, [], ◌∷◌, ◌++◌, filter, length, Option, Some, None}
+use Rattle.std.specs.Prelude.{◌≡◌, ℕ, suc, Bool, ◌||◌, ◌==◌, not, nat_le, nat_lt, if◌then◌else◌, [], ◌∷◌, ◌++◌, filter, length, Option, Some, None}
 use Rattle.std.specs.List.{list_any}
 use Rattle.gang_model.specs.Debugger.Debugger.{Debugger, Reply, Setting}
 use Rattle.debug_answers.specs.declared.answer.Answer.{Answer}
 use Rattle.debug_answers.specs.declared.stops.Stop.{Stop}
-use Rattle.debug_answers.specs.declared.stops.NumberedStop.{NumberedStop}
 use Rattle.debug_answers.specs.Meanings.{AreStops, Means}
 use Rattle.debug_session.specs.Sessions.{bare}
 use Rattle.debug_session.specs.Stops.{Table}

@@ -1,11 +1,11 @@
-use Rattle.std.proofs.Common.{◌≡◌, sym, subst, ap, ◌∙◌, refl, Some, None, true, false, not}
+use Rattle.std.proofs.Common.{◌≡◌, sym, subst, ap, ◌∙◌, refl, true, false, not}
 use Rattle.std.proofs.lemmas.Int.{to_z-of_z}
 use mir.Syntax.{w128}
 use Rattle.std.specs.Prelude.{if◌then◌else◌}
 use Rattle.gang_types.specs.Values.{wrapped}
 use Rattle.gang_model.specs.Types.Tree.{Variable}
 use Rattle.gang_model.specs.Debugger.Events.{Poke}
-use Rattle.gang_model.specs.Debugger.Debugger.{Constant, Debugger, OutOfRange, Shows, do_set, found, is_value, moved, now, poked_by, refused, reply, Reply}
+use Rattle.gang_model.specs.Debugger.Debugger.{Constant, OutOfRange, Shows, do_set, found, is_value, moved, now, poked_by, refused, reply, Reply}
 use Rattle.debug_answers.specs.declared.answer.Answer.TheVariants as answer
 use Rattle.debug_commands.specs.Views.{target_view}
 use Rattle.debug_session.specs.Moves.{Done, refusal_option}

@@ -1,4 +1,4 @@
-use Rattle.std.proofs.Common.{◌≡◌, sym, subst, ap, ◌∙◌}
+use Rattle.std.proofs.Common.{sym, subst, ap, ◌∙◌}
 use Rattle.gang_model.specs.Debugger.Debugger.{depth, ends_or_goes_on, first_stop, now, on_line, towards}
 use Rattle.gang_model.specs.Debugger.Positions.{line_now}
 use Rattle.debug_session.specs.Goals.{goal_view}

@@ -1,4 +1,4 @@
-use Rattle.std.proofs.Common.{◌≡◌, ◌<◌, refl, sym, ap, ◌∙◌, arith, false, ℕ}
+use Rattle.std.proofs.Common.{◌≡◌, ◌<◌, refl, ap, arith, false, ℕ}
 use Rattle.std.specs.Prelude.{◌==◌}
 use Rattle.std.proofs.lemmas.Bool.Decides.{nat_tests}
 use Rattle.gang_model.specs.Debugger.Debugger.{HistoryEnd, backward, kept_steps, now, stepped_back}

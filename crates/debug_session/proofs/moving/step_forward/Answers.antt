@@ -1,4 +1,4 @@
-use Rattle.std.proofs.Common.{◌≡◌, refl, sym, subst, ap, ◌∙◌}
+use Rattle.std.proofs.Common.{refl, ◌∙◌}
 use Rattle.gang_model.specs.Debugger.Events.{Step}
 use Rattle.gang_model.specs.Debugger.Debugger.{Here, forward, moved, now}
 use Rattle.debug_machine.specs.Machines.{fault_view}

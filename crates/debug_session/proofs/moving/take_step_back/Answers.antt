@@ -1,4 +1,4 @@
-use Rattle.std.proofs.Common.{◌≡◌, ◌<◌, ◌∷◌, sym, subst, ap, ◌∙◌, arith, length}
+use Rattle.std.proofs.Common.{◌<◌, ◌∷◌, sym, subst, ap, ◌∙◌, arith, length}
 use Rattle.gang_model.specs.Debugger.Debugger.{taken_back}
 use Rattle.debug_session.specs.Sessions.{bare}
 use Rattle.debug_session.proofs.Stepping.{back_by_poke, poke_of, steps_by_poke}

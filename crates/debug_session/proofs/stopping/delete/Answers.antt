@@ -1,8 +1,8 @@
-use Rattle.std.proofs.Common.{◌≡◌, sym, subst, ap, ◌∙◌, refl, Some, None, true, false}
-use Rattle.std.specs.Prelude.{◌==◌, filter, if◌then◌else◌, not, []}
-use Rattle.gang_model.specs.Debugger.Debugger.{Debugger, Deleted, NoSuchNumber, do_delete, refused, reply}
+use Rattle.std.proofs.Common.{sym, subst, ap, ◌∙◌, refl, Some, None}
+use Rattle.std.specs.Prelude.{◌==◌, filter, if◌then◌else◌, not}
+use Rattle.gang_model.specs.Debugger.Debugger.{Deleted, NoSuchNumber, do_delete, refused, reply}
 use Rattle.debug_answers.specs.declared.answer.Answer.TheVariants as answer
-use Rattle.debug_session.specs.Tables.{Listed, without_number}
+use Rattle.debug_session.specs.Tables.{Listed}
 use Rattle.debug_session.proofs.Listing.{has_same, listed_so, without_same}
 use Rattle.debug_session.proofs.stopping.delete.Goals.{in-None, in-Some}
 use Rattle.debug_session.proofs.stopping.delete.Goals as goal

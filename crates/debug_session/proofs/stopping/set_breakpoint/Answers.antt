@@ -1,5 +1,5 @@
-use Rattle.std.proofs.Common.{◌≡◌, sym, ap, ◌∙◌, refl, Some}
-use Rattle.gang_model.specs.Debugger.Debugger.{BreaksAt, Line, break_on, do_break}
+use Rattle.std.proofs.Common.{sym, ap, ◌∙◌, refl}
+use Rattle.gang_model.specs.Debugger.Debugger.{BreaksAt, Line, break_on}
 use Rattle.debug_session.specs.Sessions.{bare}
 use Rattle.debug_answers.specs.declared.stops.Stop.TheVariants as stop
 use Rattle.debug_session.proofs.Listing.{listed_added, listed_full, listed_so}

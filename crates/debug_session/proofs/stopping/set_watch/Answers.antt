@@ -1,13 +1,10 @@
 use Rattle.std.proofs.Common.{◌≡◌, sym, subst, ap, ◌∙◌, refl, Some, None, true, false, Bool, Option, ℕ}
 use Rattle.gang_types.specs.declared.types.Rate.{Rate}
-use Rattle.gang_model.specs.Types.Tree.{Variable}
-use Rattle.gang_model.specs.Debugger.Debugger as model
-use Rattle.gang_model.specs.Debugger.Debugger.{Debugger, Setting, Watch, Watches, add_stop, bad_part, global_named}
+use Rattle.gang_model.specs.Debugger.Debugger.{Watch, Watches, add_stop, bad_part, global_named}
 use Rattle.debug_commands.specs.Views.{target_view}
 use Rattle.debug_answers.specs.declared.stops.Stop.TheVariants as stop
 use Rattle.debug_answers.specs.Meanings.{IsWatch}
-use Rattle.debug_machine.specs.declared.machine.NamedVariable.{NamedVariable}
-use Rattle.debug_machine.specs.Machines.{IsShown, ShowsNamed, file_variables}
+use Rattle.debug_machine.specs.Machines.{ShowsNamed, file_variables}
 use Rattle.debug_session.specs.Moves.{refusal_option}
 use Rattle.debug_session.specs.Sessions.{bare}
 use Rattle.debug_session.proofs.Listing.{listed_added, listed_full, listed_so, with_part}

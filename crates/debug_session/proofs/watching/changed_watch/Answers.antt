@@ -1,4 +1,4 @@
-use Rattle.std.proofs.Common.{◌≡◌, ◌+◌, ◌∷◌, sym, ap, subst, ◌∙◌, arith, drop, true, false}
+use Rattle.std.proofs.Common.{sym, ap, subst, ◌∙◌, arith, drop, true, false}
 use Rattle.gang_model.specs.Source.Names.{same_text}
 use Rattle.gang_model.specs.Debugger.Debugger.{now, target_words}
 use Rattle.debug_answers.specs.Meanings.{AreStops}

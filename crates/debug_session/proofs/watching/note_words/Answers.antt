@@ -1,5 +1,5 @@
-use Rattle.std.proofs.Common.{◌≡◌, ◌++◌, ◌∷◌, sym, ap, subst, ◌∙◌, arith, append-nil}
-use Rattle.gang_model.specs.Debugger.Debugger.{now, target_words}
+use Rattle.std.proofs.Common.{◌++◌, sym, ap, subst, ◌∙◌, arith, append-nil}
+use Rattle.gang_model.specs.Debugger.Debugger.{now}
 use Rattle.debug_answers.specs.Meanings.{AreStops}
 use Rattle.debug_session.specs.Moves.{noted, watch_words}
 use Rattle.debug_session.proofs.Turns.{turn, turns_end}

@@ -1,4 +1,4 @@
-use Rattle.std.proofs.Common.{◌≡◌, sym, subst, ap, ◌∙◌, Some, None}
+use Rattle.std.proofs.Common.{sym, subst, ap, ◌∙◌, Some}
 use Rattle.gang_model.specs.Debugger.Debugger.{now, part_shown, shown_words}
 use Rattle.debug_machine.specs.Machines.{ShowsNamed}
 use Rattle.debug_session.specs.Sessions.{bare}

@@ -1,7 +1,6 @@
-use Rattle.std.proofs.Common.{◌≡◌, refl, sym, ap, ◌∙◌}
+use Rattle.std.proofs.Common.{refl, sym, ap, ◌∙◌}
 use Rattle.debug_session.specs.Goals.{goal_view}
 use Rattle.debug_session.specs.Moves.{refusal_option}
-use Rattle.debug_session.specs.Sessions.{bare}
 use Rattle.debug_session.proofs.Replies.{backward_done, backward_refused, replied_done, steps_kept}
 use Rattle.debug_session.proofs.session.Session.go_backward.Goals as goal
 

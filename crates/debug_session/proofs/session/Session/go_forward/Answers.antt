@@ -1,7 +1,6 @@
-use Rattle.std.proofs.Common.{◌≡◌, refl, sym, ap, ◌∙◌}
+use Rattle.std.proofs.Common.{refl, sym, ap, ◌∙◌}
 use Rattle.debug_session.specs.Goals.{goal_view}
 use Rattle.debug_session.specs.Moves.{refusal_option}
-use Rattle.debug_session.specs.Sessions.{bare}
 use Rattle.debug_session.proofs.Replies.{forward_done, forward_refused, replied_done}
 use Rattle.debug_session.proofs.session.Session.go_forward.Goals as goal
 

@@ -1,4 +1,4 @@
-use Rattle.std.proofs.Common.{◌≡◌, sym, ap, ◌∙◌, false}
+use Rattle.std.proofs.Common.{sym, ap, ◌∙◌, false}
 use Rattle.gang_model.specs.Debugger.Debugger.{first_stop, on_line}
 use Rattle.debug_session.proofs.Turns.{first_nowhere, first_stop_at, turn}
 use Rattle.debug_session.proofs.table.StopTable.breakpoint_on.Goals as goal

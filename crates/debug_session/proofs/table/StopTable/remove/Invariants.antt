@@ -1,5 +1,5 @@
 -- in front stand the entries that were read and have another number, and the others are as they were
-use Rattle.std.proofs.Common.{◌≡◌, ◌≤◌, not}
+use Rattle.std.proofs.Common.{◌≡◌, not}
 use Rattle.std.specs.Prelude.{◌==◌}
 use Rattle.std.proofs.lemmas.List.Filters.{FiltersInPlace}
 use Rattle.debug_session.proofs.table.StopTable.remove.Given as goal
