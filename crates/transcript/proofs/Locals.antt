@@ -1,6 +1,6 @@
 -- The lines of local variables.
 use Rattle.std.proofs.Common.{◌≡◌, refl, List, [], ◌∷◌, length, Option, Some, None, arith}
-use Rattle.std.specs.Prelude.{codes, flat_map, slice_get}
+use Rattle.std.specs.Prelude.{codes, flat_map}
 use Rattle.gang_model.specs.Types.Tree.{Variable}
 use Rattle.gang_model.specs.Debugger.Debugger.{Debugger, Setting, now}
 use Rattle.gang_model.specs.Texts.Text.{Bytes, line, or_none, shown_line, whole}

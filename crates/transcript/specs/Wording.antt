@@ -1,12 +1,11 @@
 -- Parts of the texts of answers.
-use Rattle.std.specs.Prelude.{ℕ, zero, suc, ◌≤◌, List, [], ◌∷◌, ◌++◌, codes, decimal, flat_map, length}
+use Rattle.std.specs.Prelude.{ℕ, zero, suc, List, [], ◌∷◌, ◌++◌, codes, decimal, flat_map}
 use Rattle.std.specs.List.{concat}
 use Rattle.gang_types.specs.declared.types.IntType.{IntType}
 use Rattle.gang_model.specs.Types.Tree.{Program}
 use Rattle.gang_model.specs.Running.State.{Frame}
-use Rattle.gang_model.specs.Debugger.Debugger.{Debugger, Setting}
 use Rattle.gang_model.specs.Texts.Text.{Bytes, word_text}
-use Rattle.debug_machine.specs.Machines.{call_text, listed}
+use Rattle.debug_machine.specs.Machines.{call_text}
 use Rattle.debug_machine.specs.declared.machine.Position.{Position}
 
 -- the text of a position up to its lanes
