@@ -24,6 +24,49 @@ const OPTIONS: Options<'static> = Options {
     entry: None,
 };
 
+/// A source whose last statement faults in each lane.
+const FAULTY: &[u8] =
+    b"uniform int t = 0;\nexport void go() {\n    int x = programIndex * 3;\n    t = 5;\n    x = 6 / (t - 5);\n}\n";
+
+/// Commands with every kind of answer, where a forward command makes one move at most.
+const EVERY_COMMAND: &[u8] = b"break 4\n\
+    watch t\n\
+    info breakpoints\n\
+    info locals\n\
+    continue\n\
+    set var x[1] = 7\n\
+    info locals\n\
+    continue\n\
+    step\n\
+    backtrace\n\
+    undo\n\
+    undo\n\
+    finish\n\
+    reverse-continue\n\
+    delete 2\n\
+    delete\n\
+    continue\n\
+    next\n";
+
+const EVERY_ANSWER: &[u8] = b"breakpoint 1 at line 4\n\
+    watch 2: t\n\
+    1 breakpoint line 4\n2 watch t\n\
+    none\n\
+    breakpoint 1: at 4:5 go depth 1 lanes 1111\n\
+    x[1] = 7\n\
+    x = 0 7 6 9\n\
+    watch 2: at 5:5 go depth 1 lanes 1111\n\
+    fault F1 DivideByZero lane 0: at 5:5 go depth 1 lanes 1111\n\
+    at 5:5 go depth 1 lanes 1111\n\
+    undone step: at 4:5 go depth 1 lanes 1111\n\
+    undone poke: at 4:5 go depth 1 lanes 1111\n\
+    C6 Outermost\n\
+    history end: at 3:5 go depth 1 lanes 1111\n\
+    deleted 2\n\
+    deleted all\n\
+    step limit: at 4:5 go depth 1 lanes 1111\n\
+    at 5:5 go depth 1 lanes 1111\n";
+
 #[test]
 fn runs_forwards_and_back(rt: HostRuntime) {
     for most in [1, 2, 7, 29, 512] {
@@ -43,6 +86,26 @@ fn stops_at_a_failed_write(rt: HostRuntime) {
         let end = run(rt.alloc(), SOURCE, b"", &OPTIONS, &mut reader, &mut writer);
         assert_eq!(rt; end, Ok(Ending::WriteFault), "at {room}");
         assert!(rt; writer.bytes() == &ANSWERS[..room], "at {room}");
+    }
+}
+
+#[test]
+fn stops_at_a_failed_write_of_any_answer(rt: HostRuntime) {
+    let options = Options {
+        steps: 1,
+        ..OPTIONS
+    };
+    for room in 0..EVERY_ANSWER.len() + 1 {
+        let mut reader = PieceReader::new(EVERY_COMMAND, 64, 1000);
+        let mut writer = PieceWriter::new(5, room);
+        let end = run(rt.alloc(), FAULTY, b"", &options, &mut reader, &mut writer);
+        let wanted = if room < EVERY_ANSWER.len() {
+            Ending::WriteFault
+        } else {
+            Ending::EndOfCommands
+        };
+        assert_eq!(rt; end, Ok(wanted), "at {room}");
+        assert!(rt; writer.bytes() == &EVERY_ANSWER[..room], "at {room}");
     }
 }
 
