@@ -5,6 +5,7 @@ ghost use Rattle.gang_model.specs.Debugger.Debugger.{Setting, first_stop, on_lin
 ghost use Rattle.debug_answers.specs.Meanings.{AreStops, IsStop};
 ghost use Rattle.debug_session.specs.Tables.{given_number, has_number, with_stop, without_number};
 
+use arrayvec::ArrayVec;
 use debug_answers::{NumberedStop, Stop};
 use std::marker::Model;
 
@@ -17,20 +18,16 @@ const LAST_NUMBER: u32 = 10_000_000;
 /// At most 64 breakpoints and watches, and the number that the next one is given.
 #[derive(Drop)]
 pub(crate) struct StopTable {
-    entries: [NumberedStop; ROOM],
-    count: usize,
+    entries: ArrayVec<NumberedStop, ROOM>,
     next: u32,
 }
 
 impl Model for StopTable {
-    ghost use Rattle.std.specs.Prelude.{take, ◌≤◌};
     ghost use Rattle.debug_session.specs.Stops.{Table};
 
     ghost Value = { Table };
 
-    ghost view = { λ t. record { items = take t.count t.entries; next = t.next } };
-
-    ghost invariant = { λ t. t.count ≤ 64 };
+    ghost view = { λ t. record { items = t.entries.items; next = t.next } };
 }
 
 impl StopTable {
@@ -38,13 +35,8 @@ impl StopTable {
     pub(crate) fn new() -> Self
         ensures { result ≡ record { items = []; next = 1 } }
     {
-        let blank = NumberedStop {
-            number: 0,
-            stop: Stop::Line(0),
-        };
         StopTable {
-            entries: [blank; ROOM],
-            count: 0,
+            entries: ArrayVec::new(),
             next: 1,
         }
     }
@@ -54,7 +46,7 @@ impl StopTable {
         ensures value { result.now ≡ self.now.items }
         ensures fits { length result.now ≤ 64 }
     {
-        &self.entries[..self.count]
+        self.entries.as_slice()
     }
 
     /// Puts a breakpoint or watch behind the others and gives it the next number, unless the table is full or there is no
@@ -64,11 +56,10 @@ impl StopTable {
         ensures table { self.new ≡ with_stop stop self.old }
     {
         let number = self.next;
-        if self.count >= ROOM || number > LAST_NUMBER {
+        if self.entries.is_full() || number > LAST_NUMBER {
             return None;
         }
-        self.entries[self.count] = NumberedStop { number, stop };
-        self.count += 1;
+        self.entries.push(NumberedStop { number, stop });
         self.next += 1;
         Some(number)
     }
@@ -84,23 +75,14 @@ impl StopTable {
     pub(crate) fn remove(&mut self, number: u32)
         ensures { self.new ≡ without_number number self.old }
     {
-        let count = self.count;
-        let mut kept = 0;
-        for index in 0..count {
-            let entry = self.entries[index];
-            if entry.number != number {
-                self.entries[kept] = entry;
-                kept += 1;
-            }
-        }
-        self.count = kept;
+        self.entries.retain(|entry| entry.number != number);
     }
 
     /// Takes all out.
     pub(crate) fn clear(&mut self)
         ensures { self.new ≡ record self.old { items = [] } }
     {
-        self.count = 0;
+        self.entries.clear();
     }
 
     /// The least number of a breakpoint on a line.
