@@ -8,11 +8,13 @@ from .tried import Result, called, shown
 
 WRITERS = {
     "tests_transcripts": ("transcripts", "write_rows.py"),
+    "tests_masks": ("transcripts", "write_masked_rows.py"),
     "tests_refusals": ("refusals", "rows.py"),
 }
 
 BY_HAND = {
     "tests_transcripts": {"Forms.antt", "HistoryChange.antt", "LanePurity.antt"},
+    "tests_masks": {"MaskedRuns.antt", "Recursion.antt"},
     "tests_refusals": {"Trees.antt", "LimitRows.antt"},
 }
 

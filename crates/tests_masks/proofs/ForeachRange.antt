@@ -1,0 +1,11 @@
+-- An empty range has no round, and a last round has the lanes that are left.
+use Rattle.std.specs.Prelude.{◌≡◌, refl, [], ◌∷◌, codes}
+use Rattle.std.specs.Fmt.{digits}
+use Rattle.gang_types.specs.Values.{value_of, residue, word_of, value_in, wrapped, binary_of}
+use Rattle.tests_transcripts.proofs.ForeachRange.{source}
+use Rattle.tests_masks.proofs.MaskedRuns.{places, stands}
+
+row_1 : places source 4 (1 ∷ 3 ∷ 2 ∷ [])
+    ≡ stands 4 1 (codes "1111") ∷ stands 4 1 (codes "1000") ∷ stands 5 1 (codes "1111") ∷ []
+unfolding digits value_of residue word_of value_in wrapped binary_of
+row_1 = refl

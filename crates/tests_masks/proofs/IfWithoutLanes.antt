@@ -1,0 +1,11 @@
+-- A statement that no lane reaches does not happen. Refuses a uniform assignment with no lane.
+use Rattle.std.specs.Prelude.{◌≡◌, refl, [], ◌∷◌, codes}
+use Rattle.std.specs.Fmt.{digits}
+use Rattle.gang_types.specs.Values.{value_of, residue, word_of, value_in, wrapped, binary_of}
+use Rattle.tests_transcripts.proofs.IfWithoutLanes.{source}
+use Rattle.tests_masks.proofs.MaskedRuns.{places, stands}
+
+row_1 : places source 4 (2 ∷ [])
+    ≡ stands 5 1 (codes "1111") ∷ []
+unfolding digits value_of residue word_of value_in wrapped binary_of
+row_1 = refl

@@ -1,0 +1,12 @@
+-- Calls with some lanes, and moves by depth. A call is one step, and so is leaving a frame at its closing brace: lane 0 is in three frames of `f`
+-- after 9 steps.
+use Rattle.std.specs.Prelude.{◌≡◌, refl, [], ◌∷◌, codes}
+use Rattle.std.specs.Fmt.{digits}
+use Rattle.gang_types.specs.Values.{value_of, residue, word_of, value_in, wrapped, binary_of}
+use Rattle.tests_transcripts.proofs.Recursion.{source}
+use Rattle.tests_masks.proofs.MaskedRuns.{places, stands}
+
+row_1 : places source 4 (8 ∷ 2 ∷ 4 ∷ 1 ∷ [])
+    ≡ stands 4 1 (codes "1000") ∷ stands 3 1 (codes "1000") ∷ stands 5 1 (codes "1111") ∷ stands 8 1 (codes "1111") ∷ []
+unfolding digits value_of residue word_of value_in wrapped binary_of
+row_1 = refl
