@@ -1,0 +1,4 @@
+pub mod Rows
+pub mod Orders
+pub mod Forms
+pub mod Programs

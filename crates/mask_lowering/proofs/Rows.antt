@@ -1,0 +1,52 @@
+-- The statements of a block, as the program holds them, and statements one after another.
+use Rattle.std.proofs.Common.{◌≡◌, true, false, ℕ, zero, suc, ◌+◌, ◌<◌, ◌≤◌, List, [], ◌∷◌, length, get_or, drop, refl, ap, sym, ◌∙◌, arith, Vec, Global}
+use mathlib.Core.Former.{Count}
+use Rattle.std.proofs.lemmas.List.{drop_more}
+use Rattle.gang_model.specs.Types.Tree.{Then}
+use Rattle.gang_model.specs.Running.Step.{steps_of}
+use Rattle.typed_tree.specs.declared.statements.Stmt.{Stmt, Block, Block', Row_of-Stmt, end_of-Stmt, more_of-Stmt, items-the_row-Stmt, items_hidden-the_row-Stmt-0}
+use Rattle.typed_tree.specs.Views.{row_view, stmt_view, stmts_view}
+use Rattle.mask_lowering.specs.Lowering.{is_single}
+
+row_view_items : (n : _) (row : Row_of-Stmt n) → row_view row ≡ stmts_view (items-the_row-Stmt n row)
+row_view_items n end_of-Stmt = refl
+row_view_items n (more_of-Stmt s ss) = ap (Then (stmt_view s)) (row_view_items _ ss)
+
+abbrev row_of : Stmt → (n : Count) × Row_of-Stmt n
+row_of (Block' _ row) = (_, row)
+row_of _ = (_, end_of-Stmt)
+
+pub view_block : (v : Vec Stmt Global) → stmt_view (Block v) ≡ stmts_view v.items
+view_block v =
+    let row = row_of (Block v) in
+    row_view_items row.0 row.1 ∙ ap stmts_view (items_hidden-the_row-Stmt-0 v)
+
+-- a block's view, from the list that is walked
+pub block_is : (s : Stmt) (v : Vec Stmt Global) (items : List Stmt) → s ≡ Block v → items ≡ v.items → stmt_view s ≡ stmts_view items
+block_is s v items is same = ap stmt_view is ∙ view_block v ∙ ap stmts_view (sym same)
+
+-- the statements from the i-th on
+pub stmts_from : (items : List Stmt) (i : ℕ) (x : Stmt) → i < length items → x ≡ get_or items i x → stmts_view (drop i items) ≡ Then (stmt_view x) (stmts_view (drop (i + 1) items))
+stmts_from items i x below is = ap stmts_view (drop_more items i x below ∙ ap (λ y. y ∷ drop (i + 1) items) (sym is))
+
+pub steps_from : (items : List Stmt) (i : ℕ) (x : Stmt) → i < length items → x ≡ get_or items i x
+    → steps_of (stmts_view (drop i items)) ≡ steps_of (stmt_view x) + steps_of (stmts_view (drop (i + 1) items))
+steps_from items i x below is = ap steps_of (stmts_from items i x below is)
+
+pub steps_within : (items : List Stmt) (i : ℕ) → steps_of (stmts_view (drop i items)) ≤ steps_of (stmts_view items)
+steps_within [] zero = omega arith
+steps_within [] (suc i) = omega arith
+steps_within (x ∷ items) zero = omega arith
+steps_within (x ∷ items) (suc i) = let h = steps_within items i in omega arith
+
+-- ---- statements that are more than a step
+
+is_row : (items : List Stmt) → is_single (stmts_view items) ≡ false
+is_row [] = refl
+is_row (x ∷ items) = refl
+
+pub block_is_row : (v : Vec Stmt Global) → is_single (stmt_view (Block v)) ≡ false
+block_is_row v = ap is_single (view_block v) ∙ is_row v.items
+
+pub not_both : (s form : Stmt) → s ≡ form → is_single (stmt_view form) ≡ false → is_single (stmt_view s) ≡ true → ⊥
+not_both s form e no' yes' = let h : is_single (stmt_view s) ≡ is_single (stmt_view form) = ap (λ x. is_single (stmt_view x)) e in cc

@@ -1,0 +1,42 @@
+use Rattle.std.proofs.Common.{◌∙◌, ap, map}
+use Rattle.std.proofs.lemmas.List.{take_all}
+use Rattle.typed_tree.specs.Views.{function_view, program_view}
+use Rattle.mask_states.proofs.RunsAlike.{runs_alike, accepted_alike}
+use Rattle.mask_states.specs.Points.{points_in}
+use Rattle.mask_lowering.specs.Views.{points_view}
+use Rattle.mask_lowering.proofs.Programs.{next_function}
+use Rattle.mask_lowering.proofs.masked.lower.Goals as goal
+
+pub loop-function-init : goal.loop-function-init
+loop-function-init c = λ numbered. ap (map points_view) c.new-functions.ensures.items
+
+pub loop-function-preserved : goal.loop-function-preserved
+loop-function-preserved c = λ numbered.
+    next_function c.deref-function-items.result.now c.args.program.now.functions.items c.loop-function.functions.items c.push.new.self.items c.loop-function.function-index c.function-item.result
+    c.in_ok-lower_function.field-0 c.deref-function-items.ensures.value c.loop-function-test.true c.function-item.is numbered c.in_ok-lower_function.ensures (c.loop-function.invariant numbered)
+    c.in_ok-push.ensures.items
+
+pub returns-clause-points : goal.returns-clause-points
+returns-clause-points c = λ numbered.
+    c.loop-function.invariant numbered
+    ∙ ap (λ list. map points_in (map function_view list))
+    (take_all c.loop-function.function-index c.deref-function-items.result.now c.loop-function-test.false ∙ c.deref-function-items.ensures.value)
+
+-- the law does not hang on what the function answers
+pub returns-clause-law : goal.returns-clause-law
+returns-clause-law c = runs_alike (program_view c.args.program.now)
+
+pub returns-clause-accepted : goal.returns-clause-accepted
+returns-clause-accepted c = λ source. accepted_alike source (program_view c.args.program.now)
+
+pub returns-in_err-lower_function-clause-law : goal.returns-in_err-lower_function-clause-law
+returns-in_err-lower_function-clause-law c = runs_alike (program_view c.args.program.now)
+
+pub returns-in_err-lower_function-clause-accepted : goal.returns-in_err-lower_function-clause-accepted
+returns-in_err-lower_function-clause-accepted c = λ source. accepted_alike source (program_view c.args.program.now)
+
+pub returns-in_err-push-clause-law : goal.returns-in_err-push-clause-law
+returns-in_err-push-clause-law c = runs_alike (program_view c.args.program.now)
+
+pub returns-in_err-push-clause-accepted : goal.returns-in_err-push-clause-accepted
+returns-in_err-push-clause-accepted c = λ source. accepted_alike source (program_view c.args.program.now)

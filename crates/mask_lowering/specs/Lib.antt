@@ -1,0 +1,3 @@
+pub mod PointViews
+pub mod Lowering
+pub mod Views
