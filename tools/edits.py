@@ -13,7 +13,27 @@ import tempfile
 
 from toolchain import rt, rtlib
 
-NAMES_WHAT_WENT = r"(\./)?proofs/.*(has no field|is not in scope|has no `|was not admitted)"
+WENT = "has no field|is not in scope|has no `|was not admitted"
+NAMES_WHAT_WENT = rf"(\./)?proofs/.*({WENT})"
+GAP = r"(?: |\n +)"
+SPREAD = re.compile(rf"^((?:\./)?proofs/.*?){GAP}({WENT.replace(' ', GAP)})", re.M)
+
+checked_by_the_gate = rt.checked
+
+
+def in_one_line(said):
+    """Returns what the prover said with the words of a lost name on the first line of their message: behind a long name they stand on the next."""
+    return SPREAD.sub(lambda it: f"{it[1]} {' '.join(it[2].split())}", said)
+
+
+def checked(*words):
+    """Checks a copy of a crate as the toolchain's gate does, and reads what it said by whole messages."""
+    ran = checked_by_the_gate(*words)
+    ran.stdout = in_one_line(ran.stdout)
+    return ran
+
+
+rt.checked = checked
 
 
 @dataclasses.dataclass(frozen=True)
