@@ -14,12 +14,11 @@ use ispc_names_steps::steps_of;
 use ispc_names_table::StepScopes;
 use ispc_parser::{Item, Tree};
 use source_answers::SourceFault;
-use std::alloc::Global;
+use std::alloc::{AllocError, Global};
 
 /// The steps of the functions of a tree, in order, with what is in scope at each.
-fn tables_of(alloc: Global, tree: &Tree) -> Result<Vec<StepScopes>, SourceFault>
+fn tables_of(alloc: Global, tree: &Tree) -> Result<Vec<StepScopes>, AllocError>
     ensures tables { IfOk result (λ tables. (source : ParsedSource) → map standings_view tables.items ≡ map (standings_of (file_scope source)) (functions_in (tree_view tree.now))) }
-    ensures memory { IfErr result (λ fault. fault ≡ Memory) }
 {
     let mut tables = Vec::new(alloc);
     for item in &tree.items {

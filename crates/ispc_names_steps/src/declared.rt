@@ -1,17 +1,15 @@
 //! The variables declared so far, and the steps passed so far.
-ghost use Rattle.std.specs.Prelude.{◌≡◌, [], ◌∷◌, ◌++◌, List, IfErr, OnOk, length, map};
+ghost use Rattle.std.specs.Prelude.{◌≡◌, [], ◌∷◌, ◌++◌, List, OnOk, length, map};
 ghost use Rattle.gang_types.specs.declared.places.VarId.TheVariants.{Local};
 ghost use Rattle.gang_model.specs.Names.Bindings.{dim_bindings, param_bindings};
 ghost use Rattle.gang_model.specs.Names.Scope.{NameStanding, Site, bound, standing, with_dims, with_name, with_params};
-ghost use Rattle.source_answers.specs.declared.fault.SourceFault.TheVariants.{Memory};
 ghost use Rattle.ispc_parser.specs.Tree.{dim_view, param_view};
 ghost use Rattle.ispc_names_steps.specs.Sites.{Declares, Stands};
 
 use gang_types::Place;
 use ispc_names_table::{Declaration, Standing};
 use ispc_parser::{Dim, Param};
-use source_answers::SourceFault;
-use std::alloc::Global;
+use std::alloc::{AllocError, Global};
 
 /// The variables declared so far, and the number of the innermost one in scope.
 #[derive(Debug, Drop)]
@@ -21,15 +19,10 @@ pub(crate) struct Declared {
 }
 
 /// One more variable in the present scope.
-pub(crate) fn declare(
-    alloc: Global,
-    name: &[u8],
-    declared: &mut Declared,
-) -> Result<(), SourceFault>
+pub(crate) fn declare(alloc: Global, name: &[u8], declared: &mut Declared) -> Result<(), AllocError>
     ensures declares { OnOk result (Declares declared.old.declarations.items declared.new.declarations.items (bound name.now (Local (length declared.old.declarations.items)) ∷ [])) }
     ensures stands { OnOk result ((site : Site) (standings : List Standing) (steps : List NameStanding) → Stands declared.old standings site steps
         → Stands declared.new standings (with_name name.now site) steps) }
-    ensures memory { IfErr result (λ fault. fault ≡ Memory) }
 {
     let number = declared.declarations.len();
     let name = Vec::from_slice(alloc, name)?;
@@ -44,11 +37,10 @@ pub(crate) fn declare_dims(
     alloc: Global,
     dims: &[Dim],
     declared: &mut Declared,
-) -> Result<(), SourceFault>
+) -> Result<(), AllocError>
     ensures declares { OnOk result (Declares declared.old.declarations.items declared.new.declarations.items (dim_bindings (length declared.old.declarations.items) (map dim_view dims.now))) }
     ensures stands { OnOk result ((site : Site) (standings : List Standing) (steps : List NameStanding) → Stands declared.old standings site steps
         → Stands declared.new standings (with_dims (map dim_view dims.now) site) steps) }
-    ensures memory { IfErr result (λ fault. fault ≡ Memory) }
 {
     for dim in dims {
         declare(alloc, &dim.name, declared)?;
@@ -61,11 +53,10 @@ pub(crate) fn declare_params(
     alloc: Global,
     params: &[Param],
     declared: &mut Declared,
-) -> Result<(), SourceFault>
+) -> Result<(), AllocError>
     ensures declares { OnOk result (Declares declared.old.declarations.items declared.new.declarations.items (param_bindings (length declared.old.declarations.items) (map param_view params.now))) }
     ensures stands { OnOk result ((site : Site) (standings : List Standing) (steps : List NameStanding) → Stands declared.old standings site steps
         → Stands declared.new standings (with_params (map param_view params.now) site) steps) }
-    ensures memory { IfErr result (λ fault. fault ≡ Memory) }
 {
     for param in params {
         declare(alloc, &param.name, declared)?;
@@ -78,10 +69,9 @@ pub(crate) fn step(
     place: Place,
     declared: &Declared,
     standings: &mut Vec<Standing>,
-) -> Result<(), SourceFault>
+) -> Result<(), AllocError>
     ensures stands { OnOk result ((site : Site) (steps : List NameStanding) → Stands declared.now standings.old.items site steps
         → Stands declared.now standings.new.items site (steps ++ standing place site ∷ [])) }
-    ensures memory { IfErr result (λ fault. fault ≡ Memory) }
 {
     let innermost = declared.innermost;
     standings.push(Standing { place, innermost })?;

@@ -1,9 +1,8 @@
 //! The steps of a function.
-ghost use Rattle.std.specs.Prelude.{◌≡◌, IfErr, IfOk};
+ghost use Rattle.std.specs.Prelude.{◌≡◌, IfOk};
 ghost use Rattle.gang_model.specs.Names.Bindings.{function_bindings};
 ghost use Rattle.gang_model.specs.Source.Parsed.{ParsedSource};
 ghost use Rattle.gang_model.specs.Names.Scope.{file_scope, standings_of};
-ghost use Rattle.source_answers.specs.declared.fault.SourceFault.TheVariants.{Memory};
 ghost use Rattle.ispc_parser.specs.Tree.{function_view};
 ghost use Rattle.ispc_names_table.specs.Scopes.{standings_view};
 ghost use Rattle.ispc_names_steps.specs.Sites.{numbered};
@@ -13,18 +12,16 @@ use crate::returns::len_before_return;
 use crate::statements::list_steps;
 use ispc_names_table::{Standing, StepScopes};
 use ispc_parser::Function;
-use source_answers::SourceFault;
-use std::alloc::Global;
+use std::alloc::{AllocError, Global};
 
 /// The steps of a function with what is in scope at each, and its variables: the parameters, then those of the body in the
 /// order of the text. At the closing brace what is declared before the first `return` is in scope.
 ///
 /// # Errors
 /// Out of memory.
-pub fn steps_of(alloc: Global, function: &Function) -> Result<StepScopes, SourceFault>
+pub fn steps_of(alloc: Global, function: &Function) -> Result<StepScopes, AllocError>
     ensures steps { IfOk result (λ steps. (source : ParsedSource) → standings_view steps ≡ standings_of (file_scope source) (function_view function.now)) }
     ensures declared { IfOk result (λ steps. numbered 0 steps.declarations.items ≡ function_bindings (function_view function.now)) }
-    ensures memory { IfErr result (λ fault. fault ≡ Memory) }
 {
     let mut declared = Declared {
         declarations: Vec::new(alloc),

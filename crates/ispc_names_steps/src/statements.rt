@@ -1,10 +1,9 @@
 //! The steps of statements.
-ghost use Rattle.std.specs.Prelude.{◌≡◌, ◌++◌, Bool, List, IfErr, OnOk, Option, length, map};
+ghost use Rattle.std.specs.Prelude.{◌≡◌, ◌++◌, Bool, List, OnOk, Option, length, map};
 ghost use Rattle.gang_types.specs.declared.places.Place.{Place};
 ghost use Rattle.gang_model.specs.Names.Bindings.{bindings_in, bindings_in_all};
 ghost use Rattle.gang_model.specs.Source.Parsed.{ParsedBlock, ParsedExpr, ParsedFor, ParsedForEach, ParsedForEachActive, ParsedIf, ParsedIfElse};
 ghost use Rattle.gang_model.specs.Names.Scope.{NameStanding, Site, after, after_all, locals_in, past, standings_in, standings_in_all};
-ghost use Rattle.source_answers.specs.declared.fault.SourceFault.TheVariants.{Memory};
 ghost use Rattle.ispc_parser.specs.Tree.{dim_view, stmt_view, stmts_view};
 ghost use Rattle.ispc_names_steps.specs.Sites.{Declares, Passes, Stands};
 
@@ -12,8 +11,7 @@ use crate::declared::{Declared, declare, declare_dims, step};
 use gang_types::Place;
 use ispc_names_table::Standing;
 use ispc_parser::{Dim, Stmt};
-use source_answers::SourceFault;
-use std::alloc::Global;
+use std::alloc::{AllocError, Global};
 
 /// The steps of a statement, by their numbers. What it declares is then what the next statement finds.
 #[cycle(statement)]
@@ -22,11 +20,10 @@ fn statement_steps(
     stmt: &Stmt,
     declared: &mut Declared,
     standings: &mut Vec<Standing>,
-) -> Result<(), SourceFault>
+) -> Result<(), AllocError>
     ensures declares { OnOk result (Declares declared.old.declarations.items declared.new.declarations.items (bindings_in (stmt_view stmt.now) (length declared.old.declarations.items))) }
     ensures stands { OnOk result ((site : Site) (steps : List NameStanding) → Stands declared.old standings.old.items site steps
         → Stands declared.new standings.new.items (after (stmt_view stmt.now) site) (steps ++ standings_in (stmt_view stmt.now) site)) }
-    ensures memory { IfErr result (λ fault. fault ≡ Memory) }
 {
     match stmt {
         Stmt::Empty => Ok(()),
@@ -90,10 +87,9 @@ fn block_steps(
     stmts: &[Stmt],
     declared: &mut Declared,
     standings: &mut Vec<Standing>,
-) -> Result<(), SourceFault>
+) -> Result<(), AllocError>
     ensures declares { OnOk result (Declares declared.old.declarations.items declared.new.declarations.items (bindings_in (ParsedBlock (stmts_view stmts.now)) (length declared.old.declarations.items))) }
     ensures stands { OnOk result (Passes (ParsedBlock (stmts_view stmts.now)) declared.old declared.new standings.old.items standings.new.items) }
-    ensures memory { IfErr result (λ fault. fault ≡ Memory) }
 {
     let outside = declared.innermost;
     list_steps(alloc, stmts, declared, standings)?;
@@ -109,11 +105,10 @@ fn branch_steps(
     place: Place,
     declared: &mut Declared,
     standings: &mut Vec<Standing>,
-) -> Result<(), SourceFault>
+) -> Result<(), AllocError>
     ensures declares { OnOk result ((test : ParsedExpr) → Declares declared.old.declarations.items declared.new.declarations.items
         (bindings_in (ParsedIf place test (stmt_view first.now)) (length declared.old.declarations.items))) }
     ensures stands { OnOk result ((test : ParsedExpr) → Passes (ParsedIf place test (stmt_view first.now)) declared.old declared.new standings.old.items standings.new.items) }
-    ensures memory { IfErr result (λ fault. fault ≡ Memory) }
 {
     step(place, declared, standings)?;
     inner_steps(alloc, first, declared, standings)
@@ -128,11 +123,10 @@ fn choice_steps(
     place: Place,
     declared: &mut Declared,
     standings: &mut Vec<Standing>,
-) -> Result<(), SourceFault>
+) -> Result<(), AllocError>
     ensures declares { OnOk result ((test : ParsedExpr) → Declares declared.old.declarations.items declared.new.declarations.items
         (bindings_in (ParsedIfElse place test (stmt_view first.now) (stmt_view other.now)) (length declared.old.declarations.items))) }
     ensures stands { OnOk result ((test : ParsedExpr) → Passes (ParsedIfElse place test (stmt_view first.now) (stmt_view other.now)) declared.old declared.new standings.old.items standings.new.items) }
-    ensures memory { IfErr result (λ fault. fault ≡ Memory) }
 {
     step(place, declared, standings)?;
     inner_steps(alloc, first, declared, standings)?;
@@ -149,12 +143,11 @@ fn for_steps(
     place: Place,
     declared: &mut Declared,
     standings: &mut Vec<Standing>,
-) -> Result<(), SourceFault>
+) -> Result<(), AllocError>
     ensures declares { OnOk result ((test : Option ParsedExpr) → Declares declared.old.declarations.items declared.new.declarations.items
         (bindings_in (ParsedFor place (stmt_view start.now) test (stmt_view update.now) (stmt_view body.now)) (length declared.old.declarations.items))) }
     ensures stands { OnOk result ((test : Option ParsedExpr) → Passes (ParsedFor place (stmt_view start.now) test (stmt_view update.now) (stmt_view body.now))
         declared.old declared.new standings.old.items standings.new.items) }
-    ensures memory { IfErr result (λ fault. fault ≡ Memory) }
 {
     let outside = declared.innermost;
     statement_steps(alloc, start, declared, standings)?;
@@ -176,11 +169,10 @@ fn domain_steps(
     dims: &[Dim],
     declared: &mut Declared,
     standings: &mut Vec<Standing>,
-) -> Result<(), SourceFault>
+) -> Result<(), AllocError>
     ensures declares { OnOk result ((is_tiled : Bool) → Declares declared.old.declarations.items declared.new.declarations.items
         (bindings_in (ParsedForEach place is_tiled (map dim_view dims.now) (stmt_view body.now)) (length declared.old.declarations.items))) }
     ensures stands { OnOk result ((is_tiled : Bool) → Passes (ParsedForEach place is_tiled (map dim_view dims.now) (stmt_view body.now)) declared.old declared.new standings.old.items standings.new.items) }
-    ensures memory { IfErr result (λ fault. fault ≡ Memory) }
 {
     let outside = declared.innermost;
     step(place, declared, standings)?;
@@ -199,11 +191,10 @@ fn rounds_steps(
     name: &[u8],
     declared: &mut Declared,
     standings: &mut Vec<Standing>,
-) -> Result<(), SourceFault>
+) -> Result<(), AllocError>
     ensures declares { OnOk result ((at : Place) → Declares declared.old.declarations.items declared.new.declarations.items
         (bindings_in (ParsedForEachActive place at name.now (stmt_view body.now)) (length declared.old.declarations.items))) }
     ensures stands { OnOk result ((at : Place) → Passes (ParsedForEachActive place at name.now (stmt_view body.now)) declared.old declared.new standings.old.items standings.new.items) }
-    ensures memory { IfErr result (λ fault. fault ≡ Memory) }
 {
     let outside = declared.innermost;
     step(place, declared, standings)?;
@@ -220,12 +211,11 @@ fn inner_steps(
     stmt: &Stmt,
     declared: &mut Declared,
     standings: &mut Vec<Standing>,
-) -> Result<(), SourceFault>
+) -> Result<(), AllocError>
     ensures declares { OnOk result (Declares declared.old.declarations.items declared.new.declarations.items (bindings_in (stmt_view stmt.now) (length declared.old.declarations.items))) }
     ensures stands { OnOk result ((site : Site) (steps : List NameStanding) → Stands declared.old standings.old.items site steps
         → Stands declared.new standings.new.items (past (locals_in (stmt_view stmt.now)) site) (steps ++ standings_in (stmt_view stmt.now) site)) }
     ensures outside { OnOk result (declared.new.innermost ≡ declared.old.innermost) }
-    ensures memory { IfErr result (λ fault. fault ≡ Memory) }
 {
     let outside = declared.innermost;
     statement_steps(alloc, stmt, declared, standings)?;
@@ -240,11 +230,10 @@ pub(crate) fn list_steps(
     stmts: &[Stmt],
     declared: &mut Declared,
     standings: &mut Vec<Standing>,
-) -> Result<(), SourceFault>
+) -> Result<(), AllocError>
     ensures declares { OnOk result (Declares declared.old.declarations.items declared.new.declarations.items (bindings_in_all (stmts_view stmts.now) (length declared.old.declarations.items))) }
     ensures stands { OnOk result ((site : Site) (steps : List NameStanding) → Stands declared.old standings.old.items site steps
         → Stands declared.new standings.new.items (after_all (stmts_view stmts.now) site) (steps ++ standings_in_all (stmts_view stmts.now) site)) }
-    ensures memory { IfErr result (λ fault. fault ≡ Memory) }
 {
     for stmt in stmts {
         statement_steps(alloc, stmt, declared, standings)?;

@@ -12,7 +12,7 @@ fn steps(alloc: Global, source: &[u8]) -> Result<StepScopes, SourceFault> {
     let tree = parse(alloc, &tokens, source_end(source))?;
     for item in &tree.items {
         if let Item::Function(function) = item {
-            return steps_of(alloc, function);
+            return Ok(steps_of(alloc, function)?);
         }
     }
     Err(SourceFault::Memory)
