@@ -15,13 +15,13 @@ pub among-keys : (q : Name) (ks : List (Vec ℕ Global)) → list_any (λ k. poi
 among-keys q [] = refl
 among-keys q (k ∷ ks) = ap (λ b. b || list_any (λ x. pointwise nat_eq q x.items) ks) (pointwise-same_text q k.items) ∙ ap (λ b. same_text q k.items || b) (among-keys q ks)
 
-or-last : (a b : Bool) → (a || b) ≡ (b || a)
+pub or-last : (a b : Bool) → (a || b) ≡ (b || a)
 or-last true true = refl
 or-last true false = refl
 or-last false true = refl
 or-last false false = refl
 
-or-assoc : (a b c : Bool) → (a || (b || c)) ≡ ((a || b) || c)
+pub or-assoc : (a b c : Bool) → (a || (b || c)) ≡ ((a || b) || c)
 or-assoc true b c = refl
 or-assoc false b c = refl
 

@@ -1,14 +1,12 @@
 //! The declarations in scope, and what each name stands for.
-ghost use Rattle.std.specs.Prelude.{◌≡◌, [], ◌∷◌, IfErr, OnErr, OnOk, drop, length};
-ghost use Rattle.source_answers.specs.declared.fault.SourceFault.TheVariants.{Memory};
+ghost use Rattle.std.specs.Prelude.{◌≡◌, [], ◌∷◌, OnErr, OnOk, drop, length};
 ghost use Rattle.gang_model.specs.Names.Scope.{bound};
 ghost use Rattle.ispc_names_scopes.specs.Bindings.{found_in};
 ghost use Rattle.ispc_names_scopes.specs.Innermost.{innermost_of};
 
 use gang_types::VarId;
 use indexmap::IndexMap;
-use source_answers::SourceFault;
-use std::alloc::Global;
+use std::alloc::{AllocError, Global};
 use std::marker::Model;
 
 /// The innermost declaration of a name: its variable, and how many declarations stand outside it.
@@ -81,10 +79,9 @@ impl Bindings {
     }
 
     /// One more declaration, inside the others.
-    pub(crate) fn push(&mut self, alloc: Global, name: &[u8], id: VarId) -> Result<(), SourceFault>
+    pub(crate) fn push(&mut self, alloc: Global, name: &[u8], id: VarId) -> Result<(), AllocError>
         ensures inside { OnOk result (self.new ≡ bound name.now id ∷ self.old) }
         ensures unchanged { OnErr result (self.new ≡ self.old) }
-        ensures memory { IfErr result (λ fault. fault ≡ Memory) }
     {
         let hides = innermost_in(&self.index, name);
         let innermost = Innermost {
@@ -96,7 +93,7 @@ impl Bindings {
         self.declared.push(Declaration { name, id, hides })?;
         if self.index.insert(key, Some(innermost)).is_err() {
             self.declared.pop();
-            return Err(SourceFault::Memory);
+            return Err(AllocError);
         }
         Ok(())
     }

@@ -1,11 +1,9 @@
 //! The names of the source's functions.
-ghost use Rattle.std.specs.Prelude.{◌≡◌, [], ◌++◌, ◌∷◌, IfErr, OnErr, OnOk};
+ghost use Rattle.std.specs.Prelude.{◌≡◌, [], ◌++◌, ◌∷◌, OnErr, OnOk};
 ghost use Rattle.gang_model.specs.Types.LibraryTable.{is_among};
-ghost use Rattle.source_answers.specs.declared.fault.SourceFault.TheVariants.{Memory};
 
 use indexmap::IndexSet;
-use source_answers::SourceFault;
-use std::alloc::Global;
+use std::alloc::{AllocError, Global};
 use std::marker::Model;
 
 /// The names of the source's functions, in order, with an index: a look-up does not walk them.
@@ -42,17 +40,16 @@ impl FunctionNames {
     /// # Errors
     ///
     /// Out of memory; the names are then as before.
-    pub fn add(&mut self, alloc: Global, name: &[u8]) -> Result<(), SourceFault>
+    pub fn add(&mut self, alloc: Global, name: &[u8]) -> Result<(), AllocError>
         ensures last { OnOk result (self.new ≡ self.old ++ name.now ∷ []) }
         ensures unchanged { OnErr result (self.new ≡ self.old) }
-        ensures memory { IfErr result (λ fault. fault ≡ Memory) }
     {
         let key = name.to_vec(alloc)?;
         let name = name.to_vec(alloc)?;
         self.names.push(name)?;
         if self.index.insert(key).is_err() {
             self.names.pop();
-            return Err(SourceFault::Memory);
+            return Err(AllocError);
         }
         Ok(())
     }

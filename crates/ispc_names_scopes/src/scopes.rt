@@ -9,7 +9,7 @@ ghost use Rattle.ispc_names_scopes.specs.Scopes.{bound_in_file, here, site};
 use crate::bindings::Bindings;
 use gang_types::VarId;
 use source_answers::SourceFault;
-use std::alloc::Global;
+use std::alloc::{AllocError, Global};
 use std::marker::Model;
 
 /// A scope that was left for one inside it: how many declarations were in scope, and how many of them stood outside it.
@@ -69,7 +69,7 @@ impl Scopes {
         ensures unchanged { OnErr result (self.new ≡ self.old) }
         ensures memory { IfErr result (λ fault. fault ≡ Memory) }
     {
-        self.bindings.push(alloc, name, VarId::File(number))
+        Ok(self.bindings.push(alloc, name, VarId::File(number))?)
     }
 
     /// Declares a variable of the function in the present scope.
@@ -77,15 +77,14 @@ impl Scopes {
     /// # Errors
     ///
     /// Out of memory, also where no number is left; the declarations are then as before.
-    pub fn declare(&mut self, alloc: Global, name: &[u8]) -> Result<VarId, SourceFault>
+    pub fn declare(&mut self, alloc: Global, name: &[u8]) -> Result<VarId, AllocError>
         ensures id { IfOk result (λ id. id ≡ Local self.old.next) }
         ensures declared { OnOk result (site self.new ≡ scope.with_name name.now (site self.old)) }
         ensures outside { OnOk result (self.new.outside ≡ self.old.outside) }
         ensures unchanged { OnErr result (self.new ≡ self.old) }
-        ensures memory { IfErr result (λ fault. fault ≡ Memory) }
     {
         let Some(next) = self.next.checked_add(1) else {
-            return Err(SourceFault::Memory);
+            return Err(AllocError);
         };
         let id = VarId::Local(self.next);
         self.bindings.push(alloc, name, id)?;
