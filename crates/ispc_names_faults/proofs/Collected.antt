@@ -10,6 +10,7 @@ use Rattle.gang_model.specs.Source.Names.{same_text}
 use Rattle.gang_model.specs.Source.Parsed.{Name, ParsedGlobal, ParsedFunction}
 use Rattle.gang_model.specs.Names.Scope.{is_built_in}
 use Rattle.gang_model.specs.Types.Signatures.{same_signature}
+use Rattle.ispc_names_scopes.proofs.NameIndex.{or-assoc, or-last}
 use Rattle.ispc_names_faults.specs.SignatureKeys.{signature_key}
 use Rattle.gang_model.proofs.JudgedLaws.{least_fault-append}
 use Rattle.ispc_names_faults.proofs.Merging.{Fault, one_more}
@@ -17,22 +18,12 @@ use Rattle.ispc_names_faults.proofs.Keys.{same_key}
 
 -- ---- names in a list
 
-or-last : (a b : Bool) → (a || b) ≡ (b || a)
-or-last true true = refl
-or-last true false = refl
-or-last false true = refl
-or-last false false = refl
-
-or-assoc : (a b c : Bool) → ((a || b) || c) ≡ (a || (b || c))
-or-assoc true b c = refl
-or-assoc false b c = refl
-
 among-last : (q : Name) (names : List Name) (name : Name) → is_among q (names ++ name ∷ []) ≡ (same_text q name || is_among q names)
 among-last q [] name = refl
 among-last q (n ∷ names) name =
     ap (λ b. same_text q n || b) (among-last q names name)
-    ∙ (sym (or-assoc (same_text q n) (same_text q name) (is_among q names))
-    ∙ (ap (λ b. b || is_among q names) (or-last (same_text q n) (same_text q name)) ∙ or-assoc (same_text q name) (same_text q n) (is_among q names)))
+    ∙ (or-assoc (same_text q n) (same_text q name) (is_among q names)
+    ∙ (ap (λ b. b || is_among q names) (or-last (same_text q n) (same_text q name)) ∙ sym (or-assoc (same_text q name) (same_text q n) (is_among q names))))
 
 -- ---- file-scope variables
 

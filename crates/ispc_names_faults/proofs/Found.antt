@@ -14,7 +14,6 @@ use Rattle.gang_model.specs.Names.Scope.{Environment, Site, with_name, with_dims
 use Rattle.gang_model.specs.Types.SourceRefusals.{names_refusal}
 use Rattle.gang_model.proofs.JudgedLaws.{least_fault-append}
 use Rattle.ispc_names_scopes.specs.Scopes.{Scoped, site}
-use Rattle.source_answers.specs.declared.fault.SourceFault.{SourceFault}
 use Rattle.ispc_parser.specs.declared.tree.Stmt.{Stmt}
 use Rattle.ispc_parser.specs.Tree.{stmt_view, stmts_view}
 use Rattle.ispc_names_faults.specs.IndexVariables.{dims_twice, bounds_names}
@@ -188,7 +187,7 @@ for_each_unique_found s0 p at name other e body may in_value in_rounds' r v same
 
 -- ---- statements as they lie in memory
 
-module _ (result : Result Fault SourceFault) (v w : ParsedStmt) (is : v ≡ w) where
+module _ {E : Type 0} (result : Result Fault E) (v w : ParsedStmt) (is : v ≡ w) where
   pub found_as : (may : Allowed) (t : Site) → IfOk result (λ fault. fault ≡ least_fault (stmt_names w may t)) → IfOk result (λ fault. fault ≡ least_fault (stmt_names v may t))
   found_as may t h = IfOk-weaker result _ _ (λ fault f. f ∙ sym (ap (λ s. least_fault (stmt_names s may t)) is)) h
 
@@ -196,13 +195,13 @@ module _ (result : Result Fault SourceFault) (v w : ParsedStmt) (is : v ≡ w) w
   after_as n s0 s1 moves h = on_ok_weaker result (λ e. ap site e ∙ (moves ∙ sym (ap (λ s. after s (site s0)) is))) h
 
 -- the same, where the call says it of any value of a part that does not matter
-pub found_at : {A : Type 0} (result : Result Fault SourceFault) (v : ParsedStmt) (w : A → ParsedStmt) (a : A) (may : Allowed) (t : Site) → v ≡ w a
+pub found_at : {A E : Type 0} (result : Result Fault E) (v : ParsedStmt) (w : A → ParsedStmt) (a : A) (may : Allowed) (t : Site) → v ≡ w a
     → IfOk result (λ fault. (b : A) → fault ≡ least_fault (stmt_names (w b) may t)) → IfOk result (λ fault. fault ≡ least_fault (stmt_names v may t))
 found_at result v w a may t is h =
     found_as result v (w a) is may t (IfOk-weaker result (λ fault. (b : _) → fault ≡ least_fault (stmt_names (w b) may t)) (λ fault. fault ≡ least_fault (stmt_names (w a) may t)) (λ fault f. f a) h)
 
 -- a test and what it decides about, in a loop
-module _ (result : Result Fault SourceFault) (v : ParsedStmt) (p : Place) (e : ParsedExpr) (a : ParsedStmt) (may inside : Allowed) (t : Site) (loop : inside ≡ in_loop may)
+module _ {E : Type 0} (result : Result Fault E) (v : ParsedStmt) (p : Place) (e : ParsedExpr) (a : ParsedStmt) (may inside : Allowed) (t : Site) (loop : inside ≡ in_loop may)
     (h : IfOk result (λ fault. fault ≡ least_fault (names_in e may.functions t.environment ++ stmt_names a inside (enclosed t)))) where
   in_a_loop : IfOk result (λ fault. fault ≡ least_fault (stmt_names (ParsedWhile p e a) may t))
   in_a_loop = IfOk-weaker result _ _ (λ fault f. f ∙ ap (λ m. least_fault (names_in e may.functions t.environment ++ stmt_names a m (enclosed t))) loop) h

@@ -1,9 +1,8 @@
 //! Names that their scope has already, and their declarations.
-ghost use Rattle.std.specs.Prelude.{◌≡◌, IfErr, IfOk, OnOk, map};
+ghost use Rattle.std.specs.Prelude.{◌≡◌, IfOk, OnOk, map};
 ghost use Rattle.gang_model.specs.Source.Judged.{least_fault};
 ghost use Rattle.gang_model.specs.Names.NameFaults as names;
 ghost use Rattle.gang_model.specs.Names.Scope as scope;
-ghost use Rattle.source_answers.specs.declared.fault.SourceFault.TheVariants.{Memory};
 ghost use Rattle.ispc_names_scopes.specs.Scopes.{site};
 ghost use Rattle.ispc_parser.specs.Tree.{dim_view, param_view};
 ghost use Rattle.ispc_names_faults.specs.IndexVariables.{bounds_names, dims_twice};
@@ -13,8 +12,8 @@ use gang_model::{RefusalNumber, SourceRefusal};
 use gang_types::Place;
 use ispc_names_scopes::{FunctionNames, Scopes};
 use ispc_parser::{Dim, Param};
-use source_answers::{SourceFault, fault_if, least};
-use std::alloc::Global;
+use source_answers::{fault_if, least};
+use std::alloc::{AllocError, Global};
 
 /// The fault of a name that its scope has already or that nothing may declare, and its declaration in that scope.
 pub(crate) fn declaration_fault(
@@ -22,11 +21,10 @@ pub(crate) fn declaration_fault(
     place: Place,
     name: &[u8],
     scopes: &mut Scopes,
-) -> Result<Option<SourceRefusal>, SourceFault>
+) -> Result<Option<SourceRefusal>, AllocError>
     ensures fault { IfOk result (λ fault. fault ≡ least_fault (names.twice (site scopes.old) place name.now)) }
     ensures declared { OnOk result (site scopes.new ≡ scope.with_name name.now (site scopes.old)) }
     ensures outside { OnOk result (scopes.new.outside ≡ scopes.old.outside) }
-    ensures memory { IfErr result (λ fault. fault ≡ Memory) }
 {
     let is_twice = scopes.is_here(name) || is_built_in(name);
     scopes.declare(alloc, name)?;
@@ -55,11 +53,10 @@ pub(crate) fn dims_fault(
     alloc: Global,
     dims: &[Dim],
     scopes: &mut Scopes,
-) -> Result<Option<SourceRefusal>, SourceFault>
+) -> Result<Option<SourceRefusal>, AllocError>
     ensures fault { IfOk result (λ fault. fault ≡ least_fault (dims_twice (map dim_view dims.now) (site scopes.old))) }
     ensures declared { OnOk result (site scopes.new ≡ scope.with_dims (map dim_view dims.now) (site scopes.old)) }
     ensures outside { OnOk result (scopes.new.outside ≡ scopes.old.outside) }
-    ensures memory { IfErr result (λ fault. fault ≡ Memory) }
 {
     let mut first = None;
     for dim in dims {
@@ -76,11 +73,10 @@ pub(crate) fn params_fault(
     alloc: Global,
     params: &[Param],
     scopes: &mut Scopes,
-) -> Result<Option<SourceRefusal>, SourceFault>
+) -> Result<Option<SourceRefusal>, AllocError>
     ensures fault { IfOk result (λ fault. fault ≡ least_fault (names.params_twice (map param_view params.now) (site scopes.old))) }
     ensures declared { OnOk result (site scopes.new ≡ scope.with_params (map param_view params.now) (site scopes.old)) }
     ensures outside { OnOk result (scopes.new.outside ≡ scopes.old.outside) }
-    ensures memory { IfErr result (λ fault. fault ≡ Memory) }
 {
     let mut first = None;
     for param in params {

@@ -13,16 +13,15 @@ use gang_model::{RefusalNumber, SourceRefusal};
 use ispc_names_scopes::{FunctionNames, Scopes};
 use ispc_parser::{Function, GlobalVariable, Item, Tree};
 use source_answers::{SourceFault, fault_if, least};
-use std::alloc::Global;
+use std::alloc::{AllocError, Global};
 
 /// The functions of a tree, in order.
 ///
 /// # Errors
 ///
 /// Out of memory.
-pub fn functions_of(alloc: Global, tree: &Tree) -> Result<Vec<&Function>, SourceFault>
+pub fn functions_of(alloc: Global, tree: &Tree) -> Result<Vec<&Function>, AllocError>
     ensures functions { IfOk result (λ functions. map (λ f. function_view f.now) functions.items ≡ functions_in (tree_view tree.now)) }
-    ensures memory { IfErr result (λ fault. fault ≡ Memory) }
 {
     let mut functions = Vec::new(alloc);
     for item in &tree.items {
@@ -38,9 +37,8 @@ pub fn functions_of(alloc: Global, tree: &Tree) -> Result<Vec<&Function>, Source
 /// # Errors
 ///
 /// Out of memory.
-pub fn globals_of(alloc: Global, tree: &Tree) -> Result<Vec<&GlobalVariable>, SourceFault>
+pub fn globals_of(alloc: Global, tree: &Tree) -> Result<Vec<&GlobalVariable>, AllocError>
     ensures globals { IfOk result (λ globals. map (λ g. global_view g.now) globals.items ≡ globals_in (tree_view tree.now)) }
-    ensures memory { IfErr result (λ fault. fault ≡ Memory) }
 {
     let mut globals = Vec::new(alloc);
     for item in &tree.items {
@@ -52,9 +50,8 @@ pub fn globals_of(alloc: Global, tree: &Tree) -> Result<Vec<&GlobalVariable>, So
 }
 
 /// The names of functions, in order.
-pub(crate) fn names_of(alloc: Global, functions: &[&Function]) -> Result<FunctionNames, SourceFault>
+pub(crate) fn names_of(alloc: Global, functions: &[&Function]) -> Result<FunctionNames, AllocError>
     ensures names { IfOk result (λ names. names ≡ map (λ f. f.name) (map (λ f. function_view f.now) functions.now)) }
-    ensures memory { IfErr result (λ fault. fault ≡ Memory) }
 {
     let mut names = FunctionNames::new(alloc);
     for function in functions {
@@ -90,9 +87,8 @@ fn is_taken(before: &FunctionNames, name: &[u8]) -> bool
 pub(crate) fn globals_twice_fault(
     alloc: Global,
     globals: &[&GlobalVariable],
-) -> Result<Option<SourceRefusal>, SourceFault>
+) -> Result<Option<SourceRefusal>, AllocError>
     ensures fault { IfOk result (λ fault. fault ≡ least_fault (names.globals_twice (map (λ g. global_view g.now) globals.now) [])) }
-    ensures memory { IfErr result (λ fault. fault ≡ Memory) }
 {
     let mut before = FunctionNames::new(alloc);
     let mut first = None;

@@ -1,11 +1,10 @@
 //! The faults of names in functions.
-ghost use Rattle.std.specs.Prelude.{◌≡◌, ◌||◌, IfErr, IfOk, OnOk, is_some, map};
+ghost use Rattle.std.specs.Prelude.{◌≡◌, ◌||◌, IfOk, OnOk, is_some, map};
 ghost use Rattle.std.specs.List.{flat_map};
 ghost use Rattle.gang_model.specs.Source.Judged.{least_fault};
 ghost use Rattle.gang_model.specs.Types.LibraryTable as table;
 ghost use Rattle.gang_model.specs.Names.NameFaults as names;
 ghost use Rattle.gang_model.specs.Names.Scope as scope;
-ghost use Rattle.source_answers.specs.declared.fault.SourceFault.TheVariants.{Memory};
 ghost use Rattle.ispc_names_scopes.specs.Scopes.{site};
 ghost use Rattle.ispc_parser.specs.Tree.{function_view, stmts_view};
 ghost use Rattle.ispc_names_faults.specs.MayStand.{allowed_view};
@@ -16,8 +15,8 @@ use crate::statements::statement_fault;
 use gang_model::{RefusalNumber, SourceRefusal};
 use ispc_names_scopes::{FunctionNames, Scopes, is_library_name, statement_call};
 use ispc_parser::{Function, Stmt};
-use source_answers::{SourceFault, fault_if, least};
-use std::alloc::Global;
+use source_answers::{fault_if, least};
+use std::alloc::{AllocError, Global};
 
 /// The first fault of names in statements, each after those before it, in the present scope.
 fn body_fault(
@@ -26,11 +25,10 @@ fn body_fault(
     may: Allowed,
     functions: &FunctionNames,
     scopes: &mut Scopes,
-) -> Result<Option<SourceRefusal>, SourceFault>
+) -> Result<Option<SourceRefusal>, AllocError>
     ensures fault { IfOk result (λ fault. fault ≡ least_fault (names.stmts_names (stmts_view stmts.now) (allowed_view functions.now may) (site scopes.old))) }
     ensures after { OnOk result (site scopes.new ≡ scope.after_all (stmts_view stmts.now) (site scopes.old)) }
     ensures outside { OnOk result (scopes.new.outside ≡ scopes.old.outside) }
-    ensures memory { IfErr result (λ fault. fault ≡ Memory) }
 {
     let mut first = None;
     for stmt in stmts {
@@ -52,10 +50,9 @@ fn function_fault(
     function: &Function,
     functions: &FunctionNames,
     scopes: &mut Scopes,
-) -> Result<Option<SourceRefusal>, SourceFault>
+) -> Result<Option<SourceRefusal>, AllocError>
     ensures fault { IfOk result (λ fault. fault ≡ least_fault (names.function_names functions.now scopes.old.environment (function_view function.now))) }
     ensures environment { OnOk result (scopes.new.environment ≡ scopes.old.environment) }
-    ensures memory { IfErr result (λ fault. fault ≡ Memory) }
 {
     let is_taken = is_of_library(&function.name);
     let own = fault_if(is_taken, RefusalNumber::S6, function.place);
@@ -72,9 +69,8 @@ pub(crate) fn functions_fault(
     functions: &[&Function],
     known: &FunctionNames,
     mut scopes: Scopes,
-) -> Result<Option<SourceRefusal>, SourceFault>
+) -> Result<Option<SourceRefusal>, AllocError>
     ensures fault { IfOk result (λ fault. fault ≡ least_fault (flat_map (names.function_names known.now scopes.environment) (map (λ f. function_view f.now) functions.now))) }
-    ensures memory { IfErr result (λ fault. fault ≡ Memory) }
 {
     let mut first = None;
     for function in functions {

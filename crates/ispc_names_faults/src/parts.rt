@@ -1,12 +1,11 @@
 //! The faults of names in statements that hold no other one.
-ghost use Rattle.std.specs.Prelude.{◌≡◌, ◌++◌, IfErr, IfOk, OnOk, false, not};
+ghost use Rattle.std.specs.Prelude.{◌≡◌, ◌++◌, IfOk, OnOk, false, not};
 ghost use Rattle.gang_model.specs.Source.Judged as judged;
 ghost use Rattle.gang_model.specs.Source.Judged.{least_fault};
 ghost use Rattle.gang_model.specs.declared.refusals.RefusalNumber.TheVariants as number;
 ghost use Rattle.gang_model.specs.Names.NameFaults as names;
 ghost use Rattle.gang_model.specs.Names.Scope as scope;
 ghost use Rattle.ispc_parser_expressions.specs.Tree.{expr_view};
-ghost use Rattle.source_answers.specs.declared.fault.SourceFault.TheVariants.{Memory};
 ghost use Rattle.ispc_names_scopes.specs.Scopes.{site};
 ghost use Rattle.ispc_parser.specs.Tree.{option_view, stmt_view, target_view};
 ghost use Rattle.ispc_names_faults.specs.MayStand.{allowed_view};
@@ -21,8 +20,8 @@ use gang_types::Place;
 use ispc_names_scopes::{FunctionNames, Scopes};
 use ispc_parser::{Stmt, Target};
 use ispc_parser_expressions::Expr;
-use source_answers::{SourceFault, fault_if, least};
-use std::alloc::Global;
+use source_answers::{fault_if, least};
+use std::alloc::{AllocError, Global};
 
 /// The fault of names in what is assigned.
 pub(crate) fn target_fault(
@@ -107,12 +106,11 @@ pub(crate) fn simple_fault(
     may: Allowed,
     functions: &FunctionNames,
     scopes: &mut Scopes,
-) -> Result<Option<SourceRefusal>, SourceFault>
+) -> Result<Option<SourceRefusal>, AllocError>
     requires simple { holds_others (stmt_view stmt.now) ≡ false }
     ensures fault { IfOk result (λ fault. fault ≡ least_fault (names.stmt_names (stmt_view stmt.now) (allowed_view functions.now may) (site scopes.old))) }
     ensures after { OnOk result (site scopes.new ≡ scope.after (stmt_view stmt.now) (site scopes.old)) }
     ensures outside { OnOk result (scopes.new.outside ≡ scopes.old.outside) }
-    ensures memory { IfErr result (λ fault. fault ≡ Memory) }
 {
     match stmt {
         Stmt::Declare {

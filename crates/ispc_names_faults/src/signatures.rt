@@ -1,11 +1,10 @@
 //! Functions of one name with the same parameters.
-ghost use Rattle.std.specs.Prelude.{◌≡◌, ◌++◌, [], IfErr, IfOk, OnOk, is_none, map};
+ghost use Rattle.std.specs.Prelude.{◌≡◌, ◌++◌, [], IfOk, OnOk, is_none, map};
 ghost use Rattle.gang_types.specs.Values.{width};
 ghost use Rattle.gang_model.specs.Types.Conversions.{is_varying};
 ghost use Rattle.gang_model.specs.Source.Judged.{least_fault};
 ghost use Rattle.gang_model.specs.Names.NameFaults as names;
 ghost use Rattle.gang_model.specs.Types.Signatures.{declared_rate, declared_type};
-ghost use Rattle.source_answers.specs.declared.fault.SourceFault.TheVariants.{Memory};
 ghost use Rattle.ispc_parser.specs.Tree.{function_view, param_view};
 ghost use Rattle.ispc_names_faults.specs.SignatureKeys as keys;
 ghost use Rattle.ispc_names_faults.specs.SignatureKeys.{digit, param_key};
@@ -14,8 +13,8 @@ use gang_model::{RefusalNumber, SourceRefusal, Spec};
 use gang_types::{IntType, Rate, is_signed, width};
 use ispc_names_scopes::FunctionNames;
 use ispc_parser::{Function, Param};
-use source_answers::{SourceFault, fault_if, least};
-use std::alloc::Global;
+use source_answers::{fault_if, least};
+use std::alloc::{AllocError, Global};
 
 /// The type of a declaration; `void` counts as `int32`.
 fn declared_type(spec: Spec) -> IntType
@@ -46,9 +45,8 @@ fn width_byte(value_type: IntType) -> u8
 }
 
 /// Writes the type and the rate of a parameter after a key. What is written does not begin with 0.
-fn push_param(key: &mut Vec<u8>, param: &Param) -> Result<(), SourceFault>
+fn push_param(key: &mut Vec<u8>, param: &Param) -> Result<(), AllocError>
     ensures written { OnOk result (key.new.items ≡ key.old.items ++ param_key (param_view param.now)) }
-    ensures memory { IfErr result (λ fault. fault ≡ Memory) }
 {
     let value_type = declared_type(param.spec);
     key.push(1 + u8::from(param.spec.value_type.is_none()))?;
@@ -61,9 +59,8 @@ fn push_param(key: &mut Vec<u8>, param: &Param) -> Result<(), SourceFault>
 
 /// The text under which a signature is looked up: that of two functions is the same where they have one name and the same
 /// parameter types and rates, and only there.
-fn signature_key(alloc: Global, function: &Function) -> Result<Vec<u8>, SourceFault>
+fn signature_key(alloc: Global, function: &Function) -> Result<Vec<u8>, AllocError>
     ensures key { IfOk result (λ key. key.items ≡ keys.signature_key (function_view function.now)) }
-    ensures memory { IfErr result (λ fault. fault ≡ Memory) }
 {
     let mut key = Vec::new(alloc);
     for param in &function.params {
@@ -78,9 +75,8 @@ fn signature_key(alloc: Global, function: &Function) -> Result<Vec<u8>, SourceFa
 pub(crate) fn functions_twice_fault(
     alloc: Global,
     functions: &[&Function],
-) -> Result<Option<SourceRefusal>, SourceFault>
+) -> Result<Option<SourceRefusal>, AllocError>
     ensures fault { IfOk result (λ fault. fault ≡ least_fault (names.functions_twice (map (λ f. function_view f.now) functions.now) [])) }
-    ensures memory { IfErr result (λ fault. fault ≡ Memory) }
 {
     let mut before = FunctionNames::new(alloc);
     let mut first = None;

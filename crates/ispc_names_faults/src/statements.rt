@@ -1,12 +1,11 @@
 //! The faults of names in statements.
-ghost use Rattle.std.specs.Prelude.{◌≡◌, ◌++◌, ◌+◌, Bool, IfErr, IfOk, OnOk, length, map};
+ghost use Rattle.std.specs.Prelude.{◌≡◌, ◌++◌, ◌+◌, Bool, IfOk, OnOk, length, map};
 ghost use Rattle.gang_types.specs.declared.places.Place.{Place};
 ghost use Rattle.gang_model.specs.Source.Judged.{least_fault};
 ghost use Rattle.gang_model.specs.Names.NameFaults as names;
 ghost use Rattle.gang_model.specs.Source.Parsed.{ParsedFor, ParsedForEach, ParsedIfElse};
 ghost use Rattle.gang_model.specs.Names.Scope as scope;
 ghost use Rattle.ispc_parser_expressions.specs.Tree.{expr_view};
-ghost use Rattle.source_answers.specs.declared.fault.SourceFault.TheVariants.{Memory};
 ghost use Rattle.ispc_names_scopes.specs.Scopes.{site};
 ghost use Rattle.ispc_parser.specs.Tree.{dim_view, option_view, stmt_view, stmts_view};
 ghost use Rattle.ispc_names_faults.specs.MayStand.{allowed_view};
@@ -22,10 +21,10 @@ use gang_types::Place;
 use ispc_names_scopes::{FunctionNames, Scopes};
 use ispc_parser::{Dim, Stmt};
 use ispc_parser_expressions::Expr;
-use source_answers::{SourceFault, fault_if, least};
-use std::alloc::Global;
+use source_answers::{fault_if, least};
+use std::alloc::{AllocError, Global};
 
-type Found = Result<Option<SourceRefusal>, SourceFault>;
+type Found = Result<Option<SourceRefusal>, AllocError>;
 
 /// The first fault of names in a statement. The scopes are then those that the next statement finds.
 #[cycle(statement)]
@@ -39,7 +38,6 @@ pub(crate) fn statement_fault(
     ensures fault { IfOk result (λ fault. fault ≡ least_fault (names.stmt_names (stmt_view stmt.now) (allowed_view functions.now may) (site scopes.old))) }
     ensures after { OnOk result (site scopes.new ≡ scope.after (stmt_view stmt.now) (site scopes.old)) }
     ensures outside { OnOk result (scopes.new.outside ≡ scopes.old.outside) }
-    ensures memory { IfErr result (λ fault. fault ≡ Memory) }
 {
     match stmt {
         Stmt::Block(stmts) => block_fault(alloc, stmts, may, functions, scopes),
@@ -99,7 +97,6 @@ fn block_fault(
 ) -> Found
     ensures fault { IfOk result (λ fault. fault ≡ least_fault (names.stmts_names (stmts_view stmts.now) (allowed_view functions.now may) (scope.enclosed (site scopes.old)))) }
     ensures after { OnOk result (scopes.new ≡ moved (scope.locals_in_all (stmts_view stmts.now)) scopes.old) }
-    ensures memory { IfErr result (λ fault. fault ≡ Memory) }
 {
     let mark = scopes.enter();
     let mut first = None;
@@ -124,7 +121,6 @@ fn inner_fault(
 ) -> Found
     ensures fault { IfOk result (λ fault. fault ≡ least_fault (names.stmt_names (stmt_view stmt.now) (allowed_view functions.now may) (scope.enclosed (site scopes.old)))) }
     ensures after { OnOk result (scopes.new ≡ moved (scope.locals_in (stmt_view stmt.now)) scopes.old) }
-    ensures memory { IfErr result (λ fault. fault ≡ Memory) }
 {
     let mark = scopes.enter();
     let fault = statement_fault(alloc, stmt, may, functions, scopes)?;
@@ -143,7 +139,6 @@ fn update_fault(
 ) -> Found
     ensures fault { IfOk result (λ fault. fault ≡ least_fault (names.stmt_names (stmt_view stmt.now) (allowed_view functions.now may) (site scopes.old))) }
     ensures after { OnOk result (scopes.new ≡ moved (scope.locals_in (stmt_view stmt.now)) scopes.old) }
-    ensures memory { IfErr result (λ fault. fault ≡ Memory) }
 {
     let mark = scopes.mark();
     let fault = statement_fault(alloc, stmt, may, functions, scopes)?;
@@ -164,7 +159,6 @@ fn tested_fault(
     ensures fault { IfOk result (λ fault. fault ≡ least_fault (names.names_in (expr_view test.now) functions.now scopes.old.environment
         ++ names.stmt_names (stmt_view stmt.now) (allowed_view functions.now may) (scope.enclosed (site scopes.old)))) }
     ensures after { OnOk result (scopes.new ≡ moved (scope.locals_in (stmt_view stmt.now)) scopes.old) }
-    ensures memory { IfErr result (λ fault. fault ≡ Memory) }
 {
     let in_test = expression_fault(test, functions, scopes);
     let in_stmt = inner_fault(alloc, stmt, may, functions, scopes)?;
@@ -185,7 +179,6 @@ fn choice_fault(
     ensures fault { IfOk result (λ fault. (place : Place) → fault ≡ least_fault (names.stmt_names (ParsedIfElse place (expr_view test.now) (stmt_view first.now) (stmt_view other.now))
         (allowed_view functions.now may) (site scopes.old))) }
     ensures after { OnOk result (scopes.new ≡ moved (scope.locals_in (stmt_view first.now) + scope.locals_in (stmt_view other.now)) scopes.old) }
-    ensures memory { IfErr result (λ fault. fault ≡ Memory) }
 {
     let in_test = expression_fault(test, functions, scopes);
     let in_first = inner_fault(alloc, first, may, functions, scopes)?;
@@ -208,7 +201,6 @@ fn for_fault(
     ensures fault { IfOk result (λ fault. (place : Place) → fault ≡ least_fault (names.stmt_names (ParsedFor place (stmt_view start.now) (option_view expr_view test.now) (stmt_view update.now) (stmt_view body.now))
         (allowed_view functions.now may) (site scopes.old))) }
     ensures after { OnOk result (scopes.new ≡ moved (scope.locals_in (stmt_view start.now) + scope.locals_in (stmt_view update.now) + scope.locals_in (stmt_view body.now)) scopes.old) }
-    ensures memory { IfErr result (λ fault. fault ≡ Memory) }
 {
     let mark = scopes.enter();
     let in_start = statement_fault(alloc, start, may, functions, scopes)?;
@@ -233,7 +225,6 @@ fn domain_fault(
     ensures fault { IfOk result (λ fault. (is_tiled : Bool) → fault ≡ least_fault (names.stmt_names (ParsedForEach place is_tiled (map dim_view dims.now) (stmt_view body.now))
         (allowed_view functions.now may) (site scopes.old))) }
     ensures after { OnOk result (scopes.new ≡ moved (length dims.now + scope.locals_in (stmt_view body.now)) scopes.old) }
-    ensures memory { IfErr result (λ fault. fault ≡ Memory) }
 {
     let own = fault_if(!may.domains, RefusalNumber::S11, place);
     let in_bounds = bounds_fault(dims, functions, scopes);
@@ -258,7 +249,6 @@ fn rounds_fault(
     ensures fault { IfOk result (λ fault. fault ≡ least_fault (names.twice (scope.enclosed (site scopes.old)) place name.now
         ++ names.stmt_names (stmt_view body.now) (names.in_round (allowed_view functions.now may)) (scope.in_rounds name.now (site scopes.old)))) }
     ensures after { OnOk result (scopes.new ≡ moved (1 + scope.locals_in (stmt_view body.now)) scopes.old) }
-    ensures memory { IfErr result (λ fault. fault ≡ Memory) }
 {
     let mark = scopes.enter();
     let in_name = declaration_fault(alloc, place, name, scopes)?;

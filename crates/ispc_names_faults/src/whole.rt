@@ -29,7 +29,7 @@ fn inside_functions(
 {
     let names = names_of(alloc, functions)?;
     let scopes = declared_globals(alloc, globals)?;
-    functions_fault(alloc, functions, &names, scopes)
+    Ok(functions_fault(alloc, functions, &names, scopes)?)
 }
 
 /// The first fault of names of a tree: the one with the first place, at one place the one with the least number. S5 is a name

@@ -16,9 +16,11 @@ loop-global-preserved c =
     c.loop-global.invariant c.deref.ensures.value c.is_taken-is_twice.ensures c.fault_if.ensures c.least-first.ensures
     (c.in_ok-add.ensures.last ∙ ap (λ n. c.loop-global.before ++ n ∷ []) c.deref-in-loop-global.ensures.value)
 
-pub returns-clause-fault : goal.returns-clause-fault
-returns-clause-fault c =
+pub returns : goal.returns
+returns c =
     let items = c.args.globals.now in
-    all_found _ _ _ c.loop-global.invariant
-    (ap (λ gs. least_fault (later_globals (map (λ x. global_view x.now) gs) c.loop-global.before)) (drop_all c.loop-global.global-index items c.loop-global-test.false))
-    ∙ ap least_fault (later_globals-twice (map (λ x. global_view x.now) items) [] [] (λ q. refl))
+    record {
+      fault = all_found _ _ _ c.loop-global.invariant
+          (ap (λ gs. least_fault (later_globals (map (λ x. global_view x.now) gs) c.loop-global.before)) (drop_all c.loop-global.global-index items c.loop-global-test.false))
+          ∙ ap least_fault (later_globals-twice (map (λ x. global_view x.now) items) [] [] (λ q. refl));
+    }

@@ -16,9 +16,11 @@ loop-function-preserved c =
     c.loop-function.invariant (c.deref.ensures.value ∙ c.in_ok-key.ensures.key) c.contains-is_twice.ensures c.fault_if.ensures c.least-first.ensures
     (c.in_ok-add.ensures.last ∙ ap (λ n. c.loop-function.before ++ n ∷ []) (c.deref-in-loop-function.ensures.value ∙ c.in_ok-key.ensures.key))
 
-pub returns-clause-fault : goal.returns-clause-fault
-returns-clause-fault c =
+pub returns : goal.returns
+returns c =
     let items = c.args.functions.now in
-    all_found _ _ _ c.loop-function.invariant
-    (ap (λ fs. least_fault (later_functions (map (λ x. function_view x.now) fs) c.loop-function.before)) (drop_all c.loop-function.function-index items c.loop-function-test.false))
-    ∙ ap least_fault (later_functions-twice (map (λ x. function_view x.now) items) [] [] (λ f. refl))
+    record {
+      fault = all_found _ _ _ c.loop-function.invariant
+          (ap (λ fs. least_fault (later_functions (map (λ x. function_view x.now) fs) c.loop-function.before)) (drop_all c.loop-function.function-index items c.loop-function-test.false))
+          ∙ ap least_fault (later_functions-twice (map (λ x. function_view x.now) items) [] [] (λ f. refl));
+    }
