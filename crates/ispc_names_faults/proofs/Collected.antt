@@ -1,5 +1,5 @@
 -- The lists of functions and of file-scope variables of a tree, and names that stand twice in them.
-use Rattle.std.proofs.Common.{◌≡◌, List, [], ◌∷◌, ◌++◌, Bool, true, false, ◌||◌, refl, sym, ap, ◌∙◌}
+use Rattle.std.proofs.Common.{◌≡◌, List, [], ◌∷◌, ◌++◌, Bool, ◌||◌, refl, sym, ap, ◌∙◌}
 use Rattle.std.specs.List.{list_any}
 use Rattle.gang_model.specs.declared.refusals.RefusalNumber.TheVariants.{S6}
 use Rattle.gang_model.specs.declared.refusals.SourceRefusal.{SourceRefusal}
