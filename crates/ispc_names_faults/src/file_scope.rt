@@ -1,18 +1,17 @@
 //! The functions and the variables of a file.
-ghost use Rattle.std.specs.Prelude.{◌≡◌, ◌||◌, [], IfErr, IfOk, map};
+ghost use Rattle.std.specs.Prelude.{◌≡◌, ◌||◌, [], IfOk, map};
 ghost use Rattle.gang_model.specs.Source.Judged.{least_fault};
 ghost use Rattle.gang_model.specs.Types.LibraryTable.{is_among};
 ghost use Rattle.gang_model.specs.Names.NameFaults as names;
 ghost use Rattle.gang_model.specs.Source.Parsed.{functions_in, globals_in};
 ghost use Rattle.gang_model.specs.Names.Scope.{file_bindings, is_built_in};
-ghost use Rattle.source_answers.specs.declared.fault.SourceFault.TheVariants.{Memory};
 ghost use Rattle.ispc_parser.specs.Tree.{function_view, global_view, tree_view};
 
 use crate::expressions::is_built_in;
 use gang_model::{RefusalNumber, SourceRefusal};
 use ispc_names_scopes::{FunctionNames, Scopes};
 use ispc_parser::{Function, GlobalVariable, Item, Tree};
-use source_answers::{SourceFault, fault_if, least};
+use source_answers::{fault_if, least};
 use std::alloc::{AllocError, Global};
 
 /// The functions of a tree, in order.
@@ -64,9 +63,8 @@ pub(crate) fn names_of(alloc: Global, functions: &[&Function]) -> Result<Functio
 pub(crate) fn declared_globals(
     alloc: Global,
     globals: &[&GlobalVariable],
-) -> Result<Scopes, SourceFault>
+) -> Result<Scopes, AllocError>
     ensures environment { IfOk result (λ scopes. scopes.environment ≡ file_bindings 0 (map (λ g. global_view g.now) globals.now)) }
-    ensures memory { IfErr result (λ fault. fault ≡ Memory) }
 {
     let mut scopes = Scopes::new(alloc);
     for later in 0..globals.len() {

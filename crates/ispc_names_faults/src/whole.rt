@@ -1,11 +1,10 @@
 //! The first fault of names of a tree.
-ghost use Rattle.std.specs.Prelude.{◌≡◌, IfErr, IfOk, map};
+ghost use Rattle.std.specs.Prelude.{◌≡◌, IfOk, map};
 ghost use Rattle.std.specs.List.{flat_map};
 ghost use Rattle.gang_model.specs.Source.Judged.{least_fault};
 ghost use Rattle.gang_model.specs.Names.NameFaults as names;
 ghost use Rattle.gang_model.specs.Names.Scope.{file_bindings};
 ghost use Rattle.gang_model.specs.Types.SourceRefusals.{names_refusal};
-ghost use Rattle.source_answers.specs.declared.fault.SourceFault.TheVariants.{Memory};
 ghost use Rattle.ispc_parser.specs.Tree.{function_view, global_view, tree_view};
 
 use crate::file_scope::{
@@ -15,21 +14,20 @@ use crate::outermost::functions_fault;
 use crate::signatures::functions_twice_fault;
 use gang_model::SourceRefusal;
 use ispc_parser::{Function, GlobalVariable, Tree};
-use source_answers::{SourceFault, least};
-use std::alloc::Global;
+use source_answers::least;
+use std::alloc::{AllocError, Global};
 
 /// The first fault of names inside functions, where all functions and the file-scope variables are known.
 fn inside_functions(
     alloc: Global,
     globals: &[&GlobalVariable],
     functions: &[&Function],
-) -> Result<Option<SourceRefusal>, SourceFault>
+) -> Result<Option<SourceRefusal>, AllocError>
     ensures fault { IfOk result (λ fault. fault ≡ least_fault (flat_map (names.function_names (map (λ f. f.name) (map (λ f. function_view f.now) functions.now)) (file_bindings 0 (map (λ g. global_view g.now) globals.now))) (map (λ f. function_view f.now) functions.now))) }
-    ensures memory { IfErr result (λ fault. fault ≡ Memory) }
 {
     let names = names_of(alloc, functions)?;
     let scopes = declared_globals(alloc, globals)?;
-    Ok(functions_fault(alloc, functions, &names, scopes)?)
+    functions_fault(alloc, functions, &names, scopes)
 }
 
 /// The first fault of names of a tree: the one with the first place, at one place the one with the least number. S5 is a name
@@ -38,9 +36,8 @@ fn inside_functions(
 /// # Errors
 ///
 /// Out of memory.
-pub fn names_fault(alloc: Global, tree: &Tree) -> Result<Option<SourceRefusal>, SourceFault>
+pub fn names_fault(alloc: Global, tree: &Tree) -> Result<Option<SourceRefusal>, AllocError>
     ensures fault { IfOk result (λ fault. fault ≡ names_refusal (tree_view tree.now)) }
-    ensures memory { IfErr result (λ fault. fault ≡ Memory) }
 {
     let globals = globals_of(alloc, tree)?;
     let functions = functions_of(alloc, tree)?;

@@ -1,14 +1,12 @@
 //! The declarations in scope, scope by scope.
-ghost use Rattle.std.specs.Prelude.{◌≡◌, [], ◌∷◌, ◌-◌, ◌≤◌, IfErr, IfOk, OnErr, OnOk, drop, length};
+ghost use Rattle.std.specs.Prelude.{◌≡◌, [], ◌∷◌, ◌-◌, ◌≤◌, IfOk, OnErr, OnOk, drop, length};
 ghost use Rattle.gang_types.specs.declared.places.VarId.TheVariants.{Local};
 ghost use Rattle.gang_model.specs.Types.LibraryTable.{is_among};
 ghost use Rattle.gang_model.specs.Names.Scope as scope;
-ghost use Rattle.source_answers.specs.declared.fault.SourceFault.TheVariants.{Memory};
 ghost use Rattle.ispc_names_scopes.specs.Scopes.{bound_in_file, here, site};
 
 use crate::bindings::Bindings;
 use gang_types::VarId;
-use source_answers::SourceFault;
 use std::alloc::{AllocError, Global};
 use std::marker::Model;
 
@@ -62,14 +60,13 @@ impl Scopes {
         alloc: Global,
         name: &[u8],
         number: usize,
-    ) -> Result<(), SourceFault>
+    ) -> Result<(), AllocError>
         ensures environment { OnOk result (self.new.environment ≡ bound_in_file name.now number ∷ self.old.environment) }
         ensures outside { OnOk result (self.new.outside ≡ self.old.outside) }
         ensures next { OnOk result (self.new.next ≡ self.old.next) }
         ensures unchanged { OnErr result (self.new ≡ self.old) }
-        ensures memory { IfErr result (λ fault. fault ≡ Memory) }
     {
-        Ok(self.bindings.push(alloc, name, VarId::File(number))?)
+        self.bindings.push(alloc, name, VarId::File(number))
     }
 
     /// Declares a variable of the function in the present scope.

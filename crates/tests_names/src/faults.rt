@@ -11,7 +11,7 @@ use std::test::*;
 fn fault(alloc: Global, source: &[u8]) -> Result<Option<SourceRefusal>, SourceFault> {
     let tokens = tokens(alloc, source)?;
     let tree = parse(alloc, &tokens, source_end(source))?;
-    names_fault(alloc, &tree)
+    Ok(names_fault(alloc, &tree)?)
 }
 
 fn is_refused(alloc: Global, source: &[u8], number: RefusalNumber, col: u32) -> bool {

@@ -83,7 +83,7 @@ impl TypeScope {
         if bound.is_err() {
             self.declared.truncate(number);
         }
-        bound
+        Ok(bound?)
     }
 
     /// Declares a file-scope variable, before those that stand already. So the variables of a file are declared from the last to
