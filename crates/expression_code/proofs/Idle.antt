@@ -16,7 +16,7 @@ use Rattle.gang_types.specs.Lanes.{lowest}
 none_left : false ≡ true → ⊥
 none_left e = cc e
 
-words_idle : (k : ℕ) (lanes : Lanes) (f g : ℕ → ℕ) → no_lane lanes ≡ true → words_from k lanes f ≡ words_from k lanes g
+pub words_idle : (k : ℕ) (lanes : Lanes) (f g : ℕ → ℕ) → no_lane lanes ≡ true → words_from k lanes f ≡ words_from k lanes g
 words_idle k [] f g none = refl
 words_idle k (true ∷ lanes) f g none = absurd (none_left none)
 words_idle k (false ∷ lanes) f g none = ap (λ xs. 0 ∷ xs) (words_idle (suc k) lanes f g none)
@@ -34,10 +34,10 @@ zeros lanes = each lanes (λ k. 0)
 abbrev fine : List ℕ → Result (List ℕ) Fault
 fine x = Ok x
 
-each_idle : (lanes : Lanes) (f : ℕ → ℕ) → no_lane lanes ≡ true → fine (each lanes f) ≡ fine (zeros lanes)
+pub each_idle : (lanes : Lanes) (f : ℕ → ℕ) → no_lane lanes ≡ true → fine (each lanes f) ≡ fine (zeros lanes)
 each_idle lanes f none = ap fine (words_idle 0 lanes f (λ k. 0) none)
 
-try_idle : (lanes : Lanes) (f : ℕ → Result ℕ FaultName) → no_lane lanes ≡ true → try_each lanes f ≡ Ok (zeros lanes)
+pub try_idle : (lanes : Lanes) (f : ℕ → Result ℕ FaultName) → no_lane lanes ≡ true → try_each lanes f ≡ Ok (zeros lanes)
 try_idle lanes f none = tried_idle 0 lanes f (λ k. 0) none
 
 part_none : (b : Bool) (lanes : Lanes) (test : ℕ → Bool) → no_lane lanes ≡ true → no_lane (lanes_where lanes test) ≡ b → b ≡ true
@@ -52,7 +52,7 @@ part_none false lanes test none e =
 where_idle : (lanes : Lanes) (test : ℕ → Bool) → no_lane lanes ≡ true → no_lane (lanes_where lanes test) ≡ true
 where_idle lanes test none = part_none (no_lane (lanes_where lanes test)) lanes test none refl
 
-after_value : (r : Result (List ℕ) Fault) (x : List ℕ) (next : List ℕ → Result (List ℕ) Fault) (out : Result (List ℕ) Fault) → r ≡ Ok x → next x ≡ out → (r >>= next) ≡ out
+pub after_value : (r : Result (List ℕ) Fault) (x : List ℕ) (next : List ℕ → Result (List ℕ) Fault) (out : Result (List ℕ) Fault) → r ≡ Ok x → next x ≡ out → (r >>= next) ≡ out
 after_value r x next out e f = ap (λ r. r >>= next) e ∙ f
 
 seen_idle : (rate : Rate) (lanes : Lanes) (words : List ℕ) → no_lane lanes ≡ true → fine (seen rate lanes words) ≡ fine (zeros lanes)

@@ -1,5 +1,5 @@
 -- The code of an expression computes it.
-use Rattle.std.proofs.Common.{◌≡◌, ℕ, true, List, [], ◌∷◌, Result, Ok, Err, refl, sym, ap, ◌∙◌, arith}
+use Rattle.std.proofs.Common.{◌≡◌, ℕ, List, [], ◌∷◌, Result, Ok, Err, refl, sym, ap, ◌∙◌, arith}
 use Rattle.std.proofs.lemmas.List.{append-nil}
 use Rattle.gang_types.specs.Lanes.{Lanes}
 use Rattle.gang_model.specs.Running.Lanes.{Fault}
@@ -7,19 +7,21 @@ use Rattle.gang_model.specs.Running.State.{State}
 use Rattle.gang_model.specs.Running.Value.{value}
 use Rattle.typed_tree.specs.declared.expressions.Expr.{Expr}
 use Rattle.typed_tree.specs.Views.{expr_view}
-use Rattle.expression_code.specs.Code.{is_scalar, code_of}
+use Rattle.expression_code.specs.Code.{code_of}
 use Rattle.expression_code.specs.Machine.{exec}
 use Rattle.expression_code.specs.Correct.{Computes, ended}
+use Rattle.expression_code.proofs.Arrays.{arrays-code}
 use Rattle.expression_code.proofs.Runs.{after, on_top, lands}
 
 ends : (room nested : ℕ) (state : State) (s : Lanes) (r : Result (List ℕ) Fault) → after r (on_top room nested state [] s [] []) ≡ ended s r
 ends room nested state s (Ok v) = refl
 ends room nested state s (Err f) = refl
 
-pub computes : (e : Expr) → is_scalar e ≡ true → Computes e (code_of e)
-computes e scalar = record {
+pub computes : (e : Expr) → Computes e (code_of e)
+computes e = record {
   run = λ room nested lanes state deep nests.
       sym (ap (λ c. exec room nested state c 0 [] (lanes ∷ [])) (append-nil (code_of e)))
-      ∙ lands room nested state e lanes [] [] scalar (omega arith) (omega arith) []
+      ∙ lands room nested state e lanes [] [] (omega arith) (omega arith) []
       ∙ ends room nested state lanes (value (expr_view e) lanes state);
+  arrays = arrays-code e;
 }

@@ -1,32 +1,47 @@
 -- The instructions of an expression.
-use Rattle.std.specs.Prelude.{Bool, true, false, ◌&&◌, List, [], ◌∷◌, ◌++◌, length}
-use Rattle.typed_tree.specs.declared.expressions.Expr.{Expr, Number, ProgramIndex, ProgramCount, LaneMask, Read, Unary', Binary', Convert', AndAlso', OrElse', Choice', OfOne', OfTwo', Select'}
+use Rattle.std.specs.Prelude.{Bool, true, false, ◌||◌, List, [], ◌∷◌, ◌++◌, length}
+use Rattle.typed_tree.specs.declared.expressions.Expr.{Expr, Number, ProgramIndex, ProgramCount, LaneMask, Read, Element', Unary', Binary', Convert', AndAlso', OrElse', Choice', Reduce', ScanLanes', OfOne', OfTwo', Extract', Insert', Rotate', Shift', Shuffle', ShuffleTwo', Select'}
 use Rattle.expression_code.specs.declared.code.Leaf.TheVariants as leaf
 use Rattle.expression_code.specs.declared.code.OneOperand.TheVariants as one
+use Rattle.expression_code.specs.declared.code.Move.TheVariants as move
 use Rattle.expression_code.specs.declared.code.TwoOperands.TheVariants as two
+use Rattle.expression_code.specs.declared.code.ThreeOperands.TheVariants as three
 use Rattle.expression_code.specs.declared.code.Gate.{Gate}
 use Rattle.expression_code.specs.declared.code.Gate.TheVariants.{WhereTrue, WhereFalse, Otherwise}
 use Rattle.expression_code.specs.declared.code.Joining.TheVariants.{Both, Either, Choice}
 use Rattle.expression_code.specs.declared.code.Instruction.{Instruction}
-use Rattle.expression_code.specs.declared.code.Instruction.TheVariants.{Push, One, Two, Select, Enter, Join}
+use Rattle.expression_code.specs.declared.code.Instruction.TheVariants.{Push, Element, One, Two, Three, Enter, Join}
 
--- whether it reads no array and no other lane
-abbrev pub is_scalar : Expr → Bool
-is_scalar (Number n) = true
-is_scalar ProgramIndex = true
-is_scalar ProgramCount = true
-is_scalar LaneMask = true
-is_scalar (Read v) = true
-is_scalar (Unary' op ty p a) = is_scalar a
-is_scalar (Binary' op ty p a q b) = is_scalar a && is_scalar b
-is_scalar (Convert' from to p a) = is_scalar a
-is_scalar (AndAlso' p a q b) = is_scalar a && is_scalar b
-is_scalar (OrElse' p a q b) = is_scalar a && is_scalar b
-is_scalar (Choice' p c q a r b) = is_scalar c && (is_scalar a && is_scalar b)
-is_scalar (OfOne' f ty p a) = is_scalar a
-is_scalar (OfTwo' f ty p a q b) = is_scalar a && is_scalar b
-is_scalar (Select' p c q a r b) = is_scalar c && (is_scalar a && is_scalar b)
-is_scalar _ = false
+-- whether it reads an element of an array
+abbrev pub reads_arrays : Expr → Bool
+reads_arrays (Element' array p e) = true
+reads_arrays (Unary' op ty p a) = reads_arrays a
+reads_arrays (Binary' op ty p a q b) = reads_arrays a || reads_arrays b
+reads_arrays (Convert' from to p a) = reads_arrays a
+reads_arrays (AndAlso' p a q b) = reads_arrays a || reads_arrays b
+reads_arrays (OrElse' p a q b) = reads_arrays a || reads_arrays b
+reads_arrays (Choice' p c q a r b) = reads_arrays c || (reads_arrays a || reads_arrays b)
+reads_arrays (Reduce' f ty p a) = reads_arrays a
+reads_arrays (ScanLanes' f ty p a) = reads_arrays a
+reads_arrays (OfOne' f ty p a) = reads_arrays a
+reads_arrays (OfTwo' f ty p a q b) = reads_arrays a || reads_arrays b
+reads_arrays (Extract' p a q i) = reads_arrays a || reads_arrays i
+reads_arrays (Insert' p a q i r x) = reads_arrays a || (reads_arrays i || reads_arrays x)
+reads_arrays (Rotate' p a q n) = reads_arrays a || reads_arrays n
+reads_arrays (Shift' p a q n) = reads_arrays a || reads_arrays n
+reads_arrays (Shuffle' p a q i) = reads_arrays a || reads_arrays i
+reads_arrays (ShuffleTwo' p a q b r i) = reads_arrays a || (reads_arrays b || reads_arrays i)
+reads_arrays (Select' p c q a r b) = reads_arrays c || (reads_arrays a || reads_arrays b)
+reads_arrays _ = false
+
+-- whether an instruction does, and whether one of some does
+abbrev pub is_element : Instruction → Bool
+is_element (Element array) = true
+is_element _ = false
+
+abbrev pub has_element : List Instruction → Bool
+has_element [] = false
+has_element (i ∷ code) = is_element i || has_element code
 
 -- a part behind its gate
 abbrev pub arm_code : Gate → List Instruction → List Instruction
@@ -38,13 +53,21 @@ code_of ProgramIndex = Push leaf.ProgramIndex ∷ []
 code_of ProgramCount = Push leaf.ProgramCount ∷ []
 code_of LaneMask = Push leaf.LaneMask ∷ []
 code_of (Read v) = Push (leaf.Read v) ∷ []
+code_of (Element' array p i) = code_of i ++ Element array ∷ []
 code_of (Unary' op ty p a) = code_of a ++ One (one.Unary op ty) ∷ []
 code_of (Binary' op ty p a q b) = code_of a ++ (code_of b ++ Two (two.Binary op ty) ∷ [])
 code_of (Convert' from to p a) = code_of a ++ One (one.Convert from to) ∷ []
 code_of (AndAlso' p a q b) = code_of a ++ (arm_code WhereTrue (code_of b) ++ Join Both ∷ [])
 code_of (OrElse' p a q b) = code_of a ++ (arm_code WhereFalse (code_of b) ++ Join Either ∷ [])
 code_of (Choice' p c q a r b) = code_of c ++ (arm_code WhereTrue (code_of a) ++ (arm_code Otherwise (code_of b) ++ Join Choice ∷ []))
+code_of (Reduce' f ty p a) = code_of a ++ One (one.Reduce f ty) ∷ []
+code_of (ScanLanes' f ty p a) = code_of a ++ One (one.ScanLanes f ty) ∷ []
 code_of (OfOne' f ty p a) = code_of a ++ One (one.OfOne f ty) ∷ []
 code_of (OfTwo' f ty p a q b) = code_of a ++ (code_of b ++ Two (two.OfTwo f ty) ∷ [])
-code_of (Select' p c q a r b) = code_of c ++ (code_of a ++ (code_of b ++ Select ∷ []))
-code_of _ = []
+code_of (Extract' p a q i) = code_of a ++ (code_of i ++ Two two.Pick ∷ [])
+code_of (Insert' p a q i r x) = code_of a ++ (code_of i ++ (code_of x ++ Three three.Insert ∷ []))
+code_of (Rotate' p a q n) = code_of a ++ (code_of n ++ Two (two.Move move.Rotate) ∷ [])
+code_of (Shift' p a q n) = code_of a ++ (code_of n ++ Two (two.Move move.Shift) ∷ [])
+code_of (Shuffle' p a q i) = code_of a ++ (code_of i ++ Two two.Pick ∷ [])
+code_of (ShuffleTwo' p a q b r i) = code_of a ++ (code_of b ++ (code_of i ++ Three three.PickOfTwo ∷ []))
+code_of (Select' p c q a r b) = code_of c ++ (code_of a ++ (code_of b ++ Three three.Select ∷ []))

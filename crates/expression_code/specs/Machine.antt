@@ -1,18 +1,20 @@
 -- What the machine does with a list of instructions: vectors on a stack and masks on another, the top of each first.
 use Rattle.std.specs.Prelude.{ℕ, zero, suc, Bool, true, false, cond, nat_lt, List, [], ◌∷◌, length, Result, Ok, Err}
+use Rattle.gang_types.specs.declared.places.VarId.{VarId}
 use Rattle.gang_types.specs.Lanes.{Lanes, no_lane}
 use Rattle.gang_model.specs.Running.Lanes.{Fault, each}
 use Rattle.gang_model.specs.Running.State.{State}
 use Rattle.expression_code.specs.declared.code.Leaf.{Leaf}
 use Rattle.expression_code.specs.declared.code.OneOperand.{OneOperand}
 use Rattle.expression_code.specs.declared.code.TwoOperands.{TwoOperands}
+use Rattle.expression_code.specs.declared.code.ThreeOperands.{ThreeOperands}
 use Rattle.expression_code.specs.declared.code.Gate.{Gate}
 use Rattle.expression_code.specs.declared.code.Gate.TheVariants.{WhereTrue, WhereFalse, Otherwise}
 use Rattle.expression_code.specs.declared.code.Joining.{Joining}
 use Rattle.expression_code.specs.declared.code.Joining.TheVariants.{Both, Either, Choice}
 use Rattle.expression_code.specs.declared.code.Instruction.{Instruction}
-use Rattle.expression_code.specs.declared.code.Instruction.TheVariants.{Push, One, Two, Select, Enter, Join}
-use Rattle.expression_code.specs.Values.{leaf_value, one_value, two_value, both_value, either_value, chosen_value, where_lanes}
+use Rattle.expression_code.specs.declared.code.Instruction.TheVariants.{Push, Element, One, Two, Three, Enter, Join}
+use Rattle.expression_code.specs.Values.{leaf_value, element_value, one_value, two_value, three_value, both_value, either_value, chosen_value, where_lanes}
 
 abbrev pub Vectors : Type 0
 Vectors = List (List ℕ)
@@ -45,6 +47,10 @@ abbrev pub push_leaf : ℕ → State → Leaf → Vectors → Masks → Next
 push_leaf room state leaf stack (s ∷ masks) = push room 0 (leaf_value leaf s state) stack (s ∷ masks)
 push_leaf room state leaf stack masks = Jams
 
+abbrev pub read_elements : State → VarId → Vectors → Masks → Next
+read_elements state array (x ∷ stack) (s ∷ masks) = give stack (s ∷ masks) (element_value array s state x)
+read_elements state array stack masks = Jams
+
 abbrev pub apply_one : OneOperand → Vectors → Masks → Next
 apply_one op (x ∷ stack) (s ∷ masks) = give stack (s ∷ masks) (Ok (one_value op s x))
 apply_one op stack masks = Jams
@@ -53,9 +59,9 @@ abbrev pub apply_two : TwoOperands → Vectors → Masks → Next
 apply_two op (y ∷ x ∷ stack) (s ∷ masks) = give stack (s ∷ masks) (two_value op s x y)
 apply_two op stack masks = Jams
 
-abbrev pub select : Vectors → Masks → Next
-select (y ∷ x ∷ c ∷ stack) (s ∷ masks) = give stack (s ∷ masks) (Ok (chosen_value s c x y))
-select stack masks = Jams
+abbrev pub apply_three : ThreeOperands → Vectors → Masks → Next
+apply_three op (z ∷ y ∷ x ∷ stack) (s ∷ masks) = give stack (s ∷ masks) (three_value op s x y z)
+apply_three op stack masks = Jams
 
 -- a part that the lanes of t do, or zeros for its value where there are none
 abbrev pub enter : ℕ → ℕ → Lanes → Vectors → Masks → Next
@@ -91,9 +97,10 @@ join joining stack masks = Jams
 -- one instruction
 abbrev pub act : ℕ → ℕ → State → Instruction → Vectors → Masks → Next
 act room nested state (Push leaf) stack masks = push_leaf room state leaf stack masks
+act room nested state (Element array) stack masks = read_elements state array stack masks
 act room nested state (One op) stack masks = apply_one op stack masks
 act room nested state (Two op) stack masks = apply_two op stack masks
-act room nested state Select stack masks = select stack masks
+act room nested state (Three op) stack masks = apply_three op stack masks
 act room nested state (Enter gate pass) stack masks = open_gate room nested gate pass stack masks
 act room nested state (Join joining) stack masks = join joining stack masks
 

@@ -1,43 +1,12 @@
 //! From expressions to the machine's instructions.
-ghost use Rattle.std.specs.Prelude.{◌≡◌, true, [], ◌∷◌, ◌++◌, length, IfOk, OnOk};
-ghost use Rattle.expression_code.specs.Code.{code_of, arm_code, is_scalar};
+ghost use Rattle.std.specs.Prelude.{◌≡◌, [], ◌∷◌, ◌++◌, length, IfOk, OnOk};
+ghost use Rattle.expression_code.specs.Code.{code_of, arm_code};
+ghost use Rattle.expression_code.specs.declared.code.Instruction.TheVariants.{One, Two, Three};
 ghost use Rattle.expression_code.specs.Correct.{Computes};
 
-use crate::code::{Gate, Instruction, Joining, Leaf, OneOperand, TwoOperands};
+use crate::code::{Gate, Instruction, Joining, Leaf, Move, OneOperand, ThreeOperands, TwoOperands};
 use std::alloc::{AllocError, Global};
 use typed_tree::Expr;
-
-/// Whether an expression reads no array and no other lane.
-#[cycle(scalar)]
-pub fn is_scalar(expression: &Expr) -> bool
-    ensures { result ≡ is_scalar expression.now }
-{
-    match expression {
-        Expr::Number(_)
-        | Expr::ProgramIndex
-        | Expr::ProgramCount
-        | Expr::LaneMask
-        | Expr::Read(_) => true,
-        Expr::Unary { operand, .. } => is_scalar(operand),
-        Expr::Convert { operand, .. } => is_scalar(operand),
-        Expr::OfOne { value, .. } => is_scalar(value),
-        Expr::Binary { left, right, .. } => is_scalar(left) && is_scalar(right),
-        Expr::AndAlso { left, right } => is_scalar(left) && is_scalar(right),
-        Expr::OrElse { left, right } => is_scalar(left) && is_scalar(right),
-        Expr::OfTwo { left, right, .. } => is_scalar(left) && is_scalar(right),
-        Expr::Choice {
-            test,
-            first,
-            second,
-        } => is_scalar(test) && is_scalar(first) && is_scalar(second),
-        Expr::Select {
-            test,
-            first,
-            second,
-        } => is_scalar(test) && is_scalar(first) && is_scalar(second),
-        _ => false,
-    }
-}
 
 /// The instructions of an expression, which compute it.
 ///
@@ -45,7 +14,6 @@ pub fn is_scalar(expression: &Expr) -> bool
 ///
 /// Out of memory.
 pub fn compile(alloc: Global, expression: &Expr) -> Result<Vec<Instruction>, AllocError>
-    requires { is_scalar expression.now ≡ true }
     ensures { IfOk result (λ code. Computes expression.now code.items) }
 {
     let mut code = Vec::new(alloc);
@@ -55,7 +23,6 @@ pub fn compile(alloc: Global, expression: &Expr) -> Result<Vec<Instruction>, All
 
 #[cycle(emission)]
 fn emit(code: &mut Vec<Instruction>, expression: &Expr) -> Result<(), AllocError>
-    requires { is_scalar expression.now ≡ true }
     ensures { OnOk result (code.new.items ≡ code.old.items ++ code_of expression.now) }
 {
     match expression {
@@ -64,58 +31,74 @@ fn emit(code: &mut Vec<Instruction>, expression: &Expr) -> Result<(), AllocError
         Expr::ProgramCount => put(code, Instruction::Push(Leaf::ProgramCount)),
         Expr::LaneMask => put(code, Instruction::Push(Leaf::LaneMask)),
         Expr::Read(variable) => put(code, Instruction::Push(Leaf::Read(*variable))),
+        Expr::Element { array, index } => {
+            emit(code, index)?;
+            put(code, Instruction::Element(*array))
+        }
         Expr::Unary {
             operator,
             value_type,
             operand,
-        } => {
-            emit(code, operand)?;
-            put(
-                code,
-                Instruction::One(OneOperand::Unary(*operator, *value_type)),
-            )
-        }
+        } => emit_one(code, operand, OneOperand::Unary(*operator, *value_type)),
         Expr::Convert { from, to, operand } => {
-            emit(code, operand)?;
-            put(code, Instruction::One(OneOperand::Convert(*from, *to)))
+            emit_one(code, operand, OneOperand::Convert(*from, *to))
         }
+        Expr::Reduce {
+            function,
+            value_type,
+            value,
+        } => emit_one(code, value, OneOperand::Reduce(*function, *value_type)),
+        Expr::ScanLanes {
+            function,
+            value_type,
+            value,
+        } => emit_one(code, value, OneOperand::ScanLanes(*function, *value_type)),
         Expr::OfOne {
             function,
             value_type,
             value,
-        } => {
-            emit(code, value)?;
-            put(
-                code,
-                Instruction::One(OneOperand::OfOne(*function, *value_type)),
-            )
-        }
+        } => emit_one(code, value, OneOperand::OfOne(*function, *value_type)),
         Expr::Binary {
             operator,
             value_type,
             left,
             right,
-        } => {
-            emit(code, left)?;
-            emit(code, right)?;
-            put(
-                code,
-                Instruction::Two(TwoOperands::Binary(*operator, *value_type)),
-            )
-        }
+        } => emit_two(
+            code,
+            left,
+            right,
+            TwoOperands::Binary(*operator, *value_type),
+        ),
         Expr::OfTwo {
             function,
             value_type,
             left,
             right,
-        } => {
-            emit(code, left)?;
-            emit(code, right)?;
-            put(
-                code,
-                Instruction::Two(TwoOperands::OfTwo(*function, *value_type)),
-            )
-        }
+        } => emit_two(
+            code,
+            left,
+            right,
+            TwoOperands::OfTwo(*function, *value_type),
+        ),
+        Expr::Extract { value, index } => emit_two(code, value, index, TwoOperands::Pick),
+        Expr::Rotate { value, by } => emit_two(code, value, by, TwoOperands::Move(Move::Rotate)),
+        Expr::Shift { value, by } => emit_two(code, value, by, TwoOperands::Move(Move::Shift)),
+        Expr::Shuffle { value, places } => emit_two(code, value, places, TwoOperands::Pick),
+        Expr::Insert {
+            value,
+            index,
+            new_value,
+        } => emit_three(code, value, index, new_value, ThreeOperands::Insert),
+        Expr::ShuffleTwo {
+            value,
+            second,
+            places,
+        } => emit_three(code, value, second, places, ThreeOperands::PickOfTwo),
+        Expr::Select {
+            test,
+            first,
+            second,
+        } => emit_three(code, test, first, second, ThreeOperands::Select),
         Expr::AndAlso { left, right } => {
             emit(code, left)?;
             emit_arm(code, Gate::WhereTrue, right)?;
@@ -136,24 +119,54 @@ fn emit(code: &mut Vec<Instruction>, expression: &Expr) -> Result<(), AllocError
             emit_arm(code, Gate::Otherwise, second)?;
             put(code, Instruction::Join(Joining::Choice))
         }
-        Expr::Select {
-            test,
-            first,
-            second,
-        } => {
-            emit(code, test)?;
-            emit(code, first)?;
-            emit(code, second)?;
-            put(code, Instruction::Select)
-        }
-        _ => unreachable!(),
     }
+}
+
+#[cycle(emission)]
+fn emit_one(
+    code: &mut Vec<Instruction>,
+    operand: &Expr,
+    operation: OneOperand,
+) -> Result<(), AllocError>
+    ensures { OnOk result (code.new.items ≡ code.old.items ++ (code_of operand.now ++ One operation ∷ [])) }
+{
+    emit(code, operand)?;
+    put(code, Instruction::One(operation))
+}
+
+#[cycle(emission)]
+fn emit_two(
+    code: &mut Vec<Instruction>,
+    left: &Expr,
+    right: &Expr,
+    operation: TwoOperands,
+) -> Result<(), AllocError>
+    ensures { OnOk result (code.new.items ≡ code.old.items ++ (code_of left.now ++ (code_of right.now ++ Two operation ∷ []))) }
+{
+    emit(code, left)?;
+    emit(code, right)?;
+    put(code, Instruction::Two(operation))
+}
+
+#[cycle(emission)]
+fn emit_three(
+    code: &mut Vec<Instruction>,
+    first: &Expr,
+    second: &Expr,
+    third: &Expr,
+    operation: ThreeOperands,
+) -> Result<(), AllocError>
+    ensures { OnOk result (code.new.items ≡ code.old.items ++ (code_of first.now ++ (code_of second.now ++ (code_of third.now ++ Three operation ∷ [])))) }
+{
+    emit(code, first)?;
+    emit(code, second)?;
+    emit(code, third)?;
+    put(code, Instruction::Three(operation))
 }
 
 // A part behind a gate that passes it where no lane needs it.
 #[cycle(emission)]
 fn emit_arm(code: &mut Vec<Instruction>, gate: Gate, expression: &Expr) -> Result<(), AllocError>
-    requires { is_scalar expression.now ≡ true }
     ensures { OnOk result (code.new.items ≡ code.old.items ++ arm_code gate (code_of expression.now)) }
 {
     let start = code.len();

@@ -6,17 +6,18 @@ ghost use Rattle.gang_types.specs.Masks.{IsGangWidth, lanes_of};
 ghost use Rattle.gang_model.specs.Running.State.{State};
 ghost use Rattle.cross_lane.specs.Calls.{answer_of};
 ghost use Rattle.expression_code.specs.declared.code.Joining.TheVariants.{Both, Either, Choice};
-ghost use Rattle.expression_code.specs.Machine.{act, apply_one, apply_two, deeper, enter, exec, give, join, open_gate, open_otherwise, open_where, push, push_leaf, select};
+ghost use Rattle.expression_code.specs.Code.{has_element, is_element};
+ghost use Rattle.expression_code.specs.Machine.{act, apply_one, apply_three, apply_two, deeper, enter, exec, give, join, open_gate, open_otherwise, open_where, push, push_leaf, read_elements};
 ghost use Rattle.expression_code.specs.Bridge.{masks_view, next_of, outcome_of};
 ghost use Rattle.expression_code.specs.Values.{where_lanes};
 
-use crate::code::{Gate, Instruction, Joining, Leaf, OneOperand, TwoOperands};
-use crate::operations::{apply_one, apply_two, leaf_words};
+use crate::code::{Gate, Instruction, Joining, Leaf, OneOperand, ThreeOperands, TwoOperands};
+use crate::operations::{apply_one, apply_three, apply_two, leaf_words};
 use crate::stacks::{push_mask, second_vector, take_mask, take_vector, top_mask, top_vector};
 use crate::words::Words;
 use arrayvec::ArrayVec;
-use gang_types::{FaultName, Mask};
-use masked_operations::{both_hold, chosen, either_holds, splat, where_false, where_true};
+use gang_types::{FaultName, Mask, VarId};
+use masked_operations::{both_hold, either_holds, splat, where_false, where_true};
 
 /// What follows an instruction: how many instructions are passed, a fault with its lane, or no operand or room.
 #[derive(Clone, Copy, PartialEq, Eq, Debug, Drop)]
@@ -118,26 +119,46 @@ fn two<const W: usize, const R: usize, const M: usize>(
     give(stack, apply_two(operation, mask, left, right))
 }
 
-fn select<const W: usize, const R: usize, const M: usize>(
+fn three<const W: usize, const R: usize, const M: usize>(
+    operation: ThreeOperands,
     stack: &mut ArrayVec<[u64; W], R>,
     masks: &ArrayVec<u64, M>,
 ) -> Then
     requires { IsGangWidth W }
-    ensures { next_of result (reverse stack.new.items) (masks_view W masks.now.items) ≡ select (reverse stack.old.items) (masks_view W masks.now.items) }
+    ensures { next_of result (reverse stack.new.items) (masks_view W masks.now.items) ≡ apply_three operation (reverse stack.old.items) (masks_view W masks.now.items) }
 {
+    let Some(third) = take_vector(stack) else {
+        return Then::Jam;
+    };
     let Some(second) = take_vector(stack) else {
         return Then::Jam;
     };
     let Some(first) = take_vector(stack) else {
         return Then::Jam;
     };
-    let Some(test) = take_vector(stack) else {
+    let Some(mask) = top_mask::<W, M>(masks) else {
+        return Then::Jam;
+    };
+    give(stack, apply_three(operation, mask, first, second, third))
+}
+
+// The elements of an array at the indices on top.
+fn read_elements<const W: usize, const R: usize, const M: usize, S: Words<W>>(
+    array: VarId,
+    words: &S,
+    stack: &mut ArrayVec<[u64; W], R>,
+    masks: &ArrayVec<u64, M>,
+) -> Then
+    requires { IsGangWidth W }
+    ensures { (state : State) → S.shows_arrays words.now state → next_of result (reverse stack.new.items) (masks_view W masks.now.items) ≡ read_elements state array (reverse stack.old.items) (masks_view W masks.now.items) }
+{
+    let Some(indices) = take_vector(stack) else {
         return Then::Jam;
     };
     let Some(mask) = top_mask::<W, M>(masks) else {
         return Then::Jam;
     };
-    give(stack, Ok(chosen(mask, test, first, second)))
+    give(stack, words.elements(array, mask, indices))
 }
 
 // A part for some lanes, or zeros for its value where there are none.
@@ -266,7 +287,7 @@ fn join_choice<const W: usize, const R: usize, const M: usize>(
     let Some(_) = take_mask(masks) else {
         return Then::Jam;
     };
-    select(stack, masks)
+    three(ThreeOperands::Select, stack, masks)
 }
 
 // One instruction.
@@ -277,13 +298,14 @@ fn act<const W: usize, const R: usize, const M: usize, S: Words<W>>(
     masks: &mut ArrayVec<u64, M>,
 ) -> Then
     requires { IsGangWidth W }
-    ensures { (state : State) → S.shows words.now state → next_of result (reverse stack.new.items) (masks_view W masks.new.items) ≡ act R M state instruction (reverse stack.old.items) (masks_view W masks.old.items) }
+    ensures { (state : State) → S.shows words.now state → (is_element instruction ≡ true → S.shows_arrays words.now state) → next_of result (reverse stack.new.items) (masks_view W masks.new.items) ≡ act R M state instruction (reverse stack.old.items) (masks_view W masks.old.items) }
 {
     match instruction {
         Instruction::Push(leaf) => push_leaf(leaf, words, stack, masks),
+        Instruction::Element(array) => read_elements(array, words, stack, masks),
         Instruction::One(operation) => one(operation, stack, masks),
         Instruction::Two(operation) => two(operation, stack, masks),
-        Instruction::Select => select(stack, masks),
+        Instruction::Three(operation) => three(operation, stack, masks),
         Instruction::Enter(Gate::WhereTrue, pass) => open_where(true, pass, stack, masks),
         Instruction::Enter(Gate::WhereFalse, pass) => open_where(false, pass, stack, masks),
         Instruction::Enter(Gate::Otherwise, pass) => open_otherwise(pass, stack, masks),
@@ -312,7 +334,7 @@ pub(crate) fn run<const W: usize, const R: usize, const M: usize, S: Words<W>>(
     masks: &mut ArrayVec<u64, M>,
 ) -> RunEnd
     requires { IsGangWidth W }
-    ensures { (state : State) → S.shows words.now state → outcome_of result (reverse stack.new.items) (masks_view W masks.new.items) ≡ exec R M state code.now 0 (reverse stack.old.items) (masks_view W masks.old.items) }
+    ensures { (state : State) → S.shows words.now state → (has_element code.now ≡ true → S.shows_arrays words.now state) → outcome_of result (reverse stack.new.items) (masks_view W masks.new.items) ≡ exec R M state code.now 0 (reverse stack.old.items) (masks_view W masks.old.items) }
 {
     let mut rest = code;
     while let Some((first, others)) = rest.split_first() {

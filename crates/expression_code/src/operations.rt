@@ -5,14 +5,15 @@ ghost use Rattle.gang_model.specs.Running.Lanes.{each};
 ghost use Rattle.gang_model.specs.Running.Library.{bits_from};
 ghost use Rattle.gang_model.specs.Running.State.{State, words_in, seen};
 ghost use Rattle.cross_lane.specs.Calls.{answer_of};
-ghost use Rattle.expression_code.specs.Values.{leaf_value, one_value, two_value};
+ghost use Rattle.expression_code.specs.Values.{leaf_value, one_value, two_value, three_value};
 ghost use Rattle.expression_code.specs.declared.code.Leaf.TheVariants.{ProgramCount};
 
-use crate::code::{Leaf, OneOperand, TwoOperands};
+use crate::code::{Leaf, OneOperand, ThreeOperands, TwoOperands};
+use crate::library::{inserted, moved, picked, picked_of_two, reduced, scanned};
 use crate::words::Words;
 use gang_types::{FaultName, Mask};
 use masked_operations::{
-    absolute, binary, convert, lane_numbers, max, min, only, popcnt, splat, unary,
+    absolute, binary, chosen, convert, lane_numbers, max, min, only, popcnt, splat, unary,
 };
 use typed_tree::{OneCall, TwoCall, Var};
 
@@ -60,11 +61,20 @@ pub(crate) fn apply_one<const W: usize>(
     requires { IsGangWidth W }
     ensures { result ≡ one_value operation (lanes_of W mask) operand.entry }
 {
+    if mask.is_empty::<W>() {
+        return splat(mask, 0);
+    }
     match operation {
         OneOperand::Unary(operator, value_type) => unary(mask, operator, value_type, operand),
         OneOperand::Convert(from, to) => convert(mask, from, to, operand),
         OneOperand::OfOne(OneCall::Absolute, value_type) => absolute(mask, value_type, operand),
         OneOperand::OfOne(OneCall::PopCount, value_type) => popcnt(mask, value_type, operand),
+        OneOperand::Reduce(function, value_type) => {
+            splat(mask, reduced(function, value_type, mask, operand))
+        }
+        OneOperand::ScanLanes(function, value_type) => {
+            scanned(function, value_type, mask, operand)
+        }
     }
 }
 
@@ -77,11 +87,36 @@ pub(crate) fn apply_two<const W: usize>(
     requires { IsGangWidth W }
     ensures { answer_of result ≡ two_value operation (lanes_of W mask) left.entry right.entry }
 {
+    if mask.is_empty::<W>() {
+        return Ok(splat(mask, 0));
+    }
     match operation {
         TwoOperands::Binary(operator, value_type) => {
             binary(mask, operator, value_type, left, right)
         }
         TwoOperands::OfTwo(TwoCall::Lesser, value_type) => Ok(min(mask, value_type, left, right)),
         TwoOperands::OfTwo(TwoCall::Larger, value_type) => Ok(max(mask, value_type, left, right)),
+        TwoOperands::Pick => picked(mask, left, right),
+        TwoOperands::Move(how) => Ok(moved(how, mask, left, right)),
+    }
+}
+
+pub(crate) fn apply_three<const W: usize>(
+    operation: ThreeOperands,
+    mask: Mask,
+    first: [u64; W],
+    second: [u64; W],
+    third: [u64; W],
+) -> Result<[u64; W], (usize, FaultName)>
+    requires { IsGangWidth W }
+    ensures { answer_of result ≡ three_value operation (lanes_of W mask) first.entry second.entry third.entry }
+{
+    if mask.is_empty::<W>() {
+        return Ok(splat(mask, 0));
+    }
+    match operation {
+        ThreeOperands::Select => Ok(chosen(mask, first, second, third)),
+        ThreeOperands::Insert => inserted(mask, first, second, third),
+        ThreeOperands::PickOfTwo => picked_of_two(mask, first, second, third),
     }
 }

@@ -1,0 +1,16 @@
+use Rattle.std.proofs.Common.{◌∙◌, sym, ap, slice_index}
+use Rattle.gang_types.specs.Masks.{lanes_of}
+use Rattle.gang_types.specs.MaskLaws.{length-lanes_of_word}
+use Rattle.cross_lane.specs.Calls.{values_in}
+use Rattle.cross_lane.specs.EachLaws.{each_same}
+use Rattle.expression_code.specs.Values.{moved_word}
+use Rattle.expression_code.proofs.library.moved.Goals as goal
+
+pub returns-in-Some : goal.returns-in-Some
+returns-in-Some g c =
+    c.moved_by.ensures
+    ∙ each_same g.row.W (lanes_of g.row.W c.args.mask)
+    (λ k. moved_word c.args.how (lanes_of g.row.W c.args.mask) (values_in (lanes_of g.row.W c.args.mask) c.args.values) c.in-Some.amount k)
+    (λ k. moved_word c.args.how (lanes_of g.row.W c.args.mask) (values_in (lanes_of g.row.W c.args.mask) c.args.values) (slice_index c.args.amounts k) k)
+    (length-lanes_of_word g.row.W c.args.mask.word)
+    (λ i h e. ap (λ n. moved_word c.args.how (lanes_of g.row.W c.args.mask) (values_in (lanes_of g.row.W c.args.mask) c.args.values) n i) (sym (c.in-Some.ensures i h e)))

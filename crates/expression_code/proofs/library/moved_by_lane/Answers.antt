@@ -1,0 +1,13 @@
+use Rattle.gang_types.specs.Masks.{lanes_of}
+use Rattle.std.proofs.Common.{slice_index}
+use Rattle.gang_types.specs.MaskLaws.{length-lanes_of_word}
+use Rattle.cross_lane.specs.Calls.{values_in}
+use Rattle.cross_lane.specs.EachLaws.{each_is}
+use Rattle.expression_code.specs.Values.{moved_word}
+use Rattle.std.proofs.Common.{arith}
+use Rattle.expression_code.proofs.library.moved_by_lane.Goals as goal
+
+pub returns : goal.returns
+returns g c =
+    each_is g.row.W (lanes_of g.row.W c.args.mask) (λ k. moved_word c.args.how (lanes_of g.row.W c.args.mask) (values_in (lanes_of g.row.W c.args.mask) c.args.values) (slice_index c.args.amounts k) k)
+    c.loop-lane.moved (length-lanes_of_word g.row.W c.args.mask.word) c.loop-lane.invariant.0 (λ i h. c.loop-lane.invariant.1 i (omega arith))
