@@ -158,7 +158,7 @@ fn read_elements<const W: usize, const R: usize, const M: usize, S: Words<W>>(
     let Some(mask) = top_mask::<W, M>(masks) else {
         return Then::Jam;
     };
-    give(stack, words.elements(array, mask, indices))
+    give(stack, words.elements(array, mask, &indices))
 }
 
 // A part for some lanes, or zeros for its value where there are none.

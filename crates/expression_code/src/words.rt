@@ -35,8 +35,8 @@ pub trait Words<const W: usize> {
         &self,
         array: VarId,
         mask: Mask,
-        indices: [u64; W],
+        indices: &[u64; W],
     ) -> Result<[u64; W], (usize, FaultName)>
         requires { IsGangWidth W }
-        ensures { (state : State) → shows_arrays self.now state → answer_of result ≡ element_value array (lanes_of W mask) state indices.entry };
+        ensures { (state : State) → shows_arrays self.now state → answer_of result ≡ element_value array (lanes_of W mask) state indices.now };
 }

@@ -7,7 +7,7 @@ ghost use Rattle.gang_machine.specs.Stored.{AreThoseOf};
 
 use crate::slots::{place_among, slot};
 use expression_code::Words;
-use gang_types::Rate;
+use gang_types::{FaultName, Mask, Rate, VarId};
 use typed_tree::Var;
 use undo_log::Timeline;
 
@@ -24,11 +24,23 @@ pub(crate) struct Variables<'a, const W: usize, T: Timeline> {
 impl<const W: usize, T: Timeline> Words<W> for Variables<'_, W, T> {
     ghost shows = { λ store state. AreThoseOf W store.globals (T.history store.timeline.now).words state };
 
+    ghost shows_arrays = { λ store state. ⊥ };
+
     fn words(&self, variable: Var) -> [u64; W] {
         match place_among::<W>(self.globals, self.locals, variable.id) {
             Some(place) => words_at::<W, T>(self.timeline, place, variable.rate),
             None => [0; W],
         }
+    }
+
+    // There are no arrays: no part of the program that this machine runs reads one.
+    fn elements(
+        &self,
+        _array: VarId,
+        _mask: Mask,
+        _indices: &[u64; W],
+    ) -> Result<[u64; W], (usize, FaultName)> {
+        Ok([0; W])
     }
 }
 

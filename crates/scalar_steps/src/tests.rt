@@ -4,7 +4,7 @@ ghost use Rattle.gang_types.specs.declared.places.VarId.TheVariants.{Local};
 
 use crate::{Assignment, assignments, values};
 use expression_code::{Stacks, Words};
-use gang_types::{BinaryOp, FaultName, IntType, Rate, VarId};
+use gang_types::{BinaryOp, FaultName, IntType, Mask, Rate, VarId};
 use std::alloc::AllocError;
 use typed_tree::{Expr, Stmt, Target, Var};
 
@@ -15,8 +15,19 @@ struct SameWords([u64; 4]);
 impl Words<4> for SameWords {
     ghost shows = { λ store state. ⊥ };
 
+    ghost shows_arrays = { λ store state. ⊥ };
+
     fn words(&self, _variable: Var) -> [u64; 4] {
         self.0
+    }
+
+    fn elements(
+        &self,
+        _array: VarId,
+        _mask: Mask,
+        _indices: &[u64; 4],
+    ) -> Result<[u64; 4], (usize, FaultName)> {
+        Ok([0; 4])
     }
 }
 

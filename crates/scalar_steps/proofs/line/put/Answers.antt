@@ -1,11 +1,8 @@
 use Rattle.std.proofs.Common.{◌∷◌, [], ◌++◌, sym, subst}
 use Rattle.scalar_steps.specs.Performed.{PerformAll}
-use Rattle.scalar_steps.proofs.Rooms.{has_code, has_vectors, has_masks}
+use Rattle.scalar_steps.proofs.Rooms.{has_no_array, has_vectors, has_masks}
 use Rattle.scalar_steps.proofs.Sequences.{perform_more}
 use Rattle.scalar_steps.proofs.line.put.Goals as goal
-
-pub compile-requires : goal.compile-requires
-compile-requires c = has_code c.args.value.now c.requires
 
 pub returns : goal.returns
 returns c = λ s writes done h.
@@ -14,6 +11,7 @@ returns c = λ s writes done h.
       expression = c.args.value.now;
       writes = writes;
       computes = c.in_ok-code.ensures;
+      no_array = has_no_array c.args.value.now c.requires;
       few_vectors = has_vectors c.args.value.now c.requires;
       few_masks = has_masks c.args.value.now c.requires;
     })
