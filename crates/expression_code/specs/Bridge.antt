@@ -1,16 +1,17 @@
 -- What the machine's answers mean, with its stacks as they are then.
 use Rattle.std.specs.Prelude.{ℕ, List, map, reverse}
-use Rattle.gang_types.specs.Masks.{lanes_of_word}
+use Rattle.gang_types.specs.Masks.{lanes_of}
 use Rattle.cross_lane.specs.Calls.{fault_of}
+use Rattle.expression_code.specs.declared.stacks.ActiveLanes.{ActiveLanes}
 use Rattle.expression_code.specs.declared.machine.Then.{Then}
 use Rattle.expression_code.specs.declared.machine.Then.TheVariants.{GoOn, Refuse, Jam}
 use Rattle.expression_code.specs.declared.machine.RunEnd.{RunEnd}
 use Rattle.expression_code.specs.declared.machine.RunEnd.TheVariants.{Finished, Refused, Jammed}
 use Rattle.expression_code.specs.Machine.{Vectors, Masks, Next, Goes, Faults, Jams, Outcome, Done, Faulted, Stuck}
 
--- a stack of masks by their words, its top first
-abbrev pub masks_view : ℕ → List ℕ → Masks
-masks_view w words = map (lanes_of_word w) (reverse words)
+-- a stack of masks, its top first
+abbrev pub masks_view : ℕ → List ActiveLanes → Masks
+masks_view w masks = map (λ active. lanes_of w active.mask) (reverse masks)
 
 abbrev pub next_of : Then → Vectors → Masks → Next
 next_of (GoOn pass) stack masks = Goes pass stack masks

@@ -12,7 +12,7 @@ ghost use Rattle.expression_code.specs.Evaluated.{IsValue};
 
 use crate::code::Instruction;
 use crate::machine::{RunEnd, run};
-use crate::stacks::{push_mask, take_vector};
+use crate::stacks::{ActiveLanes, push_mask, take_vector};
 use crate::words::Words;
 use arrayvec::ArrayVec;
 use gang_types::{FaultName, Mask};
@@ -36,7 +36,7 @@ pub enum Refusal {
 #[derive(Drop)]
 pub struct Stacks<const W: usize> {
     vectors: ArrayVec<[u64; W], ROOM>,
-    masks: ArrayVec<u64, NESTING>,
+    masks: ArrayVec<ActiveLanes, NESTING>,
 }
 
 impl<const W: usize> Stacks<W> {
@@ -66,7 +66,7 @@ pub fn evaluate<const W: usize, S: Words<W>>(
 {
     stacks.vectors.clear();
     stacks.masks.clear();
-    push_mask::<W, NESTING>(&mut stacks.masks, mask);
+    push_mask(&mut stacks.masks, mask);
     match run(code, words, &mut stacks.vectors, &mut stacks.masks) {
         RunEnd::Finished => match take_vector(&mut stacks.vectors) {
             Some(vector) => Ok(vector),

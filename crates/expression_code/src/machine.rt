@@ -13,7 +13,9 @@ ghost use Rattle.expression_code.specs.Values.{where_lanes};
 
 use crate::code::{Gate, Instruction, Joining, Leaf, OneOperand, ThreeOperands, TwoOperands};
 use crate::operations::{apply_one, apply_three, apply_two, leaf_words};
-use crate::stacks::{push_mask, second_vector, take_mask, take_vector, top_mask, top_vector};
+use crate::stacks::{
+    ActiveLanes, push_mask, second_vector, take_mask, take_vector, top_mask, top_vector,
+};
 use crate::words::Words;
 use arrayvec::ArrayVec;
 use gang_types::{FaultName, Mask, VarId};
@@ -71,12 +73,12 @@ fn push_leaf<const W: usize, const R: usize, const M: usize, S: Words<W>>(
     leaf: Leaf,
     words: &S,
     stack: &mut ArrayVec<[u64; W], R>,
-    masks: &ArrayVec<u64, M>,
+    masks: &ArrayVec<ActiveLanes, M>,
 ) -> Then
     requires { IsGangWidth W }
     ensures { (state : State) → S.shows words.now state → next_of result (reverse stack.new.items) (masks_view W masks.now.items) ≡ push_leaf R state leaf (reverse stack.old.items) (masks_view W masks.now.items) }
 {
-    let Some(mask) = top_mask::<W, M>(masks) else {
+    let Some(mask) = top_mask(masks) else {
         return Then::Jam;
     };
     push_vector(stack, 0, leaf_words(leaf, words, mask))
@@ -85,7 +87,7 @@ fn push_leaf<const W: usize, const R: usize, const M: usize, S: Words<W>>(
 fn one<const W: usize, const R: usize, const M: usize>(
     operation: OneOperand,
     stack: &mut ArrayVec<[u64; W], R>,
-    masks: &ArrayVec<u64, M>,
+    masks: &ArrayVec<ActiveLanes, M>,
 ) -> Then
     requires { IsGangWidth W }
     ensures { next_of result (reverse stack.new.items) (masks_view W masks.now.items) ≡ apply_one operation (reverse stack.old.items) (masks_view W masks.now.items) }
@@ -93,7 +95,7 @@ fn one<const W: usize, const R: usize, const M: usize>(
     let Some(operand) = take_vector(stack) else {
         return Then::Jam;
     };
-    let Some(mask) = top_mask::<W, M>(masks) else {
+    let Some(mask) = top_mask(masks) else {
         return Then::Jam;
     };
     give(stack, Ok(apply_one(operation, mask, operand)))
@@ -102,7 +104,7 @@ fn one<const W: usize, const R: usize, const M: usize>(
 fn two<const W: usize, const R: usize, const M: usize>(
     operation: TwoOperands,
     stack: &mut ArrayVec<[u64; W], R>,
-    masks: &ArrayVec<u64, M>,
+    masks: &ArrayVec<ActiveLanes, M>,
 ) -> Then
     requires { IsGangWidth W }
     ensures { next_of result (reverse stack.new.items) (masks_view W masks.now.items) ≡ apply_two operation (reverse stack.old.items) (masks_view W masks.now.items) }
@@ -113,7 +115,7 @@ fn two<const W: usize, const R: usize, const M: usize>(
     let Some(left) = take_vector(stack) else {
         return Then::Jam;
     };
-    let Some(mask) = top_mask::<W, M>(masks) else {
+    let Some(mask) = top_mask(masks) else {
         return Then::Jam;
     };
     give(stack, apply_two(operation, mask, left, right))
@@ -122,7 +124,7 @@ fn two<const W: usize, const R: usize, const M: usize>(
 fn three<const W: usize, const R: usize, const M: usize>(
     operation: ThreeOperands,
     stack: &mut ArrayVec<[u64; W], R>,
-    masks: &ArrayVec<u64, M>,
+    masks: &ArrayVec<ActiveLanes, M>,
 ) -> Then
     requires { IsGangWidth W }
     ensures { next_of result (reverse stack.new.items) (masks_view W masks.now.items) ≡ apply_three operation (reverse stack.old.items) (masks_view W masks.now.items) }
@@ -136,7 +138,7 @@ fn three<const W: usize, const R: usize, const M: usize>(
     let Some(first) = take_vector(stack) else {
         return Then::Jam;
     };
-    let Some(mask) = top_mask::<W, M>(masks) else {
+    let Some(mask) = top_mask(masks) else {
         return Then::Jam;
     };
     give(stack, apply_three(operation, mask, first, second, third))
@@ -147,7 +149,7 @@ fn read_elements<const W: usize, const R: usize, const M: usize, S: Words<W>>(
     array: VarId,
     words: &S,
     stack: &mut ArrayVec<[u64; W], R>,
-    masks: &ArrayVec<u64, M>,
+    masks: &ArrayVec<ActiveLanes, M>,
 ) -> Then
     requires { IsGangWidth W }
     ensures { (state : State) → S.shows_arrays words.now state → next_of result (reverse stack.new.items) (masks_view W masks.now.items) ≡ read_elements state array (reverse stack.old.items) (masks_view W masks.now.items) }
@@ -155,7 +157,7 @@ fn read_elements<const W: usize, const R: usize, const M: usize, S: Words<W>>(
     let Some(indices) = take_vector(stack) else {
         return Then::Jam;
     };
-    let Some(mask) = top_mask::<W, M>(masks) else {
+    let Some(mask) = top_mask(masks) else {
         return Then::Jam;
     };
     give(stack, words.elements(array, mask, &indices))
@@ -166,13 +168,13 @@ fn enter<const W: usize, const R: usize, const M: usize>(
     pass: usize,
     part: Mask,
     stack: &mut ArrayVec<[u64; W], R>,
-    masks: &mut ArrayVec<u64, M>,
+    masks: &mut ArrayVec<ActiveLanes, M>,
 ) -> Then
     requires width { IsGangWidth W }
     requires room { array_vec_len masks.old < M }
     ensures { next_of result (reverse stack.new.items) (masks_view W masks.new.items) ≡ enter R pass (lanes_of W part) (reverse stack.old.items) (masks_view W masks.old.items) }
 {
-    push_mask::<W, M>(masks, part);
+    push_mask(masks, part);
     if part.is_empty::<W>() {
         push_vector(stack, pass, splat(part, 0))
     } else {
@@ -196,7 +198,7 @@ fn open_where<const W: usize, const R: usize, const M: usize>(
     wanted: bool,
     pass: usize,
     stack: &mut ArrayVec<[u64; W], R>,
-    masks: &mut ArrayVec<u64, M>,
+    masks: &mut ArrayVec<ActiveLanes, M>,
 ) -> Then
     requires { IsGangWidth W }
     ensures { next_of result (reverse stack.new.items) (masks_view W masks.new.items) ≡ open_where R M wanted pass (reverse stack.old.items) (masks_view W masks.old.items) }
@@ -204,7 +206,7 @@ fn open_where<const W: usize, const R: usize, const M: usize>(
     let Some(test) = top_vector(stack) else {
         return Then::Jam;
     };
-    let Some(mask) = top_mask::<W, M>(masks) else {
+    let Some(mask) = top_mask(masks) else {
         return Then::Jam;
     };
     if masks.is_full() {
@@ -216,7 +218,7 @@ fn open_where<const W: usize, const R: usize, const M: usize>(
 fn open_otherwise<const W: usize, const R: usize, const M: usize>(
     pass: usize,
     stack: &mut ArrayVec<[u64; W], R>,
-    masks: &mut ArrayVec<u64, M>,
+    masks: &mut ArrayVec<ActiveLanes, M>,
 ) -> Then
     requires { IsGangWidth W }
     ensures { next_of result (reverse stack.new.items) (masks_view W masks.new.items) ≡ open_otherwise R pass (reverse stack.old.items) (masks_view W masks.old.items) }
@@ -227,7 +229,7 @@ fn open_otherwise<const W: usize, const R: usize, const M: usize>(
     let Some(_) = take_mask(masks) else {
         return Then::Jam;
     };
-    let Some(mask) = top_mask::<W, M>(masks) else {
+    let Some(mask) = top_mask(masks) else {
         return Then::Jam;
     };
     enter(pass, part_of(false, mask, test), stack, masks)
@@ -235,7 +237,7 @@ fn open_otherwise<const W: usize, const R: usize, const M: usize>(
 
 fn join_both<const W: usize, const R: usize, const M: usize>(
     stack: &mut ArrayVec<[u64; W], R>,
-    masks: &mut ArrayVec<u64, M>,
+    masks: &mut ArrayVec<ActiveLanes, M>,
 ) -> Then
     requires { IsGangWidth W }
     ensures { next_of result (reverse stack.new.items) (masks_view W masks.new.items) ≡ join Both (reverse stack.old.items) (masks_view W masks.old.items) }
@@ -249,7 +251,7 @@ fn join_both<const W: usize, const R: usize, const M: usize>(
     let Some(_) = take_mask(masks) else {
         return Then::Jam;
     };
-    let Some(mask) = top_mask::<W, M>(masks) else {
+    let Some(mask) = top_mask(masks) else {
         return Then::Jam;
     };
     give(stack, Ok(both_hold(mask, left, right)))
@@ -257,7 +259,7 @@ fn join_both<const W: usize, const R: usize, const M: usize>(
 
 fn join_either<const W: usize, const R: usize, const M: usize>(
     stack: &mut ArrayVec<[u64; W], R>,
-    masks: &mut ArrayVec<u64, M>,
+    masks: &mut ArrayVec<ActiveLanes, M>,
 ) -> Then
     requires { IsGangWidth W }
     ensures { next_of result (reverse stack.new.items) (masks_view W masks.new.items) ≡ join Either (reverse stack.old.items) (masks_view W masks.old.items) }
@@ -271,7 +273,7 @@ fn join_either<const W: usize, const R: usize, const M: usize>(
     let Some(_) = take_mask(masks) else {
         return Then::Jam;
     };
-    let Some(mask) = top_mask::<W, M>(masks) else {
+    let Some(mask) = top_mask(masks) else {
         return Then::Jam;
     };
     give(stack, Ok(either_holds(mask, left, right)))
@@ -279,7 +281,7 @@ fn join_either<const W: usize, const R: usize, const M: usize>(
 
 fn join_choice<const W: usize, const R: usize, const M: usize>(
     stack: &mut ArrayVec<[u64; W], R>,
-    masks: &mut ArrayVec<u64, M>,
+    masks: &mut ArrayVec<ActiveLanes, M>,
 ) -> Then
     requires { IsGangWidth W }
     ensures { next_of result (reverse stack.new.items) (masks_view W masks.new.items) ≡ join Choice (reverse stack.old.items) (masks_view W masks.old.items) }
@@ -295,7 +297,7 @@ fn act<const W: usize, const R: usize, const M: usize, S: Words<W>>(
     instruction: Instruction,
     words: &S,
     stack: &mut ArrayVec<[u64; W], R>,
-    masks: &mut ArrayVec<u64, M>,
+    masks: &mut ArrayVec<ActiveLanes, M>,
 ) -> Then
     requires { IsGangWidth W }
     ensures { (state : State) → S.shows words.now state → (is_element instruction ≡ true → S.shows_arrays words.now state) → next_of result (reverse stack.new.items) (masks_view W masks.new.items) ≡ act R M state instruction (reverse stack.old.items) (masks_view W masks.old.items) }
@@ -331,7 +333,7 @@ pub(crate) fn run<const W: usize, const R: usize, const M: usize, S: Words<W>>(
     code: &[Instruction],
     words: &S,
     stack: &mut ArrayVec<[u64; W], R>,
-    masks: &mut ArrayVec<u64, M>,
+    masks: &mut ArrayVec<ActiveLanes, M>,
 ) -> RunEnd
     requires { IsGangWidth W }
     ensures { (state : State) → S.shows words.now state → (has_element code.now ≡ true → S.shows_arrays words.now state) → outcome_of result (reverse stack.new.items) (masks_view W masks.new.items) ≡ exec R M state code.now 0 (reverse stack.old.items) (masks_view W masks.old.items) }

@@ -1,12 +1,25 @@
 //! The tops of the machine's stacks.
 ghost use Rattle.std.specs.Prelude.{◌≡◌, ◌<◌, ℕ, List, [], ◌∷◌, length, reverse, MatchOption};
 ghost use Rattle.gang_types.specs.Lanes.{Lanes};
-ghost use Rattle.gang_types.specs.Masks.{IsGangWidth, lanes_of};
+ghost use Rattle.gang_types.specs.Masks.{lanes_of};
+ghost use Rattle.expression_code.specs.declared.stacks.ActiveLanes.{ActiveLanes as ActiveView};
 ghost use Rattle.expression_code.specs.Bridge.{masks_view};
 ghost use Rattle.arrayvec.specs.ArrayVec.{array_vec_len};
 
 use arrayvec::ArrayVec;
 use gang_types::Mask;
+
+/// The lanes that a part of an expression is run with; none in a place of the stack that is not used.
+#[derive(Clone, Copy, Drop)]
+pub(crate) struct ActiveLanes {
+    pub(crate) mask: Mask,
+}
+
+impl Default for ActiveLanes {
+    fn default() -> Self {
+        ActiveLanes { mask: Mask::none() }
+    }
+}
 
 // The top vector, taken off.
 pub(crate) fn take_vector<const W: usize, const R: usize>(
@@ -18,37 +31,35 @@ pub(crate) fn take_vector<const W: usize, const R: usize>(
     stack.pop()
 }
 
-// The word of the top mask, taken off.
-pub(crate) fn take_mask<const M: usize>(masks: &mut ArrayVec<u64, M>) -> Option<u64>
-    ensures { MatchOption result (reverse masks.old.items ≡ []) (λ m. (reverse masks.old.items ≡ m ∷ reverse masks.new.items) × (array_vec_len masks.new < M)) }
+// The top mask, taken off.
+pub(crate) fn take_mask<const M: usize>(masks: &mut ArrayVec<ActiveLanes, M>) -> Option<Mask>
+    ensures { (w : ℕ) → MatchOption result (masks_view w masks.old.items ≡ []) (λ m. (masks_view w masks.old.items ≡ lanes_of w m ∷ masks_view w masks.new.items) × (array_vec_len masks.new < M)) }
 {
     let _room = masks.remaining_capacity();
-    masks.pop()
+    let active = masks.pop()?;
+    Some(active.mask)
 }
 
-// The word of the top mask, left where it is.
-fn top_word<const M: usize>(masks: &ArrayVec<u64, M>) -> Option<u64>
-    ensures { MatchOption result (reverse masks.now.items ≡ []) (λ m. (rest : List ℕ) × (reverse masks.now.items ≡ m ∷ rest)) }
+fn top_lanes<const M: usize>(masks: &ArrayVec<ActiveLanes, M>) -> Option<ActiveLanes>
+    ensures { MatchOption result (reverse masks.now.items ≡ []) (λ active. (rest : List ActiveView) × (reverse masks.now.items ≡ active ∷ rest)) }
 {
     masks.as_slice().last().copied()
 }
 
 // The top mask, left where it is.
-pub(crate) fn top_mask<const W: usize, const M: usize>(masks: &ArrayVec<u64, M>) -> Option<Mask>
-    requires { IsGangWidth W }
-    ensures { MatchOption result (masks_view W masks.now.items ≡ []) (λ m. (rest : List Lanes) × (masks_view W masks.now.items ≡ lanes_of W m ∷ rest)) }
+pub(crate) fn top_mask<const M: usize>(masks: &ArrayVec<ActiveLanes, M>) -> Option<Mask>
+    ensures { (w : ℕ) → MatchOption result (masks_view w masks.now.items ≡ []) (λ m. (rest : List Lanes) × (masks_view w masks.now.items ≡ lanes_of w m ∷ rest)) }
 {
-    let word = top_word(masks)?;
-    Some(Mask::from_word::<W>(word))
+    let active = top_lanes(masks)?;
+    Some(active.mask)
 }
 
 // One more mask.
-pub(crate) fn push_mask<const W: usize, const M: usize>(masks: &mut ArrayVec<u64, M>, mask: Mask)
-    requires width { IsGangWidth W }
-    requires room { array_vec_len masks.old < M }
-    ensures { masks_view W masks.new.items ≡ lanes_of W mask ∷ masks_view W masks.old.items }
+pub(crate) fn push_mask<const M: usize>(masks: &mut ArrayVec<ActiveLanes, M>, mask: Mask)
+    requires { array_vec_len masks.old < M }
+    ensures { (w : ℕ) → masks_view w masks.new.items ≡ lanes_of w mask ∷ masks_view w masks.old.items }
 {
-    masks.push(mask.word::<W>());
+    masks.push(ActiveLanes { mask });
 }
 
 pub(crate) fn top_vector<const W: usize, const R: usize>(
