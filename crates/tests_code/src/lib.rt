@@ -2,6 +2,12 @@
 #![tactic(auto)]
 
 #[cfg(test)]
+mod arrays;
+#[cfg(test)]
 mod expressions;
 #[cfg(test)]
+mod library;
+#[cfg(test)]
 mod operations;
+#[cfg(test)]
+mod trees;
