@@ -9,3 +9,4 @@ pub mod Inserted
 pub mod Arrays
 pub mod Runs
 pub mod Whole
+pub mod RoomOfWeight

@@ -44,7 +44,7 @@ after_bind : (r : Result (List ℕ) Fault) (next : List ℕ → Result (List ℕ
 after_bind (Ok v) next go = refl
 after_bind (Err f) next go = refl
 
-pub one_deep : (e : Expr) → 1 ≤ depth e
+pub one_deep : (e : Expr) → 1 ≤ depth (expr_view e)
 one_deep (Element' array p i) = one_deep i
 one_deep (Unary' op ty p a) = one_deep a
 one_deep (Binary' op ty p a q b) = omega (arith, one_deep a)
@@ -221,7 +221,7 @@ module _ (room nested : ℕ) (state : State) where
       after_within (expr_view a) s state (λ x. value (expr_view b) s state >>= λ y. value (expr_view i) s state >>= λ p. try_each s (λ k. lane_value (x ++ values_in s y) (at p k)))
       ∙ bind_same (value (expr_view a) s state) _ _ (λ x. after_within (expr_view b) s state (λ y. value (expr_view i) s state >>= λ p. try_each s (λ k. lane_value (x ++ y) (at p k))))
 
-  pub lands : (e : Expr) (s : Lanes) (stack : Vectors) (masks : Masks) → length stack + depth e ≤ room → suc (length masks) + nesting e ≤ nested → Lands (code_of e) s stack masks (value (expr_view e) s state)
+  pub lands : (e : Expr) (s : Lanes) (stack : Vectors) (masks : Masks) → length stack + depth (expr_view e) ≤ room → suc (length masks) + nesting (expr_view e) ≤ nested → Lands (code_of e) s stack masks (value (expr_view e) s state)
   lands (Number n) s stack masks h m = λ rest. leaf_lands (leaf.Number n) s stack masks rest (omega arith)
   lands ProgramIndex s stack masks h m = λ rest. leaf_lands leaf.ProgramIndex s stack masks rest (omega arith)
   lands ProgramCount s stack masks h m = λ rest. leaf_lands leaf.ProgramCount s stack masks rest (omega arith)

@@ -18,6 +18,6 @@ ended lanes (Err f) = Faulted f
 
 -- the code computes the expression, whatever the lanes and the state, and reads arrays where the expression does
 pub record Computes (e : Expr) (code : List Instruction) : Type 0 where
-  pub run : (room nested : ℕ) (lanes : Lanes) (state : State) → depth e ≤ room → suc (nesting e) ≤ nested
+  pub run : (room nested : ℕ) (lanes : Lanes) (state : State) → depth (expr_view e) ≤ room → suc (nesting (expr_view e)) ≤ nested
       → exec room nested state code 0 [] (lanes ∷ []) ≡ ended lanes (value (expr_view e) lanes state)
   pub arrays : has_element code ≡ reads_arrays e

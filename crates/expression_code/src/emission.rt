@@ -2,7 +2,9 @@
 ghost use Rattle.std.specs.Prelude.{◌≡◌, [], ◌∷◌, ◌++◌, length, IfOk, OnOk};
 ghost use Rattle.expression_code.specs.Code.{code_of, arm_code};
 ghost use Rattle.expression_code.specs.declared.code.Instruction.TheVariants.{One, Two, Three};
+ghost use Rattle.typed_tree.specs.Views.{expr_view};
 ghost use Rattle.expression_code.specs.Correct.{Computes};
+ghost use Rattle.expression_code.specs.Room.{HasRoom, IsAccepted};
 
 use crate::code::{Gate, Instruction, Joining, Leaf, Move, OneOperand, ThreeOperands, TwoOperands};
 use std::alloc::{AllocError, Global};
@@ -14,7 +16,8 @@ use typed_tree::Expr;
 ///
 /// Out of memory.
 pub fn compile(alloc: Global, expression: &Expr) -> Result<Vec<Instruction>, AllocError>
-    ensures { IfOk result (λ code. Computes expression.now code.items) }
+    ensures computes { IfOk result (λ code. Computes expression.now code.items) }
+    ensures room { IsAccepted (expr_view expression.now) → HasRoom (expr_view expression.now) }
 {
     let mut code = Vec::new(alloc);
     emit(&mut code, expression)?;

@@ -1,50 +1,50 @@
 -- An expression over scalars as the program holds it: it reads no array, and has room for the vectors and masks that its code keeps.
-use Rattle.std.proofs.Common.{◌≡◌, ◌≤◌, Bool, true, false, List, refl, ap, ◌∙◌, arith}
+use Rattle.std.proofs.Common.{◌≡◌, Bool, true, false, List, refl, ap, ◌∙◌, arith}
 use Rattle.std.specs.Prelude.{◌||◌}
-use Rattle.gang_model.specs.Types.Tree.{Var}
+use Rattle.gang_model.specs.Types.Tree as model
 use Rattle.typed_tree.specs.declared.expressions.Expr.{Expr, Number, ProgramIndex, ProgramCount, LaneMask, Read, Unary', Binary', Convert', AndAlso', OrElse', Choice', OfOne', OfTwo', Select'}
 use Rattle.typed_tree.specs.Views.{expr_view}
 use Rattle.expression_code.specs.Code.{reads_arrays}
-use Rattle.expression_code.specs.Room.{depth, nesting}
+use Rattle.expression_code.specs.Room.{depth, nesting, HasRoom}
 use Rattle.scalar_programs.specs.Scalars.{ReadsScalars, nested_arms, vectors}
 use Rattle.scalar_steps.specs.Performed.{IsOverScalars}
 
 neither : (a b : Bool) → a ≡ false → b ≡ false → (a || b) ≡ false
 neither a b p q = ap (λ x. x || b) p ∙ q
 
-module _ (file own : List Var) where
-  depth_is : (e : Expr) → ReadsScalars file own (expr_view e) → depth e ≡ vectors (expr_view e)
-  depth_is (Number n) h = refl
-  depth_is ProgramIndex h = refl
-  depth_is ProgramCount h = refl
-  depth_is LaneMask h = refl
-  depth_is (Read v) h = refl
-  depth_is (Unary' op ty p a) h = depth_is a h
-  depth_is (Binary' op ty p a q b) h = omega (arith, depth_is a h.0, depth_is b h.1)
-  depth_is (Convert' from to p a) h = depth_is a h
-  depth_is (AndAlso' p a q b) h = omega (arith, depth_is a h.0, depth_is b h.1)
-  depth_is (OrElse' p a q b) h = omega (arith, depth_is a h.0, depth_is b h.1)
-  depth_is (Choice' p c q a r b) h = omega (arith, depth_is c h.0, depth_is a h.1, depth_is b h.2)
-  depth_is (OfOne' f ty p a) h = depth_is a h
-  depth_is (OfTwo' f ty p a q b) h = omega (arith, depth_is a h.0, depth_is b h.1)
-  depth_is (Select' p c q a r b) h = omega (arith, depth_is c h.0, depth_is a h.1, depth_is b h.2)
+module _ (file own : List model.Var) where
+  depth_is : (e : model.Expr) → ReadsScalars file own e → depth e ≡ vectors e
+  depth_is (model.Number n) h = refl
+  depth_is model.ProgramIndex h = refl
+  depth_is model.ProgramCount h = refl
+  depth_is model.LaneMask h = refl
+  depth_is (model.Read v) h = refl
+  depth_is (model.Unary op ty a) h = depth_is a h
+  depth_is (model.Binary op ty a b) h = omega (arith, depth_is a h.0, depth_is b h.1)
+  depth_is (model.Convert from to a) h = depth_is a h
+  depth_is (model.And a b) h = omega (arith, depth_is a h.0, depth_is b h.1)
+  depth_is (model.Or a b) h = omega (arith, depth_is a h.0, depth_is b h.1)
+  depth_is (model.Choice c a b) h = omega (arith, depth_is c h.0, depth_is a h.1, depth_is b h.2)
+  depth_is (model.OfOne f ty a) h = depth_is a h
+  depth_is (model.OfTwo f ty a b) h = omega (arith, depth_is a h.0, depth_is b h.1)
+  depth_is (model.Select c a b) h = omega (arith, depth_is c h.0, depth_is a h.1, depth_is b h.2)
   depth_is _ h = absurd h
 
-  nesting_is : (e : Expr) → ReadsScalars file own (expr_view e) → nesting e ≡ nested_arms (expr_view e)
-  nesting_is (Number n) h = refl
-  nesting_is ProgramIndex h = refl
-  nesting_is ProgramCount h = refl
-  nesting_is LaneMask h = refl
-  nesting_is (Read v) h = refl
-  nesting_is (Unary' op ty p a) h = nesting_is a h
-  nesting_is (Binary' op ty p a q b) h = omega (arith, nesting_is a h.0, nesting_is b h.1)
-  nesting_is (Convert' from to p a) h = nesting_is a h
-  nesting_is (AndAlso' p a q b) h = omega (arith, nesting_is a h.0, nesting_is b h.1)
-  nesting_is (OrElse' p a q b) h = omega (arith, nesting_is a h.0, nesting_is b h.1)
-  nesting_is (Choice' p c q a r b) h = omega (arith, nesting_is c h.0, nesting_is a h.1, nesting_is b h.2)
-  nesting_is (OfOne' f ty p a) h = nesting_is a h
-  nesting_is (OfTwo' f ty p a q b) h = omega (arith, nesting_is a h.0, nesting_is b h.1)
-  nesting_is (Select' p c q a r b) h = omega (arith, nesting_is c h.0, nesting_is a h.1, nesting_is b h.2)
+  nesting_is : (e : model.Expr) → ReadsScalars file own e → nesting e ≡ nested_arms e
+  nesting_is (model.Number n) h = refl
+  nesting_is model.ProgramIndex h = refl
+  nesting_is model.ProgramCount h = refl
+  nesting_is model.LaneMask h = refl
+  nesting_is (model.Read v) h = refl
+  nesting_is (model.Unary op ty a) h = nesting_is a h
+  nesting_is (model.Binary op ty a b) h = omega (arith, nesting_is a h.0, nesting_is b h.1)
+  nesting_is (model.Convert from to a) h = nesting_is a h
+  nesting_is (model.And a b) h = omega (arith, nesting_is a h.0, nesting_is b h.1)
+  nesting_is (model.Or a b) h = omega (arith, nesting_is a h.0, nesting_is b h.1)
+  nesting_is (model.Choice c a b) h = omega (arith, nesting_is c h.0, nesting_is a h.1, nesting_is b h.2)
+  nesting_is (model.OfOne f ty a) h = nesting_is a h
+  nesting_is (model.OfTwo f ty a b) h = omega (arith, nesting_is a h.0, nesting_is b h.1)
+  nesting_is (model.Select c a b) h = omega (arith, nesting_is c h.0, nesting_is a h.1, nesting_is b h.2)
   nesting_is _ h = absurd h
 
   scalar : (e : Expr) → ReadsScalars file own (expr_view e) → reads_arrays e ≡ false
@@ -71,8 +71,8 @@ has_no_array e (file, own, is) = scalar file own e is.reads
 pub asks_no_array : (e : Expr) (A : Type 0) → reads_arrays e ≡ false → reads_arrays e ≡ true → A
 asks_no_array e A none some = absurd (cc (none, some))
 
-pub has_vectors : (e : Expr) → IsOverScalars (expr_view e) → depth e ≤ 513
-has_vectors e (file, own, is) = omega (arith, depth_is file own e is.reads, is.few_vectors)
-
-pub has_masks : (e : Expr) → IsOverScalars (expr_view e) → nesting e ≤ 256
-has_masks e (file, own, is) = omega (arith, nesting_is file own e is.reads, is.few_arms)
+pub has_room : (e : model.Expr) → IsOverScalars e → HasRoom e
+has_room e (file, own, is) = record {
+  few_vectors = omega (arith, depth_is file own e is.reads, is.few_vectors);
+  few_masks = omega (arith, nesting_is file own e is.reads, is.few_arms);
+}

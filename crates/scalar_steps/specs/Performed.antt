@@ -1,5 +1,5 @@
 -- Assignments that do what the steps of a straight line do.
-use Rattle.std.specs.Prelude.{◌≡◌, ◌≤◌, ℕ, false, List, [], ◌∷◌, ◌++◌, Option, Some, Result}
+use Rattle.std.specs.Prelude.{◌≡◌, ℕ, false, List, [], ◌∷◌, ◌++◌, Option, Some, Result}
 use Rattle.gang_types.specs.declared.faults.FaultName.{FaultName}
 use Rattle.gang_model.specs.Running.Lanes.{Fault}
 use Rattle.gang_model.specs.Types.Tree.{Stmt, Expr as Value, Var as Variable}
@@ -8,7 +8,7 @@ use Rattle.typed_tree.specs.declared.expressions.Expr.{Expr}
 use Rattle.typed_tree.specs.declared.expressions.Var.{Var}
 use Rattle.typed_tree.specs.Views.{expr_view, var_view}
 use Rattle.expression_code.specs.Code.{reads_arrays}
-use Rattle.expression_code.specs.Room.{depth, nesting}
+use Rattle.expression_code.specs.Room.{HasRoom}
 use Rattle.expression_code.specs.Correct.{Computes}
 use Rattle.scalar_programs.specs.Scalars.{IsScalarExpr, IsStraight}
 use Rattle.scalar_steps.specs.declared.assignment.Change.{Change}
@@ -21,15 +21,13 @@ pub record Writes (s : Stmt) (variable : Var) (change : Option Change) (value : 
   pub change_is : operation_of s ≡ change
   pub value_is : written_value s ≡ value
 
--- The assignment does what the step does. Its code computes the step's expression, which reads no array, and there is room for
--- that: for 513 vectors, and for 257 masks with the one that the code is run with.
+-- the assignment does what the step does: its code computes the step's expression, which reads no array and has room
 pub record Performs (a : Assignment) (s : Stmt) : Type 0 where
   pub expression : Expr
   pub writes : Writes s a.variable a.change (expr_view expression)
   pub computes : Computes expression a.code.items
   pub no_array : reads_arrays expression ≡ false
-  pub few_vectors : depth expression ≤ 513
-  pub few_masks : nesting expression ≤ 256
+  pub room : HasRoom (expr_view expression)
 
 -- the assignments do what the steps do, one by one
 abbrev pub PerformAll : List Assignment → List Stmt → Type 0
