@@ -1,7 +1,7 @@
 //! From expressions to the machine's instructions.
-ghost use Rattle.std.specs.Prelude.{◌≡◌, [], ◌∷◌, ◌++◌, length, IfOk, OnOk};
+ghost use Rattle.std.specs.Prelude.{◌≡◌, ◌-◌, ◌<◌, [], ◌∷◌, ◌++◌, length, slice_set, IfOk, OnOk};
 ghost use Rattle.expression_code.specs.Code.{code_of, arm_code};
-ghost use Rattle.expression_code.specs.declared.code.Instruction.TheVariants.{One, Two, Three};
+ghost use Rattle.expression_code.specs.declared.code.Instruction.TheVariants.{Enter, One, Two, Three};
 ghost use Rattle.typed_tree.specs.Views.{expr_view};
 ghost use Rattle.expression_code.specs.Correct.{Computes};
 ghost use Rattle.expression_code.specs.Room.{HasRoom, IsAccepted};
@@ -175,8 +175,16 @@ fn emit_arm(code: &mut Vec<Instruction>, gate: Gate, expression: &Expr) -> Resul
     let start = code.len();
     put(code, Instruction::Enter(gate, 0))?;
     emit(code, expression)?;
-    code[start] = Instruction::Enter(gate, code.len() - start - 1);
+    close_gate(code, start, gate);
     Ok(())
+}
+
+// Lets a gate pass all that stands behind it.
+fn close_gate(code: &mut Vec<Instruction>, place: usize, gate: Gate)
+    requires { place < length code.old.items }
+    ensures { code.new.items ≡ slice_set code.old.items place (Enter gate (length code.old.items - place - 1)) }
+{
+    code[place] = Instruction::Enter(gate, code.len() - place - 1);
 }
 
 // One more instruction.
