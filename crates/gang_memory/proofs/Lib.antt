@@ -1,5 +1,6 @@
 pub mod Attempts
 pub mod Members
+pub mod MostVariables
 pub mod Orders
 pub mod PartViews
 pub mod ScalarWords

@@ -1,118 +1,156 @@
 -- Ranges that lie one behind the other.
-use Rattle.std.proofs.Common.{ℕ, zero, suc, ◌+◌, ◌-◌, ◌*◌, ◌<◌, ◌≡◌, refl, sym, ◌∙◌, ap, arith, subst, List, [], ◌∷◌, ◌++◌, length, get_or, take}
-use Rattle.std.specs.Prelude.{Some, map, slice_get}
-use Rattle.std.proofs.lemmas.List.{take_more}
+use Rattle.std.proofs.Common.{ℕ, zero, suc, ◌+◌, ◌*◌, ◌<◌, ◌≤◌, ◌≡◌, refl, sym, ◌∙◌, ap, arith, subst, List, [], ◌∷◌, ◌++◌, length, get_or, take}
+use Rattle.std.specs.Prelude.{Some, replicate, slice_get, sum, unwrap_or}
+use Rattle.std.proofs.lemmas.List.{length-append, length-map, length-replicate, take_more, take-replicate, get_or-replicate}
+use Rattle.std.proofs.lemmas.List.Folds.{sum_by-replicate}
+use Rattle.std.proofs.lemmas.List.Sums.{sum_by-append, sum_by-cons, sum_by_more_le}
 use Rattle.gang_memory.specs.declared.parts.Part.{Part}
-use Rattle.gang_memory.specs.Layouts.{AreInOrder, frame_ranges, frame_words, range, variable_ranges}
+use Rattle.gang_memory.specs.Ranges.{AreInOrder, range, ranges_from, sizes_of}
+use Rattle.gang_memory.specs.Layouts.{frame_sizes, repeated}
+
+sum-cons : (n : ℕ) (ns : List ℕ) → sum (n ∷ ns) ≡ n + sum ns
+sum-cons n ns = sum_by-cons (λ m. m) n ns
+
+pub sum-append : (ns ms : List ℕ) → sum (ns ++ ms) ≡ sum ns + sum ms
+sum-append ns ms = sum_by-append (λ m. m) ns ms
+
+-- the ranges of some sizes and of others behind them
+pub ranges_append : (first : ℕ) (sizes others : List ℕ) → ranges_from first (sizes ++ others) ≡ ranges_from first sizes ++ ranges_from (first + sum sizes) others
+ranges_append first [] others = ap (λ n. ranges_from n others) (omega arith)
+ranges_append first (len ∷ sizes) others =
+    let more = sum-cons len sizes in
+    let sums : first + len + sum sizes ≡ first + sum (len ∷ sizes) = omega (arith, more) in
+    ap (λ parts. range first len ∷ parts) (ranges_append (first + len) sizes others ∙ ap (λ n. ranges_from (first + len) sizes ++ ranges_from n others) sums)
+
+-- ranges behind others are together the ranges of the sizes of both
+pub joined : (first : ℕ) (sizes others : List ℕ) (parts behind : List Part) (between : ℕ) → parts ≡ ranges_from first sizes → between ≡ first + sum sizes → behind ≡ ranges_from between others → parts ++ behind ≡ ranges_from first (sizes ++ others)
+joined first sizes others parts behind between are ends behind_are =
+    ap (λ ps. ps ++ behind) are
+    ∙ ap (λ ps. ranges_from first sizes ++ ps) (behind_are ∙ ap (λ n. ranges_from n others) ends)
+    ∙ sym (ranges_append first sizes others)
+
+pub joined_end : (first : ℕ) (sizes others : List ℕ) (between to : ℕ) → between ≡ first + sum sizes → to ≡ between + sum others → to ≡ first + sum (sizes ++ others)
+joined_end first sizes others between to ends behind = let both = sum-append sizes others in omega (arith, ends, behind, both)
 
 -- one range more
-pub in_order_push : (from : ℕ) (parts : List Part) (to len : ℕ) → AreInOrder from parts to → AreInOrder from (parts ++ (range to len ∷ [])) (to + len)
-in_order_push from [] to len h = (h, omega arith)
-in_order_push from (p ∷ parts) to len (before, rest) = (before, in_order_push (p.first + p.len) parts to len rest)
+pub ranges_more : (first : ℕ) (sizes : List ℕ) (i : ℕ) → i < length sizes → ranges_from first (take (i + 1) sizes) ≡ ranges_from first (take i sizes) ++ (range (first + sum (take i sizes)) (get_or sizes i 0) ∷ [])
+ranges_more first sizes i h = ap (ranges_from first) (take_more sizes i 0 h) ∙ ranges_append first (take i sizes) (get_or sizes i 0 ∷ [])
 
-pub in_order_append : (from : ℕ) (parts others : List Part) (between to : ℕ) → AreInOrder from parts between → AreInOrder between others to → AreInOrder from (parts ++ others) to
-in_order_append from [] [] between to h others = omega (arith, h, others)
-in_order_append from [] (p ∷ others) between to h (before, rest) = (omega (arith, h, before), rest)
-in_order_append from (q ∷ parts) others between to (before, rest) h = (before, in_order_append (q.first + q.len) parts others between to rest h)
+pub sizes_of_ranges : (first : ℕ) (sizes : List ℕ) → sizes_of (ranges_from first sizes) ≡ sizes
+sizes_of_ranges first [] = refl
+sizes_of_ranges first (len ∷ sizes) = ap (λ ns. len ∷ ns) (sizes_of_ranges (first + len) sizes)
 
-variables_in_order : (first width n : ℕ) → AreInOrder first (variable_ranges first width n) (first + n * width)
-variables_in_order first width zero = omega arith
-variables_in_order first width (suc n) =
-    (omega arith, subst (AreInOrder (first + width) (variable_ranges (first + width) width n)) sums (variables_in_order (first + width) width n))
-  where
-    sums : first + width + n * width ≡ first + suc n * width
-    sums = omega arith
+-- no two of the ranges have a word in common, and they end where the sum of their sizes says
+pub ranges_in_order : (first : ℕ) (sizes : List ℕ) → AreInOrder first (ranges_from first sizes) (first + sum sizes)
+ranges_in_order first [] = omega arith
+ranges_in_order first (len ∷ sizes) =
+    let more = sum-cons len sizes in
+    let sums : first + len + sum sizes ≡ first + sum (len ∷ sizes) = omega (arith, more) in
+    (omega arith, subst (AreInOrder (first + len) (ranges_from (first + len) sizes)) sums (ranges_in_order (first + len) sizes))
 
-frame_in_order : (first width head n : ℕ) → AreInOrder first (range first head ∷ variable_ranges (first + head) width n) (first + frame_words width head n)
-frame_in_order first width head n = (omega arith, subst (AreInOrder (first + head) (variable_ranges (first + head) width n)) sums (variables_in_order (first + head) width n))
-  where
-    sums : first + head + n * width ≡ first + (head + n * width)
-    sums = omega arith
+length-ranges : (first : ℕ) (sizes : List ℕ) → length (ranges_from first sizes) ≡ length sizes
+length-ranges first [] = refl
+length-ranges first (len ∷ sizes) = ap suc (length-ranges (first + len) sizes)
 
-pub frames_in_order : (first width head variables n : ℕ) → AreInOrder first (frame_ranges first width head variables n) (first + n * frame_words width head variables)
-frames_in_order first width head variables zero = omega arith
-frames_in_order first width head variables (suc n) =
-    let words : ℕ = frame_words width head variables in
-    let sums : first + words + n * words ≡ first + suc n * words = omega arith in
-    in_order_append first (range first head ∷ variable_ranges (first + head) width variables) (frame_ranges (first + words) width head variables n) (first + words) (first + suc n * words)
-    (frame_in_order first width head variables)
-    (subst (AreInOrder (first + words) (frame_ranges (first + words) width head variables n)) sums (frames_in_order (first + words) width head variables n))
+-- the range at a place begins behind those before it
+pub range_at : (first : ℕ) (sizes : List ℕ) (i : ℕ) → i < length sizes → slice_get (ranges_from first sizes) i ≡ Some (range (first + sum (take i sizes)) (get_or sizes i 0))
+range_at first [] i h = absurd (omega arith)
+range_at first (len ∷ sizes) zero h = ap (λ n. Some (range n len)) (omega arith)
+range_at first (len ∷ sizes) (suc i) h =
+    let more = sum-cons len (take i sizes) in
+    let sums : first + len + sum (take i sizes) ≡ first + sum (len ∷ take i sizes) = omega (arith, more) in
+    range_at (first + len) sizes i (omega arith) ∙ ap (λ n. Some (range n (get_or sizes i 0))) sums
 
--- ---- laying out ranges of given sizes
-map_push : (parts : List Part) (p : Part) → map (λ q. q.len) (parts ++ (p ∷ [])) ≡ map (λ q. q.len) parts ++ (p.len ∷ [])
-map_push [] p = refl
-map_push (q ∷ parts) p = ap (λ ns. q.len ∷ ns) (map_push parts p)
+-- ---- which of two lists has the range at a place
+get_past : (parts others : List Part) (i : ℕ) → slice_get (parts ++ others) (length parts + i) ≡ slice_get others i
+get_past [] others i = ap (slice_get others) (omega arith)
+get_past (p ∷ parts) others i =
+    let next : suc (length parts) + i ≡ suc (length parts + i) = omega arith in
+    ap (slice_get (p ∷ (parts ++ others))) next ∙ get_past parts others i
 
-pub sizes_push : (parts : List Part) (first i : ℕ) (sizes : List ℕ) → i < length sizes → map (λ q. q.len) parts ≡ take i sizes → map (λ q. q.len) (parts ++ (range first (get_or sizes i 0) ∷ [])) ≡ take (i + 1) sizes
-sizes_push parts first i sizes h are = map_push parts (range first (get_or sizes i 0)) ∙ ap (λ ns. ns ++ (get_or sizes i 0 ∷ [])) are ∙ sym (take_more sizes i 0 h)
+get_before : (parts others : List Part) (i : ℕ) → i < length parts → slice_get (parts ++ others) i ≡ slice_get parts i
+get_before [] others i h = absurd (omega arith)
+get_before (p ∷ parts) others zero h = refl
+get_before (p ∷ parts) others (suc i) h = get_before parts others i (omega arith)
 
--- ---- which range of the frames is which
-get_past : {A : Type 0} (xs ys : List A) (n i : ℕ) → length xs ≡ n → slice_get (xs ++ ys) (n + i) ≡ slice_get ys i
-get_past [] ys zero i e = ap (slice_get ys) (omega arith)
-get_past [] ys (suc n) i e = absurd (omega arith)
-get_past (x ∷ xs) ys zero i e = absurd (omega arith)
-get_past (x ∷ xs) ys (suc n) i e =
-    let next : suc n + i ≡ suc (n + i) = omega arith in
-    ap (slice_get (x ∷ (xs ++ ys))) next ∙ get_past xs ys n i (omega arith)
+among_first : (first : ℕ) (sizes others : List ℕ) (i : ℕ) → i < length sizes → slice_get (ranges_from first (sizes ++ others)) i ≡ slice_get (ranges_from first sizes) i
+among_first first sizes others i h =
+    ap (λ parts. slice_get parts i) (ranges_append first sizes others)
+    ∙ get_before (ranges_from first sizes) (ranges_from (first + sum sizes) others) i (omega (arith, h, length-ranges first sizes))
 
-get_before : {A : Type 0} (xs ys : List A) (i : ℕ) → i < length xs → slice_get (xs ++ ys) i ≡ slice_get xs i
-get_before [] ys i h = absurd (omega arith)
-get_before (x ∷ xs) ys zero h = refl
-get_before (x ∷ xs) ys (suc i) h = get_before xs ys i (omega arith)
+among_others : (first : ℕ) (sizes others : List ℕ) (i : ℕ) → slice_get (ranges_from first (sizes ++ others)) (length sizes + i) ≡ slice_get (ranges_from (first + sum sizes) others) i
+among_others first sizes others i =
+    ap (λ parts. slice_get parts (length sizes + i)) (ranges_append first sizes others)
+    ∙ ap (λ n. slice_get (ranges_from first sizes ++ ranges_from (first + sum sizes) others) (n + i)) (sym (length-ranges first sizes))
+    ∙ get_past (ranges_from first sizes) (ranges_from (first + sum sizes) others) i
 
-length-variable_ranges : (first width n : ℕ) → length (variable_ranges first width n) ≡ n
-length-variable_ranges first width zero = refl
-length-variable_ranges first width (suc n) = ap suc (length-variable_ranges (first + width) width n)
+-- ---- frames
+pub sum-repeated : (n : ℕ) (sizes : List ℕ) → sum (repeated n sizes) ≡ n * sum sizes
+sum-repeated zero sizes = omega arith
+sum-repeated (suc n) sizes =
+    let product : sum sizes + n * sum sizes ≡ suc n * sum sizes = omega arith in
+    sum-append sizes (repeated n sizes) ∙ ap (λ m. sum sizes + m) (sum-repeated n sizes) ∙ product
 
-variable_range : (first width n k : ℕ) → k < n → slice_get (variable_ranges first width n) k ≡ Some (range (first + k * width) width)
-variable_range first width zero k h = absurd (omega arith)
-variable_range first width (suc n) zero h = ap (λ m. Some (range m width)) (omega arith)
-variable_range first width (suc n) (suc k) h =
-    let sums : first + width + k * width ≡ first + suc k * width = omega arith in
-    variable_range (first + width) width n k (omega arith) ∙ ap (λ m. Some (range m width)) sums
+pub sum-frame : (width : ℕ) (head : List ℕ) (variables : ℕ) → sum (frame_sizes width head variables) ≡ sum head + variables * width
+sum-frame width head variables = sum-append head (replicate variables width) ∙ ap (λ m. sum head + m) (sum_by-replicate (λ m. m) variables width)
 
--- the ranges behind those of the first d frames are those of the frames that begin there
-frames_behind : (first width head variables d n j : ℕ)
-    → slice_get (frame_ranges first width head variables (d + n)) (d * (1 + variables) + j) ≡ slice_get (frame_ranges (first + d * frame_words width head variables) width head variables n) j
-frames_behind first width head variables zero n j =
-    let count : 0 + n ≡ n = omega arith in
-    let index : 0 * (1 + variables) + j ≡ j = omega arith in
-    let begin : first ≡ first + 0 * frame_words width head variables = omega arith in
-    ap (λ m. slice_get (frame_ranges first width head variables m) (0 * (1 + variables) + j)) count
-    ∙ ap (slice_get (frame_ranges first width head variables n)) index
-    ∙ ap (λ m. slice_get (frame_ranges m width head variables n) j) begin
-frames_behind first width head variables (suc d) n j =
-    let words : ℕ = frame_words width head variables in
-    let index : suc d * (1 + variables) + j ≡ suc (variables + (d * (1 + variables) + j)) = omega arith in
-    let sums : first + words + d * words ≡ first + suc d * words = omega arith in
-    let count : suc d + n ≡ suc (d + n) = omega arith in
-    ap (λ m. slice_get (frame_ranges first width head variables m) (suc d * (1 + variables) + j)) count
-    ∙ ap (slice_get (frame_ranges first width head variables (suc (d + n)))) index
-    ∙ get_past (variable_ranges (first + head) width variables) (frame_ranges (first + words) width head variables (d + n)) variables (d * (1 + variables) + j) (length-variable_ranges (first + head) width variables)
-    ∙ frames_behind (first + words) width head variables d n j
-    ∙ ap (λ m. slice_get (frame_ranges m width head variables n) j) sums
+-- the ranges of the frame at a depth
+frame_at : (first : ℕ) (frame : List ℕ) (n d i : ℕ) → d < n → i < length frame
+    → slice_get (ranges_from first (repeated n frame)) (d * length frame + i) ≡ slice_get (ranges_from (first + d * sum frame) frame) i
+frame_at first frame zero d i h within = absurd (omega arith)
+frame_at first frame (suc n) zero i h within =
+    let index : 0 * length frame + i ≡ i = omega arith in
+    let begin : first ≡ first + 0 * sum frame = omega arith in
+    ap (slice_get (ranges_from first (frame ++ repeated n frame))) index
+    ∙ among_first first frame (repeated n frame) i within
+    ∙ ap (λ m. slice_get (ranges_from m frame) i) begin
+frame_at first frame (suc n) (suc d) i h within =
+    let index : suc d * length frame + i ≡ length frame + (d * length frame + i) = omega arith in
+    let begin : first + sum frame + d * sum frame ≡ first + suc d * sum frame = omega arith in
+    ap (slice_get (ranges_from first (frame ++ repeated n frame))) index
+    ∙ among_others first frame (repeated n frame) (d * length frame + i)
+    ∙ frame_at (first + sum frame) frame n d i (omega arith) within
+    ∙ ap (λ m. slice_get (ranges_from m frame) i) begin
 
-frames_from : (first width head variables count d j : ℕ) → d < count
-    → slice_get (frame_ranges first width head variables count) (d * (1 + variables) + j) ≡ slice_get (frame_ranges (first + d * frame_words width head variables) width head variables (suc (count - suc d))) j
-frames_from first width head variables count d j h =
-    let sums : count ≡ d + suc (count - suc d) = omega arith in
-    ap (λ m. slice_get (frame_ranges first width head variables m) (d * (1 + variables) + j)) sums
-    ∙ frames_behind first width head variables d (suc (count - suc d)) j
+module _ (first width : ℕ) (head : List ℕ) (variables count d : ℕ) (h : d < count) where
+  abbrev pub frame : List ℕ
+  frame = frame_sizes width head variables
 
-pub head_range : (first width head variables count d : ℕ) → d < count
-    → slice_get (frame_ranges first width head variables count) (d * (1 + variables)) ≡ Some (range (first + d * frame_words width head variables) head)
-head_range first width head variables count d h =
-    let index : d * (1 + variables) ≡ d * (1 + variables) + 0 = omega arith in
-    ap (slice_get (frame_ranges first width head variables count)) index ∙ frames_from first width head variables count d 0 h
+  abbrev pub begin : ℕ
+  begin = first + d * (sum head + variables * width)
 
-pub frame_variable_range : (first width head variables count d k : ℕ) → d < count → k < variables
-    → slice_get (frame_ranges first width head variables count) (d * (1 + variables) + (1 + k)) ≡ Some (range (first + d * frame_words width head variables + head + k * width) width)
-frame_variable_range first width head variables count d k h within =
-    let words : ℕ = frame_words width head variables in
-    let begin : ℕ = first + d * words in
-    let vars : List Part = variable_ranges (begin + head) width variables in
-    let next : 1 + k ≡ suc k = omega arith in
-    frames_from first width head variables count d (1 + k) h
-    ∙ ap (slice_get (frame_ranges begin width head variables (suc (count - suc d)))) next
-    ∙ get_before vars (frame_ranges (begin + words) width head variables (count - suc d)) k (omega (arith, within, length-variable_ranges (begin + head) width variables))
-    ∙ variable_range (begin + head) width variables k within
+  ranges_long : length frame ≡ length head + variables
+  ranges_long = length-append head (replicate variables width) ∙ ap (λ m. length head + m) (length-replicate variables width)
+
+  this_frame : (i : ℕ) → i < length head + variables → slice_get (ranges_from first (repeated count frame)) (d * (length head + variables) + i) ≡ slice_get (ranges_from begin frame) i
+  this_frame i within =
+      ap (λ m. slice_get (ranges_from first (repeated count frame)) (d * m + i)) (sym ranges_long)
+      ∙ frame_at first frame count d i h (omega (arith, within, ranges_long))
+      ∙ ap (λ m. slice_get (ranges_from (first + d * m) frame) i) (sum-frame width head variables)
+
+  pub head_range : (i : ℕ) → i < length head → slice_get (ranges_from first (repeated count frame)) (d * (length head + variables) + i) ≡ Some (range (begin + sum (take i head)) (get_or head i 0))
+  head_range i within = this_frame i (omega (arith, within)) ∙ among_first begin head (replicate variables width) i within ∙ range_at begin head i within
+
+  pub variable_range : (k : ℕ) → k < variables → slice_get (ranges_from first (repeated count frame)) (d * (length head + variables) + (length head + k)) ≡ Some (range (begin + sum head + k * width) width)
+  variable_range k within =
+      this_frame (length head + k) (omega (arith, within))
+      ∙ among_others begin head (replicate variables width) k
+      ∙ range_at (begin + sum head) (replicate variables width) k (omega (arith, within, length-replicate variables width))
+      ∙ ap (λ ns. Some (range (begin + sum head + sum ns) (get_or (replicate variables width) k 0))) (take-replicate k variables width (omega (arith, within)))
+      ∙ ap (λ m. Some (range (begin + sum head + m) (get_or (replicate variables width) k 0))) (sum_by-replicate (λ m. m) k width)
+      ∙ ap (λ m. Some (range (begin + sum head + k * width) m)) (get_or-replicate variables k width 0 within)
+
+-- ---- a part among those of a head
+module _ (parts : List Part) (laid : parts ≡ ranges_from 0 (sizes_of parts)) (i : ℕ) (h : i < length parts) (p : Part) (is : slice_get parts i ≡ Some p) where
+  pub part_is : p ≡ range (sum (take i (sizes_of parts))) (get_or (sizes_of parts) i 0)
+  part_is =
+      ap (λ o. unwrap_or o p)
+      (sym is ∙ ap (λ ps. slice_get ps i) laid ∙ range_at 0 (sizes_of parts) i (omega (arith, h, length-map parts (λ q. q.len))))
+      ∙ ap (λ n. range n (get_or (sizes_of parts) i 0)) (omega arith)
+
+  pub part_within : p.first + p.len ≤ sum (sizes_of parts)
+  part_within =
+      let first : p.first ≡ sum (take i (sizes_of parts)) = ap (λ q. q.first) part_is in
+      let len : p.len ≡ get_or (sizes_of parts) i 0 = ap (λ q. q.len) part_is in
+      let room = sum_by_more_le (λ n. n) (sizes_of parts) i 0 (omega (arith, h, length-map parts (λ q. q.len))) in
+      omega (arith, first, len, room)

@@ -9,7 +9,8 @@ use Rattle.gang_model.specs.Running.Library.{rank}
 use Rattle.gang_model.specs.Running.State.{State, View}
 use Rattle.gang_model.specs.Running.Value.{element}
 use Rattle.gang_memory.specs.Elements.{checked_store, stored}
-use Rattle.gang_memory.specs.Layouts.{frame_ranges, range}
+use Rattle.gang_memory.specs.Ranges.{range, ranges_from}
+use Rattle.gang_memory.specs.Layouts.{frame_sizes, repeated}
 
 abbrev all_lanes : Lanes
 all_lanes = true ∷ true ∷ true ∷ true ∷ []
@@ -40,6 +41,6 @@ packed_row = refl
 missing_row : checked_store tens from_three two_lanes (rank two_lanes) [] ≡ Err (record { name = Index; lane = 3 })
 missing_row = refl
 
--- two frames with a head of 5 words and one variable, from word 3 on
-frames_row : frame_ranges 3 4 5 1 2 ≡ range 3 5 ∷ range 8 4 ∷ range 12 5 ∷ range 17 4 ∷ []
+-- two frames with a head of two parts and one variable, from word 3 on
+frames_row : ranges_from 3 (repeated 2 (frame_sizes 4 (2 ∷ 3 ∷ []) 1)) ≡ range 3 2 ∷ range 5 3 ∷ range 8 4 ∷ range 12 2 ∷ range 14 3 ∷ range 17 4 ∷ []
 frames_row = refl

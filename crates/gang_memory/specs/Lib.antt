@@ -3,4 +3,5 @@ pub mod Parts
 pub mod Elements
 pub mod Packed
 pub mod ScalarWords
+pub mod Ranges
 pub mod Layouts

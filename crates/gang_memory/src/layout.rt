@@ -1,7 +1,8 @@
 //! Where every word of a program lies.
-ghost use Rattle.std.specs.Prelude.{◌≡◌, ◌≤◌, All, IfOk, length, map};
+ghost use Rattle.std.specs.Prelude.{◌≡◌, ◌+◌, ◌≤◌, All, IfOk, length, map, sum};
 ghost use Rattle.gang_types.specs.Masks.{IsGangWidth};
-ghost use Rattle.gang_memory.specs.Layouts.{AreInOrder, IsLayoutOf, global_words};
+ghost use Rattle.gang_memory.specs.Layouts.{IsLayoutOf, global_words, most_variables};
+ghost use Rattle.gang_memory.specs.Ranges.{ranges_from};
 
 use crate::frames::{Frames, MOST_FRAMES};
 use crate::parts::Part;
@@ -9,18 +10,20 @@ use crate::scalars::word_count;
 use std::alloc::{AllocError, Global};
 use typed_tree as tree;
 
-/// Where the words of a program lie: those of the variables of the file and of the entry's arrays, in their order, and those
-/// of the frames. It follows from the program, and no run changes it.
+/// Where the words of a program lie, one range behind the other: the variables of the file, the entry's arrays, the parts
+/// that the machine asks for itself, and the frames. It follows from the program, and no run changes it.
 #[derive(Drop)]
 pub struct Layout {
     pub file: Vec<Part>,
     pub entry: Vec<Part>,
+    pub machine: Vec<Part>,
     pub frames: Frames,
     pub words: usize,
 }
 
 impl Layout {
-    /// The layout of a program whose entry has arrays of these lengths, with frames whose head has so many words.
+    /// The layout of a program whose entry has arrays of these lengths, with parts of these sizes for the machine itself and
+    /// for the head of each frame.
     ///
     /// # Errors
     ///
@@ -29,17 +32,21 @@ impl Layout {
         alloc: Global,
         program: &tree::Program,
         lengths: &[usize],
-        head: usize,
+        machine: &[usize],
+        head: &[usize],
     ) -> Result<Self, AllocError>
         requires { IsGangWidth W }
-        ensures { IfOk result (λ layout. IsLayoutOf W program.now lengths.now head layout) }
+        ensures { IfOk result (λ layout. IsLayoutOf W program.now lengths.now machine.now head.now layout) }
     {
         let sizes = global_sizes::<W>(alloc, &program.globals)?;
         let file = lay_out(alloc, 0, &sizes)?;
         let entry = lay_out(alloc, file.end, lengths)?;
+        let own = lay_out(alloc, entry.end, machine)?;
+        let head = lay_out(alloc, 0, head)?;
         let frames = Frames {
-            first: entry.end,
-            head,
+            first: own.end,
+            head: head.parts,
+            head_words: head.end,
             variables: most_variables(&program.functions),
             count: MOST_FRAMES,
         };
@@ -49,6 +56,7 @@ impl Layout {
         Ok(Layout {
             file: file.parts,
             entry: entry.parts,
+            machine: own.parts,
             frames,
             words,
         })
@@ -64,8 +72,8 @@ struct Laid {
 
 // Ranges of these sizes, from word `first` on.
 fn lay_out(alloc: Global, first: usize, sizes: &[usize]) -> Result<Laid, AllocError>
-    ensures sizes { IfOk result (λ laid. map (λ p. p.len) laid.parts.items ≡ sizes.now) }
-    ensures in_order { IfOk result (λ laid. AreInOrder first laid.parts.items laid.end) }
+    ensures ranges { IfOk result (λ laid. laid.parts.items ≡ ranges_from first sizes.now) }
+    ensures end { IfOk result (λ laid. laid.end ≡ first + sum sizes.now) }
 {
     let mut parts = Vec::new(alloc);
     let mut next = first;
@@ -106,11 +114,12 @@ fn global_size<const W: usize>(global: &tree::Global) -> usize
 
 // The most variables that a function has.
 fn most_variables(functions: &[tree::Function]) -> usize
-    ensures { All (λ f. length f.variables.items ≤ result) functions.now }
+    ensures most { result ≡ most_variables functions.now }
+    ensures enough { All (λ f. length f.variables.items ≤ result) functions.now }
 {
     let mut most = 0;
     for function in functions {
-        most = function.variables.len().max(most);
+        most = most.max(function.variables.len());
     }
     most
 }

@@ -1,12 +1,11 @@
 ghost use Rattle.std.specs.Prelude.{◌≡◌};
 
 use crate::{
-    Frames, Layout, Part, Recorded, WordStore, assign_scalar, declare_scalar, gather, packed_load,
-    packed_store, part_from, read_scalar, scatter,
+    Part, Recorded, WordStore, assign_scalar, declare_scalar, gather, packed_load, packed_store,
+    part_from, read_scalar, scatter,
 };
 use gang_types::{FaultName, IntType, Mask, Rate, wrap};
 use std::test::*;
-use typed_tree::Program;
 use undo_log::{SnapshotRing, Timeline, Undone};
 
 fn part(first: usize, len: usize) -> Part
@@ -207,27 +206,5 @@ fn what_a_record_took_is_taken_back(rt: HostRuntime) -> Result<(), Fail> {
     assert_eq!(rt; [store.word(0), store.word(1)], [2, 4]);
     assert!(rt; store.timeline.back().is_ok());
     assert_eq!(rt; [store.word(0), store.word(1)], [0, 0]);
-    Ok(())
-}
-
-#[test]
-fn frames_lie_behind_the_arrays(rt: HostRuntime) -> Result<(), Fail> {
-    let program = Program {
-        functions: Vec::new(rt.alloc()),
-        globals: Vec::new(rt.alloc()),
-    };
-    let layout = Layout::plan::<4>(rt.alloc(), &program, &[3, 0], 5)?;
-    assert!(rt; layout.entry.as_slice() == [part(0, 3), part(3, 0)].as_slice());
-    assert_eq!(rt; layout.frames.first, 3);
-    assert_eq!(rt; layout.words, 323);
-    let frames = Frames {
-        first: 10,
-        head: 5,
-        variables: 3,
-        count: 64,
-    };
-    assert_eq!(rt; frames.head::<4>(0), part(10, 5));
-    assert_eq!(rt; frames.variable::<4>(0, 2), part(23, 4));
-    assert_eq!(rt; frames.head::<4>(1), part(27, 5));
     Ok(())
 }
