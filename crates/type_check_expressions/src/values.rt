@@ -58,11 +58,7 @@ fn built_in_value(place: Place, name: &[u8]) -> Result<Typed, SourceFault>
 {
     match built_in(name) {
         None => Err(refusal(RefusalNumber::S5, place)),
-        Some(value) => Ok(Typed {
-            expr: value.expr,
-            value_type: IntType::Int32,
-            rate: value.rate,
-        }),
+        Some(value) => Ok(value),
     }
 }
 

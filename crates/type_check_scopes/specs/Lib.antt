@@ -1,3 +1,4 @@
+pub mod BuiltIns
 pub mod Entries
 pub mod Passings
 pub mod Tables

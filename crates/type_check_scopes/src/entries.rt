@@ -1,7 +1,9 @@
 //! What names declare.
 ghost use Rattle.std.specs.Prelude.{◌≡◌, [], None, Some};
+ghost use Rattle.gang_types.specs.declared.places.Place.{Place};
 ghost use Rattle.gang_model.specs.Types.Typing as typing;
 ghost use Rattle.gang_model.specs.Types.Conversions as model;
+ghost use Rattle.type_check_scopes.specs.BuiltIns.{built_in_value_view};
 ghost use Rattle.type_check_scopes.specs.Entries.{built_in_view, declared_view};
 
 use gang_model::Spec;
@@ -59,23 +61,21 @@ pub fn index_variable(id: VarId, value_type: IntType, rate: Rate) -> Declared
     }
 }
 
-/// `programIndex` and `programCount`, which nothing assigns.
+/// `programIndex` and `programCount`, with their type and rate, which nothing assigns.
 pub fn built_in(name: &[u8]) -> Option<Typed>
-    ensures { built_in_view result ≡ typing.built_in name.now }
+    ensures named { built_in_view result ≡ typing.built_in name.now }
+    ensures value { (place : Place) → built_in_value_view place result ≡ typing.built_in_value place (typing.built_in name.now) }
 {
-    if is_same(name, b"programIndex") {
-        Some(Typed {
-            expr: Expr::ProgramIndex,
-            value_type: IntType::Int32,
-            rate: Rate::Varying,
-        })
+    let (expr, rate) = if is_same(name, b"programIndex") {
+        (Expr::ProgramIndex, Rate::Varying)
     } else if is_same(name, b"programCount") {
-        Some(Typed {
-            expr: Expr::ProgramCount,
-            value_type: IntType::Int32,
-            rate: Rate::Uniform,
-        })
+        (Expr::ProgramCount, Rate::Uniform)
     } else {
-        None
-    }
+        return None;
+    };
+    Some(Typed {
+        expr,
+        value_type: IntType::Int32,
+        rate,
+    })
 }
