@@ -1,15 +1,14 @@
 //! The arguments of a library call.
-ghost use Rattle.std.specs.Prelude.{◌≡◌, [], ◌∷◌, IfErr, IfOk, map};
+ghost use Rattle.std.specs.Prelude.{◌≡◌, [], ◌∷◌, IfOk, map};
 ghost use Rattle.gang_model.specs.Source.Judged.{least_fault};
 ghost use Rattle.gang_model.specs.Types.Typing as typing;
-ghost use Rattle.source_answers.specs.declared.fault.SourceFault.TheVariants.{Memory};
 ghost use Rattle.type_check_scopes.specs.Passings.{passing_view};
 ghost use Rattle.type_check_library.specs.Arguments.{argument_view, option_argument_view, option_arguments_view};
 
 use gang_model::{RefusalNumber, SourceRefusal};
 use gang_types::{Place, Rate};
-use source_answers::{SourceFault, fault_if, least};
-use std::alloc::Global;
+use source_answers::{fault_if, least};
+use std::alloc::{AllocError, Global};
 use type_check_scopes::Passing;
 use type_check_values::{Typed, may_become};
 
@@ -38,9 +37,8 @@ fn value_of(passing: Passing) -> Option<Argument>
 pub(crate) fn all_values(
     alloc: Global,
     given: Vec<Passing>,
-) -> Result<Option<Vec<Argument>>, SourceFault>
+) -> Result<Option<Vec<Argument>>, AllocError>
     ensures values { IfOk result (λ values. option_arguments_view values ≡ typing.all_values (map passing_view given.entry.items)) }
-    ensures memory { IfErr result (λ fault. fault ≡ Memory) }
 {
     let mut values = Vec::new(alloc);
     for passing in given {

@@ -29,7 +29,7 @@ fn call_value(
     ensures { Answers typed_view result (typing.call_value place (Some (call_view call)) (map argument_view values.items)) }
 {
     refuse(rate_fault(asked_by(call), &values))?;
-    library_value(alloc, call, values)
+    Ok(library_value(alloc, call, values)?)
 }
 
 /// The value of a library call with these arguments.

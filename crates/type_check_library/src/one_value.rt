@@ -1,7 +1,6 @@
 //! Library calls of one value.
-ghost use Rattle.std.specs.Prelude.{◌≡◌, Some, [], ◌∷◌, IfErr, IfOk};
+ghost use Rattle.std.specs.Prelude.{◌≡◌, Some, [], ◌∷◌, IfOk};
 ghost use Rattle.gang_model.specs.Types.LibraryTable as table;
-ghost use Rattle.source_answers.specs.declared.fault.SourceFault.TheVariants.{Memory};
 ghost use Rattle.typed_tree.specs.Views.{reduction_view, scan_view};
 ghost use Rattle.type_check_values.specs.Views.{typed_view};
 ghost use Rattle.type_check_library.specs.Calls.{call_of_one_view};
@@ -9,14 +8,12 @@ ghost use Rattle.type_check_library.specs.Calls.{call_of_one_view};
 use crate::calls::CallOfOne;
 use crate::types::{reduced_type, truths_type};
 use gang_types::{IntType, Rate, is_bool};
-use source_answers::{SourceFault, boxed};
-use std::alloc::Global;
-use type_check_values::{Typed, boxed_as_type, promoted};
+use std::alloc::{AllocError, Global};
+use type_check_values::{Typed, boxed, boxed_as_type, promoted};
 use typed_tree::{Expr, OneCall, Reduction, Scan};
 
-fn truths_reduced(alloc: Global, function: Reduction, value: Typed) -> Result<Typed, SourceFault>
+fn truths_reduced(alloc: Global, function: Reduction, value: Typed) -> Result<Typed, AllocError>
     ensures reduced { IfOk result (λ e. typed_view e ≡ table.truths_reduced (reduction_view function) (typed_view value)) }
-    ensures memory { IfErr result (λ fault. fault ≡ Memory) }
 {
     let value = boxed_as_type(alloc, IntType::Bool, value)?;
     Ok(Typed {
@@ -30,9 +27,8 @@ fn truths_reduced(alloc: Global, function: Reduction, value: Typed) -> Result<Ty
     })
 }
 
-fn numbers_reduced(alloc: Global, function: Reduction, value: Typed) -> Result<Typed, SourceFault>
+fn numbers_reduced(alloc: Global, function: Reduction, value: Typed) -> Result<Typed, AllocError>
     ensures reduced { IfOk result (λ e. typed_view e ≡ table.numbers_reduced (reduction_view function) (typed_view value)) }
-    ensures memory { IfErr result (λ fault. fault ≡ Memory) }
 {
     let value_type = promoted(value.value_type);
     let value = boxed_as_type(alloc, value_type, value)?;
@@ -47,9 +43,8 @@ fn numbers_reduced(alloc: Global, function: Reduction, value: Typed) -> Result<T
     })
 }
 
-fn lanes_compared(alloc: Global, value: Typed) -> Result<Typed, SourceFault>
+fn lanes_compared(alloc: Global, value: Typed) -> Result<Typed, AllocError>
     ensures compared { IfOk result (λ e. Some (typed_view e) ≡ table.library_value table.ComparesLanes (typed_view value ∷ [])) }
-    ensures memory { IfErr result (λ fault. fault ≡ Memory) }
 {
     Ok(Typed {
         expr: Expr::Reduce {
@@ -62,9 +57,8 @@ fn lanes_compared(alloc: Global, value: Typed) -> Result<Typed, SourceFault>
     })
 }
 
-fn lanes_scanned(alloc: Global, function: Scan, value: Typed) -> Result<Typed, SourceFault>
+fn lanes_scanned(alloc: Global, function: Scan, value: Typed) -> Result<Typed, AllocError>
     ensures scanned { IfOk result (λ e. Some (typed_view e) ≡ table.library_value (table.Scans (scan_view function)) (typed_view value ∷ [])) }
-    ensures memory { IfErr result (λ fault. fault ≡ Memory) }
 {
     let value_type = promoted(value.value_type);
     let value = boxed_as_type(alloc, value_type, value)?;
@@ -79,9 +73,8 @@ fn lanes_scanned(alloc: Global, function: Scan, value: Typed) -> Result<Typed, S
     })
 }
 
-fn ones_counted(alloc: Global, value: Typed) -> Result<Typed, SourceFault>
+fn ones_counted(alloc: Global, value: Typed) -> Result<Typed, AllocError>
     ensures counted { IfOk result (λ e. Some (typed_view e) ≡ table.library_value table.CountsOnes (typed_view value ∷ [])) }
-    ensures memory { IfErr result (λ fault. fault ≡ Memory) }
 {
     if is_bool(value.value_type) {
         return truths_reduced(alloc, Reduction::PopCountLanes, value);
@@ -97,9 +90,8 @@ fn ones_counted(alloc: Global, value: Typed) -> Result<Typed, SourceFault>
     })
 }
 
-fn magnitude(alloc: Global, value: Typed) -> Result<Typed, SourceFault>
+fn magnitude(alloc: Global, value: Typed) -> Result<Typed, AllocError>
     ensures magnitude { IfOk result (λ e. Some (typed_view e) ≡ table.library_value table.TakesMagnitude (typed_view value ∷ [])) }
-    ensures memory { IfErr result (λ fault. fault ≡ Memory) }
 {
     let value_type = promoted(value.value_type);
     let rate = value.rate;
@@ -124,9 +116,8 @@ pub(crate) fn value_of_one(
     alloc: Global,
     call: CallOfOne,
     value: Typed,
-) -> Result<Typed, SourceFault>
+) -> Result<Typed, AllocError>
     ensures value { IfOk result (λ e. Some (typed_view e) ≡ table.library_value (call_of_one_view call) (typed_view value ∷ [])) }
-    ensures memory { IfErr result (λ fault. fault ≡ Memory) }
 {
     match call {
         CallOfOne::ReduceTruths(function) => truths_reduced(alloc, function, value),

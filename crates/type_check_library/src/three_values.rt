@@ -1,7 +1,6 @@
 //! Library calls of three values.
-ghost use Rattle.std.specs.Prelude.{◌≡◌, Some, [], ◌∷◌, IfErr, IfOk};
+ghost use Rattle.std.specs.Prelude.{◌≡◌, Some, [], ◌∷◌, IfOk};
 ghost use Rattle.gang_model.specs.Types.LibraryTable as table;
-ghost use Rattle.source_answers.specs.declared.fault.SourceFault.TheVariants.{Memory};
 ghost use Rattle.type_check_values.specs.Views.{typed_view};
 ghost use Rattle.type_check_library.specs.Calls.{call_of_three_view};
 
@@ -9,9 +8,8 @@ use crate::calls::CallOfThree;
 use crate::two_values::{as_index, both_as_type, one_of_two, with_index};
 use crate::types::number_type;
 use gang_types::{IntType, Rate};
-use source_answers::{SourceFault, boxed};
-use std::alloc::Global;
-use type_check_values::{Typed, boxed_as_type, joined, joined_rate, promoted};
+use std::alloc::{AllocError, Global};
+use type_check_values::{Typed, boxed, boxed_as_type, joined, joined_rate, promoted};
 use typed_tree::{Expr, TwoCall};
 
 fn inserted(
@@ -19,9 +17,8 @@ fn inserted(
     value: Typed,
     index: Typed,
     new_value: Typed,
-) -> Result<Typed, SourceFault>
+) -> Result<Typed, AllocError>
     ensures inserted { IfOk result (λ e. Some (typed_view e) ≡ table.library_value table.Inserts (typed_view value ∷ typed_view index ∷ typed_view new_value ∷ [])) }
-    ensures memory { IfErr result (λ fault. fault ≡ Memory) }
 {
     let value_type = value.value_type;
     let (value, index) = with_index(alloc, value.expr, index)?;
@@ -41,9 +38,8 @@ fn shuffled_two(
     first: Typed,
     second: Typed,
     places: Typed,
-) -> Result<Typed, SourceFault>
+) -> Result<Typed, AllocError>
     ensures shuffled { IfOk result (λ e. Some (typed_view e) ≡ table.library_value table.ShufflesTwo (typed_view first ∷ typed_view second ∷ typed_view places ∷ [])) }
-    ensures memory { IfErr result (λ fault. fault ≡ Memory) }
 {
     let value_type = promoted(joined(first.value_type, second.value_type));
     let (value, second) = both_as_type(alloc, value_type, first, second)?;
@@ -58,9 +54,8 @@ fn shuffled_two(
     })
 }
 
-fn clamped(alloc: Global, value: Typed, low: Typed, high: Typed) -> Result<Typed, SourceFault>
+fn clamped(alloc: Global, value: Typed, low: Typed, high: Typed) -> Result<Typed, AllocError>
     ensures clamped { IfOk result (λ e. Some (typed_view e) ≡ table.library_value table.Clamps (typed_view value ∷ typed_view low ∷ typed_view high ∷ [])) }
-    ensures memory { IfErr result (λ fault. fault ≡ Memory) }
 {
     let value_type = joined(number_type(&value, &low), promoted(high.value_type));
     let rate = joined_rate(value.rate, joined_rate(low.rate, high.rate));
@@ -79,9 +74,8 @@ fn clamped(alloc: Global, value: Typed, low: Typed, high: Typed) -> Result<Typed
     })
 }
 
-fn selected(alloc: Global, test: Typed, first: Typed, second: Typed) -> Result<Typed, SourceFault>
+fn selected(alloc: Global, test: Typed, first: Typed, second: Typed) -> Result<Typed, AllocError>
     ensures selected { IfOk result (λ e. Some (typed_view e) ≡ table.library_value table.Selects (typed_view test ∷ typed_view first ∷ typed_view second ∷ [])) }
-    ensures memory { IfErr result (λ fault. fault ≡ Memory) }
 {
     let value_type = joined(first.value_type, second.value_type);
     let rate = joined_rate(test.rate, joined_rate(first.rate, second.rate));
@@ -108,9 +102,8 @@ pub(crate) fn value_of_three(
     first: Typed,
     second: Typed,
     third: Typed,
-) -> Result<Typed, SourceFault>
+) -> Result<Typed, AllocError>
     ensures value { IfOk result (λ e. Some (typed_view e) ≡ table.library_value (call_of_three_view call) (typed_view first ∷ typed_view second ∷ typed_view third ∷ [])) }
-    ensures memory { IfErr result (λ fault. fault ≡ Memory) }
 {
     match call {
         CallOfThree::Insert => inserted(alloc, first, second, third),

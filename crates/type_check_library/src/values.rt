@@ -1,8 +1,7 @@
 //! The expressions of library calls.
-ghost use Rattle.std.specs.Prelude.{◌≡◌, Some, IfErr, IfOk, length, map, vec_len};
+ghost use Rattle.std.specs.Prelude.{◌≡◌, Some, IfOk, length, map, vec_len};
 ghost use Rattle.gang_model.specs.Types.LibraryTable as table;
 ghost use Rattle.gang_model.specs.Types.Typing as typing;
-ghost use Rattle.source_answers.specs.declared.fault.SourceFault.TheVariants.{Memory};
 ghost use Rattle.type_check_values.specs.Views.{typed_view};
 ghost use Rattle.type_check_library.specs.Arguments.{argument_view};
 ghost use Rattle.type_check_library.specs.Calls.{call_view};
@@ -13,8 +12,7 @@ use crate::one_value::value_of_one;
 use crate::three_values::value_of_three;
 use crate::two_values::value_of_two;
 use gang_types::{IntType, Rate};
-use source_answers::SourceFault;
-use std::alloc::Global;
+use std::alloc::{AllocError, Global};
 use type_check_values::Typed;
 use typed_tree::Expr;
 
@@ -27,10 +25,9 @@ pub(crate) fn library_value(
     alloc: Global,
     call: LibraryCall,
     mut values: Vec<Argument>,
-) -> Result<Typed, SourceFault>
+) -> Result<Typed, AllocError>
     requires count { vec_len values ≡ length (table.asked_by (call_view call)) }
     ensures value { IfOk result (λ e. Some (typed_view e) ≡ table.library_value (call_view call) (typing.second_parts (map argument_view values.items))) }
-    ensures memory { IfErr result (λ fault. fault ≡ Memory) }
 {
     match call {
         LibraryCall::LaneMask => Ok(Typed {

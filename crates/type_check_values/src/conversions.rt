@@ -1,15 +1,14 @@
 //! Conversions that are written out.
-ghost use Rattle.std.specs.Prelude.{◌≡◌, IfErr, IfOk};
+ghost use Rattle.std.specs.Prelude.{◌≡◌, IfOk};
 ghost use Rattle.gang_model.specs.Types.Conversions as model;
-ghost use Rattle.source_answers.specs.declared.fault.SourceFault.TheVariants.{Memory};
 ghost use Rattle.typed_tree.specs.Views.{expr_view};
 ghost use Rattle.type_check_values.specs.Views.{typed_view};
 
+use crate::boxes::boxed;
 use crate::typed::Typed;
 use crate::types::same_type;
 use gang_types::{BinaryOp, IntType};
-use source_answers::{SourceFault, boxed};
-use std::alloc::Global;
+use std::alloc::{AllocError, Global};
 use typed_tree::Expr;
 
 /// The expression, converted to a type.
@@ -17,9 +16,8 @@ use typed_tree::Expr;
 /// # Errors
 ///
 /// Out of memory.
-pub fn as_type(alloc: Global, to: IntType, value: Typed) -> Result<Expr, SourceFault>
+pub fn as_type(alloc: Global, to: IntType, value: Typed) -> Result<Expr, AllocError>
     ensures converted { IfOk result (λ e. expr_view e ≡ model.as_type to (typed_view value)) }
-    ensures memory { IfErr result (λ fault. fault ≡ Memory) }
 {
     if same_type(value.value_type, to) {
         return Ok(value.expr);
@@ -37,9 +35,8 @@ pub fn as_type(alloc: Global, to: IntType, value: Typed) -> Result<Expr, SourceF
 /// # Errors
 ///
 /// Out of memory.
-pub fn boxed_as_type(alloc: Global, to: IntType, value: Typed) -> Result<Box<Expr>, SourceFault>
+pub fn boxed_as_type(alloc: Global, to: IntType, value: Typed) -> Result<Box<Expr>, AllocError>
     ensures converted { IfOk result (λ e. expr_view e.value ≡ model.as_type to (typed_view value)) }
-    ensures memory { IfErr result (λ fault. fault ≡ Memory) }
 {
     boxed(alloc, as_type(alloc, to, value)?)
 }
@@ -49,9 +46,8 @@ pub fn boxed_as_type(alloc: Global, to: IntType, value: Typed) -> Result<Box<Exp
 /// # Errors
 ///
 /// Out of memory.
-pub fn as_bool(alloc: Global, value: Typed) -> Result<Expr, SourceFault>
+pub fn as_bool(alloc: Global, value: Typed) -> Result<Expr, AllocError>
     ensures converted { IfOk result (λ e. expr_view e ≡ model.as_bool (typed_view value)) }
-    ensures memory { IfErr result (λ fault. fault ≡ Memory) }
 {
     as_type(alloc, IntType::Bool, value)
 }
@@ -66,9 +62,8 @@ pub fn right_operand(
     operator: BinaryOp,
     made_in: IntType,
     value: Typed,
-) -> Result<Expr, SourceFault>
+) -> Result<Expr, AllocError>
     ensures operand { IfOk result (λ e. expr_view e ≡ model.right_operand operator made_in (typed_view value)) }
-    ensures memory { IfErr result (λ fault. fault ≡ Memory) }
 {
     match operator {
         BinaryOp::Shl | BinaryOp::Shr => Ok(value.expr),

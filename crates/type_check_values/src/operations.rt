@@ -1,17 +1,16 @@
 //! Operations on typed values.
-ghost use Rattle.std.specs.Prelude.{◌≡◌, IfErr, IfOk};
+ghost use Rattle.std.specs.Prelude.{◌≡◌, IfOk};
 ghost use Rattle.gang_model.specs.Types.Conversions as model;
-ghost use Rattle.source_answers.specs.declared.fault.SourceFault.TheVariants.{Memory};
 ghost use Rattle.type_check_values.specs.Views.{typed_view};
 
+use crate::boxes::boxed;
 use crate::conversions::{boxed_as_type, right_operand};
 use crate::rates::joined_rate;
 use crate::typed::Typed;
 use crate::types::{given_type, joined, operation_type, promoted};
 use gang_model::Infix;
 use gang_types::{BinaryOp, IntType, UnaryOp};
-use source_answers::{SourceFault, boxed};
-use std::alloc::Global;
+use std::alloc::{AllocError, Global};
 use typed_tree::Expr;
 
 fn operated(
@@ -19,9 +18,8 @@ fn operated(
     operator: BinaryOp,
     left: Typed,
     right: Typed,
-) -> Result<Typed, SourceFault>
+) -> Result<Typed, AllocError>
     ensures operated { IfOk result (λ e. typed_view e ≡ model.operated operator (typed_view left) (typed_view right)) }
-    ensures memory { IfErr result (λ fault. fault ≡ Memory) }
 {
     let made_in = operation_type(operator, left.value_type, right.value_type);
     let rate = joined_rate(left.rate, right.rate);
@@ -50,9 +48,8 @@ pub fn infixed(
     operator: Infix,
     left: Typed,
     right: Typed,
-) -> Result<Typed, SourceFault>
+) -> Result<Typed, AllocError>
     ensures infixed { IfOk result (λ e. typed_view e ≡ model.infixed operator (typed_view left) (typed_view right)) }
-    ensures memory { IfErr result (λ fault. fault ≡ Memory) }
 {
     if let Infix::Op(operator) = operator {
         return operated(alloc, operator, left, right);
@@ -76,9 +73,8 @@ pub fn infixed(
 /// # Errors
 ///
 /// Out of memory.
-pub fn prefixed(alloc: Global, operator: UnaryOp, value: Typed) -> Result<Typed, SourceFault>
+pub fn prefixed(alloc: Global, operator: UnaryOp, value: Typed) -> Result<Typed, AllocError>
     ensures prefixed { IfOk result (λ e. typed_view e ≡ model.prefixed operator (typed_view value)) }
-    ensures memory { IfErr result (λ fault. fault ≡ Memory) }
 {
     let value_type = match operator {
         UnaryOp::Not => IntType::Bool,
@@ -107,9 +103,8 @@ pub fn chosen_by(
     test: Typed,
     first: Typed,
     second: Typed,
-) -> Result<Typed, SourceFault>
+) -> Result<Typed, AllocError>
     ensures chosen { IfOk result (λ e. typed_view e ≡ model.chosen_by (typed_view test) (typed_view first) (typed_view second)) }
-    ensures memory { IfErr result (λ fault. fault ≡ Memory) }
 {
     let value_type = joined(first.value_type, second.value_type);
     let rate = joined_rate(test.rate, joined_rate(first.rate, second.rate));
