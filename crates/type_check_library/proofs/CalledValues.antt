@@ -1,6 +1,6 @@
 -- What is answered for a call, from its parts.
 use Rattle.std.proofs.Common.{◌≡◌, List, [], ◌∷◌, refl, sym, ap, ◌∙◌}
-use Rattle.std.specs.Prelude.{Option, Some, None, Result, Ok, Err, IfOk, IfErr}
+use Rattle.std.specs.Prelude.{Option, Some, None, Ok, Err}
 use Rattle.gang_types.specs.declared.places.Place.{Place}
 use Rattle.gang_model.specs.declared.refusals.SourceRefusal.{SourceRefusal}
 use Rattle.gang_model.specs.Types.Conversions as model
@@ -39,23 +39,15 @@ pub none_found : {t : Unit {0}} (found : Option SourceRefusal) → Ok t ≡ refu
 none_found None h = refl
 none_found (Some f) h = cc
 
--- a value or out of memory is the answer
-pub value_answers : {A B : Type 0} (view : A → B) (r : Result A SourceFault) (judged : Judged B)
-    → IfOk r (λ a. judged ≡ Sound (view a)) → IfErr r (λ fault. fault ≡ Memory) → Answers view r judged
-value_answers view (Ok a) judged h k = h
-value_answers view (Err Memory) judged h k = tt
-value_answers view (Err (Refused f)) judged h k = cc
-
 -- S7 at an argument
 pub call_refused : (p : Place) (call : table.LibraryCall) (values : List Value) (f : SourceRefusal)
     → least_fault (faults_at call values) ≡ Some f → answer_of (typing.call_value p (Some call) values) ≡ Err f
 call_refused p call values f h = refused_then (faults_at call values) values (λ _. typing.typed_or_refused p (table.library_value call (typing.second_parts values))) f h
 
 -- the value of a call without faults
-pub call_sound : {A : Type 0} (view : A → model.Typed) (r : Result A SourceFault) (p : Place) (call : table.LibraryCall) (values : List Value)
-    → least_fault (faults_at call values) ≡ None → IfOk r (λ a. Some (view a) ≡ table.library_value call (typing.second_parts values))
-    → IfOk r (λ a. typing.call_value p (Some call) values ≡ Sound (view a))
-call_sound view (Ok a) p call values h k =
+pub call_sound : {A : Type 0} (view : A → model.Typed) (a : A) (p : Place) (call : table.LibraryCall) (values : List Value)
+    → least_fault (faults_at call values) ≡ None → Some (view a) ≡ table.library_value call (typing.second_parts values)
+    → typing.call_value p (Some call) values ≡ Sound (view a)
+call_sound view a p call values h k =
     sound_then (faults_at call values) values (λ _. typing.typed_or_refused p (table.library_value call (typing.second_parts values))) h
     ∙ ap (typing.typed_or_refused p) (sym k)
-call_sound view (Err fault) p call values h k = tt

@@ -1,9 +1,9 @@
 -- The arguments of a call, one by one.
 use Rattle.std.proofs.Common.{◌≡◌, ℕ, List, [], ◌∷◌, length, refl, sym, ap, ◌∙◌, map, arith, slice_index_or}
 use Rattle.std.specs.Prelude.{Some, Result, Ok, Err, IfOk, remove}
+use Rattle.std.specs.declared.alloc.AllocError.{AllocError}
 use Rattle.gang_model.specs.Types.LibraryTable as table
 use Rattle.gang_model.specs.Types.Typing as typing
-use Rattle.source_answers.specs.declared.fault.SourceFault.{SourceFault}
 use Rattle.type_check_values.specs.declared.typed.Typed.{Typed}
 use Rattle.type_check_values.specs.Views.{typed_view}
 use Rattle.type_check_library.specs.declared.arguments.Argument.{Argument}
@@ -94,6 +94,6 @@ pub same_value : (f g : table.LibraryCall) (xs ys : List Argument) (e : Typed) �
 same_value f g xs ys e p q h =
     h ∙ sym (ap (λ k. table.library_value k (typing.second_parts (map argument_view ys))) p ∙ ap (λ l. table.library_value f (typing.second_parts (map argument_view l))) q)
 
-pub of_call : (r : Result Typed SourceFault) (f g : table.LibraryCall) (xs ys : List Argument) → g ≡ f → ys ≡ xs → IfOk r (value_by f xs) → IfOk r (value_by g ys)
+pub of_call : (r : Result Typed AllocError) (f g : table.LibraryCall) (xs ys : List Argument) → g ≡ f → ys ≡ xs → IfOk r (value_by f xs) → IfOk r (value_by g ys)
 of_call (Ok e) f g xs ys p q h = same_value f g xs ys e p q h
-of_call (Err fault) f g xs ys p q h = tt
+of_call (Err error) f g xs ys p q h = tt

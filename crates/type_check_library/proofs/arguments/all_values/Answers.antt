@@ -9,8 +9,8 @@ loop-passing-preserved c =
     value_more c.loop-passing.yielded c.loop-passing.values.items c.push.new.self.items c.in-Some.passing c.in-Some-value_of.argument
     c.loop-passing.invariant c.in-Some-value_of.ensures c.in_ok-push-in-Some-value_of.ensures.items
 
-pub returns-in-None-value_of-clause-values : goal.returns-in-None-value_of-clause-values
-returns-in-None-value_of-clause-values c =
+pub returns-in-None-value_of : goal.returns-in-None-value_of
+returns-in-None-value_of c =
     let turn = YieldsList-turn (YieldsList-from_vec {s = c.into_iter-passing-iterator.result} c.args.given.items (search rules) (search rules))
     c.loop-passing.yielded c.loop-passing.passing-iterator c.loop-passing.yielded_by c.next.result c.next.new.self c.in-Some.passing c.in-Some.is c.next.ensures.steps in
-    sym (not_all_values c.args.given.items (length c.loop-passing.yielded) c.in-Some.passing turn.0 turn.1 (sym c.in-None-value_of.ensures))
+    record { values = sym (not_all_values c.args.given.items (length c.loop-passing.yielded) c.in-Some.passing turn.0 turn.1 (sym c.in-None-value_of.ensures)) }

@@ -5,7 +5,7 @@ use Rattle.std.proofs.lemmas.Result.{err_from_is_err_and}
 use Rattle.type_check_values.specs.Views.{typed_view}
 use Rattle.type_check_library.specs.Arguments.{argument_view}
 use Rattle.type_check_library.specs.Calls.{call_view}
-use Rattle.type_check_library.proofs.CalledValues.{faults_at, fault_answers, none_found, value_answers, call_refused, call_sound}
+use Rattle.type_check_library.proofs.CalledValues.{faults_at, fault_answers, none_found, call_refused, call_sound}
 use Rattle.type_check_library.proofs.called.call_value.Goals as goal
 
 pub returns-in_err-refuse : goal.returns-in_err-refuse
@@ -27,5 +27,4 @@ returns c =
     c.rate_fault.ensures ∙ (ap (λ asks. least_fault (typing.rate_faults asks (map argument_view c.deref.result.now))) c.asked_by.ensures
     ∙ ap (λ xs. least_fault (faults_at call (map argument_view xs))) c.deref.ensures.value) in
     let none = none_found c.rate_fault.result (sym c.in_ok-refuse.was ∙ c.refuse.ensures) in
-    value_answers typed_view c.library_value.result (typing.call_value c.args.place (Some call) values)
-    (call_sound typed_view c.library_value.result c.args.place call values (sym found ∙ none) c.library_value.ensures.value) c.library_value.ensures.memory
+    call_sound typed_view c.in_ok-library_value.field-0 c.args.place call values (sym found ∙ none) c.in_ok-library_value.ensures.value
