@@ -1,7 +1,6 @@
 //! What is in scope where a statement is typed.
-ghost use Rattle.std.specs.Prelude.{◌≡◌, [], ◌∷◌, ◌++◌, ◌-◌, ◌≤◌, ◌+◌, OnOk, OnErr, IfOk, IfErr, drop, length, map, option_map};
+ghost use Rattle.std.specs.Prelude.{◌≡◌, [], ◌∷◌, ◌++◌, ◌-◌, ◌≤◌, ◌+◌, OnOk, OnErr, IfOk, drop, length, map, option_map};
 ghost use Rattle.gang_types.specs.declared.places.VarId.TheVariants.{Local};
-ghost use Rattle.source_answers.specs.declared.fault.SourceFault.TheVariants.{Memory};
 ghost use Rattle.gang_model.specs.Types.Typing as typing;
 ghost use Rattle.typed_tree.specs.Views.{variable_view};
 ghost use Rattle.type_check_scopes.specs.Entries.{declared_view};
@@ -9,8 +8,7 @@ ghost use Rattle.type_check_scopes.specs.Entries.{declared_view};
 use crate::entries::Declared;
 use gang_types::VarId;
 use ispc_names_scopes::{ScopeMark, Scopes};
-use source_answers::SourceFault;
-use std::alloc::Global;
+use std::alloc::{AllocError, Global};
 use std::marker::Model;
 use std::mem::replace;
 use typed_tree::Variable;
@@ -44,9 +42,8 @@ impl Model for TypeScope {
 }
 
 /// The variable of a declaration, with its own copy of the name.
-fn variable_of(alloc: Global, name: &[u8], declared: Declared) -> Result<Variable, SourceFault>
+fn variable_of(alloc: Global, name: &[u8], declared: Declared) -> Result<Variable, AllocError>
     ensures variable { IfOk result (λ variable. variable_view variable ≡ (declared_view name.now declared).variable) }
-    ensures memory { IfErr result (λ fault. fault ≡ Memory) }
 {
     Ok(Variable {
         name: name.to_vec(alloc)?,
@@ -71,19 +68,20 @@ impl TypeScope {
         }
     }
 
-    fn bind(&mut self, alloc: Global, name: &[u8], declared: Declared) -> Result<(), SourceFault>
+    fn bind(&mut self, alloc: Global, name: &[u8], declared: Declared) -> Result<(), AllocError>
         ensures entries { OnOk result (self.new.entries ≡ declared_view name.now declared ∷ self.old.entries) }
         ensures locals { OnOk result (self.new.locals ≡ self.old.locals) }
         ensures unchanged { OnErr result (self.new ≡ self.old) }
-        ensures memory { IfErr result (λ fault. fault ≡ Memory) }
     {
         let number = self.declared.len();
         self.declared.push(declared)?;
-        let bound = self.scopes.declare_in_file(alloc, name, number);
-        if bound.is_err() {
-            self.declared.truncate(number);
+        match self.scopes.declare_in_file(alloc, name, number) {
+            Ok(()) => Ok(()),
+            Err(_) => {
+                self.declared.truncate(number);
+                Err(AllocError)
+            }
         }
-        Ok(bound?)
     }
 
     /// Declares a file-scope variable, before those that stand already. So the variables of a file are declared from the last to
@@ -97,11 +95,10 @@ impl TypeScope {
         alloc: Global,
         name: &[u8],
         declared: Declared,
-    ) -> Result<(), SourceFault>
+    ) -> Result<(), AllocError>
         ensures entries { OnOk result (self.new.entries ≡ declared_view name.now declared ∷ self.old.entries) }
         ensures locals { OnOk result (self.new.locals ≡ self.old.locals) }
         ensures unchanged { OnErr result (self.new ≡ self.old) }
-        ensures memory { IfErr result (λ fault. fault ≡ Memory) }
     {
         self.bind(alloc, name, declared)
     }
@@ -131,12 +128,11 @@ impl TypeScope {
         alloc: Global,
         name: &[u8],
         declared: Declared,
-    ) -> Result<(), SourceFault>
+    ) -> Result<(), AllocError>
         requires next { declared.id ≡ Local (length self.old.locals) }
         ensures entries { OnOk result (self.new.entries ≡ declared_view name.now declared ∷ self.old.entries) }
         ensures locals { OnOk result (self.new.locals ≡ self.old.locals ++ (declared_view name.now declared).variable ∷ []) }
         ensures unchanged { OnErr result (self.new ≡ self.old) }
-        ensures memory { IfErr result (λ fault. fault ≡ Memory) }
     {
         let variable = variable_of(alloc, name, declared)?;
         self.locals.push(variable)?;
@@ -180,16 +176,11 @@ impl TypeScope {
     }
 
     /// The variables of the function, by their numbers, which end then.
-    ///
-    /// # Errors
-    ///
-    /// Out of memory.
-    pub fn take_locals(&mut self, alloc: Global) -> Result<Vec<Variable>, SourceFault>
-        ensures taken { IfOk result (λ locals. map variable_view locals.items ≡ self.old.locals) }
+    pub fn take_locals(&mut self, alloc: Global) -> Vec<Variable>
+        ensures taken { map variable_view result.items ≡ self.old.locals }
         ensures entries { self.new.entries ≡ self.old.entries }
-        ensures locals { OnOk result (self.new.locals ≡ []) }
-        ensures memory { IfErr result (λ fault. fault ≡ Memory) }
+        ensures locals { self.new.locals ≡ [] }
     {
-        Ok(replace(&mut self.locals, Vec::new(alloc)))
+        replace(&mut self.locals, Vec::new(alloc))
     }
 }
