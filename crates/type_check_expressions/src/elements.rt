@@ -1,9 +1,8 @@
 //! Elements of arrays.
-ghost use Rattle.std.specs.Prelude.{◌≡◌, ◌||◌, IfErr, IfOk, Some, not};
+ghost use Rattle.std.specs.Prelude.{◌≡◌, ◌||◌, IfOk, Some, not};
 ghost use Rattle.ispc_parser_expressions.specs.Tree.{expr_view};
 ghost use Rattle.gang_model.specs.Source.Judged.{least_fault, unless};
 ghost use Rattle.gang_model.specs.Types.Typing as typing;
-ghost use Rattle.source_answers.specs.declared.fault.SourceFault.TheVariants.{Memory};
 ghost use Rattle.source_answers.specs.Answers.{Answers};
 ghost use Rattle.type_check_scopes.specs.Entries.{declared_view};
 ghost use Rattle.type_check_values.specs.Views.{typed_view};
@@ -13,10 +12,10 @@ use crate::values::refusal;
 use gang_model::{RefusalNumber, SourceRefusal};
 use gang_types::{IntType, Place, is_bool};
 use ispc_parser_expressions::Expr;
-use source_answers::{SourceFault, boxed, fault_if, least, refuse};
-use std::alloc::Global;
+use source_answers::{SourceFault, fault_if, least, refuse};
+use std::alloc::{AllocError, Global};
 use type_check_scopes::{Declared, TypeScope};
-use type_check_values::Typed;
+use type_check_values::{Typed, boxed};
 use typed_tree::Expr as TypedExpr;
 
 /// Whether it is no array, or has elements of no value.
@@ -51,9 +50,8 @@ fn element_value(
     name: &[u8],
     index: Typed,
     declared: Declared,
-) -> Result<Typed, SourceFault>
+) -> Result<Typed, AllocError>
     ensures element { IfOk result (λ e. typed_view e ≡ typing.element (typed_view index) (Some (declared_view name.now declared))) }
-    ensures memory { IfErr result (λ fault. fault ≡ Memory) }
 {
     let rate = index.rate;
     let index = boxed(alloc, index.expr)?;
@@ -86,7 +84,7 @@ pub(crate) fn element(
         None => Err(refusal(RefusalNumber::S8, place)),
         Some(declared) => {
             refuse(element_fault(place, name, index, &value, declared))?;
-            element_value(alloc, name, value, declared)
+            Ok(element_value(alloc, name, value, declared)?)
         }
     }
 }

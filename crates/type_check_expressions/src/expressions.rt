@@ -62,7 +62,7 @@ pub fn expression(alloc: Global, expr: &Expr, scope: &TypeScope) -> Result<Typed
             ..
         } => {
             let value = expression(alloc, operand, scope)?;
-            prefixed(alloc, *operator, value)
+            Ok(prefixed(alloc, *operator, value)?)
         }
         Expr::Cast {
             place,
@@ -149,5 +149,5 @@ pub fn given_value(
         RefusalNumber::S7,
         first_of(expr),
     ))?;
-    as_type(alloc, value_type, value)
+    Ok(as_type(alloc, value_type, value)?)
 }

@@ -24,7 +24,7 @@ pub(crate) fn infixed_both(
     ensures { (of_left : Judged model.Typed) (of_right : Judged model.Typed) → Answers typed_view left of_left → Answers typed_view right of_right → Answers typed_view result (operands.infixed_both operator of_left of_right) }
 {
     let (left, right) = both(left, right)?;
-    infixed(alloc, operator, left, right)
+    Ok(infixed(alloc, operator, left, right)?)
 }
 
 /// `test ? first : second`.
@@ -41,5 +41,5 @@ pub(crate) fn chosen_of(
     ensures { (of_test : Judged model.Typed) (of_first : Judged model.Typed) (of_second : Judged model.Typed) → Answers typed_view test of_test → Answers typed_view first of_first → Answers typed_view second of_second → Answers typed_view result (operands.chosen_of of_test of_first of_second) }
 {
     let (test, (first, second)) = both(test, both(first, second))?;
-    chosen_by(alloc, test, first, second)
+    Ok(chosen_by(alloc, test, first, second)?)
 }
