@@ -1,7 +1,6 @@
 //! What it costs to pass arguments.
-ghost use Rattle.std.specs.Prelude.{◌≡◌, ◌&&◌, ◌||◌, IfErr, IfOk, None, Some, if◌then◌else◌, map, not, option_map};
+ghost use Rattle.std.specs.Prelude.{◌≡◌, ◌&&◌, ◌||◌, IfOk, None, Some, if◌then◌else◌, map, not, option_map};
 ghost use Rattle.gang_model.specs.Types.Overloads as overloads;
-ghost use Rattle.source_answers.specs.declared.fault.SourceFault.TheVariants.{Memory};
 ghost use Rattle.ispc_parser.specs.Tree.{param_view};
 ghost use Rattle.type_check_scopes.specs.Entries.{entry_view};
 ghost use Rattle.type_check_scopes.specs.Passings.{passing_view};
@@ -9,8 +8,7 @@ ghost use Rattle.type_check_values.specs.Views.{typed_view};
 
 use gang_types::{IntType, is_bool, is_signed, width};
 use ispc_parser::Param;
-use source_answers::SourceFault;
-use std::alloc::Global;
+use std::alloc::{AllocError, Global};
 use type_check_scopes::{Entry, Passing};
 use type_check_values::{Typed, declared_rate, declared_type, may_become, same_rate, same_type};
 
@@ -94,9 +92,8 @@ pub(crate) fn costs(
     alloc: Global,
     given: &[Passing],
     params: &[Param],
-) -> Result<Option<Vec<u8>>, SourceFault>
+) -> Result<Option<Vec<u8>>, AllocError>
     ensures costs { IfOk result (λ prices. option_map (λ p. p.items) prices ≡ overloads.costs (map passing_view given.now) (map param_view params.now)) }
-    ensures memory { IfErr result (λ fault. fault ≡ Memory) }
 {
     if given.len() != params.len() {
         return Ok(None);

@@ -1,9 +1,8 @@
 //! Which function a call means.
-ghost use Rattle.std.specs.Prelude.{◌≡◌, ◌++◌, [], IfErr, IfOk, None, OnOk, if◌then◌else◌, map, option_map, sum};
+ghost use Rattle.std.specs.Prelude.{◌≡◌, ◌++◌, [], IfOk, None, OnOk, if◌then◌else◌, map, option_map, sum};
 ghost use Rattle.std.specs.List.{list_all};
 ghost use Rattle.gang_model.specs.Source.Names.{same_text};
 ghost use Rattle.gang_model.specs.Types.Overloads as overloads;
-ghost use Rattle.source_answers.specs.declared.fault.SourceFault.TheVariants.{Memory};
 ghost use Rattle.ispc_parser.specs.Tree.{function_view, param_view};
 ghost use Rattle.source_answers.specs.Answers.{Answers};
 ghost use Rattle.type_check_scopes.specs.Passings.{passing_view};
@@ -16,7 +15,7 @@ use gang_types::Place;
 use ispc_names_scopes::is_same;
 use ispc_parser::Function;
 use source_answers::SourceFault;
-use std::alloc::Global;
+use std::alloc::{AllocError, Global};
 use type_check_scopes::Passing;
 
 /// A function that takes the arguments, by its number in the source, with what they cost.
@@ -33,10 +32,9 @@ fn function_costs(
     function: &Function,
     name: &[u8],
     given: &[Passing],
-) -> Result<Option<Vec<u8>>, SourceFault>
+) -> Result<Option<Vec<u8>>, AllocError>
     ensures costs { IfOk result (λ prices. option_map (λ p. p.items) prices
         ≡ if same_text (function_view function.now).name name.now then overloads.costs (map passing_view given.now) (function_view function.now).params else None) }
-    ensures memory { IfErr result (λ fault. fault ≡ Memory) }
 {
     if is_same(&function.name, name) {
         costs(alloc, given, &function.params)
@@ -51,10 +49,9 @@ fn add_candidate<'a>(
     number: usize,
     function: &'a Function,
     prices: Option<Vec<u8>>,
-) -> Result<(), SourceFault>
+) -> Result<(), AllocError>
     ensures added { OnOk result (map candidate_view possible.new.items
         ≡ map candidate_view possible.old.items ++ overloads.candidate number (function_view function.now) (option_map (λ p. p.items) prices) []) }
-    ensures memory { IfErr result (λ fault. fault ≡ Memory) }
 {
     match prices {
         Some(prices) => {
@@ -75,10 +72,9 @@ pub(crate) fn candidates<'a>(
     functions: &[&'a Function],
     name: &[u8],
     given: &[Passing],
-) -> Result<Vec<Candidate<'a>>, SourceFault>
+) -> Result<Vec<Candidate<'a>>, AllocError>
     ensures candidates { IfOk result (λ possible. map candidate_view possible.items
         ≡ overloads.candidates 0 (map (λ f. function_view f.now) functions.now) name.now (map passing_view given.now)) }
-    ensures memory { IfErr result (λ fault. fault ≡ Memory) }
 {
     let mut possible = Vec::new(alloc);
     for (number, function) in functions.iter().enumerate() {

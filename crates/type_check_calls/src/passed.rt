@@ -1,7 +1,6 @@
 //! What calls pass.
-ghost use Rattle.std.specs.Prelude.{◌≡◌, ◌++◌, [], IfErr, IfOk, OnOk, map};
+ghost use Rattle.std.specs.Prelude.{◌≡◌, ◌++◌, [], IfOk, OnOk, map};
 ghost use Rattle.gang_model.specs.Types.Overloads as overloads;
-ghost use Rattle.source_answers.specs.declared.fault.SourceFault.TheVariants.{Memory};
 ghost use Rattle.ispc_parser.specs.Tree.{param_view};
 ghost use Rattle.type_check_scopes.specs.Passings.{passing_view};
 ghost use Rattle.typed_tree.specs.Views.{arg_view, option_view};
@@ -9,8 +8,7 @@ ghost use Rattle.type_check_calls.specs.Parts as parts;
 
 use gang_types::VarId;
 use ispc_parser::Param;
-use source_answers::SourceFault;
-use std::alloc::Global;
+use std::alloc::{AllocError, Global};
 use type_check_scopes::Passing;
 use type_check_values::{as_type, declared_rate, declared_type};
 use typed_tree::{Arg, Var};
@@ -21,9 +19,8 @@ fn passed_arg(
     number: usize,
     argument: Passing,
     param: &Param,
-) -> Result<Option<Arg>, SourceFault>
+) -> Result<Option<Arg>, AllocError>
     ensures passed { IfOk result (λ arg. option_view arg_view arg ≡ parts.passed_arg number (passing_view argument.entry) (param_view param.now)) }
-    ensures memory { IfErr result (λ fault. fault ≡ Memory) }
 {
     match argument {
         Passing::Scalar { value, .. } => {
@@ -47,9 +44,8 @@ fn passed_arg(
 }
 
 /// Adds what is passed, if anything is.
-fn add_arg(args: &mut Vec<Arg>, arg: Option<Arg>) -> Result<(), SourceFault>
+fn add_arg(args: &mut Vec<Arg>, arg: Option<Arg>) -> Result<(), AllocError>
     ensures added { OnOk result (map arg_view args.new.items ≡ map arg_view args.old.items ++ parts.with_arg (option_view arg_view arg) []) }
-    ensures memory { IfErr result (λ fault. fault ≡ Memory) }
 {
     match arg {
         Some(arg) => {
@@ -65,9 +61,8 @@ pub(crate) fn passed_args(
     alloc: Global,
     given: Vec<Passing>,
     params: &[Param],
-) -> Result<Vec<Arg>, SourceFault>
+) -> Result<Vec<Arg>, AllocError>
     ensures passed { IfOk result (λ args. map arg_view args.items ≡ overloads.passed_args 0 (map passing_view given.entry.items) (map param_view params.now)) }
-    ensures memory { IfErr result (λ fault. fault ≡ Memory) }
 {
     let mut args = Vec::new(alloc);
     for (number, (argument, param)) in given.into_iter().zip(params).enumerate() {

@@ -1,5 +1,5 @@
 //! Calls of the functions of the source.
-ghost use Rattle.std.specs.Prelude.{◌≡◌, IfErr, IfOk, map};
+ghost use Rattle.std.specs.Prelude.{◌≡◌, IfOk, map};
 ghost use Rattle.gang_model.specs.Types.Calls as calls;
 ghost use Rattle.gang_model.specs.Types.Signatures as signatures;
 ghost use Rattle.source_answers.specs.Answers.{Answers};
@@ -7,7 +7,6 @@ ghost use Rattle.type_check_scopes.specs.Passings.{passing_view};
 ghost use Rattle.typed_tree.specs.Views.{result_view};
 ghost use Rattle.type_check_calls.specs.Calls.{called_view, context_view};
 ghost use Rattle.type_check_calls.specs.Candidates.{called_function, candidate_view};
-ghost use Rattle.source_answers.specs.declared.fault.SourceFault.TheVariants.{Memory};
 
 use crate::calls::Called;
 use crate::context::Context;
@@ -16,7 +15,7 @@ use crate::passed::passed_args;
 use gang_model::Spec;
 use gang_types::{IntType, Place, Rate};
 use source_answers::SourceFault;
-use std::alloc::Global;
+use std::alloc::{AllocError, Global};
 use type_check_scopes::Passing;
 use type_check_values::declared_rate;
 use typed_tree::{ResultFor, Stmt};
@@ -38,9 +37,8 @@ fn meant_call(
     given: Vec<Passing>,
     result_for: ResultFor,
     step: usize,
-) -> Result<Called, SourceFault>
+) -> Result<Called, AllocError>
     ensures called { IfOk result (λ called. called_view called ≡ called_function (map passing_view given.entry.items) (result_view result_for) step (candidate_view meant.now)) }
-    ensures memory { IfErr result (λ fault. fault ≡ Memory) }
 {
     let args = passed_args(alloc, given, &meant.function.params)?;
     Ok(Called {
@@ -72,5 +70,5 @@ pub(crate) fn user_call(
 {
     let possible = candidates(alloc, context.functions, name, &given)?;
     let meant = overload(place, &possible)?;
-    meant_call(alloc, meant, given, result_for, step)
+    Ok(meant_call(alloc, meant, given, result_for, step)?)
 }

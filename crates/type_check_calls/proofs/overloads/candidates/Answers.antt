@@ -16,7 +16,7 @@ loop-number-preserved c =
     (ap (map (λ f. function_view f.now)) (next_item functions i c.index-functions-number.result (omega arith) c.index-functions-number.is))
     c.in_ok-prices.ensures.costs c.in_ok-add_candidate.ensures.added c.loop-number.invariant
 
-pub returns-clause-candidates : goal.returns-clause-candidates
-returns-clause-candidates c =
-    candidates_end _ c.loop-number.number _ c.args.name.now (map passing_view c.args.given.now) (map candidate_view c.loop-number.possible.items)
-    (at_drop_all (map (λ f. function_view f.now)) c.args.functions.now c.loop-number.number (omega arith)) c.loop-number.invariant
+pub returns : goal.returns
+returns c =
+    record { candidates = candidates_end _ c.loop-number.number _ c.args.name.now (map passing_view c.args.given.now) (map candidate_view c.loop-number.possible.items)
+    (at_drop_all (map (λ f. function_view f.now)) c.args.functions.now c.loop-number.number (omega arith)) c.loop-number.invariant }

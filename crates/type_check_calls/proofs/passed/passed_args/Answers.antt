@@ -23,12 +23,12 @@ loop-number-preserved c =
     (c.in-Some.number, (c.in-Some.argument, c.in-Some.param)) c.in-Some.is c.next.ensures.steps)
     c.in_ok-arg.ensures.passed c.in_ok-add_arg.ensures.added c.loop-number.invariant
 
-pub returns-clause-passed : goal.returns-clause-passed
-returns-clause-passed c =
+pub returns : goal.returns
+returns c =
     let items = enumerate_from 0 (zip c.args.given.items c.args.params.now) in
     let road =
     YieldsList-from_enumerate {s = c.into_iter-number-iterator.result}
     (YieldsList-from_zip (YieldsList-from_vec c.args.given.items (cc) (cc)) (YieldsList-from_slice c.args.params.now (cc))) (cc) in
-    args_end _ (map arg_view c.loop-number.args.items) _ items (length c.loop-number.yielded)
+    record { passed = args_end _ (map arg_view c.loop-number.args.items) _ items (length c.loop-number.yielded)
     (YieldsList-end road c.loop-number.yielded c.loop-number.number-iterator c.loop-number.yielded_by c.next.result c.next.new.self c.in-None.is c.next.ensures.steps) c.loop-number.invariant
-    ∙ sym (paired 0 c.args.given.items c.args.params.now)
+    ∙ sym (paired 0 c.args.given.items c.args.params.now) }
