@@ -23,7 +23,7 @@ pub fn test_of(alloc: Global, scope: &TypeScope, test: &Expr) -> Result<TypedExp
     ensures { Answers typed.expr_view result (model.test_of scope.now.entries (Some (expr_view test.now))) }
 {
     let value = expression(alloc, test, scope)?;
-    as_bool(alloc, value)
+    Ok(as_bool(alloc, value)?)
 }
 
 /// The test of a `for`; an empty one is true.

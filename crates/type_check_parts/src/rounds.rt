@@ -18,7 +18,7 @@ use crate::numbering::advanced;
 use gang_types::{IntType, Rate, VarId};
 use ispc_parser::Dim;
 use source_answers::{Answer, SourceFault, both, both_answers, set_apart};
-use std::alloc::Global;
+use std::alloc::{AllocError, Global};
 use type_check_expressions::given_value;
 use type_check_scopes::{TypeScope, index_variable};
 use typed_tree::{Dimension, Var};
@@ -47,10 +47,9 @@ fn dimension(
 fn one_more(
     first: Answer<Vec<Dimension>>,
     next: Answer<Dimension>,
-) -> Result<Answer<Vec<Dimension>>, SourceFault>
+) -> Result<Answer<Vec<Dimension>>, AllocError>
     ensures more { IfOk result (λ answer. seen (λ ds. map dimension_view ds.items) answer
         ≡ first_dimensions (seen (λ ds. map dimension_view ds.items) first) (seen dimension_view next)) }
-    ensures memory { IfErr result (λ fault. fault ≡ Memory) }
 {
     match both_answers(first, next) {
         Ok((mut dimensions, next)) => {
@@ -89,14 +88,9 @@ pub fn dimensions(
 /// # Errors
 ///
 /// Out of memory.
-pub fn declare_indices(
-    alloc: Global,
-    dims: &[Dim],
-    scope: &mut TypeScope,
-) -> Result<(), SourceFault>
+pub fn declare_indices(alloc: Global, dims: &[Dim], scope: &mut TypeScope) -> Result<(), AllocError>
     ensures entries { OnOk result (scope.new.entries ≡ model.index_entries (length scope.old.locals) (map dim_view dims.now) scope.old.entries) }
     ensures locals { OnOk result (scope.new.locals ≡ scope.old.locals ++ model.index_variables (length scope.old.locals) (map dim_view dims.now)) }
-    ensures memory { IfErr result (λ fault. fault ≡ Memory) }
 {
     for dim in dims {
         let id = VarId::Local(scope.next());
