@@ -1,5 +1,6 @@
 pub mod Makes
 pub mod Typed
 pub mod Changes
+pub mod Indices
 pub mod Rows
 pub mod Sequences

@@ -1,5 +1,5 @@
 //! The rounds of `foreach`: its bounds and its index variables.
-ghost use Rattle.std.specs.Prelude.{◌≡◌, ◌++◌, IfErr, IfOk, OnOk, length, map};
+ghost use Rattle.std.specs.Prelude.{◌≡◌, ◌++◌, IfErr, IfOk, OnErr, OnOk, length, map};
 ghost use Rattle.gang_types.specs.declared.types.IntType.TheVariants as int_type;
 ghost use Rattle.gang_types.specs.declared.types.Rate.TheVariants.{Uniform};
 ghost use Rattle.ispc_parser_expressions.specs.Tree.{expr_view};
@@ -12,6 +12,7 @@ ghost use Rattle.ispc_parser.specs.Tree.{dim_view};
 ghost use Rattle.typed_tree.specs.Views.{dimension_view};
 ghost use Rattle.source_answers.specs.Answers.{Answers};
 ghost use Rattle.source_answers.specs.Apart.{seen};
+ghost use Rattle.type_check_parts.specs.Indices.{FirstDeclared};
 ghost use Rattle.type_check_parts.specs.Rows.{dimension_of, first_dimensions};
 
 use crate::numbering::advanced;
@@ -87,10 +88,11 @@ pub fn dimensions(
 ///
 /// # Errors
 ///
-/// Out of memory.
+/// Out of memory; the first of them may be declared then, and nothing else has changed.
 pub fn declare_indices(alloc: Global, dims: &[Dim], scope: &mut TypeScope) -> Result<(), AllocError>
     ensures entries { OnOk result (scope.new.entries ≡ model.index_entries (length scope.old.locals) (map dim_view dims.now) scope.old.entries) }
     ensures locals { OnOk result (scope.new.locals ≡ scope.old.locals ++ model.index_variables (length scope.old.locals) (map dim_view dims.now)) }
+    ensures begun { OnErr result (FirstDeclared (map dim_view dims.now) scope.old.entries scope.new.entries scope.old.locals scope.new.locals) }
 {
     for dim in dims {
         let id = VarId::Local(scope.next());
