@@ -93,7 +93,7 @@ fn variables_of_functions(alloc: Global) -> Result<bool, SourceFault> {
     scope.declare(alloc, b"a", first)?;
     let second = local(scope.next(), IntType::Bool);
     scope.declare(alloc, b"b", second)?;
-    let locals = scope.take_locals(alloc)?;
+    let locals = scope.take_locals(alloc);
     let [a, b] = locals.as_slice() else {
         return Ok(false);
     };

@@ -1,8 +1,7 @@
 //! Types of operations and literals, and conversions.
 use gang_model::Infix;
 use gang_types::{BinaryOp, IntType, Rate, UnaryOp};
-use source_answers::SourceFault;
-use std::alloc::Global;
+use std::alloc::{AllocError, Global};
 use std::test::*;
 use type_check_values::{Typed, as_type, chosen_by, infixed, joined, literal_type, prefixed};
 use typed_tree::Expr;
@@ -16,19 +15,19 @@ fn number(value_type: IntType, rate: Rate) -> Typed {
 }
 
 /// The type and the rate of a value.
-fn kind(made: Result<Typed, SourceFault>) -> Result<(IntType, Rate), SourceFault> {
+fn kind(made: Result<Typed, AllocError>) -> Result<(IntType, Rate), AllocError> {
     made.map(|made| (made.value_type, made.rate))
 }
 
 /// The type and the rate of a sum of a uniform and a varying value.
-fn sum(alloc: Global, left: IntType, right: IntType) -> Result<(IntType, Rate), SourceFault> {
+fn sum(alloc: Global, left: IntType, right: IntType) -> Result<(IntType, Rate), AllocError> {
     let left = number(left, Rate::Uniform);
     let right = number(right, Rate::Varying);
     kind(infixed(alloc, Infix::Op(BinaryOp::Add), left, right))
 }
 
 /// Whether a value of the first type is converted when it is given the second.
-fn is_converted(alloc: Global, from: IntType, to: IntType) -> Result<bool, SourceFault> {
+fn is_converted(alloc: Global, from: IntType, to: IntType) -> Result<bool, AllocError> {
     as_type(alloc, to, number(from, Rate::Uniform)).map(|made| matches!(made, Expr::Convert { .. }))
 }
 

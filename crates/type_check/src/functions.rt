@@ -1,9 +1,8 @@
 //! Functions.
-ghost use Rattle.std.specs.Prelude.{◌≡◌, [], OnOk, IfErr, IfOk, map};
+ghost use Rattle.std.specs.Prelude.{◌≡◌, [], OnOk, IfOk, map};
 ghost use Rattle.gang_model.specs.Source.Parsed.{ParsedSource, functions_in, globals_in};
 ghost use Rattle.gang_model.specs.Types.Resolved as model;
 ghost use Rattle.gang_model.specs.Names.Scope.{file_scope, standings_of};
-ghost use Rattle.source_answers.specs.declared.fault.SourceFault.TheVariants.{Memory};
 ghost use Rattle.ispc_parser.specs.Tree as parsed;
 ghost use Rattle.ispc_names.specs.Tables.{AreTablesOf};
 ghost use Rattle.ispc_names_table.specs.Scopes.{standings_view};
@@ -17,7 +16,7 @@ use gang_types::{IntType, Rate, VarId};
 use ispc_names_table::StepScopes;
 use ispc_parser::{Function as ParsedFunction, Param};
 use source_answers::{SourceFault, both, least, refuse};
-use std::alloc::Global;
+use std::alloc::{AllocError, Global};
 use type_check_calls::Context;
 use type_check_scopes::{TypeScope, declared_with};
 use type_check_statements::typed_body;
@@ -31,11 +30,10 @@ struct Body {
 }
 
 /// Declares the parameters, which are the function's first variables.
-fn declare_params(alloc: Global, params: &[Param], scope: &mut TypeScope) -> Result<(), SourceFault>
+fn declare_params(alloc: Global, params: &[Param], scope: &mut TypeScope) -> Result<(), AllocError>
     requires { scope.old.locals ≡ [] }
     ensures entries { OnOk result (scope.new.entries ≡ model.param_entries 0 (map parsed.param_view params.now) scope.old.entries) }
     ensures locals { OnOk result (scope.new.locals ≡ model.param_variables 0 (map parsed.param_view params.now)) }
-    ensures memory { IfErr result (λ fault. fault ≡ Memory) }
 {
     for param in params {
         let id = VarId::Local(scope.next());
@@ -65,7 +63,7 @@ fn body_of(
     match typed_body(alloc, &function.body, &context, scope) {
         Ok(statements) => {
             scope.leave(mark);
-            let variables = scope.take_locals(alloc)?;
+            let variables = scope.take_locals(alloc);
             Ok(Body {
                 statements,
                 variables,
@@ -85,9 +83,8 @@ fn function_with(
     function: &ParsedFunction,
     body: Body,
     scopes: StepScopes,
-) -> Result<Function, SourceFault>
+) -> Result<Function, AllocError>
     ensures typed { IfOk result (λ made. typed.function_view made ≡ with_body (parsed.function_view function.now) (body_view body) (standings_view scopes)) }
-    ensures memory { IfErr result (λ fault. fault ≡ Memory) }
 {
     let no_result = (IntType::Int32, Rate::Uniform);
     let (result_type, result) = result_of(function.spec).unwrap_or(no_result);
@@ -119,7 +116,7 @@ fn typed_function(
     let signature = refuse(signature_fault(function));
     let body = body_of(alloc, functions, function, scope);
     let (_, body) = both(signature, body)?;
-    function_with(alloc, function, body, scopes)
+    Ok(function_with(alloc, function, body, scopes)?)
 }
 
 /// The functions in the typed tree, where the file-scope variables are in scope.

@@ -1,10 +1,9 @@
 //! File-scope variables.
-ghost use Rattle.std.specs.Prelude.{◌≡◌, IfErr, IfOk, map};
+ghost use Rattle.std.specs.Prelude.{◌≡◌, IfOk, map};
 ghost use Rattle.gang_model.specs.declared.forms.GlobalForm.TheVariants.{Initial};
 ghost use Rattle.gang_model.specs.Source.Judged.{least_fault};
 ghost use Rattle.gang_model.specs.Types.Resolved as model;
 ghost use Rattle.gang_model.specs.Types.TypeFaults as faults;
-ghost use Rattle.source_answers.specs.declared.fault.SourceFault.TheVariants.{Memory};
 ghost use Rattle.ispc_parser.specs.Tree as parsed;
 ghost use Rattle.typed_tree.specs.Views as typed;
 ghost use Rattle.source_answers.specs.Answers.{Answers};
@@ -14,7 +13,7 @@ use gang_model::{GlobalForm, Literal, SourceRefusal};
 use gang_types::{IntType, UnaryOp, VarId, convert, unary};
 use ispc_parser::GlobalVariable;
 use source_answers::{SourceFault, least, refuse};
-use std::alloc::Global;
+use std::alloc::{AllocError, Global};
 use type_check_scopes::{TypeScope, declared_with};
 use type_check_values::{declared_rate, declared_type, literal_type};
 use typed_tree::{Global as TypedGlobal, Variable};
@@ -88,9 +87,8 @@ fn typed_global(
     alloc: Global,
     number: usize,
     global: &GlobalVariable,
-) -> Result<TypedGlobal, SourceFault>
+) -> Result<TypedGlobal, AllocError>
     ensures typed { IfOk result (λ made. typed.global_view made ≡ model.global_of number (parsed.global_view global.now)) }
-    ensures memory { IfErr result (λ fault. fault ≡ Memory) }
 {
     let value_type = declared_type(global.spec.value_type);
     let variable = Variable {
@@ -134,9 +132,8 @@ pub(crate) fn typed_globals(
 pub(crate) fn declared_globals(
     alloc: Global,
     globals: &[&GlobalVariable],
-) -> Result<TypeScope, SourceFault>
+) -> Result<TypeScope, AllocError>
     ensures entries { IfOk result (λ scope. scope.entries ≡ model.global_entries 0 (map (λ g. parsed.global_view g.now) globals.now)) }
-    ensures memory { IfErr result (λ fault. fault ≡ Memory) }
 {
     let mut scope = TypeScope::new(alloc);
     for later in 0..globals.len() {

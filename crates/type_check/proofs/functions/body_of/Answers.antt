@@ -29,8 +29,8 @@ leave-requires-in-Err-Refused c =
     answered c.in_ok-declare_params.ensures.entries c.deref.ensures.value c.begin_function.ensures.entries)
     c.mark-mark.ensures
 
-pub returns-in_ok-variables-in-Ok-clause-body : goal.returns-in_ok-variables-in-Ok-clause-body
-returns-in_ok-variables-in-Ok-clause-body c =
+pub returns-in-Ok-clause-body : goal.returns-in-Ok-clause-body
+returns-in-Ok-clause-body c =
     let f = c.args.function.now in
     let functions = views c.args.functions.now in
     let file = c.args.scope.now.entries in
@@ -43,13 +43,13 @@ returns-in_ok-variables-in-Ok-clause-body c =
     (params-in_scope c.deref.result.now f.params.items file c.begin_function.new.self.entries declared.entries declared.entries refl c.in_ok-declare_params.ensures.entries c.deref.ensures.value c.begin_function.ensures.entries)
     locals_are in
     body-made (λ made. typed.stmts_view made.items) functions (parsed.function_view f) file c.in-Ok.statements declared.locals c.typed_body.new.scope.locals
-    (map typed.variable_view c.in_ok-variables-in-Ok.variables.items) (statements body context declared.entries (length declared.locals) 0) c.in-Ok.ensures.makes judged locals_are
-    (c.in_ok-variables-in-Ok.ensures.taken ∙ c.leave.ensures.locals)
+    (map typed.variable_view c.take_locals-variables.result.items) (statements body context declared.entries (length declared.locals) 0) c.in-Ok.ensures.makes judged locals_are
+    (c.take_locals-variables.ensures.taken ∙ c.leave.ensures.locals)
 
-pub returns-in_ok-variables-in-Ok-clause-entries : goal.returns-in_ok-variables-in-Ok-clause-entries
-returns-in_ok-variables-in-Ok-clause-entries c =
+pub returns-in-Ok-clause-entries : goal.returns-in-Ok-clause-entries
+returns-in-Ok-clause-entries c =
     let f = c.args.function.now in
-    c.take_locals.ensures.entries ∙ (c.leave.ensures.entries
+    c.take_locals-variables.ensures.entries ∙ (c.leave.ensures.entries
     ∙ left_again (map parsed.param_view f.params.items) c.args.scope.now.entries c.typed_body.new.scope.entries c.mark-mark.result.declared
     (params-in_scope c.deref.result.now f.params.items c.args.scope.now.entries c.begin_function.new.self.entries c.declare_params.new.scope.entries c.typed_body.new.scope.entries
     c.in-Ok.ensures.entries c.in_ok-declare_params.ensures.entries c.deref.ensures.value c.begin_function.ensures.entries)
