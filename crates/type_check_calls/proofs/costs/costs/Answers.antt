@@ -29,13 +29,17 @@ returns-in-None c =
     let given = c.args.given.now in
     let params = c.args.params.now in
     let i = c.loop-number.number in
-    record { costs = costs_stop _ _ (map passing_view (drop (i + 1) given)) _ (map param_view (drop (i + 1) params)) (passing_view c.index-given-number.result) (param_view c.index-params-number.result)
-    c.loop-number.prices.items
-    (ap (map passing_view) (next_item given i c.index-given-number.result (omega arith) c.index-given-number.is))
-    (ap (map param_view) (next_item params i c.index-params-number.result (omega arith) c.index-params-number.is))
-    c.in-None.ensures c.loop-number.invariant }
+    record {
+      costs = costs_stop _ _ (map passing_view (drop (i + 1) given)) _ (map param_view (drop (i + 1) params)) (passing_view c.index-given-number.result) (param_view c.index-params-number.result)
+          c.loop-number.prices.items
+          (ap (map passing_view) (next_item given i c.index-given-number.result (omega arith) c.index-given-number.is))
+          (ap (map param_view) (next_item params i c.index-params-number.result (omega arith) c.index-params-number.is))
+          c.in-None.ensures c.loop-number.invariant;
+    }
 
 pub returns : goal.returns
 returns c =
-    record { costs = costs_end _ _ _ c.loop-number.prices.items (at_drop_all (map passing_view) c.args.given.now c.loop-number.number (omega arith))
-    (at_drop_all (map param_view) c.args.params.now c.loop-number.number (omega arith)) c.loop-number.invariant }
+    record {
+      costs = costs_end _ _ _ c.loop-number.prices.items (at_drop_all (map passing_view) c.args.given.now c.loop-number.number (omega arith))
+          (at_drop_all (map param_view) c.args.params.now c.loop-number.number (omega arith)) c.loop-number.invariant;
+    }

@@ -18,5 +18,7 @@ loop-number-preserved c =
 
 pub returns : goal.returns
 returns c =
-    record { candidates = candidates_end _ c.loop-number.number _ c.args.name.now (map passing_view c.args.given.now) (map candidate_view c.loop-number.possible.items)
-    (at_drop_all (map (λ f. function_view f.now)) c.args.functions.now c.loop-number.number (omega arith)) c.loop-number.invariant }
+    record {
+      candidates = candidates_end _ c.loop-number.number _ c.args.name.now (map passing_view c.args.given.now) (map candidate_view c.loop-number.possible.items)
+          (at_drop_all (map (λ f. function_view f.now)) c.args.functions.now c.loop-number.number (omega arith)) c.loop-number.invariant;
+    }

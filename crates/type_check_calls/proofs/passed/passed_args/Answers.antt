@@ -29,6 +29,8 @@ returns c =
     let road =
     YieldsList-from_enumerate {s = c.into_iter-number-iterator.result}
     (YieldsList-from_zip (YieldsList-from_vec c.args.given.items (cc) (cc)) (YieldsList-from_slice c.args.params.now (cc))) (cc) in
-    record { passed = args_end _ (map arg_view c.loop-number.args.items) _ items (length c.loop-number.yielded)
-    (YieldsList-end road c.loop-number.yielded c.loop-number.number-iterator c.loop-number.yielded_by c.next.result c.next.new.self c.in-None.is c.next.ensures.steps) c.loop-number.invariant
-    ∙ sym (paired 0 c.args.given.items c.args.params.now) }
+    record {
+      passed = args_end _ (map arg_view c.loop-number.args.items) _ items (length c.loop-number.yielded)
+          (YieldsList-end road c.loop-number.yielded c.loop-number.number-iterator c.loop-number.yielded_by c.next.result c.next.new.self c.in-None.is c.next.ensures.steps) c.loop-number.invariant
+          ∙ sym (paired 0 c.args.given.items c.args.params.now);
+    }
