@@ -9,7 +9,7 @@ use Rattle.gang_model.specs.declared.refusals.SourceRefusal.{SourceRefusal}
 use Rattle.gang_model.specs.Source.Judged.{Judged, Sound, Faulty, faults_of, unless, both, ◌>>=◌, or_own, rank, is_less, lesser, least_of, least_fault, answer_of, fault_if, merged, or_later, both_answers, then_answer}
 
 -- the order on a line, a column and a number
-abbrev below : (l c n l' c' n' : ℕ) → Bool
+abbrev pub below : (l c n l' c' n' : ℕ) → Bool
 below l c n l' c' n' = nat_lt l l' || ((l == l') && nat_lt c c') || (((l == l') && (c == c')) && nat_lt n n')
 
 not_below_trans : (l c n l' c' n' l'' c'' n'' : ℕ) → below l c n l' c' n' ≡ false → below l' c' n' l'' c'' n'' ≡ false → below l c n l'' c'' n'' ≡ false

@@ -6,7 +6,7 @@ use Rattle.gang_types.specs.declared.faults.FaultName.{FaultName}
 use Rattle.gang_types.specs.declared.types.Rate.{Rate}
 use Rattle.gang_types.specs.declared.types.Rate.TheVariants.{Uniform, Varying}
 use Rattle.gang_types.specs.Lanes.{Lanes, has}
-use Rattle.gang_model.specs.Running.Lanes.{Fault, ◌>>=◌, words_from, each, one_lane, in_lane, tried_from, try_each, at}
+use Rattle.gang_model.specs.Running.Lanes.{Fault, ◌>>=◌, words_from, each, merged, one_lane, in_lane, tried_from, try_each, at}
 use Rattle.gang_model.specs.Types.Tree.{Expr, Number, ProgramIndex, ProgramCount, LaneMask, Read, Element, Unary, Binary, Convert, And, Or, Choice, Reduce, Scan, OfOne, OfTwo, Extract, Insert, Rotate, Shift, Shuffle, ShuffleTwo, Select}
 use Rattle.gang_model.specs.Running.State.{State, seen}
 use Rattle.gang_model.specs.Running.Value.{value}
@@ -26,6 +26,12 @@ length-words_from k (b ∷ lanes) f = ap suc (length-words_from (suc k) lanes f)
 
 pub length-each : (lanes : Lanes) (f : ℕ → ℕ) → Fills lanes (each lanes f)
 length-each lanes f = length-words_from 0 lanes f
+
+pub length-merged : (lanes : Lanes) (new old : List ℕ) → length new ≡ length lanes → length old ≡ length lanes → length (merged lanes new old) ≡ length lanes
+length-merged [] new old e f = refl
+length-merged (b ∷ lanes) [] old e f = absurd (omega arith)
+length-merged (b ∷ lanes) (x ∷ new) [] e f = absurd (omega arith)
+length-merged (b ∷ lanes) (x ∷ new) (y ∷ old) e f = ap suc (length-merged lanes new old (omega arith) (omega arith))
 
 any_ok : {A : Type 0} (r : Result A Fault) → IfOk r (λ x. Unit {0})
 any_ok (Ok x) = tt

@@ -9,6 +9,7 @@ pub mod PlacedPrograms
 pub mod PlacedStmts
 pub mod RefusalLaws
 pub mod RoundLanes
+pub mod SameTexts
 pub mod ScopeLaws
 pub mod ScopedCalls
 pub mod ScopedExprs

@@ -1,5 +1,5 @@
 -- Each round of a foreach form has as many lanes as the gang.
-use Rattle.std.proofs.Common.{◌≡◌, refl, ap, ◌∙◌, ℕ, zero, suc, List, [], ◌∷◌, ◌++◌, length}
+use Rattle.std.proofs.Common.{◌≡◌, refl, ap, ◌∙◌, ℕ, zero, suc, List, [], ◌∷◌, length}
 use Rattle.std.specs.Prelude.{IfOk, map, flat_map, is_some, ℤ}
 use Rattle.std.proofs.lemmas.List.{length-map}
 use Rattle.gang_types.specs.Lanes.{Lanes}
@@ -10,30 +10,22 @@ use Rattle.gang_model.specs.Running.State.{State}
 use Rattle.gang_model.specs.Running.Value.{value}
 use Rattle.gang_model.specs.Running.Rounds.{Turn, Slots, range, starts, product, padded, chunks, after_index, row_slots, counted, tile, tile_rows, tile_columns, tile_slots, turn, bounds_of, distinct, rounds}
 use Rattle.gang_model.proofs.LaneWords.{if_ok_after}
+use Rattle.gang_model.proofs.StandingLaws.{Each, each_join}
 
 -- ---- lists whose parts all have one property
 
--- P holds of each element
-abbrev pub Every : {A : Type 0} → (A → Type 0) → List A → Type 0
-Every P [] = Unit {0}
-Every P (x ∷ xs) = P x × Every P xs
+pub each-map : {A B : Type 0} (P : B → Type 0) (f : A → B) → ((x : A) → P (f x)) → (xs : List A) → Each P (map f xs)
+each-map P f h [] = tt
+each-map P f h (x ∷ xs) = (h x, each-map P f h xs)
 
-pub every-append : {A : Type 0} (P : A → Type 0) (xs ys : List A) → Every P xs → Every P ys → Every P (xs ++ ys)
-every-append P [] ys h k = k
-every-append P (x ∷ xs) ys h k = (h.0, every-append P xs ys h.1 k)
-
-pub every-map : {A B : Type 0} (P : B → Type 0) (f : A → B) → ((x : A) → P (f x)) → (xs : List A) → Every P (map f xs)
-every-map P f h [] = tt
-every-map P f h (x ∷ xs) = (h x, every-map P f h xs)
-
-pub every-flat_map : {A B : Type 0} (P : B → Type 0) (f : A → List B) → ((x : A) → Every P (f x)) → (xs : List A) → Every P (flat_map f xs)
-every-flat_map P f h [] = tt
-every-flat_map P f h (x ∷ xs) = every-append P (f x) (flat_map f xs) (h x) (every-flat_map P f h xs)
+pub each-flat_map : {A B : Type 0} (P : B → Type 0) (f : A → List B) → ((x : A) → Each P (f x)) → (xs : List A) → Each P (flat_map f xs)
+each-flat_map P f h [] = tt
+each-flat_map P f h (x ∷ xs) = each_join P (f x) (flat_map f xs) (h x) (each-flat_map P f h xs)
 
 -- what holds of each element holds of what a function makes of each
-pub every-of : {A B : Type 0} (P : A → Type 0) (Q : B → Type 0) (f : A → B) → ((x : A) → P x → Q (f x)) → (xs : List A) → Every P xs → Every Q (map f xs)
-every-of P Q f h [] k = tt
-every-of P Q f h (x ∷ xs) k = (h x k.0, every-of P Q f h xs k.1)
+pub each-of : {A B : Type 0} (P : A → Type 0) (Q : B → Type 0) (f : A → B) → ((x : A) → P x → Q (f x)) → (xs : List A) → Each P xs → Each Q (map f xs)
+each-of P Q f h [] k = tt
+each-of P Q f h (x ∷ xs) k = (h x k.0, each-of P Q f h xs k.1)
 
 -- ---- the index values of rounds
 
@@ -53,27 +45,27 @@ length-counted k (suc n) = ap suc (length-counted (suc k) n)
 behind_index : (size : ℕ) (i : ℤ) (slots : Slots) → HasSlots size slots → HasSlots size (map (after_index i) slots)
 behind_index size i slots h = length-map slots (after_index i) ∙ h
 
-rows_filled : (size : ℕ) (bounds : List (ℤ × ℤ)) → Every (HasSlots size) (row_slots size bounds)
+rows_filled : (size : ℕ) (bounds : List (ℤ × ℤ)) → Each (HasSlots size) (row_slots size bounds)
 rows_filled size [] = tt
-rows_filled size (last ∷ []) = every-map (HasSlots size) (padded size) (length-padded size) (chunks size (product (last ∷ [])))
+rows_filled size (last ∷ []) = each-map (HasSlots size) (padded size) (length-padded size) (chunks size (product (last ∷ [])))
 rows_filled size (bounds ∷ next ∷ rest) =
-    every-flat_map (HasSlots size) (λ i. map (map (after_index i)) (row_slots size (next ∷ rest)))
-    (λ i. every-of (HasSlots size) (HasSlots size) (map (after_index i)) (behind_index size i) (row_slots size (next ∷ rest)) (rows_filled size (next ∷ rest)))
+    each-flat_map (HasSlots size) (λ i. map (map (after_index i)) (row_slots size (next ∷ rest)))
+    (λ i. each-of (HasSlots size) (HasSlots size) (map (after_index i)) (behind_index size i) (row_slots size (next ∷ rest)) (rows_filled size (next ∷ rest)))
     (range bounds.0 bounds.1)
 
 tile_filled : (size : ℕ) (row high_row column high_column : ℤ) → HasSlots size (tile size row high_row column high_column)
 tile_filled size row high_row column high_column = length-map (counted 0 size) _ ∙ length-counted 0 size
 
-tiles_filled : (size : ℕ) (bounds : List (ℤ × ℤ)) → Every (HasSlots size) (tile_slots size bounds)
+tiles_filled : (size : ℕ) (bounds : List (ℤ × ℤ)) → Each (HasSlots size) (tile_slots size bounds)
 tiles_filled size [] = tt
 tiles_filled size (one ∷ []) = rows_filled size (one ∷ [])
 tiles_filled size (rows ∷ columns ∷ []) =
-    every-flat_map (HasSlots size) (λ row. map (λ column. tile size row rows.1 column columns.1) (starts (tile_columns size) columns.0 columns.1))
-    (λ row. every-map (HasSlots size) (λ column. tile size row rows.1 column columns.1) (λ column. tile_filled size row rows.1 column columns.1) (starts (tile_columns size) columns.0 columns.1))
+    each-flat_map (HasSlots size) (λ row. map (λ column. tile size row rows.1 column columns.1) (starts (tile_columns size) columns.0 columns.1))
+    (λ row. each-map (HasSlots size) (λ column. tile size row rows.1 column columns.1) (λ column. tile_filled size row rows.1 column columns.1) (starts (tile_columns size) columns.0 columns.1))
     (starts (tile_rows size) rows.0 rows.1)
 tiles_filled size (bounds ∷ next ∷ third ∷ rest) =
-    every-flat_map (HasSlots size) (λ i. map (map (after_index i)) (tile_slots size (next ∷ third ∷ rest)))
-    (λ i. every-of (HasSlots size) (HasSlots size) (map (after_index i)) (behind_index size i) (tile_slots size (next ∷ third ∷ rest)) (tiles_filled size (next ∷ third ∷ rest)))
+    each-flat_map (HasSlots size) (λ i. map (map (after_index i)) (tile_slots size (next ∷ third ∷ rest)))
+    (λ i. each-of (HasSlots size) (HasSlots size) (map (after_index i)) (behind_index size i) (tile_slots size (next ∷ third ∷ rest)) (tiles_filled size (next ∷ third ∷ rest)))
     (range bounds.0 bounds.1)
 
 -- ---- rounds
@@ -82,15 +74,15 @@ tiles_filled size (bounds ∷ next ∷ third ∷ rest) =
 abbrev pub IsRoundOf : ℕ → Turn → Type 0
 IsRoundOf size turn = length turn.lanes ≡ size
 
-turns_filled : (size : ℕ) (ds : List Dimension) (rounds : List Slots) → Every (HasSlots size) rounds → Every (IsRoundOf size) (map (turn ds) rounds)
-turns_filled size ds rounds h = every-of (HasSlots size) (IsRoundOf size) (turn ds) (λ slots k. length-map slots is_some ∙ k) rounds h
+turns_filled : (size : ℕ) (ds : List Dimension) (rounds : List Slots) → Each (HasSlots size) rounds → Each (IsRoundOf size) (map (turn ds) rounds)
+turns_filled size ds rounds h = each-of (HasSlots size) (IsRoundOf size) (turn ds) (λ slots k. length-map slots is_some ∙ k) rounds h
 
 -- each round has a lane for each of the gang
-pub length-rounds : (form : RoundsOf) (lanes : Lanes) (state : State) → IfOk (rounds form lanes state) (Every (IsRoundOf (length lanes)))
+pub length-rounds : (form : RoundsOf) (lanes : Lanes) (state : State) → IfOk (rounds form lanes state) (Each (IsRoundOf (length lanes)))
 length-rounds (Rows ds) lanes state =
     if_ok_after _ (bounds_of ds lanes state) _ (λ bounds. turns_filled (length lanes) ds (row_slots (length lanes) bounds) (rows_filled (length lanes) bounds))
 length-rounds (Tiles ds) lanes state =
     if_ok_after _ (bounds_of ds lanes state) _ (λ bounds. turns_filled (length lanes) ds (tile_slots (length lanes) bounds) (tiles_filled (length lanes) bounds))
-length-rounds (EachLane i) lanes state = every-map (IsRoundOf (length lanes)) _ (λ k. length-lanes_from 0 (length lanes) _) (members lanes)
+length-rounds (EachLane i) lanes state = each-map (IsRoundOf (length lanes)) _ (λ k. length-lanes_from 0 (length lanes) _) (members lanes)
 length-rounds (EachValue v e) lanes state =
-    if_ok_after _ (value e lanes state) _ (λ x. every-map (IsRoundOf (length lanes)) _ (λ w. length-lanes_where lanes _) (distinct [] (map (at x) (members lanes))))
+    if_ok_after _ (value e lanes state) _ (λ x. each-map (IsRoundOf (length lanes)) _ (λ w. length-lanes_where lanes _) (distinct [] (map (at x) (members lanes))))

@@ -19,7 +19,8 @@ use Rattle.gang_model.specs.Debugger.Events.{Event, Step, Poke, Poked, WholeOf, 
 use Rattle.std.proofs.lemmas.List.{length-replicate}
 use Rattle.gang_model.proofs.LaneWords.{if_ok_after, if_ok_bind}
 use Rattle.gang_types.specs.LaneLaws.{length-without, length-lanes_where}
-use Rattle.gang_model.proofs.RoundLanes.{Every, IsRoundOf, length-rounds}
+use Rattle.gang_model.proofs.RoundLanes.{IsRoundOf, length-rounds}
+use Rattle.gang_model.proofs.StandingLaws.{Each}
 
 -- each task has so many lanes
 abbrev pub TasksSized : ℕ → List Task → Type 0
@@ -124,7 +125,7 @@ module _ (w : ℕ) where
   sized-store [] state h = h
   sized-store (entry ∷ store) state h = sized-store store _ (sized-words state entry.0 entry.1 h)
 
-  sized-round_tasks : (number : StepNumber) (body : Stmt) (turns : List Turn) → Every (IsRoundOf w) turns → TasksSized w (round_tasks number body turns)
+  sized-round_tasks : (number : StepNumber) (body : Stmt) (turns : List Turn) → Each (IsRoundOf w) turns → TasksSized w (round_tasks number body turns)
   sized-round_tasks number body [] h = tt
   sized-round_tasks number body (turn ∷ turns) h = (h.0, sized-round_tasks number body turns h.1)
 
@@ -154,8 +155,8 @@ module _ (w : ℕ) where
   sized-run p (Break number) lanes state l h = sized-tasks _ (sized-broken lanes) state h
   sized-run p (Continue number) lanes state l h = sized-tasks _ (sized-continued lanes) state h
   sized-run p (Return number e) lanes state l h = then_state (initial e lanes state) _ (λ x. sized-first _ state.frames (λ frame f. sized-returned _ lanes x frame f) h)
-  sized-run p (ForEach number form body) lanes state l h = if_ok_bind (Every (IsRoundOf w)) (StateSized w) (rounds form lanes state) _
-      (subst (λ n. IfOk (rounds form lanes state) (Every (IsRoundOf n))) l (length-rounds form lanes state))
+  sized-run p (ForEach number form body) lanes state l h = if_ok_bind (Each (IsRoundOf w)) (StateSized w) (rounds form lanes state) _
+      (subst (λ n. IfOk (rounds form lanes state) (Each (IsRoundOf n))) l (length-rounds form lanes state))
       (λ turns t. sized-first_do _ (sized-round_tasks (round_number number body) body turns t) state h)
   sized-run p (Call number n args for) lanes state l h = then_state (passed args lanes state) _ (λ arguments. go (slice_get p.functions n) arguments)
     where

@@ -22,7 +22,7 @@ use Rattle.gang_model.proofs.LaneWords.{if_ok_after}
 
 -- ---- lists of tasks
 
-first_past : (doing : Doing) (n : ℕ) → first_number doing n ≤ past_number doing n
+pub first_past : (doing : Doing) (n : ℕ) → first_number doing n ≤ past_number doing n
 first_past (Run s) n = omega arith
 first_past (LoopUpdate s) n = omega arith
 first_past (LoopTest number e u b) n = omega arith
@@ -30,7 +30,7 @@ first_past (Round number i b) n = omega arith
 first_past RoundEnd n = omega arith
 first_past SwitchEnd n = omega arith
 
-sooner : (from from' : ℕ) (ts : List Task) (to : ℕ) → from' ≤ from → InOrder from ts to → InOrder from' ts to
+pub sooner : (from from' : ℕ) (ts : List Task) (to : ℕ) → from' ≤ from → InOrder from ts to → InOrder from' ts to
 sooner from from' [] to h o = omega (arith, h, o)
 sooner from from' (t ∷ ts) to h o = (o.0, omega (arith, h, o.1), o.2, o.3)
 
@@ -38,7 +38,7 @@ later : (from : ℕ) (ts : List Task) (to to' : ℕ) → to ≤ to' → InOrder 
 later from [] to to' h o = omega (arith, h, o)
 later from (t ∷ ts) to to' h o = (o.0, o.1, o.2, later (past_number t.doing o.0) ts to to' h o.3)
 
-joined : (from : ℕ) (xs : List Task) (mid : ℕ) (ys : List Task) (to : ℕ) → InOrder from xs mid → InOrder mid ys to → InOrder from (xs ++ ys) to
+pub joined : (from : ℕ) (xs : List Task) (mid : ℕ) (ys : List Task) (to : ℕ) → InOrder from xs mid → InOrder mid ys to → InOrder from (xs ++ ys) to
 joined from [] mid ys to a b = sooner mid from ys to a b
 joined from (t ∷ xs) mid ys to a b = (a.0, a.1, a.2, joined (past_number t.doing a.0) xs mid ys to a.3 b)
 
@@ -74,7 +74,7 @@ either : (b : Bool) (xs ys : List Task) (from to : ℕ) → InOrder from xs to �
 either true xs ys from to x y = x
 either false xs ys from to x y = y
 
-settled_in : (ts : List Task) (from to : ℕ) → InOrder from ts to → InOrder from (settled ts) to
+pub settled_in : (ts : List Task) (from to : ℕ) → InOrder from ts to → InOrder from (settled ts) to
 settled_in [] from to h = h
 settled_in (t ∷ ts) from to h =
     let rest : InOrder from (settled ts) to = sooner (past_number t.doing h.0) from (settled ts) to (omega (arith, h.1, first_past t.doing h.0)) (settled_in ts (past_number t.doing h.0) to h.3) in
@@ -82,16 +82,16 @@ settled_in (t ∷ ts) from to h =
     (before_rest (opened_task t.doing t.lanes) ts (settled ts) from (past_number t.doing h.0) to
     (sooner (first_number t.doing h.0) from _ (past_number t.doing h.0) h.1 (opened_task_in t.doing t.lanes h.0 h.2)) h.3 rest)
 
-leaves_in : (lanes : Lanes) (ts : List Task) (from to : ℕ) → InOrder from ts to → InOrder from (map (leaves_task lanes) ts) to
+pub leaves_in : (lanes : Lanes) (ts : List Task) (from to : ℕ) → InOrder from ts to → InOrder from (map (leaves_task lanes) ts) to
 leaves_in lanes [] from to h = h
 leaves_in lanes (t ∷ ts) from to h = (h.0, h.1, h.2, leaves_in lanes ts (past_number t.doing h.0) to h.3)
 
-broken_in : (lanes : Lanes) (ts : List Task) (from to : ℕ) → InOrder from ts to → InOrder from (broken lanes ts) to
+pub broken_in : (lanes : Lanes) (ts : List Task) (from to : ℕ) → InOrder from ts to → InOrder from (broken lanes ts) to
 broken_in lanes [] from to h = h
 broken_in lanes (t ∷ ts) from to h =
     (h.0, h.1, h.2, either (ends_break t.doing) ts _ (past_number t.doing h.0) to h.3 (broken_in lanes ts (past_number t.doing h.0) to h.3))
 
-continued_in : (lanes : Lanes) (ts : List Task) (from to : ℕ) → InOrder from ts to → InOrder from (continued lanes ts) to
+pub continued_in : (lanes : Lanes) (ts : List Task) (from to : ℕ) → InOrder from ts to → InOrder from (continued lanes ts) to
 continued_in lanes [] from to h = h
 continued_in lanes (t ∷ ts) from to h =
     either (ends_turn t.doing) (t ∷ ts) _ from to h (h.0, h.1, h.2, continued_in lanes ts (past_number t.doing h.0) to h.3)
@@ -100,7 +100,7 @@ rounds_in : (number : StepNumber) (body : Stmt) (turns : List Turn) (n : ℕ) �
 rounds_in number body [] n e h = omega arith
 rounds_in number body (turn ∷ turns) n e h = (n, omega arith, (e, h), rounds_in number body turns n e h)
 
-segments_in : (i : ℕ) (s : Stmt) (lanes : Lanes) (entry : ℕ → Option ℕ) (n : ℕ) → IsNumbered n s → InOrder n (segment_tasks i s lanes entry) (n + steps_of s)
+pub segments_in : (i : ℕ) (s : Stmt) (lanes : Lanes) (entry : ℕ → Option ℕ) (n : ℕ) → IsNumbered n s → InOrder n (segment_tasks i s lanes entry) (n + steps_of s)
 segments_in i (Segment label body rest) lanes entry n h =
     (n, omega arith, h.0, later (n + steps_of body) _ (n + steps_of body + steps_of rest) (n + (steps_of body + steps_of rest)) (omega arith) (segments_in (suc i) rest lanes entry (n + steps_of body) h.1))
 segments_in i s lanes entry n h = omega arith

@@ -1,7 +1,8 @@
 -- What follows for the variables of a function: they are numbered in the order of the source, and what is in scope at a step of
 -- the typed tree is what `Scope` lists there.
 use Rattle.std.proofs.Common.{true≢false, ℕ, zero, suc, ◌+◌, Bool, true, false, List, [], ◌∷◌, ◌++◌, ◌≡◌, refl, sym, ◌∙◌, ap, subst, arith, length, length-append}
-use Rattle.std.specs.Prelude.{is_some, map, Option, Some, None, slice_get, slice_index_or, if◌then◌else◌}
+use Rattle.std.specs.Prelude.{is_some, map, Some, slice_get, slice_index_or, if◌then◌else◌}
+use Rattle.std.proofs.lemmas.Option.{same_Some}
 use Rattle.gang_types.specs.declared.places.VarId.{VarId}
 use Rattle.gang_types.specs.declared.places.VarId.TheVariants.{File, Local}
 use Rattle.gang_model.specs.Types.Tree.{Variable, Standing, Function, Program}
@@ -101,7 +102,8 @@ function_numbers f =
     consecutive_join 0 (length f.params) (param_bindings 0 f.params) (bindings_in_all f.body (length f.params)) (params_numbers f.params 0).0 (params_numbers f.params 0).1
     (subst (λ m. Consecutive m (bindings_in_all f.body (length f.params))) (omega arith) (bindings_numbers_all f.body (length f.params)).1)
 
-abbrev number_in : VarId → ℕ
+-- the number of a variable in its list
+abbrev pub number_in : VarId → ℕ
 number_in (File k) = k
 number_in (Local k) = k
 
@@ -178,18 +180,11 @@ pub params_bound : (k : ℕ) (params : List ParsedParam) → variable_bindings (
 params_bound k [] = refl
 params_bound k (p ∷ params) = ap (λ bs. bound p.name (Local k) ∷ bs) (params_bound (suc k) params)
 
-some_same : {A : Type 0} (x y : A) → Some x ≡ Some y → x ≡ y
-some_same x y e = ap (unwrap_or_of x) e
-  where
-    unwrap_or_of : {A : Type 0} → A → Option A → A
-    unwrap_or_of d None = d
-    unwrap_or_of d (Some z) = z
-
 -- the variable with a number is the one that is declared with it
 variable_found : (variables : List Variable) (k : ℕ) (b : Binding) (d : Variable) → slice_get (variable_bindings variables) k ≡ Some b
     → bound (slice_index_or variables k d).name (slice_index_or variables k d).id ≡ b
 variable_found [] k b d e = absurd (true≢false (sym (ap is_some e)))
-variable_found (v ∷ variables) zero b d e = some_same (bound v.name v.id) b e
+variable_found (v ∷ variables) zero b d e = same_Some (bound v.name v.id) b e
 variable_found (v ∷ variables) (suc k) b d e = variable_found variables k b d e
 
 local_found : (variables : List Variable) (table : List Binding) (b : Binding) → variable_bindings variables ≡ table → Found table b
@@ -263,7 +258,7 @@ program_right source =
     (on_any (judged_globals 0 (globals_in source))) (functions_right source (functions_in source)) (λ g typed _ right. right)
 
 pub on_some : {A : Type 0} (j : Judged A) (P : A → Type 0) (a : A) → OnSound j P → sound_part j ≡ Some a → P a
-on_some (Sound b) P a p e = subst P (some_same b a e) p
+on_some (Sound b) P a p e = subst P (same_Some b a e) p
 on_some (Faulty first others) P a p e = absurd (true≢false (sym (ap is_some e)))
 
 -- the typed tree of a source without faults has each function's steps, numbered in running order, with the places and the
@@ -276,7 +271,7 @@ numbered_from : (source : ParsedSource) (functions : List ParsedFunction) (typed
 numbered_from source [] [] right n g e = absurd (true≢false (sym (ap is_some e)))
 numbered_from source [] (h ∷ typed) right n g e = absurd right
 numbered_from source (f ∷ functions) [] right n g e = absurd right
-numbered_from source (f ∷ functions) (h ∷ typed) right zero g e = subst (λ x. IsNumbered 0 x.body) (some_same h g e) right.0.1
+numbered_from source (f ∷ functions) (h ∷ typed) right zero g e = subst (λ x. IsNumbered 0 x.body) (same_Some h g e) right.0.1
 numbered_from source (f ∷ functions) (h ∷ typed) right (suc n) g e = numbered_from source functions typed right.1 n g e
 
 -- the steps of the typed tree are numbered in the order in which they run

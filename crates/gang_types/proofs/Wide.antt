@@ -7,7 +7,7 @@ use Rattle.std.proofs.lemmas.Bool.Decides.{nat_tests}
 use Rattle.std.proofs.Math.Nat.{div-le_self}
 use Rattle.gang_types.specs.declared.types.IntType.{IntType}
 use Rattle.gang_types.specs.Values.{is_bool, is_signed, value_of, wrapped, word_of, residue}
-use Rattle.gang_types.specs.Laws.{value_zero, narrowed, wrapped_word, wrapped_is_truth}
+use Rattle.gang_types.specs.Laws.{not_zero, value_zero, narrowed, wrapped_word, wrapped_is_truth}
 
 pub value_signed : (ty : IntType) (a : ℕ) → is_signed ty ≡ true → value_of ty a ≡ cast_signed w64 a
 unfolding value_of
@@ -17,14 +17,11 @@ pub value_unsigned : (ty : IntType) (a : ℕ) → is_signed ty ≡ false → val
 unfolding value_of
 value_unsigned ty a e = ap (λ b. cond b (cast_signed w64 a) (pos a)) e
 
-not_zero : (n : ℕ) → 0 < n → nat_eq n 0 ≡ false
-not_zero n h = grind (arith, nat_tests)
-
 pub bits_zero : (v : ℤ) → unsigned_abs v ≤ 2 ^ 127 → nat_eq (unsigned_abs v) 0 ≡ nat_eq (cast_unsigned w128 v) 0
 bits_zero (pos n) h = refl
 bits_zero (negsuc n) h = not_zero (suc n) (omega arith) ∙ sym (not_zero (2 ^ 128 - suc n) (omega arith))
 
-positive_from : (n : ℕ) → nat_eq n 0 ≡ false → 0 < n
+pub positive_from : (n : ℕ) → nat_eq n 0 ≡ false → 0 < n
 positive_from n e = grind (arith, nat_tests)
 
 -- a value of a word that is not 0, as the divisor of an `i128`

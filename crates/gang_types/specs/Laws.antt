@@ -353,7 +353,7 @@ unfolding binary_of
 mul_integer ty a b p h k = wrapped_integer ty (value_of ty a *ℤ value_of ty b) ((a * b) % 2 ^ 64) p (mul_words ty a b h k)
 
 -- at bool a sum, a difference and a product are 0 where these words are
-or_zero : (a b : ℕ) → nat_eq (a + b) 0 ≡ nat_eq (bit_or a b) 0
+pub or_zero : (a b : ℕ) → nat_eq (a + b) 0 ≡ nat_eq (bit_or a b) 0
 or_zero a b = grind (arith, nat_tests, or_is_zero a b, le_or_l a b, le_or_r a b)
   where
     or_is_zero : (a b : ℕ) → a + b ≡ 0 → bit_or a b ≡ 0

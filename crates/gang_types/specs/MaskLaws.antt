@@ -7,7 +7,12 @@ use Rattle.std.proofs.lemmas.Simd.{bit_mask_l, mask_l-lt}
 use Rattle.std.proofs.lemmas.Nat.Bits.{bit_at-lt, bit_at_and, bit_at_ones, bit_at_ones_above, same_from_bits}
 use Rattle.gang_types.specs.Lanes.{Lanes, has}
 use Rattle.gang_types.specs.LaneLaws.{same_lanes, has_past, length-lanes_from, has-lanes_from}
-use Rattle.gang_types.specs.Masks.{lanes_of_word, word_of_lanes}
+use Rattle.gang_types.specs.Masks.{IsGangWidth, lanes_of_word, word_of_lanes}
+
+pub gang_width-le : (w : ℕ) → IsGangWidth w → w ≤ 16
+gang_width-le w (inl e) = omega arith
+gang_width-le w (inr (inl e)) = omega arith
+gang_width-le w (inr (inr e)) = omega arith
 
 bit_back : (b : ℕ) → b < 2 → cond (nat_eq b 1) 1 0 ≡ b
 bit_back zero h = refl

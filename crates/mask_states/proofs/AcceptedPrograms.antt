@@ -22,9 +22,7 @@ use Rattle.mask_states.specs.Points.{closing_number}
 use Rattle.mask_states.specs.Stands.{IsWhole, AreLowerable}
 use Rattle.mask_states.proofs.WholeStmts.{MadeWhole, statements_whole}
 use Rattle.mask_states.proofs.CalledFunctions.{program_of-calls}
-
-some_same : {A : Type 0} (x y : A) → Some x ≡ Some y → x ≡ y
-some_same x y e = cc
+use Rattle.std.proofs.lemmas.Option.{same_Some}
 
 -- ---- no segment outside of a switch
 
@@ -48,7 +46,7 @@ functions_whole source (f ∷ functions) =
 
 whole_at : (functions : List Function) → AreWhole functions → (n : ℕ) (f : Function) → slice_get functions n ≡ Some f → IsWhole f.body
 whole_at [] h n f e = absurd (true≢false (sym (ap is_some e)))
-whole_at (g ∷ functions) h zero f e = subst (λ x. IsWhole x.body) (some_same g f e) h.0
+whole_at (g ∷ functions) h zero f e = subst (λ x. IsWhole x.body) (same_Some g f e) h.0
 whole_at (g ∷ functions) h (suc n) f e = whole_at functions h.1 n f e
 
 -- in the typed tree of a source without faults of types no segment stands outside of a switch
@@ -64,7 +62,7 @@ program_of-whole source p e =
 placed_at : (names : List Name) (functions : List Function) → FunctionsPlaced names functions
     → (n : ℕ) (f : Function) → slice_get functions n ≡ Some f → StmtPlaced (in_function names) f.body
 placed_at names [] h n f e = absurd (true≢false (sym (ap is_some e)))
-placed_at names (g ∷ functions) h zero f e = subst (λ x. StmtPlaced (in_function names) x.body) (some_same g f e) h.0
+placed_at names (g ∷ functions) h zero f e = subst (λ x. StmtPlaced (in_function names) x.body) (same_Some g f e) h.0
 placed_at names (g ∷ functions) h (suc n) f e = placed_at names functions h.1 n f e
 
 -- ---- standings
@@ -84,7 +82,7 @@ standings_at source [] [] right n g e = absurd (true≢false (sym (ap is_some e)
 standings_at source [] (h ∷ typed) right n g e = absurd right
 standings_at source (f ∷ functions) [] right n g e = absurd right
 standings_at source (f ∷ functions) (h ∷ typed) right zero g e =
-    subst (λ x. length x.standings ≡ closing_number x + 1) (some_same h g e) (function_standings source f h right.0)
+    subst (λ x. length x.standings ≡ closing_number x + 1) (same_Some h g e) (function_standings source f h right.0)
 standings_at source (f ∷ functions) (h ∷ typed) right (suc n) g e = standings_at source functions typed right.1 n g e
 
 -- in the typed tree of a source without faults of types a function has a standing for each step and for its closing brace

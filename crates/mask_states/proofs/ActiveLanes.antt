@@ -15,7 +15,7 @@ use Rattle.mask_states.specs.Masked.{Level, next_in, next_waiting}
 use Rattle.mask_states.specs.Stands.{own, waits, ways_before, DoingFits, IsStepStmt, IsStep, BeginsWithStep, TasksStand}
 use Rattle.mask_states.proofs.OwnTasks.{by_bool, own_here, own_away}
 use Rattle.mask_states.proofs.LaneNumbers.{length-waiting_for, has-waiting_for, least_at_most, least_below, least_above}
-use Rattle.mask_states.proofs.LevelOrder.{first_past}
+use Rattle.gang_model.proofs.TaskOrder.{first_past}
 use Rattle.mask_states.proofs.Replaced.{fits_first}
 use Rattle.mask_states.proofs.Settling.{settled_begins, settled_stands}
 

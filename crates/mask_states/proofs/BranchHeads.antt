@@ -11,7 +11,7 @@ use Rattle.mask_states.specs.Placed.{HasPoint}
 use Rattle.mask_states.specs.Masked.{Level, sent_in}
 use Rattle.mask_states.specs.Stands.{own, waits, Fits, TasksStand}
 use Rattle.mask_states.proofs.OwnTasks.{by_bool, own_here, own_away}
-use Rattle.mask_states.proofs.LevelOrder.{sooner}
+use Rattle.gang_model.proofs.TaskOrder.{sooner}
 use Rattle.mask_states.proofs.Replaced.{replaced, fits_first, fits_rest}
 
 -- ---- the lanes of a set that pass a test

@@ -7,6 +7,7 @@ use Rattle.gang_model.specs.Source.Parsed.{ParsedFunction, ParsedSource, functio
 use Rattle.gang_model.specs.Types.Resolved.{param_variables, program_of}
 use Rattle.gang_model.proofs.ScopedPrograms.{table_of, FunctionScoped, FunctionsScoped, program_of-scoped}
 use Rattle.mask_states.specs.Stands.{CallsFound}
+use Rattle.std.proofs.lemmas.Option.{same_Some}
 
 -- a statement whose calls have their parameters in a table calls the functions that the table is of
 pub calls_found : (table : Table) (functions : List Function)
@@ -46,10 +47,7 @@ scoped_at : (source : ParsedSource) (functions : List ParsedFunction) (typed : L
 scoped_at source [] [] scoped n g e = absurd (true≢false (sym (ap is_some e)))
 scoped_at source [] (h ∷ typed) scoped n g e = absurd scoped
 scoped_at source (f ∷ functions) [] scoped n g e = absurd scoped
-scoped_at source (f ∷ functions) (h ∷ typed) scoped zero g e = (f, subst (FunctionScoped source f) (some_same h g e) scoped.0)
-  where
-    some_same : (x y : Function) → Some x ≡ Some y → x ≡ y
-    some_same x y d = cc
+scoped_at source (f ∷ functions) (h ∷ typed) scoped zero g e = (f, subst (FunctionScoped source f) (same_Some h g e) scoped.0)
 scoped_at source (f ∷ functions) (h ∷ typed) scoped (suc n) g e = scoped_at source functions typed scoped.1 n g e
 
 -- in the typed tree of a source without faults of types each call names one of its functions

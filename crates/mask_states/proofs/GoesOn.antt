@@ -13,6 +13,7 @@ use Rattle.mask_states.specs.Stands.{IsPending, FrameStands, FramesStand, Levels
 use Rattle.mask_states.proofs.Bones.{Bone, bone, bones}
 use Rattle.mask_states.proofs.UntaskedWrites.{untasked_settle}
 use Rattle.mask_states.proofs.Levels.{Settles, settle_levels}
+use Rattle.std.proofs.lemmas.Option.{same_Some}
 
 -- ---- levels stand for what a frame has to do, whatever its variables hold
 
@@ -36,16 +37,13 @@ abbrev pub maker : Option Frame → Option Bone
 maker None = None
 maker (Some frame) = Some (without_tasks (bone frame))
 
-same_some : (b c : Bone) → Some b ≡ Some c → b ≡ c
-same_some b c e = cc
-
 pending_same : (above above' : Option Frame) (frame frame' : Frame) (all : List Task) → maker above ≡ maker above' → bone frame ≡ bone frame'
     → IsPending above frame.tasks all → IsPending above' frame'.tasks all
 pending_same None None frame frame' all e d p = p ∙ ap (λ c. c.tasks) d
 pending_same None (Some above') frame frame' all e d p = absurd cc
 pending_same (Some above) None frame frame' all e d p = absurd cc
 pending_same (Some above) (Some above') frame frame' all e d p =
-    subst (λ c. IsPendingCall c frame'.tasks all) (same_some (without_tasks (bone above)) (without_tasks (bone above')) e) (subst (λ c. IsPendingCall (without_tasks (bone above)) c.tasks all) d p)
+    subst (λ c. IsPendingCall c frame'.tasks all) (same_Some (without_tasks (bone above)) (without_tasks (bone above')) e) (subst (λ c. IsPendingCall (without_tasks (bone above)) c.tasks all) d p)
 
 module _ (p : Program) (w : ℕ) where
   frame_same : (above above' : Option Frame) (frame frame' : Frame) (levels : List Level) → maker above ≡ maker above' → bone frame ≡ bone frame'

@@ -9,7 +9,8 @@ use Rattle.gang_model.specs.Running.Rounds.{Turn, rounds}
 use Rattle.gang_model.specs.Running.Value.{value}
 use Rattle.gang_model.specs.Running.Step.{settle, with_tasks, first_do, round_number, round_tasks, run}
 use Rattle.gang_model.proofs.StateLanes.{StateSized}
-use Rattle.gang_model.proofs.RoundLanes.{Every, IsRoundOf, length-rounds}
+use Rattle.gang_model.proofs.RoundLanes.{IsRoundOf, length-rounds}
+use Rattle.gang_model.proofs.StandingLaws.{Each}
 use Rattle.mask_states.specs.Points.{Put, Go, Branch, Choose, Begin, points_in}
 use Rattle.mask_states.specs.Masked.{Level, sent_in, closed, begun}
 use Rattle.mask_states.specs.MaskedStep.{untasked, act, segment_of, chosen}
@@ -89,7 +90,7 @@ module _ (p : Program) (w : ℕ) (f : Function) (memory : Store) (frame : Frame)
 
   -- ---- foreach forms
 
-  sized_turns : (turns : List Turn) (n : ℕ) → n ≡ w → Every (IsRoundOf n) turns → AreSized w turns
+  sized_turns : (turns : List Turn) (n : ℕ) → n ≡ w → Each (IsRoundOf n) turns → AreSized w turns
   sized_turns [] n e h = tt
   sized_turns (turn ∷ turns) n e h = (h.0 ∙ e, sized_turns turns n e h.1)
 
@@ -105,7 +106,7 @@ module _ (p : Program) (w : ℕ) (f : Function) (memory : Store) (frame : Frame)
       (r >>= (λ turns. Ok (record { state = untasked (out more); levels = closed (begun end turns level.numbers ∷ sent_in lanes (λ k. next) level ∷ below) ∷ [] }))) rest)
       (sym (untasked_rounds form lanes (out more)))
       (alike_after p w old (rounds form lanes (out more)) _ _ rest (λ turns got sized.
-      let all : AreSized w turns = sized_turns turns (length lanes) e (if_ok_at (Every (IsRoundOf (length lanes))) (rounds form lanes (out more)) turns got (length-rounds form lanes (out more))) in
+      let all : AreSized w turns = sized_turns turns (length lanes) e (if_ok_at (Each (IsRoundOf (length lanes))) (rounds form lanes (out more)) turns got (length-rounds form lanes (out more))) in
       let new = begins turns all in
       let outer = join_levels f w (sent_in lanes (λ k. next) level) below back more behind stand (behind_numbers f w level _ below back behind stands_behind) in
       goes_on p w f frame frames (begun end turns level.numbers) (sent_in lanes (λ k. next) level ∷ below) rest (round_tasks end body turns ++ (more ++ behind)) (first_do (round_tasks end body turns) (out more))

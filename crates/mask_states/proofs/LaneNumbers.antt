@@ -6,18 +6,12 @@ use Rattle.std.proofs.lemmas.List.{length-map}
 use Rattle.gang_types.specs.Lanes.{Lanes, has}
 use Rattle.gang_model.specs.Running.Lanes.{each, merged, at}
 use Rattle.gang_model.specs.Types.Tree.{StepNumber}
-use Rattle.gang_model.proofs.LaneWords.{length-each}
+use Rattle.gang_model.proofs.LaneWords.{length-each, length-merged}
 use Rattle.gang_model.proofs.UniformValues.{at-each}
 use Rattle.mask_states.specs.Masked.{least, waiting_for, sent}
 use Rattle.mask_states.proofs.OwnTasks.{none_true}
 
 -- ---- numbers sent on
-
-length-merged : (lanes : Lanes) (new old : List ℕ) → length new ≡ length lanes → length old ≡ length lanes → length (merged lanes new old) ≡ length lanes
-length-merged [] new old e f = refl
-length-merged (b ∷ lanes) [] old e f = absurd (omega arith)
-length-merged (b ∷ lanes) (x ∷ new) [] e f = absurd (omega arith)
-length-merged (b ∷ lanes) (x ∷ new) (y ∷ old) e f = ap suc (length-merged lanes new old (omega arith) (omega arith))
 
 at-merged_in : (lanes : Lanes) (new old : List ℕ) (k : ℕ) → length new ≡ length lanes → length old ≡ length lanes → has lanes k ≡ true → at (merged lanes new old) k ≡ at new k
 at-merged_in [] new old k e f h = absurd (none_true h)

@@ -1,5 +1,5 @@
 -- Lanes that leave by `break`, `continue` and `return`: what they have still to do, and that the others have what they had.
-use Rattle.std.proofs.Common.{◌≡◌, refl, sym, ap, ◌∙◌, subst, ℕ, Bool, true, false, List, [], ◌∷◌, ◌++◌, Option, Some, None}
+use Rattle.std.proofs.Common.{◌≡◌, refl, sym, ap, ◌∙◌, subst, ℕ, Bool, true, false, List, [], ◌∷◌, ◌++◌, Option, Some}
 use Rattle.std.specs.Prelude.{not, ◌&&◌, map, if◌then◌else◌}
 use Rattle.gang_types.specs.Lanes.{Lanes, has, without}
 use Rattle.gang_types.specs.LaneLaws.{has-without}
@@ -10,6 +10,7 @@ use Rattle.mask_states.specs.Points.{Point}
 use Rattle.mask_states.specs.Stands.{own, waits, after_break, after_continue, Fits, in_first, AreNested}
 use Rattle.mask_states.proofs.OwnTasks.{by_bool, own_here, own_away}
 use Rattle.mask_states.proofs.Replaced.{fits_rest}
+use Rattle.std.proofs.lemmas.Option.{same_Some, none-some}
 
 -- ---- one task
 
@@ -26,12 +27,6 @@ both_of : (a b : Bool) → (a && not b) ≡ true → (a ≡ true) × (b ≡ fals
 both_of true true h = absurd cc
 both_of true false h = (refl, refl)
 both_of false b h = absurd cc
-
-same_some : (m n : StepNumber) → Some m ≡ Some n → m ≡ n
-same_some m n e = cc
-
-none_some : (n : StepNumber) → None ≡ Some n → ⊥
-none_some n e = cc
 
 -- a lane outside the set that leaves is where it was; one of that set is not left; one that is left was there and does not leave
 pub has_stays : (lanes out : Lanes) (k : ℕ) → has out k ≡ false → has (without lanes out) k ≡ has lanes k
@@ -123,19 +118,19 @@ leaves_out k lanes (t ∷ ts) h = own_stays k lanes t ts (map (leaves_task lanes
 
 pub broken_waits : (end : StepNumber) (k : ℕ) (lanes : Lanes) (ts : List Task) (n : StepNumber) → has lanes k ≡ true → in_first ends_break k ts ≡ true
     → after_break end (own k ts) ≡ Some n → waits end (own k (broken lanes ts)) ≡ n
-broken_waits end k lanes [] n h i a = absurd (none_some n a)
+broken_waits end k lanes [] n h i a = absurd (none-some n a)
 broken_waits end k lanes (t ∷ ts) n h i a = by_bool (ends_break t.doing)
     (λ e. ap (λ l. waits end (own k l)) (broken_last lanes t ts e) ∙ ap (waits end) (own_left k lanes t ts h)
-    ∙ same_some (waits end (own k ts)) n (sym (after_break_here end k t ts (sym (first_here ends_break k t ts e) ∙ i) e) ∙ a))
+    ∙ same_Some (waits end (own k ts)) n (sym (after_break_here end k t ts (sym (first_here ends_break k t ts e) ∙ i) e) ∙ a))
     (λ e. ap (λ l. waits end (own k l)) (broken_past lanes t ts e) ∙ ap (waits end) (own_left k lanes t (broken lanes ts) h)
     ∙ broken_waits end k lanes ts n h (sym (first_later ends_break k t ts e) ∙ i) (sym (after_break_later end k t ts e) ∙ a))
 
 pub continued_waits : (end : StepNumber) (k : ℕ) (lanes : Lanes) (ts : List Task) (n : StepNumber) → has lanes k ≡ true → in_first ends_turn k ts ≡ true
     → after_continue end (own k ts) ≡ Some n → waits end (own k (continued lanes ts)) ≡ n
-continued_waits end k lanes [] n h i a = absurd (none_some n a)
+continued_waits end k lanes [] n h i a = absurd (none-some n a)
 continued_waits end k lanes (t ∷ ts) n h i a = by_bool (ends_turn t.doing)
     (λ e. ap (λ l. waits end (own k l)) (continued_last lanes t ts e)
-    ∙ same_some (waits end (own k (t ∷ ts))) n (sym (after_continue_here end k t ts (sym (first_here ends_turn k t ts e) ∙ i) e) ∙ a))
+    ∙ same_Some (waits end (own k (t ∷ ts))) n (sym (after_continue_here end k t ts (sym (first_here ends_turn k t ts e) ∙ i) e) ∙ a))
     (λ e. ap (λ l. waits end (own k l)) (continued_past lanes t ts e) ∙ ap (waits end) (own_left k lanes t (continued lanes ts) h)
     ∙ continued_waits end k lanes ts n h (sym (first_later ends_turn k t ts e) ∙ i) (sym (after_continue_later end k t ts e) ∙ a))
 
@@ -237,7 +232,7 @@ leaves_nested lanes (t ∷ ts) n = (
 
 pub broken_append : (end : StepNumber) (k : ℕ) (lanes : Lanes) (ts more : List Task) (n : StepNumber) → after_break end (own k ts) ≡ Some n
     → broken lanes (ts ++ more) ≡ broken lanes ts ++ more
-broken_append end k lanes [] more n a = absurd (none_some n a)
+broken_append end k lanes [] more n a = absurd (none-some n a)
 broken_append end k lanes (t ∷ ts) more n a = by_bool (ends_break t.doing)
     (λ e. broken_last lanes t (ts ++ more) e ∙ ap (λ l. l ++ more) (sym (broken_last lanes t ts e)))
     (λ e. broken_past lanes t (ts ++ more) e
@@ -246,7 +241,7 @@ broken_append end k lanes (t ∷ ts) more n a = by_bool (ends_break t.doing)
 
 pub continued_append : (end : StepNumber) (k : ℕ) (lanes : Lanes) (ts more : List Task) (n : StepNumber) → after_continue end (own k ts) ≡ Some n
     → continued lanes (ts ++ more) ≡ continued lanes ts ++ more
-continued_append end k lanes [] more n a = absurd (none_some n a)
+continued_append end k lanes [] more n a = absurd (none-some n a)
 continued_append end k lanes (t ∷ ts) more n a = by_bool (ends_turn t.doing)
     (λ e. continued_last lanes t (ts ++ more) e ∙ ap (λ l. l ++ more) (sym (continued_last lanes t ts e)))
     (λ e. continued_past lanes t (ts ++ more) e

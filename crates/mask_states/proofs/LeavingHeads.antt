@@ -10,7 +10,7 @@ use Rattle.mask_states.specs.Points.{Point, Put, Go}
 use Rattle.mask_states.specs.Placed.{HasPoint, Leads}
 use Rattle.mask_states.specs.Masked.{Level, sent_in}
 use Rattle.mask_states.specs.Stands.{own, waits, after_break, after_continue, TasksStand}
-use Rattle.mask_states.proofs.LevelOrder.{sooner, broken_in, continued_in, leaves_in}
+use Rattle.gang_model.proofs.TaskOrder.{sooner, broken_in, continued_in, leaves_in}
 use Rattle.mask_states.proofs.Replaced.{replaced, fits_first, fits_rest}
 use Rattle.mask_states.proofs.Leaving.{broken_out, continued_out, leaves_out, broken_waits, continued_waits, leaves_own, broken_fits, continued_fits, leaves_fits, broken_nested, continued_nested, leaves_nested}
 

@@ -12,7 +12,6 @@ pub mod LaneNumbers
 pub mod Leaving
 pub mod LeavingHeads
 pub mod LeftFrames
-pub mod LevelOrder
 pub mod Levels
 pub mod OpenLevels
 pub mod Opening

@@ -1,5 +1,5 @@
 -- The levels of a caller go on past its call once the frame that it made is left.
-use Rattle.std.proofs.Common.{◌≡◌, refl, sym, ap, ◌∙◌, subst, ℕ, true, false, List, [], ◌∷◌, ◌++◌, Option, Some, None, length}
+use Rattle.std.proofs.Common.{◌≡◌, refl, sym, ap, ◌∙◌, subst, ℕ, true, false, List, [], ◌∷◌, ◌++◌, Option, Some, length}
 use Rattle.std.specs.Prelude.{map, slice_get, unwrap_or}
 use Rattle.std.proofs.lemmas.List.{append-nil}
 use Rattle.gang_types.specs.Lanes.{has, no_lane, lowest}
@@ -19,6 +19,7 @@ use Rattle.mask_states.proofs.LeavingHeads.{put_stands, leaves_stand}
 use Rattle.mask_states.proofs.Levels.{StandsBehind, split_levels, join_levels, behind_numbers}
 use Rattle.mask_states.proofs.OpenLevels.{not_over}
 use Rattle.mask_states.proofs.Replaced.{fits_first}
+use Rattle.std.proofs.lemmas.Option.{same_Some, none-some}
 
 -- ---- where a result leads
 
@@ -45,17 +46,11 @@ returned_next Returns ways e may = (may.0, may.1, ap (λ o. unwrap_or o ways.nex
 enter_same : (n : ℕ) (args : List Arg) (r : ResultFor) (a b : StepNumber) → Enter n args r a ≡ Enter n args r b → a ≡ b
 enter_same n args r a b e = cc
 
-same_some : (a b : StepNumber) → Some a ≡ Some b → a ≡ b
-same_some a b e = cc
-
-none_some : (n : StepNumber) → None ≡ Some n → ⊥
-none_some n e = cc
-
 -- a call's lanes return out of a function's body alone
 returns_to_end : (f : Function) (w : ℕ) (level : Level) (below : List Level) (back : Option StepNumber) (behind : List Task) (n : StepNumber)
     → StandsBehind f w level below back behind → back ≡ Some n → (below ≡ []) × (behind ≡ []) × (n ≡ closing_number f) × (level.end ≡ closing_number f) × (level.turns ≡ [])
-returns_to_end f w level [] back behind n b e = (refl, b.3, same_some n (closing_number f) (sym e ∙ b.0), b.1, b.2)
-returns_to_end f w level (next ∷ below) back behind n b e = absurd (none_some n (sym b.0 ∙ e))
+returns_to_end f w level [] back behind n b e = (refl, b.3, same_Some n (closing_number f) (sym e ∙ b.0), b.1, b.2)
+returns_to_end f w level (next ∷ below) back behind n b e = absurd (none-some n (sym b.0 ∙ e))
 
 -- ---- the first of a frame's tasks
 

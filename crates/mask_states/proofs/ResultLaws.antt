@@ -35,11 +35,6 @@ bind_alike h r s f g e k = subst (λ z. map_ok h (r >>= f) ≡ map_ok h (z >>= g
     go (Ok x) = k x
     go (Err fault) = refl
 
--- what holds of the last value of a chain, whatever the first one is
-pub if_ok_then : {A B : Type 0} (Q : B → Type 0) (r : Result A Fault) (next : A → Result B Fault) → ((x : A) → IfOk (next x) Q) → IfOk (r >>= next) Q
-if_ok_then Q (Ok x) next go = go x
-if_ok_then Q (Err fault) next go = tt
-
 -- what holds of the value of a result
 pub if_ok_at : {A : Type 0} (Q : A → Type 0) (r : Result A Fault) (x : A) → r ≡ Ok x → IfOk r Q → Q x
 if_ok_at Q r x e h = subst (λ z. IfOk z Q) e h

@@ -13,7 +13,7 @@ use Rattle.mask_states.specs.Masked.{Level, sent, sent_in, begun}
 use Rattle.mask_states.specs.Stands.{own, waits, Fits, AreSized, TasksStand, RoundsStand}
 use Rattle.mask_states.proofs.OwnTasks.{by_bool, own_here, own_away}
 use Rattle.mask_states.proofs.LaneNumbers.{length-sent, at-sent_in, at-sent_out}
-use Rattle.mask_states.proofs.LevelOrder.{sooner}
+use Rattle.gang_model.proofs.TaskOrder.{sooner}
 use Rattle.mask_states.proofs.Replaced.{replaced, fits_first, fits_rest}
 
 -- ---- the next round

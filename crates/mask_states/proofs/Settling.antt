@@ -11,7 +11,7 @@ use Rattle.mask_states.specs.Masked.{Level}
 use Rattle.mask_states.specs.Stands.{own, waits, ways_before, Fits, AreNested, BeginsWithStep, TasksStand}
 use Rattle.mask_states.proofs.OwnTasks.{by_bool, own_here, own_away, own_none}
 use Rattle.mask_states.proofs.Replaced.{fits_first, fits_rest}
-use Rattle.mask_states.proofs.LevelOrder.{settled_in}
+use Rattle.gang_model.proofs.TaskOrder.{settled_in}
 use Rattle.mask_states.proofs.Opening.{opened_waits_in, opened_waits_out, opened_fits, AllInside, opened_nested, opened_begins}
 
 -- ---- the first task

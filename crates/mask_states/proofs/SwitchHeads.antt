@@ -13,7 +13,7 @@ use Rattle.mask_states.specs.Masked.{Level, sent_in}
 use Rattle.mask_states.specs.MaskedStep.{segment_of, chosen}
 use Rattle.mask_states.specs.Stands.{own, waits, after_break, after_continue, ways_before, Fits, in_first, AreNested, TasksStand}
 use Rattle.mask_states.proofs.OwnTasks.{by_bool, own_here, own_away}
-use Rattle.mask_states.proofs.LevelOrder.{sooner, joined, segments_in}
+use Rattle.gang_model.proofs.TaskOrder.{sooner, joined, segments_in}
 use Rattle.mask_states.proofs.Replaced.{replaced, fits_first, fits_rest}
 use Rattle.mask_states.proofs.BranchHeads.{in_whole, own_passes, own_fails, own_outside}
 

@@ -8,9 +8,10 @@ use Rattle.gang_model.specs.Types.Tree.{StepNumber, ResultFor, Arg, Call, Functi
 use Rattle.gang_model.specs.Running.State.{Frame, State}
 use Rattle.gang_model.specs.Running.Step.{Passed, passed, new_frame, enter, entered, run}
 use Rattle.mask_states.specs.MaskedStep.{untasked_frame, untasked}
-use Rattle.mask_states.proofs.ResultLaws.{map_ok, bind_alike, if_ok_then}
+use Rattle.mask_states.proofs.ResultLaws.{map_ok, bind_alike}
 use Rattle.mask_states.proofs.UntaskedValues.{untasked_passed}
 use Rattle.mask_states.proofs.UntaskedWrites.{untasked_frames_twice, untasked_twice, untasked_length}
+use Rattle.gang_model.proofs.LaneWords.{if_ok_after}
 
 -- a frame on top of the others
 abbrev pub with_frame : Frame → State → State
@@ -55,4 +56,4 @@ enters_on (Some f) n number for arguments lanes s =
 
 pub call_enters : (p : Program) (number : StepNumber) (n : ℕ) (args : List Arg) (for : ResultFor) (lanes : Lanes) (s : State) → IfOk (run p (Call number n args for) lanes s) (EntersOn (slice_get p.functions n) n number for lanes s)
 call_enters p number n args for lanes s =
-    if_ok_then _ (passed args lanes s) _ (λ arguments. enters_on (slice_get p.functions n) n number for arguments lanes s)
+    if_ok_after _ (passed args lanes s) _ (λ arguments. enters_on (slice_get p.functions n) n number for arguments lanes s)

@@ -11,10 +11,11 @@ use Rattle.gang_model.specs.Running.State.{Frame, State, view_of, with_first, de
 use Rattle.gang_model.specs.Running.Value.{value, element}
 use Rattle.gang_model.specs.Running.Step.{initial, Written, ToVar, ToElements, reached, old_values, write, part, packed, returned, result_rate, run}
 use Rattle.mask_states.specs.MaskedStep.{untasked}
-use Rattle.mask_states.proofs.ResultLaws.{map_ok, bind_mapped, if_ok_then}
+use Rattle.mask_states.proofs.ResultLaws.{map_ok, bind_mapped}
 use Rattle.mask_states.proofs.UntaskedValues.{untasked_value, untasked_initial, untasked_reached, untasked_old_values, untasked_part_of}
 use Rattle.mask_states.proofs.UntaskedWrites.{untasked_on_top, untasked_with_words, untasked_write, untasked_packed}
 use Rattle.mask_states.proofs.Bones.{bone, bones, bone_left, top_left, TopHasFunction, IsKept, bones_words, bones_write, bones_packed, bones_packed_returned, top_has_function, top_left_at}
+use Rattle.gang_model.proofs.LaneWords.{if_ok_after}
 
 -- a statement that puts no task before the others and enters no frame, and no `break` or `continue`
 abbrev pub PutsNothing : Stmt → Type 0
@@ -105,17 +106,17 @@ run_untasked p s h lanes st = absurd h
 -- ---- what stays of the frames
 
 pub bones_run : (p : Program) (s : Stmt) → KeepsTasks s → (lanes : Lanes) (st : State) → IfOk (run p s lanes st) (λ after. bones after.frames ≡ bones st.frames)
-bones_run p (Declare number v init) h lanes st = if_ok_then _ (initial init lanes st) _ (λ x. bones_words st v.id _)
+bones_run p (Declare number v init) h lanes st = if_ok_after _ (initial init lanes st) _ (λ x. bones_words st v.id _)
 bones_run p (Assign number target e) h lanes st =
-    if_ok_then _ (reached target lanes st) _ (λ a. if_ok_then _ (value e lanes st) _ (λ x. if_ok_then _ (old_values a lanes st) _ (λ old. bones_write a lanes x st)))
+    if_ok_after _ (reached target lanes st) _ (λ a. if_ok_after _ (value e lanes st) _ (λ x. if_ok_after _ (old_values a lanes st) _ (λ old. bones_write a lanes x st)))
 bones_run p (Change number target type op in_type e) h lanes st =
-    if_ok_then _ (reached target lanes st) _ (λ a. if_ok_then _ (value e lanes st) _ (λ y. if_ok_then _ (old_values a lanes st) _ (λ old. if_ok_then _ (try_each lanes _) _ (λ x. bones_write a lanes _ st))))
-bones_run p (Check number e) h lanes st = if_ok_then _ (value e lanes st) _ (λ c. if_ok_then _ (try_each lanes _) _ (λ passes. refl))
+    if_ok_after _ (reached target lanes st) _ (λ a. if_ok_after _ (value e lanes st) _ (λ y. if_ok_after _ (old_values a lanes st) _ (λ old. if_ok_after _ (try_each lanes _) _ (λ x. bones_write a lanes _ st))))
+bones_run p (Check number e) h lanes st = if_ok_after _ (value e lanes st) _ (λ c. if_ok_after _ (try_each lanes _) _ (λ passes. refl))
 bones_run p (PackedStore number array from e for) h lanes st =
-    if_ok_then _ (part from (view_of st array) lanes st) _ (λ view. if_ok_then _ (value e lanes st) _ (λ x. if_ok_then _ (try_each lanes _) _ (λ there.
+    if_ok_after _ (part from (view_of st array) lanes st) _ (λ view. if_ok_after _ (value e lanes st) _ (λ x. if_ok_after _ (try_each lanes _) _ (λ there.
     bones_packed p for h lanes (write (ToElements view (each lanes (rank lanes))) lanes x st))))
 bones_run p (PackedLoad number array from v for) h lanes st =
-    if_ok_then _ (part from (view_of st array) lanes st) _ (λ view. if_ok_then _ (try_each lanes _) _ (λ x.
+    if_ok_after _ (part from (view_of st array) lanes st) _ (λ view. if_ok_after _ (try_each lanes _) _ (λ x.
     bones_packed p for h lanes (write (ToVar v) lanes x st) ∙ bones_write (ToVar v) lanes x st))
 bones_run p s h lanes st = absurd h
 
@@ -134,12 +135,12 @@ bones_write_packed p for r written lanes values s h =
     ∙ ap (top_left lanes) (bones_write written lanes values s)
 
 pub bones_run_left : (p : Program) (s : Stmt) → LeavesTasks s → (lanes : Lanes) (st : State) → TopHasFunction p (bones st.frames) → IfOk (run p s lanes st) (λ after. bones after.frames ≡ top_left lanes (bones st.frames))
-bones_run_left p (Return number e) h lanes st t = if_ok_then _ (initial e lanes st) _ (λ x. bones_returned p lanes x st.frames)
+bones_run_left p (Return number e) h lanes st t = if_ok_after _ (initial e lanes st) _ (λ x. bones_returned p lanes x st.frames)
 bones_run_left p (PackedStore number array from e for) h lanes st t =
-    if_ok_then _ (part from (view_of st array) lanes st) _ (λ view. if_ok_then _ (value e lanes st) _ (λ x. if_ok_then _ (try_each lanes _) _ (λ there.
+    if_ok_after _ (part from (view_of st array) lanes st) _ (λ view. if_ok_after _ (value e lanes st) _ (λ x. if_ok_after _ (try_each lanes _) _ (λ there.
     bones_write_packed p for h (ToElements view (each lanes (rank lanes))) lanes x st t)))
 bones_run_left p (PackedLoad number array from v for) h lanes st t =
-    if_ok_then _ (part from (view_of st array) lanes st) _ (λ view. if_ok_then _ (try_each lanes _) _ (λ x. bones_write_packed p for h (ToVar v) lanes x st t))
+    if_ok_after _ (part from (view_of st array) lanes st) _ (λ view. if_ok_after _ (try_each lanes _) _ (λ x. bones_write_packed p for h (ToVar v) lanes x st t))
 bones_run_left p s h lanes st t = absurd h
 
 -- the same of a state whose top frame is given

@@ -2,18 +2,13 @@
 use Rattle.std.specs.Prelude.{◌≡◌, ℕ, suc, ◌<◌, Bool, true, false, not, ◌&&◌, ◌==◌, List, [], ◌∷◌, filter, length, Option, Some, None, slice_get, IsTrue}
 use Rattle.gang_types.specs.declared.types.IntType.{IntType}
 use Rattle.gang_types.specs.declared.types.Rate.{Rate}
-use Rattle.gang_types.specs.declared.types.Rate.TheVariants.{Uniform, Varying}
 use Rattle.gang_types.specs.Lanes.{Lanes}
 use Rattle.gang_model.specs.Types.Tree.{Expr, Number, ProgramIndex, ProgramCount, LaneMask, Read, Element, Unary, Binary, Convert, And, Or, Choice, OfOne, OfTwo, Select, Target, Scalar, ElementOf, Arg, Value, Array, ResultFor, Nothing, Declares, Assigns, Returns, Stmt, Empty, Then, Declare, Assign, Change, If, Loop, BodyFirst, Break, Continue, Return, Switch, Segment, Call, Function, Program}
+use Rattle.gang_model.specs.Types.Conversions.{is_varying}
 use Rattle.gang_model.specs.Source.Parsed.{ParsedSource, ParsedFunction, functions_in}
 use Rattle.gang_model.specs.Running.State.{Frame, State}
 use Rattle.gang_model.specs.Running.Step.{Goes, step, settle, Passed, new_frame}
 use Rattle.gang_model.specs.Texts.InputText.{parameters_of}
-
--- whether a rate is varying
-abbrev pub is_varying : Rate → Bool
-is_varying Uniform = false
-is_varying Varying = true
 
 -- whether an expression is lane-pure: it names no uniform scalar, and of the library only functions of one lane's values
 abbrev pub is_pure : Expr → Bool

@@ -1,6 +1,6 @@
 -- The forms of the language that the program accepts today; the definitions have the whole language
 -- (a choice of this project: forms are let through in the order in which their running code is proved).
-use Rattle.std.specs.Prelude.{ℕ, ◌≡◌, ◌^◌, Bool, true, false, not, ◌&&◌, ◌||◌, nat_lt, List, [], ◌∷◌, length, ◌==◌, Option, Some, None, codes, is_none, is_some}
+use Rattle.std.specs.Prelude.{◌≡◌, ◌^◌, Bool, true, false, not, ◌&&◌, ◌||◌, nat_lt, List, [], ◌∷◌, length, ◌==◌, Option, Some, None, codes, is_none, is_some}
 use Rattle.std.specs.List.{list_all}
 use Rattle.gang_types.specs.declared.types.IntType.{IntType}
 use Rattle.gang_types.specs.declared.types.IntType.TheVariants as t

@@ -1,7 +1,6 @@
 -- What a whole source is spelled as.
-use Rattle.std.specs.Prelude.{◌≡◌, ◌⊎◌, ℕ, ◌≤◌, Bool, true, false, List, [], ◌∷◌, length, Option, Some, None}
+use Rattle.std.specs.Prelude.{◌≡◌, ◌⊎◌, ℕ, ◌≤◌, Bool, true, false, List, [], ◌∷◌, length}
 use Rattle.gang_model.specs.declared.marks.Mark.TheVariants as mark
-use Rattle.gang_model.specs.declared.forms.Spec.{Spec}
 use Rattle.gang_model.specs.declared.forms.GlobalForm.{GlobalForm}
 use Rattle.gang_model.specs.declared.forms.GlobalForm.TheVariants as form
 use Rattle.gang_model.specs.declared.forms.Literal.{Literal}

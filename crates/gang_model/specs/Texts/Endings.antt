@@ -1,5 +1,5 @@
 -- How the answering of command lines ends, and what is written by then (a choice of this project).
-use Rattle.std.specs.Prelude.{◌≡◌, ℕ, ◌<◌, Bool, true, false, List, length, take, Option, IfSome}
+use Rattle.std.specs.Prelude.{◌≡◌, ℕ, ◌<◌, true, false, length, take, Option, IfSome}
 use Rattle.std.specs.Io.KnownBytes.{Consumes}
 use Rattle.gang_model.specs.Debugger.Debugger.{Debugger, Setting}
 use Rattle.gang_model.specs.Texts.Text.{Bytes}
