@@ -1,14 +1,14 @@
 -- The library's folds of the values of a set's lanes, by folds of all lanes.
 use Rattle.std.proofs.Common.{ℕ, zero, suc, ◌+◌, ◌-◌, ◌%◌, ◌^◌, ◌<◌, ◌≤◌, Bool, true, false, cond, ◌≡◌, refl, sym, ◌∙◌, ap, subst, arith, List, [], ◌∷◌, length, take, map}
 use Rattle.std.specs.Prelude.{ℤ, pos, negsuc, ◌+ℤ◌, int_lt, bit_and, bit_or, nat_eq, unsigned_abs}
-use Rattle.std.proofs.lemmas.Nat.{and_mask, le_or_l, le_or_r, and_comm, and_assoc, mod_below}
+use Rattle.std.proofs.lemmas.Nat.{and_mask, and_comm, and_assoc, mod_below}
 use Rattle.std.proofs.Math.Seq.{take-length}
 use Rattle.std.proofs.lemmas.Bool.Decides.{nat_tests}
 use Rattle.gang_types.specs.declared.types.IntType.{IntType}
 use Rattle.gang_types.specs.declared.types.IntType.TheVariants as t
 use Rattle.gang_types.specs.Lanes.{Lanes, has, no_lane}
 use Rattle.gang_types.specs.Values.{is_bool, is_signed, value_of, value_in, word_of, wrapped, converted}
-use Rattle.gang_types.specs.Laws.{narrow_word, biased, bias, less_biased, word_of-add, word_of-pos, word_of-value_of, convert_any, wrapped_integer, wrapped_bool, word_of-lt}
+use Rattle.gang_types.specs.Laws.{narrow_word, biased, bias, less_biased, word_of-add, word_of-pos, word_of-value_of, convert_any, wrapped_integer, wrapped_bool, word_of-lt, or_zero}
 use Rattle.gang_model.specs.Running.Lanes.{words_from, each}
 use Rattle.gang_model.specs.Running.Library.{sum_type, active, sum_of, least_from, least, scanned, before_lane}
 use Rattle.gang_model.specs.Types.Tree.{ScanAdd, ScanAnd, ScanOr}
@@ -213,15 +213,6 @@ sum_reduced ty to w lanes m sum et long fits e =
     ∙ sym (sum_wrapped ty (sum_type ty) (active lanes (each lanes m)) (sum_type-integer ty) fit)
 
 -- ---- sums of bools
-or_zero : (a b : ℕ) → nat_eq (a + b) 0 ≡ nat_eq (bit_or a b) 0
-or_zero a b = grind (arith, nat_tests, or_is_zero a b, le_or_l a b, le_or_r a b)
-  where
-    or_is_zero : (a b : ℕ) → a + b ≡ 0 → bit_or a b ≡ 0
-    or_is_zero a b e =
-        let p : a ≡ 0 = omega arith in
-        let q : b ≡ 0 = omega arith in
-        rw (p, q) refl
-
 abbrev total : List ℕ → ℕ
 total [] = 0
 total (x ∷ xs) = x + total xs

@@ -1,5 +1,5 @@
 -- Reductions of the values of a set's lanes, by sets of lanes.
-use Rattle.std.proofs.Common.{ℕ, zero, suc, ◌+◌, ◌-◌, ◌*◌, ◌%◌, ◌^◌, ◌<◌, Bool, true, false, cond, ◌≡◌, refl, sym, ◌∙◌, ap, arith, [], ◌∷◌, length}
+use Rattle.std.proofs.Common.{ℕ, zero, suc, ◌+◌, ◌-◌, ◌*◌, ◌%◌, ◌^◌, ◌<◌, Bool, true, false, cond, ◌≡◌, refl, sym, ◌∙◌, ap, arith, eq-eqb, [], ◌∷◌, length}
 use Rattle.std.specs.Prelude.{not, ◌&&◌, ◌==◌, nat_eq}
 use Rattle.std.specs.List.{count_by}
 use Rattle.std.proofs.lemmas.Bool.Decides.{nat_tests}
@@ -142,15 +142,12 @@ same_from k first (b ∷ lanes) f g h =
     by_lane false rest = rest
     by_lane true rest = ap (λ t. not (not t) && no_lane (tested (suc k) lanes (holding g))) here ∙ by_test (nat_eq (f k) first) rest
 
-one_same : (x : ℕ) → nat_eq x x ≡ true
-one_same x = grind (arith, nat_tests)
-
 first_same : (k : ℕ) (lanes : Lanes) (f : ℕ → ℕ) → no_lane lanes ≡ false → passes (λ y. y == f (k + lowest lanes)) (active lanes (words_from k lanes f)) ≡ all_same (active lanes (words_from k lanes f))
 first_same k [] f e = cc
 first_same k (true ∷ lanes) f e =
     let s : k + 0 ≡ k = omega arith in
     ap (λ i. passes (λ y. y == f i) (f k ∷ active lanes (words_from (suc k) lanes f))) s
-    ∙ ap (λ t. cond t (passes (λ y. y == f k) (active lanes (words_from (suc k) lanes f))) false) (one_same (f k))
+    ∙ ap (λ t. cond t (passes (λ y. y == f k) (active lanes (words_from (suc k) lanes f))) false) (eq-eqb (f k) (f k) refl)
 first_same k (false ∷ lanes) f e =
     let s : k + suc (lowest lanes) ≡ suc k + lowest lanes = omega arith in
     ap (λ i. passes (λ y. y == f i) (active lanes (words_from (suc k) lanes f))) s ∙ first_same (suc k) lanes f e

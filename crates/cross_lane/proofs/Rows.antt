@@ -8,13 +8,7 @@ use Rattle.std.proofs.lemmas.List.{get_or-replicate, get_or_past, get_or-take, g
 use Rattle.std.proofs.lemmas.Simd.{get_or-chunk, get_or-put_chunk_below, get_or-put_chunk_at, get_or-put_chunk_above, length-put_chunk}
 use Rattle.cross_lane.specs.EachLaws.{same_words}
 use Rattle.std.proofs.Math.Nat.{mod-eq_of_lt, mod-eq-sub-mod}
-use Rattle.gang_types.specs.Masks.{IsGangWidth}
 use Rattle.cross_lane.specs.Folds.{windowed}
-
-pub width-le : (w : ℕ) → IsGangWidth w → w ≤ 16
-width-le w (inl e) = omega arith
-width-le w (inr (inl e)) = omega arith
-width-le w (inr (inr e)) = omega arith
 
 pub not_le : (a b : ℕ) → b < a → nat_le a b ≡ false
 not_le a b h = grind (arith, nat_tests)

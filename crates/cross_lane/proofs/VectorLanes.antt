@@ -1,31 +1,18 @@
 -- Lanes of vectors that comparisons and the mask's bits choose.
-use Rattle.std.proofs.Common.{ℕ, zero, suc, ◌-◌, ◌/◌, ◌^◌, ◌<◌, ◌≤◌, Bool, false, cond, ◌≡◌, sym, ◌∙◌, ap, arith, List, [], ◌∷◌, length, map, slice_index, w64}
+use Rattle.std.proofs.Common.{ℕ, zero, suc, ◌-◌, ◌/◌, ◌^◌, ◌<◌, ◌≤◌, cond, ◌≡◌, sym, ◌∙◌, ap, arith, List, [], ◌∷◌, length, map, slice_index}
 use Rattle.std.specs.Prelude.{nat_eq, replicate, bit_and}
 use Rattle.std.specs.Int.{bit_at}
 use lib.Lanes.{zip2, sel_l, top, Each2}
 use Rattle.std.proofs.lemmas.Nat.Bits.{shr_and_one}
-use Rattle.std.proofs.lemmas.List.{get_or-replicate, length-replicate}
-use Rattle.std.proofs.lemmas.Simd.{get_or-zip2, length-zip2, tops_compared, get_or-sel_l}
+use Rattle.std.proofs.lemmas.List.{length-replicate}
+use Rattle.std.proofs.lemmas.Simd.{get_or-zip2, length-zip2}
 use Rattle.gang_types.specs.Lanes.{Lanes, has}
 use Rattle.gang_types.specs.Masks.{lanes_of_word, word_of_lanes}
 use Rattle.gang_types.specs.MaskLaws.{has-lanes_of_word, lanes_of_word_of_lanes}
+use Rattle.lane_kernels.proofs.VectorLanes.{lane_chosen, lane_splat}
 
 pub lane_zip2 : (f : ℕ → ℕ → ℕ) (n : ℕ) (xs ys : List ℕ) → length xs ≡ n → length ys ≡ n → (i : ℕ) → i < n → slice_index (zip2 f xs ys) i ≡ f (slice_index xs i) (slice_index ys i)
 lane_zip2 f n xs ys lx ly i h = get_or-zip2 f xs ys i 0 0 0 (omega arith) (omega arith)
-
-pub lane_splat : (n i k : ℕ) → i < n → slice_index (replicate n k) i ≡ k
-lane_splat n i k h = get_or-replicate n i k 0 h
-
-pub length_splat : (n k : ℕ) → length (replicate n k) ≡ n
-length_splat n k = length-replicate n k
-
-pub lane_chosen : (n : ℕ) (t : ℕ → ℕ → Bool) (xs ys us vs : List ℕ) → length xs ≡ n → length ys ≡ n → length us ≡ n → length vs ≡ n
-    → (i : ℕ) → i < n → slice_index (sel_l (map (top 63) (zip2 (λ a b. cond (t a b) (2 ^ 64 - 1) 0) xs ys)) us vs) i ≡ cond (t (slice_index xs i) (slice_index ys i)) (slice_index us i) (slice_index vs i)
-lane_chosen n t xs ys us vs lx ly lu lv i h =
-    let long : length (zip2 t xs ys) ≡ n = length-zip2 t xs ys (lx ∙ sym ly) ∙ lx in
-    ap (λ ms. slice_index (sel_l ms us vs) i) (tops_compared w64 t xs ys)
-    ∙ get_or-sel_l (zip2 t xs ys) us vs i 0 (omega arith) (omega arith) (omega arith)
-    ∙ ap (λ b. cond b (slice_index us i) (slice_index vs i)) (get_or-zip2 t xs ys i 0 0 false (omega arith) (omega arith))
 
 -- the words of the lanes of a set, and a fill in the others, by the bits of the set's word
 pub active_lane : (bits w fill : ℕ) (lanes : Lanes) (numbers words : List ℕ) → length numbers ≡ w → length words ≡ w → length lanes ≡ w → bits ≡ word_of_lanes lanes

@@ -1,11 +1,12 @@
 -- What follows from the definition of a list with a value for each lane of a set, and 0 in the others.
-use Rattle.std.proofs.Common.{inl, inr, ℕ, zero, suc, ◌+◌, ◌<◌, Bool, true, false, cond, ◌≡◌, refl, sym, ◌∙◌, ap, arith, List, [], ◌∷◌, length, slice_index}
+use Rattle.std.proofs.Common.{inl, inr, ℕ, zero, suc, ◌+◌, ◌<◌, Bool, true, false, cond, ◌≡◌, refl, sym, ◌∙◌, ap, arith, eq-eqb, List, [], ◌∷◌, length, slice_index}
 use Rattle.std.specs.Prelude.{nat_eq, slice_set}
 use Rattle.std.proofs.lemmas.Bool.Decides.{nat_tests}
 use Rattle.std.proofs.lemmas.List.{get_or-set_same, get_or-set_other}
 use Rattle.std.proofs.lemmas.Bool.{cases_eq}
 use Rattle.gang_types.specs.Lanes.{Lanes, has}
 use Rattle.gang_model.specs.Running.Lanes.{words_from, each}
+use Rattle.gang_model.proofs.LaneWords.{length-words_from}
 
 -- two lists with the same words
 pub same_words : (xs ys : List ℕ) → length xs ≡ length ys → ((i : ℕ) → i < length xs → slice_index xs i ≡ slice_index ys i) → xs ≡ ys
@@ -13,10 +14,6 @@ same_words [] [] e h = refl
 same_words [] (y ∷ ys) e h = absurd (omega arith)
 same_words (x ∷ xs) [] e h = absurd (omega arith)
 same_words (x ∷ xs) (y ∷ ys) e h = ap (λ z. z ∷ xs) (h 0 (omega arith)) ∙ ap (λ zs. y ∷ zs) (same_words xs ys (omega arith) (λ i l. h (suc i) (omega arith)))
-
-pub length-words_from : (k : ℕ) (lanes : Lanes) (f : ℕ → ℕ) → length (words_from k lanes f) ≡ length lanes
-length-words_from k [] f = refl
-length-words_from k (b ∷ lanes) f = ap suc (length-words_from (suc k) lanes f)
 
 pub length-each : (lanes : Lanes) (f : ℕ → ℕ) → length (each lanes f) ≡ length lanes
 length-each lanes f = length-words_from 0 lanes f
@@ -44,9 +41,6 @@ each_same w lanes f g ll h =
 pub lane_kept : (lanes : Lanes) (f : ℕ → ℕ) (i : ℕ) → has lanes i ≡ true → slice_index (each lanes f) i ≡ f i
 lane_kept lanes f i e = lane_each lanes f i ∙ ap (λ b. cond b (f i) 0) e
 
-one_same : (x : ℕ) → nat_eq x x ≡ true
-one_same x = grind (arith, nat_tests)
-
 -- one value set, in a lane of the set
 pub lane_set : (lanes : Lanes) (words : List ℕ) (index new i : ℕ) → index < length words → has lanes i ≡ true
     → slice_index (slice_set words index new) i ≡ cond (nat_eq i index) new (slice_index (each lanes (slice_index words)) i)
@@ -55,7 +49,7 @@ lane_set lanes words index new i h e =
       | inl same ↦
           ap (slice_index (slice_set words index new)) same
           ∙ get_or-set_same words index new 0 h
-          ∙ sym (ap (λ b. cond b new (slice_index (each lanes (slice_index words)) i)) (ap (λ j. nat_eq i j) (sym same) ∙ one_same i))
+          ∙ sym (ap (λ b. cond b new (slice_index (each lanes (slice_index words)) i)) (ap (λ j. nat_eq i j) (sym same) ∙ eq-eqb i i refl))
       | inr other ↦
           get_or-set_other words index i new 0 other
           ∙ sym (lane_kept lanes (slice_index words) i e)

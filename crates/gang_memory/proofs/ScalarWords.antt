@@ -15,6 +15,7 @@ use Rattle.gang_memory.specs.ScalarWords.{IsScalarAt}
 use Rattle.gang_memory.proofs.Members.{lane_within}
 use Rattle.gang_memory.proofs.Scatters.{length-scattered, scattered_word}
 use Rattle.gang_memory.proofs.Stores.{lane_elsewhere, stored_elsewhere}
+use Rattle.gang_model.proofs.LaneWords.{length-merged}
 
 -- a slot for each lane, from `first` on
 abbrev pub AreConsecutive : (width first : ℕ) → List ℕ → Type 0
@@ -56,12 +57,6 @@ lane_stored i (b ∷ lanes) (s ∷ slots) (x ∷ values) old zero e f h here oth
 lane_stored i (b ∷ lanes) (s ∷ slots) (x ∷ values) old (suc j) e f h here others =
     lane_stored i lanes slots values (cond b (cond (nat_eq i s) x old) old) j (omega arith) (omega arith) (omega arith) here (λ k l d. others (suc k) (omega arith) (omega arith))
     ∙ ap (cond (has lanes j) (slice_index values j)) (lane_elsewhere b i s x old (λ t. others 0 (omega arith) (omega arith)))
-
-length-merged : (lanes : Lanes) (new old : List ℕ) → length new ≡ length lanes → length old ≡ length lanes → length (merged lanes new old) ≡ length lanes
-length-merged [] new old e f = refl
-length-merged (b ∷ lanes) [] old e f = absurd (omega arith)
-length-merged (b ∷ lanes) (x ∷ new) [] e f = absurd (omega arith)
-length-merged (b ∷ lanes) (x ∷ new) (y ∷ old) e f = ap suc (length-merged lanes new old (omega arith) (omega arith))
 
 lane_merged : (lanes : Lanes) (new old : List ℕ) (j : ℕ) → j < length lanes → length new ≡ length lanes → length old ≡ length lanes → slice_index (merged lanes new old) j ≡ cond (has lanes j) (slice_index new j) (slice_index old j)
 lane_merged [] new old j h e f = absurd (omega arith)

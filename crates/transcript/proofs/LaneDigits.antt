@@ -1,10 +1,10 @@
 -- The digits of a set of lanes, lane by lane.
-use Rattle.std.proofs.Common.{◌≡◌, refl, sym, ap, ◌∙◌, ℕ, ◌+◌, ◌<◌, ◌≤◌, Bool, false, List, [], ◌∷◌, ◌++◌, length, take, drop, get_or, inl, inr, arith}
+use Rattle.std.proofs.Common.{◌≡◌, refl, sym, ap, ◌∙◌, ℕ, ◌+◌, ◌<◌, Bool, false, List, [], ◌∷◌, ◌++◌, length, take, drop, get_or, arith}
 use Rattle.std.specs.Prelude.{flat_map}
 use Rattle.gang_types.specs.declared.masks.Mask.{Mask}
 use Rattle.gang_types.specs.Lanes.{Lanes, has}
 use Rattle.gang_types.specs.Masks.{IsGangWidth, lanes_of}
-use Rattle.gang_types.specs.MaskLaws.{has-lanes_of_word}
+use Rattle.gang_types.specs.MaskLaws.{gang_width-le, has-lanes_of_word}
 use Rattle.gang_model.specs.Texts.Text.{bits}
 use Rattle.transcript.proofs.Pieces.{flat_more, flat_at}
 
@@ -28,13 +28,8 @@ bits_at lanes i h =
     ∙ ap (λ l. l ++ (digit (get_or lanes i false) ++ flat_map digit (drop (i + 1) lanes))) (sym (bits_flat (take i lanes)))
     ∙ ap (λ l. bits (take i lanes) ++ (digit (get_or lanes i false) ++ l)) (sym (bits_flat (drop (i + 1) lanes)))
 
-most_lanes : (w : ℕ) → IsGangWidth w → w ≤ 16
-most_lanes w (inl e) = omega arith
-most_lanes w (inr (inl e)) = omega arith
-most_lanes w (inr (inr e)) = omega arith
-
 -- a lane is in the set of a gang where it is in that of the widest gang
 pub in_widest : (w : ℕ) (mask : Mask) (k : ℕ) → IsGangWidth w → k < w → has (lanes_of 16 mask) k ≡ has (lanes_of w mask) k
 in_widest w mask k gang h =
-    let wide = most_lanes w gang in
+    let wide = gang_width-le w gang in
     has-lanes_of_word 16 mask.word k (omega arith) ∙ sym (has-lanes_of_word w mask.word k h)

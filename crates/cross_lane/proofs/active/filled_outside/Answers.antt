@@ -1,14 +1,13 @@
 use Rattle.std.proofs.Common.{◌≡◌, length, arith}
 use Rattle.gang_types.specs.Masks.{lanes_of}
-use Rattle.gang_types.specs.MaskLaws.{length-lanes_of_word}
-use Rattle.cross_lane.proofs.Rows.{width-le}
+use Rattle.gang_types.specs.MaskLaws.{gang_width-le, length-lanes_of_word}
 use Rattle.cross_lane.proofs.VectorLanes.{active_lane, numbers_fit}
 use Rattle.cross_lane.proofs.active.filled_outside.Goals as goal
 
 pub overflow_shr-bits : goal.overflow_shr-bits
 overflow_shr-bits g c =
     let ln : length c.lane_numbers.result ≡ g.row.W = omega arith in
-    numbers_fit c.word.result g.row.W c.lane_numbers.result (width-le g.row.W c.requires) ln c.lane_numbers.ensures
+    numbers_fit c.word.result g.row.W c.lane_numbers.result (gang_width-le g.row.W c.requires) ln c.lane_numbers.ensures
 
 pub returns : goal.returns
 returns g c =

@@ -1,7 +1,8 @@
 use Rattle.std.proofs.Common.{◌+◌, ◌%◌, ◌^◌, slice_index, ◌∙◌, sym, ap}
 use Rattle.std.specs.Prelude.{bit_and, bit_or, nat_lt}
 use Rattle.cross_lane.specs.Folds.{combined}
-use Rattle.cross_lane.proofs.VectorLanes.{lane_zip2, lane_chosen}
+use Rattle.cross_lane.proofs.VectorLanes.{lane_zip2}
+use Rattle.lane_kernels.proofs.VectorLanes.{lane_chosen}
 use Rattle.cross_lane.proofs.folds.combine.Goals.{in-Add, in-And, in-Or, in-Min, in-Max}
 use Rattle.cross_lane.proofs.folds.combine.Goals as goal
 

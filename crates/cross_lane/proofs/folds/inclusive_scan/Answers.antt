@@ -1,9 +1,9 @@
 use Rattle.std.proofs.Common.{◌≡◌, ◌<◌, ◌≤◌, ◌+◌, ◌^◌, ℕ, arith, slice_index, ◌∙◌, ap, ◌⊎◌, inl, inr}
 use Rattle.cross_lane.specs.Folds.{combined, neutral}
 use Rattle.cross_lane.proofs.Spans.{span, span-whole, step, alone, joins, lane_fits}
-use Rattle.cross_lane.proofs.Rows.{width-le}
 use Rattle.cross_lane.proofs.folds.inclusive_scan.Goals.{then-this-gt4, else-this-gt4, then-this-gt8, else-this-gt8}
 use Rattle.cross_lane.proofs.folds.inclusive_scan.Goals as goal
+use Rattle.gang_types.specs.MaskLaws.{gang_width-le}
 
 pub returns : goal.returns
 returns g c =
@@ -23,7 +23,7 @@ returns g c =
     elim c.if-this-gt8.branch [
       | then-this-gt8 w ↦
           elim eight [
-            | inl f ↦ (16, width-le g.row.W c.requires, λ i h. ap (λ l. slice_index l i) w.folds-is ∙ step (combined c.args.fold) (neutral c.args.fold) (joins c.args.fold) (slice_index c.args.words) fits 1 g.row.W 8 c.if-this-gt4.folds w.doubled-folds-then-this-gt8.result f w.doubled-folds-then-this-gt8.ensures (omega arith, omega arith) i h)
+            | inl f ↦ (16, gang_width-le g.row.W c.requires, λ i h. ap (λ l. slice_index l i) w.folds-is ∙ step (combined c.args.fold) (neutral c.args.fold) (joins c.args.fold) (slice_index c.args.words) fits 1 g.row.W 8 c.if-this-gt4.folds w.doubled-folds-then-this-gt8.result f w.doubled-folds-then-this-gt8.ensures (omega arith, omega arith) i h)
             | inr p ↦ absurd (omega arith)
           ]
       | else-this-gt8 w ↦

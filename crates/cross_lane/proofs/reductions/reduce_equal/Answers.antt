@@ -5,7 +5,8 @@ use Rattle.gang_types.specs.Lanes.{no_lane}
 use Rattle.gang_types.specs.Masks.{lanes_of}
 use Rattle.gang_types.specs.MaskLaws.{length-lanes_of_word}
 use Rattle.gang_model.specs.Running.Lanes.{truth_word}
-use Rattle.cross_lane.proofs.VectorLanes.{lane_zip2, lane_splat, length_splat}
+use Rattle.cross_lane.proofs.VectorLanes.{lane_zip2}
+use Rattle.lane_kernels.proofs.VectorLanes.{lane_splat, length_splat}
 use Rattle.cross_lane.proofs.LaneTests.{all_equal, difference_zero}
 use Rattle.cross_lane.proofs.reductions.reduce_equal.Goals as goal
 

@@ -6,7 +6,8 @@ use Rattle.gang_types.specs.MaskLaws.{length-lanes_of_word}
 use Rattle.gang_model.specs.Running.Library.{scanned, before_lane}
 use Rattle.gang_model.specs.Types.Tree.{ScanAnd}
 use Rattle.cross_lane.specs.Calls.{values_in}
-use Rattle.cross_lane.proofs.VectorLanes.{lane_zip2, lane_splat, length_splat}
+use Rattle.cross_lane.proofs.VectorLanes.{lane_zip2}
+use Rattle.lane_kernels.proofs.VectorLanes.{lane_splat, length_splat}
 use Rattle.cross_lane.specs.EachLaws.{each_same}
 use Rattle.cross_lane.proofs.Joined.{all_before}
 use Rattle.cross_lane.proofs.scans.exclusive_scan_and.Goals as goal

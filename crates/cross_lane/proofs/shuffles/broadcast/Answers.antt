@@ -4,7 +4,7 @@ use Rattle.gang_types.specs.Masks.{lanes_of}
 use Rattle.gang_types.specs.MaskLaws.{length-lanes_of_word}
 use Rattle.cross_lane.specs.Calls.{spread_answer}
 use Rattle.cross_lane.specs.EachLaws.{each_same}
-use Rattle.cross_lane.proofs.VectorLanes.{lane_splat}
+use Rattle.lane_kernels.proofs.VectorLanes.{lane_splat}
 use Rattle.cross_lane.proofs.shuffles.broadcast.Goals as goal
 
 pub returns-in-Ok : goal.returns-in-Ok

@@ -2,9 +2,8 @@ use Rattle.std.proofs.Common.{arith, sym, ◌∙◌, ap}
 use Rattle.std.specs.Prelude.{Ok, Err}
 use Rattle.std.proofs.lemmas.Result.{err_from_is_err_and}
 use Rattle.gang_types.specs.Masks.{lanes_of}
-use Rattle.gang_types.specs.MaskLaws.{length-lanes_of_word}
+use Rattle.gang_types.specs.MaskLaws.{gang_width-le, length-lanes_of_word}
 use Rattle.cross_lane.specs.Calls.{answer_of, fault_of}
-use Rattle.cross_lane.proofs.Rows.{width-le}
 use Rattle.gang_memory.proofs.Attempts.{all_there, first_missing, slots_within}
 use Rattle.gang_memory.proofs.elements.gather.Goals as goal
 
@@ -17,7 +16,7 @@ returns-in_err-slots g c state view shows =
 
 pub words_at-requires : goal.words_at-requires
 words_at-requires g c =
-    let few = width-le g.row.W c.requires.width in
+    let few = gang_width-le g.row.W c.requires.width in
     (omega (arith, few), (omega (arith, few), (c.requires.width, slots_within c.args.part (lanes_of g.row.W c.args.mask) c.args.indices c.in_ok-slots.slots c.in_ok-slots.ensures.ok _ c.requires.inside)))
 
 pub returns : goal.returns

@@ -2,10 +2,9 @@ use Rattle.std.proofs.Common.{arith, sym, ◌∙◌, ap}
 use Rattle.std.specs.Prelude.{Ok, Err}
 use Rattle.std.proofs.lemmas.Result.{err_from_is_err_and}
 use Rattle.gang_types.specs.Masks.{lanes_of}
-use Rattle.gang_types.specs.MaskLaws.{length-lanes_of_word}
+use Rattle.gang_types.specs.MaskLaws.{gang_width-le, length-lanes_of_word}
 use Rattle.gang_model.specs.Running.Lanes.{◌>>=◌}
 use Rattle.cross_lane.specs.Calls.{fault_of}
-use Rattle.cross_lane.proofs.Rows.{width-le}
 use Rattle.gang_memory.specs.Elements.{stored, stored_answer}
 use Rattle.gang_memory.proofs.Attempts.{all_there, first_missing, slots_within}
 use Rattle.gang_memory.proofs.Stores.{words_stored, array_stored, kept_outside}
@@ -22,7 +21,7 @@ returns-in_err-targets-clause-answer g c state view shows =
 
 pub set_words-requires : goal.set_words-requires
 set_words-requires g c =
-    let few = width-le g.row.W c.requires.width in
+    let few = gang_width-le g.row.W c.requires.width in
     (omega (arith, few), (omega (arith, few), (c.requires.width, (slots_within c.args.part (lanes_of g.row.W c.args.mask) c.args.indices c.in_ok-targets.targets c.in_ok-targets.ensures.ok _ c.requires.inside, c.requires.left))))
 
 pub returns-clause-answer : goal.returns-clause-answer

@@ -3,7 +3,7 @@ use Rattle.std.specs.Prelude.{replicate}
 use Rattle.gang_types.specs.Masks.{lanes_of}
 use Rattle.gang_types.specs.MaskLaws.{length-lanes_of_word}
 use Rattle.cross_lane.specs.EachLaws.{each_same}
-use Rattle.cross_lane.proofs.VectorLanes.{lane_splat}
+use Rattle.lane_kernels.proofs.VectorLanes.{lane_splat}
 use Rattle.masked_operations.proofs.words.splat.Goals as goal
 
 pub returns : goal.returns
