@@ -3,7 +3,6 @@ pub mod Ending
 pub mod Listing
 pub mod Moves
 pub mod Replies
-pub mod SameTexts
 pub mod Stepping
 pub mod Turns
 pub mod Watches

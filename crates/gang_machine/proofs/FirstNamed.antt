@@ -8,7 +8,7 @@ use Rattle.gang_model.specs.Debugger.Positions.{scope_of}
 use Rattle.gang_model.specs.Types.Resolved.{local_at, no_variable, standing_with}
 use Rattle.gang_model.specs.Names.Scope.{NameStanding, names_at}
 use Rattle.gang_model.specs.Types.Tree.{Variable}
-use Rattle.ispc_names_table.proofs.Texts.{bytes_same}
+use Rattle.gang_model.proofs.SameTexts.{bytes_same}
 use Rattle.gang_machine.proofs.Lines.{drop_first}
 
 -- the test of a name, as the definitions name it

@@ -13,7 +13,7 @@ use Rattle.ispc_names_scopes.specs.declared.bindings.Innermost.{Innermost}
 use Rattle.ispc_names_scopes.specs.declared.bindings.Declaration.{Declaration}
 use Rattle.ispc_names_scopes.specs.Innermost.{innermost_of}
 use Rattle.ispc_names_scopes.specs.Bindings.{binding, within, environment_of, AllHide, Entries, found_in, IsIndexed}
-use Rattle.ispc_names_scopes.proofs.SameTexts.{pointwise-same_text, same_text-sym, same_text-refl, same_text-equal}
+use Rattle.gang_model.proofs.SameTexts.{pointwise-same_text, same_text-sym, same_text-refl, same_text-equal}
 
 pub within-push : (ds : List Declaration) (d : Declaration) (env : Environment) → within (ds ++ d ∷ []) env ≡ binding d ∷ within ds env
 within-push [] d env = refl

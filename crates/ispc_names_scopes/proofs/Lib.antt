@@ -1,4 +1,4 @@
-pub mod SameTexts
+pub mod Choices
 pub mod Indexed
 pub mod ScopeSites
 pub mod NameIndex

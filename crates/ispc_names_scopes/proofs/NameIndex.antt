@@ -8,7 +8,7 @@ use Rattle.gang_model.specs.Source.Parsed.{Name}
 use Rattle.gang_model.specs.Types.LibraryTable.{is_among}
 use Rattle.indexmap.specs.IndexSet.{insert_key}
 use Rattle.ispc_names_scopes.specs.FunctionNames.{names_of, IsNameIndex}
-use Rattle.ispc_names_scopes.proofs.SameTexts.{pointwise-same_text, same_text-equal}
+use Rattle.gang_model.proofs.SameTexts.{pointwise-same_text, same_text-equal}
 use Rattle.ispc_names_scopes.proofs.Indexed.{same_key}
 
 pub among-keys : (q : Name) (ks : List (Vec ℕ Global)) → list_any (λ k. pointwise nat_eq q k.items) ks ≡ is_among q (names_of ks)

@@ -9,7 +9,7 @@ use Rattle.gang_model.specs.Types.LibraryTable.{is_among}
 use Rattle.gang_model.specs.Names.Scope.{Binding, Environment, declaration}
 use Rattle.ispc_names_scopes.specs.declared.bindings.Innermost.{Innermost}
 use Rattle.ispc_names_scopes.specs.Innermost.{innermost_of}
-use Rattle.ispc_names_scopes.proofs.SameTexts.{same_text-sym}
+use Rattle.gang_model.proofs.SameTexts.{same_text-sym}
 
 abbrev pub id_of : Option Innermost → Option VarId
 id_of None = None

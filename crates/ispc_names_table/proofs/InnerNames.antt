@@ -5,7 +5,7 @@ use Rattle.gang_types.specs.declared.places.VarId.{VarId}
 use Rattle.gang_model.specs.Source.Names.{same_text}
 use Rattle.gang_model.specs.Source.Parsed.{Name}
 use Rattle.gang_model.specs.Names.Scope.{Binding, Environment, declaration, unhidden}
-use Rattle.ispc_names_table.proofs.Texts.{same_text-equal}
+use Rattle.gang_model.proofs.SameTexts.{same_text-equal}
 
 -- the declarations that one of this name does not hide
 abbrev pub others : Name → List Binding → List Binding

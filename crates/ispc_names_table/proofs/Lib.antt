@@ -1,4 +1,3 @@
 pub mod InnerNames
 pub mod Links
 pub mod ListedNumbers
-pub mod Texts

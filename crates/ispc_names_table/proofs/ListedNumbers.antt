@@ -18,7 +18,7 @@ use Rattle.ispc_names_table.specs.declared.table.Declaration.{Declaration}
 use Rattle.ispc_names_table.specs.Scopes.{newest_first, linked, in_scope}
 use Rattle.ispc_names_table.proofs.InnerNames.{others}
 use Rattle.ispc_names_table.proofs.Links.{below, below-suc, length-below, length-newest_first, linked-here, linked-beside}
-use Rattle.ispc_names_table.proofs.Texts.{same_text-same, same_text-sym}
+use Rattle.gang_model.proofs.SameTexts.{same_text-refl, same_text-sym}
 
 -- ---- the test
 
@@ -123,7 +123,7 @@ append-nil (x ∷ xs) = ap (λ z. x ∷ z) (append-nil xs)
 
 own_name : (names : ℕ → Name) (environment : Environment) (n : ℕ) → is_listed names (binding_of names n ∷ environment) n ≡ true
 own_name names environment n =
-    ap (λ t. is_number (if t then Some (Local n) else declaration environment (names n)) n) (same_text-same (names n)) ∙ eq-eqb n n refl
+    ap (λ t. is_number (if t then Some (Local n) else declaration environment (names n)) n) (same_text-refl (names n)) ∙ eq-eqb n n refl
 
 -- with a variable that is in scope
 with_number : (names : ℕ → Name) (environment : Environment) (n : ℕ) → unhidden environment ≡ map (binding_of names) (filter (is_listed names environment) (range_with_len 0 n))

@@ -13,7 +13,7 @@ use Rattle.gang_model.specs.Source.Names.{same_text}
 use Rattle.gang_model.specs.Source.Parsed.{Name}
 use Rattle.gang_model.specs.Names.Scope.{Environment, declaration}
 use Rattle.gang_model.specs.Types.Typing as typing
-use Rattle.ispc_names_scopes.proofs.SameTexts.{same_text-equal}
+use Rattle.gang_model.proofs.SameTexts.{same_text-equal}
 use Rattle.type_check_scopes.specs.declared.entries.Declared.{Declared}
 use Rattle.type_check_scopes.specs.Entries.{declared_view}
 use Rattle.type_check_scopes.specs.Tables.{entries_of, IsNumbered}

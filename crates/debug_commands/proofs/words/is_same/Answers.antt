@@ -1,5 +1,5 @@
 use Rattle.std.proofs.Common.{◌∙◌}
-use Rattle.debug_commands.proofs.SameBytes.{bytes_same}
+use Rattle.gang_model.proofs.SameTexts.{bytes_same}
 use Rattle.debug_commands.proofs.words.is_same.Goals as goal
 
 pub returns : goal.returns

@@ -8,7 +8,7 @@ use Rattle.debug_machine.specs.Machines.{ShowsNamed, file_variables}
 use Rattle.debug_session.specs.Moves.{refusal_option}
 use Rattle.debug_session.specs.Sessions.{bare}
 use Rattle.debug_session.proofs.Listing.{listed_added, listed_full, listed_so, with_part}
-use Rattle.debug_session.proofs.SameTexts.{named_so}
+use Rattle.gang_model.proofs.SameTexts.{named_so}
 use Rattle.debug_session.proofs.stopping.set_watch.Goals as goal
 
 -- a whole variable that can be had is a scalar

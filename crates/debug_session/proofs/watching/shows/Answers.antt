@@ -2,7 +2,7 @@ use Rattle.std.proofs.Common.{◌≡◌, ap, ◌∙◌, arith, get_or, ℕ}
 use Rattle.std.proofs.lemmas.Bool.Decides.{nat_tests}
 use Rattle.arrayvec.specs.ArrayVec.{ArrayVec}
 use Rattle.gang_model.specs.Source.Names.{same_text}
-use Rattle.debug_session.proofs.SameTexts.{pointwise-same_text}
+use Rattle.gang_model.proofs.SameTexts.{pointwise-same_text}
 use Rattle.debug_session.proofs.Watches.{noted_at}
 use Rattle.debug_session.proofs.watching.shows.Goals as goal
 

@@ -1,7 +1,7 @@
 use Rattle.std.proofs.Common.{◌≡◌, ℕ, List, ◌∙◌, sym, ap, arith, Bool, true, false}
 use Rattle.std.specs.Prelude.{bytes_eq}
 use Rattle.gang_model.specs.Source.Names.{same_text}
-use Rattle.ispc_names_table.proofs.Texts.{bytes_same}
+use Rattle.gang_model.proofs.SameTexts.{bytes_same}
 use Rattle.ispc_names.proofs.ItemSteps.{file-found, file-later, file-apart}
 use Rattle.ispc_names.proofs.file_variables.file_variable.Goals as goal
 use Rattle.ispc_names.proofs.file_variables.file_variable.Goals.{in-Global+else-eq, in_default}

@@ -1,5 +1,5 @@
 use Rattle.std.proofs.Common.{sym}
-use Rattle.ispc_names_scopes.proofs.SameTexts.{last_of_three}
+use Rattle.ispc_names_scopes.proofs.Choices.{last_of_three}
 use Rattle.ispc_names_scopes.proofs.library.statement_call.Goals as goal
 
 pub returns-else-is_same-3 : goal.returns-else-is_same-3

@@ -1,5 +1,5 @@
 use Rattle.std.proofs.Common.{◌∙◌}
-use Rattle.ispc_names_scopes.proofs.SameTexts.{pointwise-same_text}
+use Rattle.gang_model.proofs.SameTexts.{pointwise-same_text}
 use Rattle.ispc_names_scopes.proofs.texts.is_same.Goals as goal
 
 pub returns : goal.returns

@@ -4,7 +4,7 @@ use Rattle.gang_model.specs.Source.Names.{same_text}
 use Rattle.gang_model.specs.Names.Scope.{declaration}
 use Rattle.ispc_names_table.specs.Scopes.{linked}
 use Rattle.ispc_names_table.proofs.Links.{below, found-past, found-here, found-outside, linked-none}
-use Rattle.ispc_names_table.proofs.Texts.{bytes_same}
+use Rattle.gang_model.proofs.SameTexts.{bytes_same}
 use Rattle.ispc_names_table.proofs.look_ups.found.Goals as goal
 
 -- the test of a name, as the model names it
