@@ -5,5 +5,4 @@ pub mod Indices
 pub mod InRows
 pub mod Judging
 pub mod Named
-pub mod TypedBlocks
 pub mod Wanted
