@@ -54,10 +54,10 @@ returns_to_end f w level (next ∷ below) back behind n b e = absurd (none-some 
 
 -- ---- the first of a frame's tasks
 
-same_first : (t u : Task) (ts us : List Task) → t ∷ ts ≡ u ∷ us → t ≡ u
+pub same_first : (t u : Task) (ts us : List Task) → t ∷ ts ≡ u ∷ us → t ≡ u
 same_first t u ts us e = cc
 
-same_others : (t u : Task) (ts us : List Task) → t ∷ ts ≡ u ∷ us → ts ≡ us
+pub same_others : (t u : Task) (ts us : List Task) → t ∷ ts ≡ u ∷ us → ts ≡ us
 same_others t u ts us e = cc
 
 -- a statement is no round

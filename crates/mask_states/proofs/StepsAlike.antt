@@ -25,12 +25,7 @@ use Rattle.mask_states.proofs.HeadSteps.{with_top_tasks}
 use Rattle.mask_states.proofs.StepForms.{HeadAlike, head_alike}
 use Rattle.mask_states.proofs.CallSteps.{call_alike}
 use Rattle.mask_states.proofs.TurnSteps.{turn_alike}
-
-first_task : (t u : Task) (ts us : List Task) → t ∷ ts ≡ u ∷ us → t ≡ u
-first_task t u ts us e = cc
-
-other_tasks : (t u : Task) (ts us : List Task) → t ∷ ts ≡ u ∷ us → ts ≡ us
-other_tasks t u ts us e = cc
+use Rattle.mask_states.proofs.PastCalls.{same_first, same_others}
 
 none_some : {A : Type 0} (t : Task) (ts : List Task) → t ∷ ts ≡ [] → A
 none_some t ts e = absurd cc
@@ -96,8 +91,8 @@ module _ (p : Program) (lowerable : AreLowerable p) (w : ℕ) (memory : Store) (
       by_turns next lower_levels e body [] later d none rounds levels c =
           absurd (not_over level next lower_levels c (sym rounds.taken) (next_is_end (points_in f) w back level idle))
       by_turns next lower_levels e body (turn ∷ turns) later d none rounds levels c =
-          let first : t ≡ task (Round level.end turn.indices body) turn.lanes = first_task t _ ts _ (whole ∙ d) in
-          let others : ts ≡ round_tasks level.end body turns ++ later = other_tasks t _ ts _ (whole ∙ d) in
+          let first : t ≡ task (Round level.end turn.indices body) turn.lanes = same_first t _ ts _ (whole ∙ d) in
+          let others : ts ≡ round_tasks level.end body turns ++ later = same_others t _ ts _ (whole ∙ d) in
           let here : TasksStand (points_in f) w None level [] = subst (λ o. TasksStand (points_in f) w o level []) none idle in
           let some : no_lane turn.lanes ≡ false = (subst BeginsWithStep d begins).0 in
           let alike = subst (λ levels_below. Alike p w old (perform p (Round level.end turn.indices body) turn.lanes (with_top_tasks memory frame frames (round_tasks level.end body turns ++ later)))
@@ -123,7 +118,7 @@ module _ (p : Program) (lowerable : AreLowerable p) (w : ℕ) (memory : Store) (
           round_step parts.back parts.behind (subst (λ now. TasksStand (points_in f) w parts.back level now) e parts.stand) parts.stand_behind (subst BeginsWithStep behind_all begins) is_closed t ts behind_all
       by_now (h ∷ more) e =
           let all : t ∷ ts ≡ h ∷ (more ++ parts.behind) = parts.whole ∙ ap (λ now. now ++ parts.behind) e in
-          let first : t ≡ h = first_task t h ts (more ++ parts.behind) all in
+          let first : t ≡ h = same_first t h ts (more ++ parts.behind) all in
           subst (λ us. StepsAlike us) (sym all)
           (head_step parts.back h more parts.behind (subst (λ now. TasksStand (points_in f) w parts.back level now) e parts.stand) parts.stand_behind
           (subst BeginsWithStep (ap (λ u. u ∷ more) first) begins) (ap (λ u. length u.lanes) (sym first) ∙ sized.0)
