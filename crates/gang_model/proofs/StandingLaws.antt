@@ -101,7 +101,7 @@ dims_placed : (table : List Binding) (dims : List ParsedDim) (site : Site) → E
 dims_placed table [] site p q = q
 dims_placed table (d ∷ dims) site p q = dims_placed table dims (with_name d.name site) p.1 (p.0, q)
 
-with_dims-next : (dims : List ParsedDim) (site : Site) → (with_dims dims site).next ≡ site.next + length dims
+pub with_dims-next : (dims : List ParsedDim) (site : Site) → (with_dims dims site).next ≡ site.next + length dims
 with_dims-next [] site = omega arith
 with_dims-next (d ∷ dims) site = omega (arith, with_dims-next dims (with_name d.name site))
 

@@ -1,6 +1,6 @@
 -- The lesser of two faults, where each may be there or not, in any order; and the least fault of a list, part by part.
 use Rattle.std.proofs.Common.{◌≡◌, ℕ, ◌+◌, ◌<◌, length, drop, Bool, true, false, List, ◌∷◌, ◌++◌, refl, sym, ap, ◌∙◌, arith, Option, Some, None}
-use Rattle.std.specs.Prelude.{◌==◌, ◌||◌, ◌&&◌, nat_lt, get_or, if◌then◌else◌}
+use Rattle.std.specs.Prelude.{◌==◌, get_or, if◌then◌else◌}
 use Rattle.std.proofs.lemmas.Bool.Decides.{nat_tests}
 use Rattle.std.proofs.lemmas.List.{drop_more}
 use Rattle.gang_types.specs.declared.places.Place.{Place}
@@ -8,7 +8,7 @@ use Rattle.gang_model.specs.declared.refusals.RefusalNumber.{RefusalNumber}
 use Rattle.gang_model.specs.declared.refusals.RefusalNumber.TheVariants.{S1, S2, S3, S4, S5, S6, S7, S8, S9, S10, S11, S12, S13}
 use Rattle.gang_model.specs.declared.refusals.SourceRefusal.{SourceRefusal}
 use Rattle.gang_model.specs.Source.Judged.{rank, is_less, lesser, least_fault, merged}
-use Rattle.gang_model.proofs.JudgedLaws.{least_fault-append, merged-none, merged-assoc}
+use Rattle.gang_model.proofs.JudgedLaws.{below, least_fault-append, merged-none, merged-assoc}
 
 abbrev pub Fault : Type 0
 Fault = Option SourceRefusal
@@ -32,9 +32,6 @@ number_of-rank S10 = refl
 number_of-rank S11 = refl
 number_of-rank S12 = refl
 number_of-rank S13 = refl
-
-abbrev below : (l c n l' c' n' : ℕ) → Bool
-below l c n l' c' n' = nat_lt l l' || ((l == l') && nat_lt c c') || (((l == l') && (c == c')) && nat_lt n n')
 
 same_line : (l c n l' c' n' : ℕ) → below l c n l' c' n' ≡ false → below l' c' n' l c n ≡ false → l ≡ l'
 same_line l c n l' c' n' h k = grind (arith, nat_tests)

@@ -5,6 +5,8 @@ use Rattle.gang_model.specs.Names.Scope.{Binding, Environment, Site, with_name, 
 use Rattle.gang_model.proofs.ScopeLaws.{after-next, after_all-next}
 use Rattle.ispc_names_scopes.specs.Scopes.{Scoped, site}
 use Rattle.ispc_names_faults.specs.Moved.{moved}
+use Rattle.gang_model.proofs.StandingLaws.{with_dims-next}
+use Rattle.std.proofs.Math.Seq.{drop-append_seam}
 
 -- some declarations inside others
 abbrev pub Extends : Environment → Environment → Type 0
@@ -59,15 +61,7 @@ extends_params [] t = ([], refl)
 extends_params (p ∷ params) t =
     extends_trans t.environment (with_name p.name t).environment (with_params params (with_name p.name t)).environment (extends_name p.name t) (extends_params params (with_name p.name t))
 
-dims-next : (dims : List ParsedDim) (t : Site) → (with_dims dims t).next ≡ t.next + length dims
-dims-next [] t = omega arith
-dims-next (d ∷ dims) t = omega (arith, dims-next dims (with_name d.name t))
-
 -- ---- what is taken back
-
-drop_inner : {A : Type 0} (inner outer : List A) → drop (length inner) (inner ++ outer) ≡ outer
-drop_inner [] outer = refl
-drop_inner (x ∷ inner) outer = drop_inner inner outer
 
 pub no_fewer : (outer env : Environment) → Extends outer env → length outer ≤ length env
 no_fewer outer env h = omega (arith, ap length h.1, length-append h.0 outer)
@@ -75,7 +69,7 @@ no_fewer outer env h = omega (arith, ap length h.1, length-append h.0 outer)
 taken_back : (outer env : Environment) → Extends outer env → drop (length env - length outer) env ≡ outer
 taken_back outer env h =
     let count : length env - length outer ≡ length h.0 = omega (arith, ap length h.1, length-append h.0 outer) in
-    ap (λ n. drop n env) count ∙ (ap (drop (length h.0)) h.1 ∙ drop_inner h.0 outer)
+    ap (λ n. drop n env) count ∙ (ap (drop (length h.0)) h.1 ∙ drop-append_seam h.0 outer)
 
 same_scopes : (a b : Scoped) → a.environment ≡ b.environment → a.outside ≡ b.outside → a.next ≡ b.next → a ≡ b
 same_scopes a b e o n =
@@ -157,7 +151,7 @@ pub reach_dims : (s t u : Scoped) (dims : List ParsedDim) (n : ℕ) → Reaches 
 reach_dims s t u dims n r e = record {
   extends = extends_trans s.environment t.environment u.environment r.extends
       (extends_by t.environment (with_dims dims (site t)).environment u.environment (extends_dims dims (site t)) (ap (λ y. y.environment) e));
-  next_is = omega (arith, ap (λ y. y.next) e, dims-next dims (site t), r.next_is);
+  next_is = omega (arith, ap (λ y. y.next) e, with_dims-next dims (site t), r.next_is);
 }
 
 pub reach_params : (s t u : Scoped) (params : List ParsedParam) → Extends s.environment t.environment → site u ≡ with_params params (site t) → Extends s.environment u.environment

@@ -87,7 +87,3 @@ params_declared a b c params i x text lt is said d e =
 pub dims-length : (k : ℕ) (dims : List ParsedDim) → length (dim_bindings k dims) ≡ length dims
 dims-length k [] = refl
 dims-length k (d ∷ dims) = ap suc (dims-length (suc k) dims)
-
-pub with_dims-next : (dims : List ParsedDim) (site : Site) → (with_dims dims site).next ≡ site.next + length dims
-with_dims-next [] site = omega arith
-with_dims-next (d ∷ dims) site = omega (arith, with_dims-next dims (with_name d.name site))

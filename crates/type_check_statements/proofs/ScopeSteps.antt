@@ -6,6 +6,7 @@ use Rattle.gang_types.specs.declared.places.VarId.TheVariants.{Local}
 use Rattle.gang_model.specs.Source.Parsed.{ParsedDim, ParsedStmt, ParsedEmpty, ParsedBlock, ParsedDeclare, ParsedAssign, ParsedChange, ParsedIncrement, ParsedDoCall, ParsedBreak, ParsedContinue, ParsedReturn, ParsedIf, ParsedIfElse, ParsedWhile, ParsedDo, ParsedFor, ParsedSwitch, ParsedForEach, ParsedForEachActive, ParsedForEachUnique}
 use Rattle.gang_model.specs.Types.Typing.{Entry, Scope, index_entry}
 use Rattle.gang_model.specs.Types.Statements.{scope_after, index_entries, index_variables}
+use Rattle.std.proofs.Math.Seq.{drop-append_seam}
 
 -- some declarations inside others
 pub record Extends (outer env : Scope) : Type 0 where
@@ -65,10 +66,6 @@ pub indices-length : (dims : List ParsedDim) (k : ℕ) → length (index_variabl
 indices-length [] k = refl
 indices-length (d ∷ dims) k = ap suc (indices-length dims (suc k))
 
-drop_inner : {A : Type 0} (inner outer : List A) → drop (length inner) (inner ++ outer) ≡ outer
-drop_inner [] outer = refl
-drop_inner (x ∷ inner) outer = drop_inner inner outer
-
 pub extends-marked : (outer env : Scope) (mark : ℕ) → mark ≡ length outer → Extends outer env → mark ≤ length env
 extends-marked outer env mark m h = omega (arith, m, ap length h.is, length-append h.inner outer)
 
@@ -76,4 +73,4 @@ extends-marked outer env mark m h = omega (arith, m, ap length h.is, length-appe
 pub extends-left : (outer env left : Scope) (mark : ℕ) → mark ≡ length outer → Extends outer env → left ≡ drop (length env - mark) env → left ≡ outer
 extends-left outer env left mark m h l =
     let count : length env - mark ≡ length h.inner = omega (arith, m, ap length h.is, length-append h.inner outer) in
-    l ∙ (ap (λ n. drop n env) count ∙ (ap (drop (length h.inner)) h.is ∙ drop_inner h.inner outer))
+    l ∙ (ap (λ n. drop n env) count ∙ (ap (drop (length h.inner)) h.is ∙ drop-append_seam h.inner outer))

@@ -10,11 +10,12 @@ use Rattle.ispc_parser.specs.declared.tree.Stmt.{If}
 use Rattle.ispc_parser.specs.Tree.{stmt_view, stmts_view, dim_view, option_view}
 use Rattle.ispc_parser.proofs.Rows.{view_block}
 use Rattle.ispc_names_steps.specs.Sites.{Declares, Lists, Passes, Stands}
-use Rattle.ispc_names_steps.proofs.DeclaredLists.{dims-length, with_dims-next}
+use Rattle.ispc_names_steps.proofs.DeclaredLists.{dims-length}
 use Rattle.ispc_names_steps.proofs.Growth.{lists-none, lists-more, lists-append}
 use Rattle.ispc_names_steps.proofs.Passing.{declares_for, on_ok_any, on_ok, stands_as, stands_left, ends_as, declares_at, declares_in, passes_at, passes_in, declares_two, declares_body}
 use Rattle.ispc_names_steps.proofs.Sequences.{list_declares, list_stands}
 use Rattle.ispc_names_steps.proofs.statements.+statement.Goals as goal
+use Rattle.gang_model.proofs.StandingLaws.{with_dims-next}
 
 pub inner_steps-returns-clause-stands : goal.inner_steps-returns-clause-stands
 inner_steps-returns-clause-stands t c = λ site steps h.

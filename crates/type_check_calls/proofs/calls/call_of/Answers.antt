@@ -8,7 +8,7 @@ use Rattle.type_check_scopes.specs.Passings.{passing_view}
 use Rattle.source_answers.proofs.Answered.{answers-at, answers-then}
 use Rattle.gang_model.specs.Types.LibraryTable.{statement_call}
 use Rattle.type_check_calls.specs.Calls.{called_view, context_view}
-use Rattle.type_check_calls.proofs.Residuals.{inside-refused}
+use Rattle.type_check_expressions.proofs.Residuals.{inside-refused}
 use Rattle.type_check_calls.proofs.calls.call_of.Goals as goal
 
 pub returns-in_err-given : goal.returns-in_err-given

@@ -5,7 +5,7 @@ use Rattle.gang_model.specs.Types.Calls.{call_of, result_faults}
 use Rattle.typed_tree.specs.Views.{result_view, stmt_view}
 use Rattle.source_answers.proofs.Answered.{answers-then}
 use Rattle.type_check_calls.specs.Calls.{called_view, context_view, whole_call_view}
-use Rattle.type_check_calls.proofs.Residuals.{inside-refused, own-refused, own-sound}
+use Rattle.type_check_expressions.proofs.Residuals.{inside-refused, own-refused, own-sound}
 use Rattle.type_check_calls.proofs.calls.right_call.Goals as goal
 
 pub returns-in_err-called : goal.returns-in_err-called
