@@ -4,7 +4,8 @@ use Rattle.std.specs.Prelude.{nat_eq}
 use Rattle.std.specs.List.{starts_with}
 use Rattle.gang_model.specs.Source.Lexes.{NoClose}
 use Rattle.ispc_lexer.specs.Pieces.{closed_at, one_more, begins_close}
-use Rattle.ispc_lexer.proofs.Runs.{some_is, which, starts_sound, starts_again, starts_not, drop_past}
+use Rattle.ispc_lexer.proofs.Runs.{which, starts_sound, starts_again, starts_not, drop_past}
+use Rattle.std.proofs.lemmas.Option.{same_Some}
 
 -- the count so far, and what the rest has
 abbrev pub more_by : ℕ → Option ℕ → Option ℕ
@@ -55,7 +56,7 @@ unfolding closed_at begins_close
 closes [] n e = absurd cc
 closes (b ∷ bs) n e =
     elim (which (starts_with nat_eq (b ∷ bs) (42 ∷ 47 ∷ [])) _ _ (Some n) e) [
-      | inl q ↦ ([], drop 2 (b ∷ bs), starts_sound (b ∷ bs) (42 ∷ 47 ∷ []) q.0, sym (some_is 2 n q.1), tt)
+      | inl q ↦ ([], drop 2 (b ∷ bs), starts_sound (b ∷ bs) (42 ∷ 47 ∷ []) q.0, sym (same_Some 2 n q.1), tt)
       | inr q ↦ later (closed_at bs) refl (closes bs) q.0 q.1
     ]
   where
@@ -63,7 +64,7 @@ closes (b ∷ bs) n e =
     later None h inner other k = absurd cc
     later (Some m) h inner other k =
         let r = inner m h in
-        let same : m + 1 ≡ n = some_is (m + 1) n k in (
+        let same : m + 1 ≡ n = same_Some (m + 1) n k in (
           b ∷ r.0,
           r.1,
           ap (λ (xs : List ℕ). b ∷ xs) r.2,

@@ -12,10 +12,11 @@ use Rattle.gang_model.specs.Source.Spelling.{text_of, is_blank, is_digit, is_wor
 use Rattle.gang_model.specs.Source.Lexes.{Piece, blank, line_comment, block_comment, word, mark as mark_at, begins_word, ends_line, IsWordOf, NoComment, spelling, Fits}
 use Rattle.ispc_lexer.specs.Numbers.{◌>>=◌}
 use Rattle.ispc_lexer.specs.Pieces.{if_some, closed_at, word_of, reserved_of, is_not_line_end, run_of, line_of, mark_of, mark_piece, comment_or_mark, piece_of, shape}
-use Rattle.ispc_lexer.proofs.Runs.{bind_some, some_is, which, both_true, Ends, run_all, run_ends, run_again, starts_sound, starts_again, starts_not}
+use Rattle.ispc_lexer.proofs.Runs.{bind_some, which, both_true, Ends, run_all, run_ends, run_again, starts_sound, starts_again, starts_not}
 use Rattle.ispc_lexer.proofs.Comments.{closes, closes_again}
 use Rattle.ispc_lexer.proofs.MarkTables.{mark_sound, mark_complete, reserved_again, reserved_sound}
 use Rattle.ispc_lexer.proofs.NumberParts.{number_sound, number_complete}
+use Rattle.std.proofs.lemmas.Option.{same_Some}
 
 -- ---- words
 
@@ -27,7 +28,7 @@ word_sound (b ∷ bs) s first e =
       | inl p ↦
           let q = number_sound (b ∷ bs) s p.1 in
           subst (λ (x : Sort). IsWordOf x (b ∷ bs)) (sym q.3) (p.0, q.4)
-      | inr p ↦ subst (λ (x : Sort). IsWordOf x (b ∷ bs)) (some_is _ s p.1) (go (reserved_of (b ∷ bs)) refl p.0)
+      | inr p ↦ subst (λ (x : Sort). IsWordOf x (b ∷ bs)) (same_Some _ s p.1) (go (reserved_of (b ∷ bs)) refl p.0)
     ]
   where
     go : (o : Option Mark) → reserved_of (b ∷ bs) ≡ o → is_digit b ≡ false → IsWordOf (if_some o marked (named (b ∷ bs))) (b ∷ bs)
@@ -82,7 +83,7 @@ unfolding comment_or_mark mark_piece
 rest_stands bs x e =
     elim (which (starts_with nat_eq bs (47 ∷ 47 ∷ [])) _ _ (Some x) e) [
       | inl p ↦
-          subst (Stands bs) (some_is (line_comment (line_of (drop 2 bs))) x p.1) (record {
+          subst (Stands bs) (same_Some (line_comment (line_of (drop 2 bs))) x p.1) (record {
             mid = drop (prefix_len is_not_line_end (drop 2 bs)) (drop 2 bs);
             parts = starts_sound bs (47 ∷ 47 ∷ []) p.0 ∙ ap (λ (r : List ℕ). 47 ∷ 47 ∷ r) (sym (take-append-drop (prefix_len is_not_line_end (drop 2 bs)) (drop 2 bs)));
             fits = (run_all is_not_line_end (drop 2 bs), line_ends (drop (prefix_len is_not_line_end (drop 2 bs)) (drop 2 bs)) (run_ends is_not_line_end (drop 2 bs)));
@@ -94,7 +95,7 @@ rest_stands bs x e =
             let c = closes (drop 2 bs) n.0 n.1 in
             let size_is : n.0 - 2 ≡ length c.0 = omega (arith, c.3) in
             let body_is : take (n.0 - 2) (drop 2 bs) ≡ c.0 = ap (λ (k : ℕ). take k (drop 2 bs)) size_is ∙ ap (take (length c.0)) c.2 ∙ take-append_seam c.0 (42 ∷ 47 ∷ c.1) in
-            subst (Stands bs) (ap block_comment (sym body_is) ∙ some_is (block_comment (take (n.0 - 2) (drop 2 bs))) x n.2) (record {
+            subst (Stands bs) (ap block_comment (sym body_is) ∙ same_Some (block_comment (take (n.0 - 2) (drop 2 bs))) x n.2) (record {
               mid = c.1;
               parts = starts_sound bs (47 ∷ 42 ∷ []) q.0 ∙ ap (λ (r : List ℕ). 47 ∷ 42 ∷ r) (c.2 ∙ sym (append_assoc c.0 (42 ∷ 47 ∷ []) c.1));
               fits = c.4;
@@ -104,7 +105,7 @@ rest_stands bs x e =
             let m = bind_some (mark_of bs) (λ k. Some (mark_at k)) x q.1 in
             let clear : NoComment bs = λ more. (λ is. let yes = starts_again bs (47 ∷ 47 ∷ []) more is in let different = p.0 in absurd cc, λ is. let yes = starts_again bs (47 ∷ 42 ∷ []) more is in let different = q.0 in absurd cc) in
             let s = mark_sound bs m.0 clear m.1 in
-            subst (Stands bs) (some_is (mark_at m.0) x m.2) (record { mid = drop (length (text_of m.0)) bs; parts = s.0; fits = s.1; len = refl })
+            subst (Stands bs) (same_Some (mark_at m.0) x m.2) (record { mid = drop (length (text_of m.0)) bs; parts = s.0; fits = s.1; len = refl })
       ]
     ]
 
@@ -113,11 +114,11 @@ unfolding piece_of
 piece_stands [] x e = absurd cc
 piece_stands (b ∷ bs) x e =
     elim (which (is_blank b) _ _ (Some x) e) [
-      | inl p ↦ subst (Stands (b ∷ bs)) (some_is (blank b) x p.1) (record { mid = bs; parts = refl; fits = p.0; len = refl })
+      | inl p ↦ subst (Stands (b ∷ bs)) (same_Some (blank b) x p.1) (record { mid = bs; parts = refl; fits = p.0; len = refl })
       | inr p ↦ elim (which (is_word b) _ _ (Some x) p.1) [
         | inl q ↦
             let s = bind_some (word_of (run_of (b ∷ bs))) (λ k. Some (word k (run_of (b ∷ bs)))) x q.1 in
-            subst (Stands (b ∷ bs)) (some_is (word s.0 (run_of (b ∷ bs))) x s.2) (record {
+            subst (Stands (b ∷ bs)) (same_Some (word s.0 (run_of (b ∷ bs))) x s.2) (record {
               mid = drop (prefix_len is_word (b ∷ bs)) (b ∷ bs);
               parts = sym (take-append-drop (prefix_len is_word (b ∷ bs)) (b ∷ bs));
               fits = (run_all is_word (b ∷ bs), word_ends (drop (prefix_len is_word (b ∷ bs)) (b ∷ bs)) (run_ends is_word (b ∷ bs)), word_sound (run_of (b ∷ bs)) s.0 (run_first b bs q.0) s.1);

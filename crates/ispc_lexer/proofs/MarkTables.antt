@@ -14,7 +14,8 @@ use Rattle.gang_model.specs.Source.Spelling.{text_of}
 use Rattle.gang_model.specs.Source.Lexes.{begins_word, NoComment, IsLongest}
 use Rattle.ispc_lexer.specs.declared.marks.TheConstants.{RESERVED, PUNCTUATION}
 use Rattle.ispc_lexer.specs.Pieces.{first_of, mark_of, reserved_of}
-use Rattle.ispc_lexer.proofs.Runs.{some_is, both_true, starts_sound, starts_again}
+use Rattle.ispc_lexer.proofs.Runs.{both_true, starts_sound, starts_again}
+use Rattle.std.proofs.lemmas.Option.{same_Some}
 
 abbrev In : Mark → List Mark → Type 0
 In x ms = list_any (λ y. sameb the_type y x) ms ≡ true
@@ -36,7 +37,7 @@ found p [] m e = absurd cc
 found p (y ∷ ms) m e = go (p y) refl e (found p ms m)
   where
     go : (v : Bool) → p y ≡ v → cond v (Some y) (find p ms) ≡ Some m → (find p ms ≡ Some m → p m ≡ true) → p m ≡ true
-    go true h k rest = ap p (sym (some_is y m k)) ∙ h
+    go true h k rest = ap p (sym (same_Some y m k)) ∙ h
     go false h k rest = rest k
 
 kept : (p q : Mark → Bool) (ms : List Mark) (m : Mark) → list_all q ms ≡ true → find p ms ≡ Some m → q m ≡ true
@@ -45,7 +46,7 @@ kept p q (y ∷ ms) m all e =
     let b = both_true (q y) (list_all q ms) all in go (p y) e b.0 (kept p q ms m b.1)
   where
     go : (v : Bool) → cond v (Some y) (find p ms) ≡ Some m → q y ≡ true → (find p ms ≡ Some m → q m ≡ true) → q m ≡ true
-    go true k here rest = ap q (sym (some_is y m k)) ∙ here
+    go true k here rest = ap q (sym (same_Some y m k)) ∙ here
     go false k here rest = rest k
 
 some_found : (p : Mark → Bool) (ms : List Mark) (o : Mark) → In o ms → p o ≡ true → (m : Mark) × (find p ms ≡ Some m)
@@ -77,7 +78,7 @@ longest bs (y ∷ ms) m o sort e h k =
   where
     go : (v : Bool) → starts bs y ≡ v → cond v (Some y) (first_of ms bs) ≡ Some m → list_all (λ z. nat_le (size z) (size y)) ms ≡ true → (first_of ms bs ≡ Some m → In o ms → size o ≤ size m) → size o ≤ size m
     go true s f short rest =
-        let is : y ≡ m = some_is y m f in
+        let is : y ≡ m = same_Some y m f in
         subst (λ (z : Mark). size o ≤ size z) is (elim (in_cases o y ms h) [
           | inl same ↦ subst (λ (z : Mark). size z ≤ size y) same (omega arith)
           | inr later ↦ leb-true (size o) (size y) (all_in (λ z. nat_le (size z) (size y)) ms o short later)

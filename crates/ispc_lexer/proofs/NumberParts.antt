@@ -9,17 +9,11 @@ use Rattle.std.proofs.Math.Seq.{take-append_seam, drop-append_seam}
 use Rattle.gang_model.specs.Source.Tokens.{Sort, numbered}
 use Rattle.gang_model.specs.Source.Spelling.{Radix, decimal, hexadecimal, binary, IsPrefix, is_digit, is_digit_in, value_in, NoLeadingZero, is_u, is_l, IsSuffix, IsNumber}
 use Rattle.ispc_lexer.specs.Numbers.{radix_of, prefix_size, begins_with_zero, has_leading_zero, fitting, is_suffix, is_nil, number_in, digits_of, suffix_of, number_from, number_of}
-use Rattle.ispc_lexer.proofs.Runs.{bind_some, some_is, which, both_true, is_false, Ends, run_all, run_again, starts_sound, starts_not}
+use Rattle.ispc_lexer.proofs.Runs.{bind_some, which, both_true, is_false, Ends, run_all, run_again, starts_sound, starts_not}
+use Rattle.gang_model.proofs.JudgedLaws.{or_false, not_false}
+use Rattle.std.proofs.lemmas.Option.{same_Some}
 
 -- ---- what is tested
-
-none_true : (a b : Bool) → (a || b) ≡ false → (a ≡ false) × (b ≡ false)
-none_true true b e = absurd cc
-none_true false b e = (refl, e)
-
-not_false : (a : Bool) → not a ≡ false → a ≡ true
-not_false true e = refl
-not_false false e = absurd cc
 
 some_digits : (digits : List ℕ) → is_nil digits ≡ false → digits ≢ []
 some_digits digits e is = let nothing : is_nil [] ≡ false = ap is_nil (sym is) ∙ e in absurd cc
@@ -147,8 +141,8 @@ number_parts radix digits suffix s e =
     elim (which (is_nil digits || (has_leading_zero radix digits || not (is_suffix suffix))) _ _ (Some s) e) [
       | inl p ↦ let none_left = p.1 in absurd cc
       | inr p ↦
-          let a = none_true (is_nil digits) (has_leading_zero radix digits || not (is_suffix suffix)) p.0 in
-          let b = none_true (has_leading_zero radix digits) (not (is_suffix suffix)) a.1 in
+          let a = or_false (is_nil digits) (has_leading_zero radix digits || not (is_suffix suffix)) p.0 in
+          let b = or_false (has_leading_zero radix digits) (not (is_suffix suffix)) a.1 in
           let q = bind_some (fitting (value_in radix digits)) (λ n. Some (numbered n (list_any is_u suffix) (list_any is_l suffix))) s p.1 in
           elim (which (nat_lt (value_in radix digits) (2 ^ 64)) _ _ (Some q.0) q.1) [
             | inr r ↦ let none_left = r.1 in absurd cc
@@ -157,7 +151,7 @@ number_parts radix digits suffix s e =
               no_zero = leading_sound radix digits b.0;
               fits = ltb-true (value_in radix digits) (2 ^ 64) r.0;
               suffixed = suffix_sound suffix (not_false (is_suffix suffix) b.1);
-              is = sym (some_is _ s q.2) ∙ ap (λ (k : ℕ). numbered k (list_any is_u suffix) (list_any is_l suffix)) (sym (some_is (value_in radix digits) q.0 r.1));
+              is = sym (same_Some _ s q.2) ∙ ap (λ (k : ℕ). numbered k (list_any is_u suffix) (list_any is_l suffix)) (sym (same_Some (value_in radix digits) q.0 r.1));
             }
           ]
     ]

@@ -11,9 +11,6 @@ pub bind_some : {A B : Type 0} (r : Option A) (f : A → Option B) (y : B) → (
 bind_some None f y e = absurd cc
 bind_some (Some x) f y e = (x, refl, e)
 
-pub some_is : {A : Type 0} (x y : A) → Some x ≡ Some y → x ≡ y
-some_is x y e = cc
-
 pub which : {A : Type 0} (c : Bool) (x y z : A) → cond c x y ≡ z → ((c ≡ true) × (x ≡ z)) ⊎ ((c ≡ false) × (y ≡ z))
 which true x y z e = inl (refl, e)
 which false x y z e = inr (refl, e)

@@ -6,12 +6,14 @@ use Rattle.gang_model.specs.Source.Parsed.{ParsedExpr, ParsedDim, ParsedStmt, Pa
 use Rattle.gang_model.specs.Source.Spells.{Takes, WholeExpr}
 use Rattle.gang_model.specs.Source.SpellsStatements.{Maybe, SpellsList, SpellsDeclaration, SpellsSimple, SpellsStart, SpellsUpdate, SpellsRounds, SpellsDim, max_dims, SpellsDims, SpellsDistinct}
 use Rattle.ispc_parser_expressions.specs.Parse.{begins, begins_word, take, is_mark, whole_expr}
-use Rattle.ispc_parser_expressions.proofs.Tools.{bind_some, some_is, which, chosen, take_takes}
+use Rattle.ispc_parser_expressions.proofs.Tools.{bind_some, chosen, take_takes}
 use Rattle.ispc_parser_expressions.proofs.Whole.{whole_sound}
 use Rattle.ispc_parser.specs.Parts.{Reader, name_of, list_of}
 use Rattle.ispc_parser.specs.Heads.{optional_of, start_of, update_of, ParsedRounds, rounds_of, dim_of, dims_of, ParsedDistinct, distinct_of}
 use Rattle.ispc_parser.proofs.Tokens.{name_sound}
 use Rattle.ispc_parser.proofs.PartsSound.{declaration_sound, simple_sound}
+use Rattle.std.proofs.lemmas.Option.{same_Some}
+use Rattle.ispc_lexer.proofs.Runs.{which}
 
 -- ---- what commas separate
 
@@ -29,10 +31,10 @@ list_sound {A} one R good (suc n) xs ts rest e =
       | inl p ↦
           let q2 = bind_some (list_of one n p.0) _ (xs, rest) p.2 in
           let more = list_sound one R good n q2.0.0 p.0 q2.0.1 q2.1 in
-          subst (λ (y : List A × List Lexeme). SpellsList R y.0 ts y.1 × (length y.0 ≤ suc n)) (some_is (q1.0.0 ∷ q2.0.0, q2.0.1) (xs, rest) q2.2)
+          subst (λ (y : List A × List Lexeme). SpellsList R y.0 ts y.1 × (length y.0 ≤ suc n)) (same_Some (q1.0.0 ∷ q2.0.0, q2.0.1) (xs, rest) q2.2)
           (grown q1.0.0 q2.0.0 q1.0.1 p.0 q2.0.1 (good q1.0.0 ts q1.0.1 q1.1) (take_takes mark.Comma q1.0.1 p.0 p.1) more.0, one_more n (length q2.0.0) more.1)
       | inr p ↦
-          subst (λ (y : List A × List Lexeme). SpellsList R y.0 ts y.1 × (length y.0 ≤ suc n)) (some_is (q1.0.0 ∷ [], q1.0.1) (xs, rest) p.1)
+          subst (λ (y : List A × List Lexeme). SpellsList R y.0 ts y.1 × (length y.0 ≤ suc n)) (same_Some (q1.0.0 ∷ [], q1.0.1) (xs, rest) p.1)
           (good q1.0.0 ts q1.0.1 q1.1, one_more n 0 (omega arith))
     ]
   where
@@ -65,10 +67,10 @@ module _ (d : ℕ) where
   unfolding optional_of
   optional_sound o ts rest e =
       elim (which (begins mark.Semicolon ts) _ _ (Some (o, rest)) e) [
-        | inl p ↦ subst (λ (y : Option ParsedExpr × List Lexeme). Maybe (WholeExpr d) y.0 ts y.1) (some_is (None, ts) (o, rest) p.1) refl
+        | inl p ↦ subst (λ (y : Option ParsedExpr × List Lexeme). Maybe (WholeExpr d) y.0 ts y.1) (same_Some (None, ts) (o, rest) p.1) refl
         | inr p ↦
             let q = bind_some (whole_expr d ts) _ (o, rest) p.1 in
-            subst (λ (y : Option ParsedExpr × List Lexeme). Maybe (WholeExpr d) y.0 ts y.1) (some_is (Some q.0.0, q.0.1) (o, rest) q.2) (whole_sound d q.0.0 ts q.0.1 q.1)
+            subst (λ (y : Option ParsedExpr × List Lexeme). Maybe (WholeExpr d) y.0 ts y.1) (same_Some (Some q.0.0, q.0.1) (o, rest) q.2) (whole_sound d q.0.0 ts q.0.1 q.1)
       ]
 
   start_sound : (x : ParsedStmt) (ts rest : List Lexeme) → start_of d ts ≡ Some (x, rest) → SpellsStart d x ts rest
@@ -76,7 +78,7 @@ module _ (d : ℕ) where
   start_sound x [] rest e = absurd cc
   start_sound x (t ∷ ts) rest e =
       elim (which (is_mark mark.Semicolon t.sort) _ _ (Some (x, rest)) e) [
-        | inl p ↦ subst (λ (y : ParsedStmt × List Lexeme). SpellsStart d y.0 (t ∷ ts) y.1) (some_is (ParsedEmpty, t ∷ ts) (x, rest) p.1) refl
+        | inl p ↦ subst (λ (y : ParsedStmt × List Lexeme). SpellsStart d y.0 (t ∷ ts) y.1) (same_Some (ParsedEmpty, t ∷ ts) (x, rest) p.1) refl
         | inr p ↦
             elim (which (begins_word (t ∷ ts)) _ _ (Some (x, rest)) p.1) [
               | inl w ↦ start_declared d x (t ∷ ts) rest (declaration_sound d t.place x (t ∷ ts) rest refl w.1)
@@ -88,7 +90,7 @@ module _ (d : ℕ) where
   unfolding update_of
   update_sound x ts rest e =
       elim (which (begins mark.RightParen ts) _ _ (Some (x, rest)) e) [
-        | inl p ↦ subst (λ (y : ParsedStmt × List Lexeme). SpellsUpdate d y.0 ts y.1) (some_is (ParsedEmpty, ts) (x, rest) p.1) refl
+        | inl p ↦ subst (λ (y : ParsedStmt × List Lexeme). SpellsUpdate d y.0 ts y.1) (same_Some (ParsedEmpty, ts) (x, rest) p.1) refl
         | inr p ↦ update_simple d x ts rest (simple_sound d x ts rest p.1)
       ]
 
@@ -100,7 +102,7 @@ module _ (d : ℕ) where
       let q3 = bind_some (optional_of d q2.0) _ (r, rest) q2.2 in
       let q4 = bind_some (take mark.Semicolon q3.0.1) _ (r, rest) q3.2 in
       let q5 = bind_some (update_of d q4.0) _ (r, rest) q4.2 in
-      subst (λ (y : ParsedRounds × List Lexeme). SpellsRounds y.0.start y.0.test y.0.update d ts y.1) (some_is (record { start = q1.0.0; test = q3.0.0; update = q5.0.0 }, q5.0.1) (r, rest) q5.2) (
+      subst (λ (y : ParsedRounds × List Lexeme). SpellsRounds y.0.start y.0.test y.0.update d ts y.1) (same_Some (record { start = q1.0.0; test = q3.0.0; update = q5.0.0 }, q5.0.1) (r, rest) q5.2) (
         q1.0.1,
         q2.0,
         q3.0.1,
@@ -120,7 +122,7 @@ module _ (d : ℕ) where
       let q3 = bind_some (whole_expr d q2.0) _ (x, rest) q2.2 in
       let q4 = bind_some (take mark.Dots q3.0.1) _ (x, rest) q3.2 in
       let q5 = bind_some (whole_expr d q4.0) _ (x, rest) q4.2 in
-      subst (λ (y : ParsedDim × List Lexeme). SpellsDim d y.0 ts y.1) (some_is (record { at = q1.0.0.0; name = q1.0.0.1; low = q3.0.0; high = q5.0.0 }, q5.0.1) (x, rest) q5.2) (
+      subst (λ (y : ParsedDim × List Lexeme). SpellsDim d y.0 ts y.1) (same_Some (record { at = q1.0.0.0; name = q1.0.0.1; low = q3.0.0; high = q5.0.0 }, q5.0.1) (x, rest) q5.2) (
         q1.0.1,
         q2.0,
         q3.0.1,
@@ -142,5 +144,5 @@ module _ (d : ℕ) where
       let q1 = bind_some (name_of ts) _ (v, rest) e in
       let q2 = bind_some (take mark.In q1.0.1) _ (v, rest) q1.2 in
       let q3 = bind_some (whole_expr d q2.0) _ (v, rest) q2.2 in
-      subst (λ (y : ParsedDistinct × List Lexeme). SpellsDistinct y.0.at y.0.name y.0.value d ts y.1) (some_is (record { at = q1.0.0.0; name = q1.0.0.1; value = q3.0.0 }, q3.0.1) (v, rest) q3.2)
+      subst (λ (y : ParsedDistinct × List Lexeme). SpellsDistinct y.0.at y.0.name y.0.value d ts y.1) (same_Some (record { at = q1.0.0.0; name = q1.0.0.1; value = q3.0.0 }, q3.0.1) (v, rest) q3.2)
       (q1.0.1, q2.0, name_sound q1.0.0 ts q1.0.1 q1.1, take_takes mark.In q1.0.1 q2.0 q2.1, whole_sound d q3.0.0 q2.0 q3.0.1 q3.1)

@@ -6,16 +6,12 @@ use Rattle.gang_model.specs.declared.marks.Mark.TheVariants as mark
 use Rattle.gang_model.specs.declared.forms.Spec.{Spec}
 use Rattle.gang_model.specs.Source.Tokens.{named, marked, Lexeme}
 use Rattle.gang_model.specs.Source.Parsed.{Name, ParsedExpr, ParsedDim, ParsedTarget, ParsedStmt, ParsedEmpty, ParsedBlock, ParsedDeclare, ParsedAssign, ParsedChange, ParsedIncrement, ParsedDoCall, ParsedBreak, ParsedContinue, ParsedReturn, ParsedIf, ParsedIfElse, ParsedWhile, ParsedDo, ParsedFor, ParsedSwitch, ParsedForEach, ParsedForEachActive, ParsedForEachUnique, ParsedStmts, ParsedLast, ParsedNext}
-use Rattle.gang_model.specs.Source.Spells.{TakesAt, TakesWords, any_level, WholeExpr, WholeArgs}
+use Rattle.gang_model.specs.Source.Spells.{TakesAt, any_level, WholeExpr, WholeArgs}
 use Rattle.gang_model.specs.Source.SpellsStatements.{TakesEither, Maybe, InParens, InBrackets, SpellsList, SpellsSpec, SpellsValue, SpellsDeclaration, SpellsTarget, SpellsSimple, SpellsStart, SpellsUpdate, SpellsRounds, SpellsDim, SpellsDims, foreach_word, SpellsDistinct, OpensBody, SpellsStmt, SpellsStmts}
 use Rattle.ispc_parser_expressions.proofs.Tools.{opened}
-use Rattle.ispc_parser_expressions.proofs.Starts.{takes_shorter, at_shorter, spelled_shorter, items_shorter}
+use Rattle.ispc_parser_expressions.proofs.Starts.{words_shorter, takes_shorter, at_shorter, spelled_shorter, items_shorter}
 
 -- ---- tokens
-
-words_shorter : (ws : List Mark) (ts rest : List Lexeme) → TakesWords ws ts rest → length rest ≤ length ts
-words_shorter [] ts rest h = omega (arith, ap length h)
-words_shorter (w ∷ ws) ts rest h = omega (arith, takes_shorter (marked w) ts h.0 h.1, words_shorter ws h.0 rest h.2)
 
 pub spec_shorter : (s : Spec) (ts rest : List Lexeme) → SpellsSpec s ts rest → length rest ≤ length ts
 spec_shorter s ts rest h = words_shorter h.0 ts rest h.1

@@ -10,11 +10,14 @@ use Rattle.gang_model.specs.Source.Parsed.{Name, ParsedExpr, ParsedTarget, Parse
 use Rattle.gang_model.specs.Source.Spells.{Takes, TakesAt, WholeExpr, WholeArgs}
 use Rattle.gang_model.specs.Source.SpellsStatements.{BeginsAt, Maybe, InBrackets, SpellsValue, SpellsDeclaration, SpellsTarget, change_of, increment_of, SpellsSimple}
 use Rattle.ispc_parser_expressions.specs.Parse.{begins, take, mark_of, whole_expr, whole_args}
-use Rattle.ispc_parser_expressions.proofs.Tools.{bind_some, some_is, which, chosen, take_takes}
+use Rattle.ispc_parser_expressions.proofs.Tools.{bind_some, chosen, take_takes}
 use Rattle.ispc_parser_expressions.proofs.Starts.{takes_at}
 use Rattle.ispc_parser_expressions.proofs.Whole.{whole_sound, args_sound}
 use Rattle.ispc_parser.specs.Parts.{enter, name_of, in_parens, local_spec_of, value_of, declaration_of, index_of, target_of, changed_of, assigned_of, call_of, named_of, incremented_of, simple_at, simple_of}
-use Rattle.ispc_parser.proofs.Tokens.{opens_here, begins_at, first_at, mark_of_is, enter_sound, in_parens_sound, name_sound, local_spec_sound}
+use Rattle.ispc_parser.proofs.Tokens.{opens_here, begins_at, first_at, enter_sound, in_parens_sound, name_sound, local_spec_sound}
+use Rattle.ispc_parser_expressions.proofs.Tools.{mark_of_is}
+use Rattle.std.proofs.lemmas.Option.{same_Some}
+use Rattle.ispc_lexer.proofs.Runs.{which}
 
 module _ (d : ℕ) where
   pub value_sound : (o : Option ParsedExpr) (ts rest : List Lexeme) → value_of d ts ≡ Some (o, rest) → Maybe (SpellsValue d) o ts rest
@@ -24,9 +27,9 @@ module _ (d : ℕ) where
         | inl p ↦
             let q1 = bind_some (take mark.Assign ts) _ (o, rest) p.1 in
             let q2 = bind_some (whole_expr d q1.0) _ (o, rest) q1.2 in
-            subst (λ (y : Option ParsedExpr × List Lexeme). Maybe (SpellsValue d) y.0 ts y.1) (some_is (Some q2.0.0, q2.0.1) (o, rest) q2.2)
+            subst (λ (y : Option ParsedExpr × List Lexeme). Maybe (SpellsValue d) y.0 ts y.1) (same_Some (Some q2.0.0, q2.0.1) (o, rest) q2.2)
             (q1.0, take_takes mark.Assign ts q1.0 q1.1, whole_sound d q2.0.0 q1.0 q2.0.1 q2.1)
-        | inr p ↦ subst (λ (y : Option ParsedExpr × List Lexeme). Maybe (SpellsValue d) y.0 ts y.1) (some_is (None, ts) (o, rest) p.1) refl
+        | inr p ↦ subst (λ (y : Option ParsedExpr × List Lexeme). Maybe (SpellsValue d) y.0 ts y.1) (same_Some (None, ts) (o, rest) p.1) refl
       ]
 
   pub declaration_sound : (at : Place) (x : ParsedStmt) (ts rest : List Lexeme) → BeginsAt at ts → declaration_of d at ts ≡ Some (x, rest) → SpellsDeclaration d x ts rest
@@ -36,7 +39,7 @@ module _ (d : ℕ) where
       let q2 = bind_some (name_of q1.0.1) _ (x, rest) q1.2 in
       let q3 = bind_some (value_of d q2.0.1) _ (x, rest) q2.2 in
       let s = local_spec_sound q1.0.0 ts q1.0.1 q1.1 in
-      subst (λ (y : ParsedStmt × List Lexeme). SpellsDeclaration d y.0 ts y.1) (some_is (ParsedDeclare at q1.0.0 q2.0.0.0 q2.0.0.1 q3.0.0, q3.0.1) (x, rest) q3.2)
+      subst (λ (y : ParsedStmt × List Lexeme). SpellsDeclaration d y.0 ts y.1) (same_Some (ParsedDeclare at q1.0.0 q2.0.0.0 q2.0.0.1 q3.0.0, q3.0.1) (x, rest) q3.2)
       (q1.0.1, q2.0.1, here, s.0, s.1, name_sound q2.0.0 q1.0.1 q2.0.1 q2.1, value_sound q3.0.0 q2.0.1 q3.0.1 q3.1)
 
   abbrev pub Index : Option ParsedExpr → List Lexeme → List Lexeme → Type 0
@@ -51,9 +54,9 @@ module _ (d : ℕ) where
             let q2 = bind_some (whole_expr q1.0.0 q1.0.1) _ (o, rest) q1.2 in
             let q3 = bind_some (take mark.RightBracket q2.0.1) _ (o, rest) q2.2 in
             let s = enter_sound mark.LeftBracket d q1.0.0 ts q1.0.1 q1.1 in
-            subst (λ (y : Option ParsedExpr × List Lexeme). Index y.0 ts y.1) (some_is (Some q2.0.0, q3.0) (o, rest) q3.2)
+            subst (λ (y : Option ParsedExpr × List Lexeme). Index y.0 ts y.1) (same_Some (Some q2.0.0, q3.0) (o, rest) q3.2)
             (q1.0.1, q2.0.1, s.0, opens_here d q1.0.0 (λ n. WholeExpr n q2.0.0 q1.0.1 q2.0.1) s.1 (whole_sound q1.0.0 q2.0.0 q1.0.1 q2.0.1 q2.1), take_takes mark.RightBracket q2.0.1 q3.0 q3.1)
-        | inr p ↦ subst (λ (y : Option ParsedExpr × List Lexeme). Index y.0 ts y.1) (some_is (None, ts) (o, rest) p.1) refl
+        | inr p ↦ subst (λ (y : Option ParsedExpr × List Lexeme). Index y.0 ts y.1) (same_Some (None, ts) (o, rest) p.1) refl
       ]
 
   target_sound : (x : ParsedTarget) (ts rest : List Lexeme) → target_of d ts ≡ Some (x, rest) → SpellsTarget d x ts rest
@@ -61,7 +64,7 @@ module _ (d : ℕ) where
   target_sound x ts rest e =
       let q1 = bind_some (name_of ts) _ (x, rest) e in
       let q2 = bind_some (index_of d q1.0.1) _ (x, rest) q1.2 in
-      subst (λ (y : ParsedTarget × List Lexeme). SpellsTarget d y.0 ts y.1) (some_is (record { at = q1.0.0.0; name = q1.0.0.1; index = q2.0.0 }, q2.0.1) (x, rest) q2.2)
+      subst (λ (y : ParsedTarget × List Lexeme). SpellsTarget d y.0 ts y.1) (same_Some (record { at = q1.0.0.0; name = q1.0.0.1; index = q2.0.0 }, q2.0.1) (x, rest) q2.2)
       (q1.0.1, name_sound q1.0.0 ts q1.0.1 q1.1, index_sound q2.0.0 q1.0.1 q2.0.1 q2.1)
 
   -- behind a target that all begins with
@@ -74,19 +77,19 @@ module _ (d : ℕ) where
     changed_sound m x ts rest taken e =
         elim (chosen (increment_of m) _ _ (Some (x, rest)) e) [
           | inl q ↦
-              subst (λ (y : ParsedStmt × List Lexeme). SpellsSimple d y.0 all y.1) (some_is (ParsedIncrement target.at target q.0, ts) (x, rest) q.2)
+              subst (λ (y : ParsedStmt × List Lexeme). SpellsSimple d y.0 all y.1) (same_Some (ParsedIncrement target.at target q.0, ts) (x, rest) q.2)
               (m, here, q.1, inl (b, spelled, taken))
           | inr q ↦
               elim (which (sameb the_type m mark.Assign) _ _ (Some (x, rest)) q.1) [
                 | inl p ↦
                     let r = bind_some (whole_expr d ts) _ (x, rest) p.1 in
                     let same : Takes (marked mark.Assign) b ts = subst (λ (k : Mark). Takes (marked k) b ts) (same_true the_type tt m mark.Assign p.0) taken in
-                    subst (λ (y : ParsedStmt × List Lexeme). SpellsSimple d y.0 all y.1) (some_is (ParsedAssign target.at target r.0.0, r.0.1) (x, rest) r.2)
+                    subst (λ (y : ParsedStmt × List Lexeme). SpellsSimple d y.0 all y.1) (same_Some (ParsedAssign target.at target r.0.0, r.0.1) (x, rest) r.2)
                     (b, ts, here, spelled, same, whole_sound d r.0.0 ts r.0.1 r.1)
                 | inr p ↦
                     let r1 = bind_some (change_of m) _ (x, rest) p.1 in
                     let r2 = bind_some (whole_expr d ts) _ (x, rest) r1.2 in
-                    subst (λ (y : ParsedStmt × List Lexeme). SpellsSimple d y.0 all y.1) (some_is (ParsedChange target.at target r1.0 r2.0.0, r2.0.1) (x, rest) r2.2)
+                    subst (λ (y : ParsedStmt × List Lexeme). SpellsSimple d y.0 all y.1) (same_Some (ParsedChange target.at target r1.0 r2.0.0, r2.0.1) (x, rest) r2.2)
                     (m, b, ts, here, spelled, r1.1, taken, whole_sound d r2.0.0 ts r2.0.1 r2.1)
               ]
         ]
@@ -102,7 +105,7 @@ module _ (d : ℕ) where
   unfolding call_of
   call_sound at n x all ts rest first e =
       let q = bind_some (in_parens whole_args d ts) _ (x, rest) e in
-      subst (λ (y : ParsedStmt × List Lexeme). SpellsSimple d y.0 all y.1) (some_is (ParsedDoCall at n q.0.0, q.0.1) (x, rest) q.2)
+      subst (λ (y : ParsedStmt × List Lexeme). SpellsSimple d y.0 all y.1) (same_Some (ParsedDoCall at n q.0.0, q.0.1) (x, rest) q.2)
       (ts, first, in_parens_sound whole_args (λ es inner. WholeArgs inner es) args_sound d q.0.0 ts q.0.1 q.1)
 
   named_sound : (at : Place) (n : Name) (x : ParsedStmt) (all ts rest : List Lexeme) → TakesAt (named n) at all ts → named_of d at n ts ≡ Some (x, rest) → SpellsSimple d x all rest
@@ -120,7 +123,7 @@ module _ (d : ℕ) where
   incremented_sound at m x all ts rest first e =
       let q1 = bind_some (increment_of m) _ (x, rest) e in
       let q2 = bind_some (target_of d ts) _ (x, rest) q1.2 in
-      subst (λ (y : ParsedStmt × List Lexeme). SpellsSimple d y.0 all y.1) (some_is (ParsedIncrement at q2.0.0 q1.0, q2.0.1) (x, rest) q2.2)
+      subst (λ (y : ParsedStmt × List Lexeme). SpellsSimple d y.0 all y.1) (same_Some (ParsedIncrement at q2.0.0 q1.0, q2.0.1) (x, rest) q2.2)
       (m, begins_at (marked m) at all ts first, q1.1, inr (ts, takes_at (marked m) at all ts first, target_sound q2.0.0 ts q2.0.1 q2.1))
 
   sort_sound : (t : Lexeme) (s : Sort) (x : ParsedStmt) (ts rest : List Lexeme) → t.sort ≡ s → simple_at d s t.place ts ≡ Some (x, rest) → SpellsSimple d x (t ∷ ts) rest

@@ -13,13 +13,15 @@ use Rattle.gang_model.specs.Source.Spells.{Takes, TakesAt, Opens}
 use Rattle.gang_model.specs.Source.SpellsStatements.{SpellsSpec, SpellsList, SpellsStmts}
 use Rattle.gang_model.specs.Source.SpellsSource.{max_nesting, max_params, SpellsEmptyBrackets, SpellsParam, SpellsParams, SpellsLiteral, SpellsForm, SpellsItem, IsTree}
 use Rattle.ispc_parser_expressions.specs.Parse.{begins, take, spec_at}
-use Rattle.ispc_parser_expressions.proofs.Tools.{bind_some, some_is, which, chosen, take_takes}
+use Rattle.ispc_parser_expressions.proofs.Tools.{bind_some, chosen, take_takes}
 use Rattle.ispc_parser.specs.Parts.{take_at, name_of, local_spec_of}
 use Rattle.ispc_parser.specs.Statements.{within, parsers}
 use Rattle.ispc_parser.specs.Source.{brackets_of, param_of, some_params_of, lone_void, params_of, Body, function_body_of, function_of, Digits, digits_in, number_of, signed, literal_of, form_of, global_of, declared_of, is_outer, outer_spec_of, item_of, is_empty, items_of, tree_of}
 use Rattle.ispc_parser.proofs.Tokens.{take_at_sound, name_sound, spec_sound, local_spec_sound}
 use Rattle.ispc_parser.proofs.HeadsSound.{list_sound}
 use Rattle.ispc_parser.proofs.StatementsSound.{within_sound, parsers_sound}
+use Rattle.std.proofs.lemmas.Option.{same_Some}
+use Rattle.ispc_lexer.proofs.Runs.{which}
 
 -- ---- functions
 
@@ -30,9 +32,9 @@ brackets_sound b ts rest e =
       | inl p ↦
           let q1 = bind_some (take mark.LeftBracket ts) _ (b, rest) p.1 in
           let q2 = bind_some (take mark.RightBracket q1.0) _ (b, rest) q1.2 in
-          subst (λ (y : Bool × List Lexeme). SpellsEmptyBrackets y.0 ts y.1) (some_is (true, q2.0) (b, rest) q2.2)
+          subst (λ (y : Bool × List Lexeme). SpellsEmptyBrackets y.0 ts y.1) (same_Some (true, q2.0) (b, rest) q2.2)
           (q1.0, take_takes mark.LeftBracket ts q1.0 q1.1, take_takes mark.RightBracket q1.0 q2.0 q2.1)
-      | inr p ↦ subst (λ (y : Bool × List Lexeme). SpellsEmptyBrackets y.0 ts y.1) (some_is (false, ts) (b, rest) p.1) refl
+      | inr p ↦ subst (λ (y : Bool × List Lexeme). SpellsEmptyBrackets y.0 ts y.1) (same_Some (false, ts) (b, rest) p.1) refl
     ]
 
 param_sound : (x : ParsedParam) (ts rest : List Lexeme) → param_of ts ≡ Some (x, rest) → SpellsParam x ts rest
@@ -42,7 +44,7 @@ param_sound x ts rest e =
     let q2 = bind_some (name_of q1.0.1) _ (x, rest) q1.2 in
     let q3 = bind_some (brackets_of q2.0.1) _ (x, rest) q2.2 in
     let s = local_spec_sound q1.0.0 ts q1.0.1 q1.1 in
-    subst (λ (y : ParsedParam × List Lexeme). SpellsParam y.0 ts y.1) (some_is (record { at = q2.0.0.0; name = q2.0.0.1; spec = q1.0.0; is_array = q3.0.0 }, q3.0.1) (x, rest) q3.2)
+    subst (λ (y : ParsedParam × List Lexeme). SpellsParam y.0 ts y.1) (same_Some (record { at = q2.0.0.0; name = q2.0.0.1; spec = q1.0.0; is_array = q3.0.0 }, q3.0.1) (x, rest) q3.2)
     (q1.0.1, q2.0.1, s.0, s.1, name_sound q2.0.0 q1.0.1 q2.0.1 q2.1, brackets_sound q3.0.0 q2.0.1 q3.0.1 q3.1)
 
 abbrev Params : List ParsedParam → List Lexeme → List Lexeme → Type 0
@@ -61,7 +63,7 @@ unfolding lone_void
 lone_void_sound ts rest e =
     let q = bind_some (take mark.Void ts) _ rest e in
     elim (which (begins mark.RightParen q.0) _ _ (Some rest) q.2) [
-      | inl p ↦ subst (λ (r : List Lexeme). Takes (marked mark.Void) ts r) (some_is q.0 rest p.1) (take_takes mark.Void ts q.0 q.1)
+      | inl p ↦ subst (λ (r : List Lexeme). Takes (marked mark.Void) ts r) (same_Some q.0 rest p.1) (take_takes mark.Void ts q.0 q.1)
       | inr p ↦ let no_value = p.1 in absurd cc
     ]
 
@@ -69,10 +71,10 @@ params_sound : (xs : List ParsedParam) (ts rest : List Lexeme) → params_of ts 
 unfolding params_of
 params_sound xs ts rest e =
     elim (which (begins mark.RightParen ts) _ _ (Some (xs, rest)) e) [
-      | inl p ↦ subst (λ (y : List ParsedParam × List Lexeme). Params y.0 ts y.1) (some_is ([], ts) (xs, rest) p.1) (inl refl, omega arith)
+      | inl p ↦ subst (λ (y : List ParsedParam × List Lexeme). Params y.0 ts y.1) (same_Some ([], ts) (xs, rest) p.1) (inl refl, omega arith)
       | inr p ↦
           elim (chosen (lone_void ts) _ _ (Some (xs, rest)) p.1) [
-            | inl v ↦ subst (λ (y : List ParsedParam × List Lexeme). Params y.0 ts y.1) (some_is ([], v.0) (xs, rest) v.2) (inr (lone_void_sound ts v.0 v.1), omega arith)
+            | inl v ↦ subst (λ (y : List ParsedParam × List Lexeme). Params y.0 ts y.1) (same_Some ([], v.0) (xs, rest) v.2) (inr (lone_void_sound ts v.0 v.1), omega arith)
             | inr v ↦ some_params_sound xs ts rest v.1
           ]
     ]
@@ -86,7 +88,7 @@ body_sound x ts rest e =
     let q1 = bind_some (take mark.LeftBrace ts) _ (x, rest) e in
     let q2 = bind_some ((within 63 (parsers 63)).stmts q1.0) _ (x, rest) q1.2 in
     let q3 = bind_some (take_at mark.RightBrace q2.0.1) _ (x, rest) q2.2 in
-    subst (λ (y : Body × List Lexeme). InBraces y.0 ts y.1) (some_is (record { stmts = q2.0.0; closing = q3.0.0 }, q3.0.1) (x, rest) q3.2)
+    subst (λ (y : Body × List Lexeme). InBraces y.0 ts y.1) (same_Some (record { stmts = q2.0.0; closing = q3.0.0 }, q3.0.1) (x, rest) q3.2)
     (q1.0, q2.0.1, take_takes mark.LeftBrace ts q1.0 q1.1, (within_sound 63 (parsers 63) (parsers_sound 63)).stmts q2.0.0 q1.0 q2.0.1 q2.1, take_at_sound mark.RightBrace q3.0.0 q2.0.1 q3.0.1 q3.1)
 
 -- behind the words and the name that all begins with
@@ -101,13 +103,13 @@ module _ (spec : Spec) (at : Place) (n : Name) (all a b : List Lexeme) (words : 
       let ps = params_sound q2.0.0 q1.0 q2.0.1 q2.1 in
       let body = body_sound q4.0.0 q3.0 q4.0.1 q4.1 in
       subst (λ (y : ParsedItem × List Lexeme). SpellsItem y.0 all y.1)
-      (some_is (ParsedFunctionItem (record { at = at; name = n; spec = spec; params = q2.0.0; body = q4.0.0.stmts; closing = q4.0.0.closing }), q4.0.1) (x, rest) q4.2)
+      (same_Some (ParsedFunctionItem (record { at = at; name = n; spec = spec; params = q2.0.0; body = q4.0.0.stmts; closing = q4.0.0.closing }), q4.0.1) (x, rest) q4.2)
       (a, b, q1.0, q2.0.1, q3.0, body.0, body.1, words, may, name, take_takes mark.LeftParen b q1.0 q1.1, ps.0, ps.1, take_takes mark.RightParen q2.0.1 q3.0 q3.1, body.2, body.3, body.4)
 
 -- ---- file-scope variables
 
 digits_in_is : (s : Sort) (x : Digits) → digits_in s ≡ Some x → s ≡ numbered x.value x.is_unsigned x.is_long
-digits_in_is (numbered n u l) x e = subst (λ (y : Digits). numbered n u l ≡ numbered y.value y.is_unsigned y.is_long) (some_is (record { value = n; is_unsigned = u; is_long = l }) x e) refl
+digits_in_is (numbered n u l) x e = subst (λ (y : Digits). numbered n u l ≡ numbered y.value y.is_unsigned y.is_long) (same_Some (record { value = n; is_unsigned = u; is_long = l }) x e) refl
 digits_in_is (named n) x e = absurd cc
 digits_in_is (marked m) x e = absurd cc
 
@@ -116,7 +118,7 @@ unfolding number_of
 number_sound x [] rest e = absurd cc
 number_sound x (t ∷ ts) rest e =
     let q = bind_some (digits_in t.sort) _ (x, rest) e in
-    subst (λ (y : Digits × List Lexeme). Takes (numbered y.0.value y.0.is_unsigned y.0.is_long) (t ∷ ts) y.1) (some_is (q.0, ts) (x, rest) q.2)
+    subst (λ (y : Digits × List Lexeme). Takes (numbered y.0.value y.0.is_unsigned y.0.is_long) (t ∷ ts) y.1) (same_Some (q.0, ts) (x, rest) q.2)
     (record { token = t; is = refl; sort_is = digits_in_is t.sort q.0 q.1 })
 
 literal_sound : (x : Literal) (ts rest : List Lexeme) → literal_of ts ≡ Some (x, rest) → SpellsLiteral x ts rest
@@ -125,17 +127,17 @@ literal_sound x ts rest e =
     elim (chosen (take mark.Minus ts) _ _ (Some (x, rest)) e) [
       | inl p ↦
           let q = bind_some (number_of p.0) _ (x, rest) p.2 in
-          subst (λ (y : Literal × List Lexeme). SpellsLiteral y.0 ts y.1) (some_is (signed true q.0.0, q.0.1) (x, rest) q.2)
+          subst (λ (y : Literal × List Lexeme). SpellsLiteral y.0 ts y.1) (same_Some (signed true q.0.0, q.0.1) (x, rest) q.2)
           (p.0, take_takes mark.Minus ts p.0 p.1, number_sound q.0.0 p.0 q.0.1 q.1)
       | inr p ↦
           elim (chosen (take mark.True ts) _ _ (Some (x, rest)) p.1) [
-            | inl t ↦ subst (λ (y : Literal × List Lexeme). SpellsLiteral y.0 ts y.1) (some_is (literal.Truth true, t.0) (x, rest) t.2) (take_takes mark.True ts t.0 t.1)
+            | inl t ↦ subst (λ (y : Literal × List Lexeme). SpellsLiteral y.0 ts y.1) (same_Some (literal.Truth true, t.0) (x, rest) t.2) (take_takes mark.True ts t.0 t.1)
             | inr t ↦
                 elim (chosen (take mark.False ts) _ _ (Some (x, rest)) t.1) [
-                  | inl f ↦ subst (λ (y : Literal × List Lexeme). SpellsLiteral y.0 ts y.1) (some_is (literal.Truth false, f.0) (x, rest) f.2) (take_takes mark.False ts f.0 f.1)
+                  | inl f ↦ subst (λ (y : Literal × List Lexeme). SpellsLiteral y.0 ts y.1) (same_Some (literal.Truth false, f.0) (x, rest) f.2) (take_takes mark.False ts f.0 f.1)
                   | inr f ↦
                       let q = bind_some (number_of ts) _ (x, rest) f.1 in
-                      subst (λ (y : Literal × List Lexeme). SpellsLiteral y.0 ts y.1) (some_is (signed false q.0.0, q.0.1) (x, rest) q.2)
+                      subst (λ (y : Literal × List Lexeme). SpellsLiteral y.0 ts y.1) (same_Some (signed false q.0.0, q.0.1) (x, rest) q.2)
                       (ts, refl, number_sound q.0.0 ts q.0.1 q.1)
                 ]
           ]
@@ -148,15 +150,15 @@ form_sound x ts rest e =
       | inl p ↦
           let q1 = bind_some (number_of p.0) _ (x, rest) p.2 in
           let q2 = bind_some (take mark.RightBracket q1.0.1) _ (x, rest) q1.2 in
-          subst (λ (y : GlobalForm × List Lexeme). SpellsForm y.0 ts y.1) (some_is (form.Array q1.0.0.value, q2.0) (x, rest) q2.2)
+          subst (λ (y : GlobalForm × List Lexeme). SpellsForm y.0 ts y.1) (same_Some (form.Array q1.0.0.value, q2.0) (x, rest) q2.2)
           (q1.0.0.is_unsigned, q1.0.0.is_long, p.0, q1.0.1, take_takes mark.LeftBracket ts p.0 p.1, number_sound q1.0.0 p.0 q1.0.1 q1.1, take_takes mark.RightBracket q1.0.1 q2.0 q2.1)
       | inr p ↦
           elim (chosen (take mark.Assign ts) _ _ (Some (x, rest)) p.1) [
             | inl v ↦
                 let q = bind_some (literal_of v.0) _ (x, rest) v.2 in
-                subst (λ (y : GlobalForm × List Lexeme). SpellsForm y.0 ts y.1) (some_is (form.Initial q.0.0, q.0.1) (x, rest) q.2)
+                subst (λ (y : GlobalForm × List Lexeme). SpellsForm y.0 ts y.1) (same_Some (form.Initial q.0.0, q.0.1) (x, rest) q.2)
                 (v.0, take_takes mark.Assign ts v.0 v.1, literal_sound q.0.0 v.0 q.0.1 q.1)
-            | inr v ↦ subst (λ (y : GlobalForm × List Lexeme). SpellsForm y.0 ts y.1) (some_is (form.Plain, ts) (x, rest) v.1) refl
+            | inr v ↦ subst (λ (y : GlobalForm × List Lexeme). SpellsForm y.0 ts y.1) (same_Some (form.Plain, ts) (x, rest) v.1) refl
           ]
     ]
 
@@ -172,7 +174,7 @@ module _ (spec : Spec) (at : Place) (n : Name) (all a b : List Lexeme) (words : 
       let q1 = bind_some (form_of b) _ (x, rest) e in
       let q2 = bind_some (take mark.Semicolon q1.0.1) _ (x, rest) q1.2 in
       let no = no_outer_words spec.is_exported spec.is_inline may in
-      subst (λ (y : ParsedItem × List Lexeme). SpellsItem y.0 all y.1) (some_is (ParsedGlobalItem (record { at = at; name = n; spec = spec; form = q1.0.0 }), q2.0) (x, rest) q2.2)
+      subst (λ (y : ParsedItem × List Lexeme). SpellsItem y.0 all y.1) (same_Some (ParsedGlobalItem (record { at = at; name = n; spec = spec; form = q1.0.0 }), q2.0) (x, rest) q2.2)
       (a, b, q1.0.1, words, no.0, no.1, name, form_sound q1.0.0 b q1.0.1 q1.1, take_takes mark.Semicolon q1.0.1 q2.0 q2.1)
 
   declared_sound : (x : ParsedItem) (rest : List Lexeme) → declared_of spec at n b ≡ Some (x, rest) → SpellsItem x all rest
@@ -198,7 +200,7 @@ unfolding outer_spec_of
 outer_spec_sound s ts rest e =
     let q = bind_some (spec_at ts) _ (s, rest) e in
     elim (which (is_outer q.0.0) _ _ (Some (s, rest)) q.2) [
-      | inl p ↦ subst (λ (y : Spec × List Lexeme). SpellsSpec y.0 ts y.1) (some_is q.0 (s, rest) p.1) (spec_sound q.0.0 ts q.0.1 q.1)
+      | inl p ↦ subst (λ (y : Spec × List Lexeme). SpellsSpec y.0 ts y.1) (same_Some q.0 (s, rest) p.1) (spec_sound q.0.0 ts q.0.1 q.1)
       | inr p ↦ let no_value = p.1 in absurd cc
     ]
 
@@ -217,16 +219,16 @@ items_sound : (n : ℕ) (xs : ParsedSource) (ts : List Lexeme) → items_of n ts
 unfolding items_of
 items_sound zero xs ts e =
     elim (which (is_empty ts) _ _ (Some xs) e) [
-      | inl p ↦ subst (λ (y : ParsedSource). IsTree y ts) (some_is [] xs p.1) (is_nil ts p.0)
+      | inl p ↦ subst (λ (y : ParsedSource). IsTree y ts) (same_Some [] xs p.1) (is_nil ts p.0)
       | inr p ↦ let no_value = p.1 in absurd cc
     ]
 items_sound (suc n) xs ts e =
     elim (which (is_empty ts) _ _ (Some xs) e) [
-      | inl p ↦ subst (λ (y : ParsedSource). IsTree y ts) (some_is [] xs p.1) (is_nil ts p.0)
+      | inl p ↦ subst (λ (y : ParsedSource). IsTree y ts) (same_Some [] xs p.1) (is_nil ts p.0)
       | inr p ↦
           let q1 = bind_some (item_of ts) _ xs p.1 in
           let q2 = bind_some (items_of n q1.0.1) _ xs q1.2 in
-          subst (λ (y : ParsedSource). IsTree y ts) (some_is (q1.0.0 ∷ q2.0) xs q2.2)
+          subst (λ (y : ParsedSource). IsTree y ts) (same_Some (q1.0.0 ∷ q2.0) xs q2.2)
           (q1.0.1, item_sound q1.0.0 ts q1.0.1 q1.1, items_sound n q2.0 q1.0.1 q2.1)
     ]
 

@@ -8,7 +8,7 @@ use Rattle.gang_model.specs.Source.Parsed.{ParsedExpr, ParsedStmt, ParsedEmpty, 
 use Rattle.gang_model.specs.Source.Spells.{Takes, TakesAt, WholeExpr}
 use Rattle.gang_model.specs.Source.SpellsStatements.{TakesEither, SpellsDeclaration, SpellsSimple, SpellsRounds, SpellsDims, SpellsDistinct, foreach_word, OpensBody, SpellsStmt, SpellsStmts}
 use Rattle.ispc_parser_expressions.specs.Parse.{begins, begins_word, take, whole_expr}
-use Rattle.ispc_parser_expressions.proofs.Tools.{bind_some, some_is, which, take_takes, begins_again}
+use Rattle.ispc_parser_expressions.proofs.Tools.{bind_some, take_takes, begins_again}
 use Rattle.ispc_parser_expressions.proofs.Starts.{takes_at}
 use Rattle.ispc_parser_expressions.proofs.Whole.{whole_sound}
 use Rattle.ispc_parser.specs.declared.words.Loop.{Loop}
@@ -23,6 +23,8 @@ use Rattle.ispc_parser.specs.Statements.{opening_of, ended_of, plain_of, Below, 
 use Rattle.ispc_parser.proofs.Tokens.{opens_here, not_next, first_at, take_at_sound, in_parens_sound, name_sound}
 use Rattle.ispc_parser.proofs.PartsSound.{declaration_sound, simple_sound}
 use Rattle.ispc_parser.proofs.HeadsSound.{optional_sound, rounds_sound, dims_sound, distinct_sound}
+use Rattle.std.proofs.lemmas.Option.{same_Some}
+use Rattle.ispc_lexer.proofs.Runs.{which}
 
 -- ---- first words
 
@@ -78,7 +80,7 @@ unfolding ended_of
 ended_sound {A} one x ts rest e =
     let q1 = bind_some (one ts) _ (x, rest) e in
     let q2 = bind_some (take mark.Semicolon q1.0.1) _ (x, rest) q1.2 in
-    subst (λ (y : A × List Lexeme). (a : List Lexeme) × (one ts ≡ Some (y.0, a)) × Takes (marked mark.Semicolon) a y.1) (some_is (q1.0.0, q2.0) (x, rest) q2.2)
+    subst (λ (y : A × List Lexeme). (a : List Lexeme) × (one ts ≡ Some (y.0, a)) × Takes (marked mark.Semicolon) a y.1) (same_Some (q1.0.0, q2.0) (x, rest) q2.2)
     (q1.0.1, q1.1, take_takes mark.Semicolon q1.0.1 q2.0 q2.1)
 
 ends_simple : (d : ℕ) (x : ParsedStmt) (ts a rest : List Lexeme) → SpellsSimple d x ts a → Takes (marked mark.Semicolon) a rest → SpellsStmt x d ts rest
@@ -101,17 +103,17 @@ module _ (d : ℕ) where
   plain_sound : (word : Plain) (at : Place) (x : ParsedStmt) (all ts rest : List Lexeme) → TakesPlain word at all ts → plain_of word d at all ts ≡ Some (x, rest) → SpellsStmt x d all rest
   unfolding plain_of
   plain_sound plain.Empty at x all ts rest first e =
-      subst (λ (y : ParsedStmt × List Lexeme). SpellsStmt y.0 d all y.1) (some_is (ParsedEmpty, ts) (x, rest) e) (takes_at (marked mark.Semicolon) at all ts first)
+      subst (λ (y : ParsedStmt × List Lexeme). SpellsStmt y.0 d all y.1) (same_Some (ParsedEmpty, ts) (x, rest) e) (takes_at (marked mark.Semicolon) at all ts first)
   plain_sound plain.Break at x all ts rest first e =
       let q = bind_some (take mark.Semicolon ts) _ (x, rest) e in
-      subst (λ (y : ParsedStmt × List Lexeme). SpellsStmt y.0 d all y.1) (some_is (ParsedBreak at, q.0) (x, rest) q.2) (ts, first, take_takes mark.Semicolon ts q.0 q.1)
+      subst (λ (y : ParsedStmt × List Lexeme). SpellsStmt y.0 d all y.1) (same_Some (ParsedBreak at, q.0) (x, rest) q.2) (ts, first, take_takes mark.Semicolon ts q.0 q.1)
   plain_sound plain.Continue at x all ts rest first e =
       let q = bind_some (take mark.Semicolon ts) _ (x, rest) e in
-      subst (λ (y : ParsedStmt × List Lexeme). SpellsStmt y.0 d all y.1) (some_is (ParsedContinue at, q.0) (x, rest) q.2) (ts, first, take_takes mark.Semicolon ts q.0 q.1)
+      subst (λ (y : ParsedStmt × List Lexeme). SpellsStmt y.0 d all y.1) (same_Some (ParsedContinue at, q.0) (x, rest) q.2) (ts, first, take_takes mark.Semicolon ts q.0 q.1)
   plain_sound plain.Return at x all ts rest first e =
       let q = bind_some (ended_of (optional_of d) ts) _ (x, rest) e in
       let s = ended_sound (optional_of d) q.0.0 ts q.0.1 q.1 in
-      subst (λ (y : ParsedStmt × List Lexeme). SpellsStmt y.0 d all y.1) (some_is (ParsedReturn at q.0.0, q.0.1) (x, rest) q.2)
+      subst (λ (y : ParsedStmt × List Lexeme). SpellsStmt y.0 d all y.1) (same_Some (ParsedReturn at q.0.0, q.0.1) (x, rest) q.2)
       (ts, s.0, first, optional_sound d q.0.0 ts s.0 s.1, s.2)
   plain_sound plain.Simple at x all ts rest first e = ended_simple_sound x all rest e
 
@@ -136,7 +138,7 @@ module _ (d : ℕ) (below : Option Below) (sound : IsSound d below) where
       let q3 = bind_some (q2.0.stmts q1.0) _ (x, rest) q2.2 in
       let q4 = bind_some (take mark.RightBrace q3.0.1) _ (x, rest) q3.2 in
       let i = sound q2.0 q2.1 in
-      let same : (ParsedBlock q3.0.0, q4.0) ≡ (x, rest) = some_is (ParsedBlock q3.0.0, q4.0) (x, rest) q4.2 in
+      let same : (ParsedBlock q3.0.0, q4.0) ≡ (x, rest) = same_Some (ParsedBlock q3.0.0, q4.0) (x, rest) q4.2 in
       let spelled : SpellsStmt (ParsedBlock q3.0.0) d ts q4.0 =
       (q1.0, q3.0.1, take_takes mark.LeftBrace ts q1.0 q1.1, opens_here d i.0 (λ n. SpellsStmts q3.0.0 n q1.0 q3.0.1) i.1 (i.2.stmts q3.0.0 q1.0 q3.0.1 q3.1), take_takes mark.RightBrace q3.0.1 q4.0 q4.1) in
       (q3.0.0, ap (λ (y : ParsedStmt × List Lexeme). y.0) (sym same), subst (λ (y : ParsedStmt × List Lexeme). SpellsStmt (ParsedBlock q3.0.0) d ts y.1) same spelled)
@@ -167,10 +169,10 @@ module _ (d : ℕ) (below : Option Below) (sound : IsSound d below) where
         | inl p ↦
             let q4 = bind_some (else_of below q2.0.1) _ (x, rest) p.1 in
             let q3 = bind_some (take mark.Else q2.0.1) _ q4.0 q4.1 in
-            subst (λ (y : ParsedStmt × List Lexeme). SpellsStmt y.0 d all y.1) (some_is (ParsedIfElse at q1.0.0 q2.0.0 q4.0.0, q4.0.1) (x, rest) q4.2)
+            subst (λ (y : ParsedStmt × List Lexeme). SpellsStmt y.0 d all y.1) (same_Some (ParsedIfElse at q1.0.0 q2.0.0 q4.0.0, q4.0.1) (x, rest) q4.2)
             (ts, q1.0.1, q2.0.1, q3.0, word, t, first, take_takes mark.Else q2.0.1 q3.0 q3.1, body_sound q4.0.0 q3.0 q4.0.1 q3.2)
         | inr p ↦
-            subst (λ (y : ParsedStmt × List Lexeme). SpellsStmt y.0 d all y.1) (some_is (ParsedIf at q1.0.0 q2.0.0, q2.0.1) (x, rest) p.1)
+            subst (λ (y : ParsedStmt × List Lexeme). SpellsStmt y.0 d all y.1) (same_Some (ParsedIf at q1.0.0 q2.0.0, q2.0.1) (x, rest) p.1)
             (ts, q1.0.1, word, t, first, not_next mark.Else q2.0.1 p.0)
       ]
 
@@ -183,8 +185,8 @@ module _ (d : ℕ) (below : Option Below) (sound : IsSound d below) where
       let q3 = bind_some (in_parens whole_expr d q2.0.1) _ q5.0 q2.2 in
       let q4 = bind_some (take mark.Semicolon q3.0.1) _ q5.0 q3.2 in
       let t = in_parens_sound whole_expr (λ test inner. WholeExpr inner test) whole_sound d q3.0.0 q2.0.1 q3.0.1 q3.1 in
-      subst (λ (y : ParsedStmt × List Lexeme). SpellsStmt y.0 d all y.1) (some_is (ParsedDo q1.0.0 q5.0.0.0 q5.0.0.1, q5.0.1) (x, rest) q5.2)
-      (subst (λ (t : (Place × ParsedExpr) × List Lexeme). SpellsStmt (ParsedDo q1.0.0 t.0.0 t.0.1) d all t.1) (some_is ((q2.0.0, q3.0.0), q4.0) q5.0 q4.2)
+      subst (λ (y : ParsedStmt × List Lexeme). SpellsStmt y.0 d all y.1) (same_Some (ParsedDo q1.0.0 q5.0.0.0 q5.0.0.1, q5.0.1) (x, rest) q5.2)
+      (subst (λ (t : (Place × ParsedExpr) × List Lexeme). SpellsStmt (ParsedDo q1.0.0 t.0.0 t.0.1) d all t.1) (same_Some ((q2.0.0, q3.0.0), q4.0) q5.0 q4.2)
       (start, ts, q1.0.1, q2.0.1, q3.0.1, word, body_sound q1.0.0 ts q1.0.1 q1.1, take_at_sound mark.While q2.0.0 q1.0.1 q2.0.1 q2.1, t, take_takes mark.Semicolon q3.0.1 q4.0 q4.1))
 
   -- a head and a body
@@ -197,30 +199,30 @@ module _ (d : ℕ) (below : Option Below) (sound : IsSound d below) where
   head_sound loop.While at h x all ts mid rest word e =
       let q = bind_some (in_parens whole_expr d ts) _ (h, mid) e in
       let t = in_parens_sound whole_expr (λ test inner. WholeExpr inner test) whole_sound d q.0.0 ts q.0.1 q.1 in
-      subst (Completes x all rest) (some_is (WhileHead at q.0.0, q.0.1) (h, mid) q.2) (λ b. (ts, q.0.1, word, t, b))
+      subst (Completes x all rest) (same_Some (WhileHead at q.0.0, q.0.1) (h, mid) q.2) (λ b. (ts, q.0.1, word, t, b))
   head_sound loop.For at h x all ts mid rest word e =
       let q = bind_some (in_parens rounds_of d ts) _ (h, mid) e in
       let t = in_parens_sound rounds_of (λ r. SpellsRounds r.start r.test r.update) rounds_sound d q.0.0 ts q.0.1 q.1 in
-      subst (Completes x all rest) (some_is (ForHead at q.0.0, q.0.1) (h, mid) q.2) (λ b. (ts, q.0.1, word, t, b))
+      subst (Completes x all rest) (same_Some (ForHead at q.0.0, q.0.1) (h, mid) q.2) (λ b. (ts, q.0.1, word, t, b))
   head_sound (loop.ForEach is_tiled) at h x all ts mid rest word e =
       let q = bind_some (in_parens dims_of d ts) _ (h, mid) e in
       let t = in_parens_sound dims_of SpellsDims dims_sound d q.0.0 ts q.0.1 q.1 in
-      subst (Completes x all rest) (some_is (ForEachHead at is_tiled q.0.0, q.0.1) (h, mid) q.2) (λ b. (ts, q.0.1, word, t, b))
+      subst (Completes x all rest) (same_Some (ForEachHead at is_tiled q.0.0, q.0.1) (h, mid) q.2) (λ b. (ts, q.0.1, word, t, b))
   head_sound loop.ForEachActive at h x all ts mid rest word e =
       let q = bind_some (in_parens (λ inner. name_of) d ts) _ (h, mid) e in
       let t = in_parens_sound (λ inner. name_of) (λ n inner. TakesAt (named n.1) n.0) (λ n. name_sound) d q.0.0 ts q.0.1 q.1 in
-      subst (Completes x all rest) (some_is (ActiveHead at q.0.0.0 q.0.0.1, q.0.1) (h, mid) q.2) (λ b. (ts, q.0.1, word, t, b))
+      subst (Completes x all rest) (same_Some (ActiveHead at q.0.0.0 q.0.0.1, q.0.1) (h, mid) q.2) (λ b. (ts, q.0.1, word, t, b))
   head_sound loop.ForEachUnique at h x all ts mid rest word e =
       let q = bind_some (in_parens distinct_of d ts) _ (h, mid) e in
       let t = in_parens_sound distinct_of (λ v. SpellsDistinct v.at v.name v.value) distinct_sound d q.0.0 ts q.0.1 q.1 in
-      subst (Completes x all rest) (some_is (UniqueHead at q.0.0, q.0.1) (h, mid) q.2) (λ b. (ts, q.0.1, word, t, b))
+      subst (Completes x all rest) (same_Some (UniqueHead at q.0.0, q.0.1) (h, mid) q.2) (λ b. (ts, q.0.1, word, t, b))
 
   loop_sound : (word : Loop) (at : Place) (x : ParsedStmt) (all ts rest : List Lexeme) → TakesLoop word at all ts → loop_of word d below at ts ≡ Some (x, rest) → SpellsStmt x d all rest
   unfolding loop_of
   loop_sound word at x all ts rest first e =
       let q1 = bind_some (head_of word d at ts) _ (x, rest) e in
       let q2 = bind_some (body_of below q1.0.1) _ (x, rest) q1.2 in
-      subst (λ (y : ParsedStmt × List Lexeme). SpellsStmt y.0 d all y.1) (some_is (completed q1.0.0 q2.0.0, q2.0.1) (x, rest) q2.2)
+      subst (λ (y : ParsedStmt × List Lexeme). SpellsStmt y.0 d all y.1) (same_Some (completed q1.0.0 q2.0.0, q2.0.1) (x, rest) q2.2)
       (head_sound word at q1.0.0 q2.0.0 all ts q1.0.1 q2.0.1 first q1.1 (body_sound q2.0.0 q1.0.1 q2.0.1 q2.1))
 
   opened_sound : (o : Opening) (at : Place) (x : ParsedStmt) (all ts rest : List Lexeme) → TakesOpening (Some o) at all ts → opened_of o d below at all ts ≡ Some (x, rest) → SpellsStmt x d all rest
@@ -251,14 +253,14 @@ module _ (d : ℕ) (below : Option Below) (sound : IsSound d below) where
 
   pub stmts_sound : (n : ℕ) (xs : ParsedStmts) (ts rest : List Lexeme) → stmts_of (stmt_of d below) n ts ≡ Some (xs, rest) → SpellsStmts xs d ts rest
   unfolding stmts_of
-  stmts_sound zero xs ts rest e = subst (λ (y : ParsedStmts × List Lexeme). SpellsStmts y.0 d ts y.1) (some_is (ParsedLast, ts) (xs, rest) e) refl
+  stmts_sound zero xs ts rest e = subst (λ (y : ParsedStmts × List Lexeme). SpellsStmts y.0 d ts y.1) (same_Some (ParsedLast, ts) (xs, rest) e) refl
   stmts_sound (suc n) xs ts rest e =
       elim (which (ends_block ts) _ _ (Some (xs, rest)) e) [
-        | inl p ↦ subst (λ (y : ParsedStmts × List Lexeme). SpellsStmts y.0 d ts y.1) (some_is (ParsedLast, ts) (xs, rest) p.1) refl
+        | inl p ↦ subst (λ (y : ParsedStmts × List Lexeme). SpellsStmts y.0 d ts y.1) (same_Some (ParsedLast, ts) (xs, rest) p.1) refl
         | inr p ↦
             let q1 = bind_some (stmt_of d below ts) _ (xs, rest) p.1 in
             let q2 = bind_some (stmts_of (stmt_of d below) n q1.0.1) _ (xs, rest) q1.2 in
-            subst (λ (y : ParsedStmts × List Lexeme). SpellsStmts y.0 d ts y.1) (some_is (ParsedNext q1.0.0 q2.0.0, q2.0.1) (xs, rest) q2.2)
+            subst (λ (y : ParsedStmts × List Lexeme). SpellsStmts y.0 d ts y.1) (same_Some (ParsedNext q1.0.0 q2.0.0, q2.0.1) (xs, rest) q2.2)
             (q1.0.1, stmt_sound q1.0.0 ts q1.0.1 q1.1, stmts_sound n q2.0.0 q1.0.1 q2.0.1 q2.1)
       ]
 
@@ -268,4 +270,4 @@ within_sound d below sound = record { stmt = stmt_sound d below sound; stmts = �
 pub parsers_sound : (d : ℕ) → IsSound d (parsers d)
 unfolding parsers
 parsers_sound zero b e = absurd cc
-parsers_sound (suc d) b e = (d, refl, subst (Inside d) (some_is (within d (parsers d)) b e) (within_sound d (parsers d) (parsers_sound d)))
+parsers_sound (suc d) b e = (d, refl, subst (Inside d) (same_Some (within d (parsers d)) b e) (within_sound d (parsers d) (parsers_sound d)))

@@ -9,10 +9,12 @@ use Rattle.gang_model.specs.Source.Parsed.{Name}
 use Rattle.gang_model.specs.Source.Specs.{spec_of}
 use Rattle.gang_model.specs.Source.Spells.{Takes, TakesAt, Opens}
 use Rattle.gang_model.specs.Source.SpellsStatements.{NotNext, BeginsAt, InParens, SpellsSpec, IsLocal}
-use Rattle.ispc_parser_expressions.specs.Parse.{begins, begins_word, take, is_mark, mark_of, words_of, after_words, spec_at}
-use Rattle.ispc_parser_expressions.proofs.Tools.{bind_some, some_is, which, opened, mark_is, is_mark-same, take_takes, take_again, begins_again}
+use Rattle.ispc_parser_expressions.specs.Parse.{begins, begins_word, take, is_mark, words_of, after_words, spec_at}
+use Rattle.ispc_parser_expressions.proofs.Tools.{bind_some, opened, mark_is, is_mark-same, take_takes, take_again, begins_again}
 use Rattle.ispc_parser_expressions.proofs.SpecWords.{words_taken, words_again}
 use Rattle.ispc_parser.specs.Parts.{Reader, deeper, enter, take_at, name_in, name_of, in_parens, is_local, local_spec_of}
+use Rattle.std.proofs.lemmas.Option.{same_Some}
+use Rattle.ispc_lexer.proofs.Runs.{which}
 
 -- ---- marks
 
@@ -42,17 +44,12 @@ begins_at s at ts rest h = rw h.is h.place_is
 pub first_at : (t : Lexeme) (ts : List Lexeme) (s : Sort) → t.sort ≡ s → TakesAt s t.place (t ∷ ts) ts
 first_at t ts s e = record { token = t; is = refl; sort_is = e; place_is = refl }
 
-pub mark_of_is : (s : Sort) (m : Mark) → mark_of s ≡ Some m → s ≡ marked m
-mark_of_is (marked k) m e = ap marked (some_is k m e)
-mark_of_is (named n) m e = absurd cc
-mark_of_is (numbered n u l) m e = absurd cc
-
 pub take_at_sound : (m : Mark) (at : Place) (ts rest : List Lexeme) → take_at m ts ≡ Some (at, rest) → TakesAt (marked m) at ts rest
 unfolding take_at
 take_at_sound m at [] rest e = absurd cc
 take_at_sound m at (t ∷ ts) rest e =
     elim (which (is_mark m t.sort) _ _ (Some (at, rest)) e) [
-      | inl p ↦ subst (λ (y : Place × List Lexeme). TakesAt (marked m) y.0 (t ∷ ts) y.1) (some_is (t.place, ts) (at, rest) p.1) (first_at t ts (marked m) (mark_is m t.sort p.0))
+      | inl p ↦ subst (λ (y : Place × List Lexeme). TakesAt (marked m) y.0 (t ∷ ts) y.1) (same_Some (t.place, ts) (at, rest) p.1) (first_at t ts (marked m) (mark_is m t.sort p.0))
       | inr p ↦ let no_value = p.1 in absurd cc
     ]
 
@@ -64,14 +61,14 @@ take_at_again m at ts rest h = rw (h.is, h.sort_is, is_mark-same m, h.place_is) 
 
 deeper_is : (d n : ℕ) → deeper d ≡ Some n → d ≡ suc n
 deeper_is zero n e = absurd cc
-deeper_is (suc d) n e = ap suc (some_is d n e)
+deeper_is (suc d) n e = ap suc (same_Some d n e)
 
 pub enter_sound : (m : Mark) (d n : ℕ) (ts rest : List Lexeme) → enter m d ts ≡ Some (n, rest) → Takes (marked m) ts rest × (d ≡ suc n)
 unfolding enter
 enter_sound m d n ts rest e =
     let q1 = bind_some (take m ts) _ (n, rest) e in
     let q2 = bind_some (deeper d) _ (n, rest) q1.2 in
-    subst (λ (y : ℕ × List Lexeme). Takes (marked m) ts y.1 × (d ≡ suc y.0)) (some_is (q2.0, q1.0) (n, rest) q2.2) (take_takes m ts q1.0 q1.1, deeper_is d q2.0 q2.1)
+    subst (λ (y : ℕ × List Lexeme). Takes (marked m) ts y.1 × (d ≡ suc y.0)) (same_Some (q2.0, q1.0) (n, rest) q2.2) (take_takes m ts q1.0 q1.1, deeper_is d q2.0 q2.1)
 
 pub enter_again : (m : Mark) (d n : ℕ) (ts rest : List Lexeme) → Takes (marked m) ts rest → d ≡ suc n → enter m d ts ≡ Some (n, rest)
 unfolding enter
@@ -86,7 +83,7 @@ in_parens_sound {A} one F good d x ts rest e =
     let q2 = bind_some (one q1.0.0 q1.0.1) _ (x, rest) q1.2 in
     let q3 = bind_some (take mark.RightParen q2.0.1) _ (x, rest) q2.2 in
     let o = enter_sound mark.LeftParen d q1.0.0 ts q1.0.1 q1.1 in
-    subst (λ (y : A × List Lexeme). InParens d (F y.0) ts y.1) (some_is (q2.0.0, q3.0) (x, rest) q3.2)
+    subst (λ (y : A × List Lexeme). InParens d (F y.0) ts y.1) (same_Some (q2.0.0, q3.0) (x, rest) q3.2)
     (q1.0.1, q2.0.1, o.0, opens_here d q1.0.0 (λ n. F q2.0.0 n q1.0.1 q2.0.1) o.1 (good q1.0.0 q2.0.0 q1.0.1 q2.0.1 q2.1), take_takes mark.RightParen q2.0.1 q3.0 q3.1)
 
 pub in_parens_again : {A : Type 0} (one : ℕ → Reader A) (F : A → ℕ → List Lexeme → List Lexeme → Type 0)
@@ -100,7 +97,7 @@ in_parens_again one F good d x ts rest h =
 -- ---- names
 
 name_in_is : (s : Sort) (n : Name) → name_in s ≡ Some n → s ≡ named n
-name_in_is (named k) n e = ap named (some_is k n e)
+name_in_is (named k) n e = ap named (same_Some k n e)
 name_in_is (marked m) n e = absurd cc
 name_in_is (numbered k u l) n e = absurd cc
 
@@ -109,7 +106,7 @@ unfolding name_of
 name_sound y [] rest e = absurd cc
 name_sound y (t ∷ ts) rest e =
     let q = bind_some (name_in t.sort) _ (y, rest) e in
-    subst (λ (z : (Place × Name) × List Lexeme). TakesAt (named z.0.1) z.0.0 (t ∷ ts) z.1) (some_is ((t.place, q.0), ts) (y, rest) q.2)
+    subst (λ (z : (Place × Name) × List Lexeme). TakesAt (named z.0.1) z.0.0 (t ∷ ts) z.1) (same_Some ((t.place, q.0), ts) (y, rest) q.2)
     (first_at t ts (named q.0) (name_in_is t.sort q.0 q.1))
 
 pub name_again : (at : Place) (n : Name) (ts rest : List Lexeme) → TakesAt (named n) at ts rest → name_of ts ≡ Some ((at, n), rest)
@@ -122,7 +119,7 @@ pub spec_sound : (s : Spec) (ts rest : List Lexeme) → spec_at ts ≡ Some (s, 
 unfolding spec_at
 spec_sound s ts rest e =
     let q = bind_some (spec_of (words_of ts)) _ (s, rest) e in
-    subst (λ (y : Spec × List Lexeme). SpellsSpec y.0 ts y.1) (some_is (q.0, after_words ts) (s, rest) q.2) (words_of ts, words_taken ts, q.1)
+    subst (λ (y : Spec × List Lexeme). SpellsSpec y.0 ts y.1) (same_Some (q.0, after_words ts) (s, rest) q.2) (words_of ts, words_taken ts, q.1)
 
 name_is_no_word : (at : Place) (n : Name) (ts rest : List Lexeme) → TakesAt (named n) at ts rest → begins_word ts ≡ false
 name_is_no_word at n ts rest h = rw (h.is, h.sort_is) refl
@@ -150,7 +147,7 @@ unfolding local_spec_of
 local_spec_sound s ts rest e =
     let q = bind_some (spec_at ts) _ (s, rest) e in
     elim (which (is_local q.0.0) _ _ (Some (s, rest)) q.2) [
-      | inl p ↦ subst (λ (y : Spec × List Lexeme). SpellsSpec y.0 ts y.1 × IsLocal y.0) (some_is q.0 (s, rest) p.1) (spec_sound q.0.0 ts q.0.1 q.1, local_is q.0.0 p.0)
+      | inl p ↦ subst (λ (y : Spec × List Lexeme). SpellsSpec y.0 ts y.1 × IsLocal y.0) (same_Some q.0 (s, rest) p.1) (spec_sound q.0.0 ts q.0.1 q.1, local_is q.0.0 p.0)
       | inr p ↦ let no_value = p.1 in absurd cc
     ]
 

@@ -7,11 +7,11 @@ use Rattle.gang_model.specs.Source.SpellsSource.{IsTree}
 use Rattle.source_answers.specs.declared.fault.SourceFault.{SourceFault}
 use Rattle.source_answers.specs.declared.fault.SourceFault.TheVariants as faults
 use Rattle.ispc_parser_expressions.specs.Parse.{Gives}
-use Rattle.ispc_parser_expressions.proofs.Tools.{some_is}
 use Rattle.ispc_parser.specs.Refusals.{IsRefusal}
 use Rattle.ispc_parser.specs.Source.{tree_of}
 use Rattle.ispc_parser.proofs.SourceSound.{tree_sound}
 use Rattle.ispc_parser.proofs.SourceComplete.{tree_complete}
+use Rattle.std.proofs.lemmas.Option.{same_Some}
 
 module _ {X : Type 0} (view : X → ParsedSource) (ts : List Lexeme) where
   pub is_found : (r : Result X SourceFault) → Gives view r (tree_of ts) → IfOk r (λ x. IsTree (view x) ts)
@@ -19,7 +19,7 @@ module _ {X : Type 0} (view : X → ParsedSource) (ts : List Lexeme) where
   is_found (Err e) h = tt
 
   pub is_one : (r : Result X SourceFault) → Gives view r (tree_of ts) → IfOk r (λ x. (other : ParsedSource) → IsTree other ts → other ≡ view x)
-  is_one (Ok x) h = λ other t. some_is other (view x) (sym (tree_complete other ts t) ∙ h)
+  is_one (Ok x) h = λ other t. same_Some other (view x) (sym (tree_complete other ts t) ∙ h)
   is_one (Err e) h = tt
 
   pub is_none : (r : Result X SourceFault) → Gives view r (tree_of ts) → IfErr r (λ e. (e ≡ faults.Memory) ⊎ (IsRefusal e × ((tree : ParsedSource) → IsTree tree ts → ⊥)))

@@ -9,11 +9,12 @@ use Rattle.ispc_parser_expressions.specs.declared.budget.Budget.{Budget}
 use Rattle.ispc_parser_expressions.specs.declared.budget.Budget.TheVariants as budget
 use Rattle.ispc_parser_expressions.specs.Tree.{ParsedArg, OfValue, OfPart, OfPartFrom, with_arg}
 use Rattle.ispc_parser_expressions.specs.Parse.{begins, take, Below, bracket_of, part_of, arg_of, own_arg, counted, more_of, args_of, within, parsers}
-use Rattle.ispc_parser_expressions.proofs.Tools.{some_is, take_again, begins_again}
+use Rattle.ispc_parser_expressions.proofs.Tools.{take_again, begins_again}
 use Rattle.ispc_parser_expressions.proofs.Args.{SpellsArg, arg_weight, items_split, Counts, CountsAll, counts_split, counts_end, arg_shorter}
 use Rattle.ispc_parser_expressions.proofs.Starts.{starts, takes_shorter}
 use Rattle.ispc_parser_expressions.proofs.Follows.{stops_at, not_begins, take_none}
 use Rattle.ispc_parser_expressions.proofs.Complete.{IsComplete, spend_some, bracket_complete, operand_complete, expr_complete}
+use Rattle.std.proofs.lemmas.Option.{same_Some}
 
 module _ (d : ℕ) (b : Option Below) (s : IsComplete d b) where
   part_alone : (at : Place) (n : Name) (room : ℕ) (ts a rest : List Lexeme) → Takes (marked mark.Ampersand) ts a → TakesAt (named n) at a rest → take mark.LeftBracket rest ≡ None → arg_of b room ts ≡ Some (OfPart at n, room, rest)
@@ -131,7 +132,7 @@ parsers_complete zero = record {
 }
 parsers_complete (suc d) = record {
   inner = λ n is. (within (parsers d), refl);
-  expr = λ i is e ts rest h stop room left w. ap (λ (x : Below). x.expr room ts) (sym (some_is (within (parsers d)) i is)) ∙ expr_complete d (parsers d) (parsers_complete d) e ts rest h stop room left w;
-  operand = λ i is e ts rest h stop room left w. ap (λ (x : Below). x.operand room ts) (sym (some_is (within (parsers d)) i is)) ∙ operand_complete d (parsers d) (parsers_complete d) e ts rest h stop room left w;
-  args = λ i is es ts rest after h close room left w. ap (λ (x : Below). x.args room ts) (sym (some_is (within (parsers d)) i is)) ∙ args_complete d (parsers d) (parsers_complete d) budget.Shared es ts rest after h close room left w;
+  expr = λ i is e ts rest h stop room left w. ap (λ (x : Below). x.expr room ts) (sym (same_Some (within (parsers d)) i is)) ∙ expr_complete d (parsers d) (parsers_complete d) e ts rest h stop room left w;
+  operand = λ i is e ts rest h stop room left w. ap (λ (x : Below). x.operand room ts) (sym (same_Some (within (parsers d)) i is)) ∙ operand_complete d (parsers d) (parsers_complete d) e ts rest h stop room left w;
+  args = λ i is es ts rest after h close room left w. ap (λ (x : Below). x.args room ts) (sym (same_Some (within (parsers d)) i is)) ∙ args_complete d (parsers d) (parsers_complete d) budget.Shared es ts rest after h close room left w;
 }

@@ -13,8 +13,9 @@ use Rattle.gang_model.specs.Source.Specs.{has, is_spec_word, are_spec_words, rat
 use Rattle.ispc_parser_expressions.specs.declared.words.Words.{Words}
 use Rattle.ispc_parser_expressions.specs.Parse.{◌>>=◌, if_some}
 use Rattle.ispc_parser_expressions.specs.Words.{no_words, is_some, type_said, with_rate, with_unsigned, with_type, with_word, said}
-use Rattle.ispc_parser_expressions.proofs.Tools.{which}
 use Rattle.ispc_parser_expressions.proofs.SpecOrder.{names_type, type_words-append, spec_of-is, two_types}
+use Rattle.gang_model.proofs.JudgedLaws.{not_true}
+use Rattle.ispc_lexer.proofs.Runs.{which}
 
 abbrev pub is_marked : Bool → Spec → Bool
 is_marked c s = c && (s.is_exported || s.is_static || s.is_inline || s.is_constant)
@@ -67,14 +68,6 @@ said_is c read w h =
 or_true : (a b : Bool) → (a || b) ≡ true → (a ≡ true) ⊎ (b ≡ true)
 or_true true b e = inl refl
 or_true false b e = inr e
-
-pub or_false : (a b : Bool) → (a || b) ≡ false → (a ≡ false) × (b ≡ false)
-or_false true b e = absurd cc
-or_false false b e = (refl, e)
-
-not_true : (a : Bool) → not a ≡ true → a ≡ false
-not_true true e = absurd cc
-not_true false e = refl
 
 pub no_value : {A : Type 0} (o : Option A) → is_some o ≡ false → o ≡ None
 no_value None e = refl

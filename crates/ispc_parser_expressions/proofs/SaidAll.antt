@@ -16,10 +16,12 @@ use Rattle.source_answers.specs.declared.fault.SourceFault.TheVariants as faults
 use Rattle.ispc_parser_expressions.specs.declared.words.Words.{Words}
 use Rattle.ispc_parser_expressions.specs.Parse.{◌>>=◌, if_some, Fails, spec_word, words_of, after_words, spec_at, cast_spec_at}
 use Rattle.ispc_parser_expressions.specs.Words.{no_words, is_some, with_unsigned, with_type, with_word, words_from, said, said_at}
-use Rattle.ispc_parser_expressions.proofs.Tools.{some_is, which}
 use Rattle.ispc_parser_expressions.proofs.SpecWords.{spec_word_is}
 use Rattle.ispc_parser_expressions.proofs.SpecOrder.{same_mark, names_type, spec_of-middle}
-use Rattle.ispc_parser_expressions.proofs.Said.{is_marked, meant, Holds, holds_none, said_is, or_false, no_value, rate_free, refused}
+use Rattle.ispc_parser_expressions.proofs.Said.{is_marked, meant, Holds, holds_none, said_is, no_value, rate_free, refused}
+use Rattle.gang_model.proofs.JudgedLaws.{or_false}
+use Rattle.std.proofs.lemmas.Option.{same_Some}
+use Rattle.ispc_lexer.proofs.Runs.{which}
 
 -- ---- a word more that is taken
 
@@ -181,7 +183,7 @@ flag_taken : (c : Bool) (read : List Mark) (w more after : Words) (v : Bool) (m 
 flag_taken c read w more after v m holds e =
     elim (which (w.is_cast || v) None (Some after) (Some more) e) [
       | inl p ↦ let never = p.1 in absurd cc
-      | inr p ↦ let q = or_false w.is_cast v p.0 in subst (λ (x : Words). Holds c (m ∷ read) x) (some_is after more p.1) (holds q.0 q.1)
+      | inr p ↦ let q = or_false w.is_cast v p.0 in subst (λ (x : Words). Holds c (m ∷ read) x) (same_Some after more p.1) (holds q.0 q.1)
     ]
 
 rate_taken : (c : Bool) (read : List Mark) (w more after : Words) (m : Mark) → Holds c read w → (rate_of read ≡ Some None → Holds c (m ∷ read) after) → cond (is_some w.rate) None (Some after) ≡ Some more → Holds c (m ∷ read) more
@@ -190,7 +192,7 @@ rate_taken c read w more after m h holds e =
       | inl p ↦ let never = p.1 in absurd cc
       | inr p ↦
           let none : rate_of read ≡ Some None = h.rate ∙ ap (λ (o : Option Rate). Some o) (no_value w.rate p.0) in
-          subst (λ (x : Words). Holds c (m ∷ read) x) (some_is after more p.1) (holds none)
+          subst (λ (x : Words). Holds c (m ∷ read) x) (same_Some after more p.1) (holds none)
     ]
 
 word_unsigned : (c : Bool) (read : List Mark) (w more : Words) → Holds c read w → with_unsigned w ≡ Some more → Holds c (mark.Unsigned ∷ read) more
@@ -199,7 +201,7 @@ word_unsigned c read w more h e =
       | inl p ↦ let never = p.1 in absurd cc
       | inr p ↦
           let q = or_false w.is_unsigned (not (if_some w.type_word (λ m. is_some (unsigned_named m)) true)) p.0 in
-          subst (λ (x : Words). Holds c (mark.Unsigned ∷ read) x) (some_is (record w { is_unsigned = true }) more p.1) (unsigned_taken c read w h q.0)
+          subst (λ (x : Words). Holds c (mark.Unsigned ∷ read) x) (same_Some (record w { is_unsigned = true }) more p.1) (unsigned_taken c read w h q.0)
     ]
 
 word_type : (c : Bool) (read : List Mark) (w more : Words) (m : Mark) → Holds c read w → IsTypeWord m → with_type m w ≡ Some more → Holds c (m ∷ read) more
@@ -208,7 +210,7 @@ word_type c read w more m h is e =
       | inl p ↦ let never = p.1 in absurd cc
       | inr p ↦
           let q = or_false (is_some w.type_word) (not (is_some (cond w.is_unsigned (unsigned_named m) (type_named m)))) p.0 in
-          subst (λ (x : Words). Holds c (m ∷ read) x) (some_is (record w { type_word = Some m }) more p.1) (type_taken c read w m h is (no_value w.type_word q.0))
+          subst (λ (x : Words). Holds c (m ∷ read) x) (same_Some (record w { type_word = Some m }) more p.1) (type_taken c read w m h is (no_value w.type_word q.0))
     ]
 
 abbrev type_word_is : (m : Mark) → is_spec_word m ≡ true → names_type m ≡ true → sameb the_type m mark.Export ≡ false → sameb the_type m mark.Static ≡ false → sameb the_type m mark.Inline ≡ false → sameb the_type m mark.Const ≡ false

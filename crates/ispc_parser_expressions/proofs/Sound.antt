@@ -14,8 +14,10 @@ use Rattle.gang_model.specs.Source.Specs.{cast_spec_of}
 use Rattle.gang_model.specs.Source.Parsed.{Name, ParsedExpr, ParsedNumber, ParsedBool, ParsedName, ParsedIndex, ParsedCall, ParsedParen, ParsedUnary, ParsedCast, ParsedBinary, ParsedChoice, ParsedArgs}
 use Rattle.gang_model.specs.Source.Spells.{Takes, TakesAt, TakesWords, Opens, unary_mark, level, binary_levels, any_level, SpellsExpr, SpellsArgs, weight, args_weight}
 use Rattle.ispc_parser_expressions.specs.Parse.{take, unary_op, truth_of, operator_at, words_of, after_words, begins_word, cast_spec_at, spend, Below, bracket_of, index_of, call_of, name_of, cast_of, paren_of, group_of, unary_of, marked_of, operand_at, operand_of, chain_of, binary_of, choice_of, expr_of}
-use Rattle.ispc_parser_expressions.proofs.Tools.{bind_some, some_is, which, chosen, spend_is, take_takes, unary_op_is, truth_of_is, operator_takes}
+use Rattle.ispc_parser_expressions.proofs.Tools.{bind_some, chosen, spend_is, take_takes, unary_op_is, truth_of_is, operator_takes}
 use Rattle.ispc_parser_expressions.proofs.SpecWords.{words_taken}
+use Rattle.std.proofs.lemmas.Option.{same_Some}
+use Rattle.ispc_lexer.proofs.Runs.{which}
 
 -- an expression, how many operators are left, and the tokens after it
 abbrev pub Read : Type 0
@@ -65,7 +67,7 @@ module _ (d : ℕ) (b : Option Below) (s : IsSound d b) where
       let q2 = bind_some (q1.0.expr room ts) _ x q1.2 in
       let q3 = bind_some (take mark.RightBracket q2.0.2) _ x q2.2 in
       let i = s.expr q1.0 q1.1 room ts q2.0 q2.1 in
-      subst (λ (y : Read). IsBracket room ts y) (some_is (q2.0.0, q2.0.1, q3.0) x q3.2)
+      subst (λ (y : Read). IsBracket room ts y) (same_Some (q2.0.0, q2.0.1, q3.0) x q3.2)
       (record { closing = q2.0.2; inside = i.0; close = take_takes mark.RightBracket q2.0.2 q3.0 q3.1; spent = i.1 })
 
   index_sound : (k : ℕ) (at : Place) (n : Name) (room : ℕ) (all ts after : List Lexeme) (x : Read) → TakesAt (named n) at all ts → Takes (marked mark.LeftBracket) ts after → index_of b at n room after ≡ Some x → IsRead d k room all x
@@ -74,7 +76,7 @@ module _ (d : ℕ) (b : Option Below) (s : IsSound d b) where
       let q1 = bind_some (spend room) _ x h in
       let q2 = bind_some (bracket_of b q1.0 after) _ x q1.2 in
       let i = bracket_sound q1.0 after q2.0 q2.1 in
-      subst (λ (y : Read). IsRead d k room all y) (some_is (ParsedIndex at n q2.0.0, q2.0.1, q2.0.2) x q2.2)
+      subst (λ (y : Read). IsRead d k room all y) (same_Some (ParsedIndex at n q2.0.0, q2.0.1, q2.0.2) x q2.2)
       ((ts, after, i.closing, name_is, open_is, i.inside, i.close), omega (arith, spend_is room q1.0 q1.1, i.spent))
 
   call_sound : (k : ℕ) (at : Place) (n : Name) (room : ℕ) (all ts after : List Lexeme) (x : Read) → TakesAt (named n) at all ts → Takes (marked mark.LeftParen) ts after → call_of b at n room after ≡ Some x → IsRead d k room all x
@@ -85,7 +87,7 @@ module _ (d : ℕ) (b : Option Below) (s : IsSound d b) where
       let q3 = bind_some (q2.0.args q1.0 after) _ x q2.2 in
       let q4 = bind_some (take mark.RightParen q3.0.2) _ x q3.2 in
       let i = s.args q2.0 q2.1 q1.0 after q3.0 q3.1 in
-      subst (λ (y : Read). IsRead d k room all y) (some_is (ParsedCall at n q3.0.0, q3.0.1, q4.0) x q4.2)
+      subst (λ (y : Read). IsRead d k room all y) (same_Some (ParsedCall at n q3.0.0, q3.0.1, q4.0) x q4.2)
       ((ts, after, q3.0.2, name_is, open_is, i.0, take_takes mark.RightParen q3.0.2 q4.0 q4.1), omega (arith, spend_is room q1.0 q1.1, i.1))
 
   name_sound : (k : ℕ) (at : Place) (n : Name) (room : ℕ) (all ts : List Lexeme) (x : Read) → TakesAt (named n) at all ts → name_of b at n room ts ≡ Some x → IsRead d k room all x
@@ -96,7 +98,7 @@ module _ (d : ℕ) (b : Option Below) (s : IsSound d b) where
         | inr p ↦
             elim (chosen (take mark.LeftBracket ts) _ _ (Some x) p.1) [
               | inl q ↦ index_sound k at n room all ts q.0 x name_is (take_takes mark.LeftBracket ts q.0 q.1) q.2
-              | inr q ↦ subst (λ (y : Read). IsRead d k room all y) (some_is (ParsedName at n, room, ts) x q.1) (name_is, omega arith)
+              | inr q ↦ subst (λ (y : Read). IsRead d k room all y) (same_Some (ParsedName at n, room, ts) x q.1) (name_is, omega arith)
             ]
       ]
 
@@ -110,11 +112,11 @@ module _ (d : ℕ) (b : Option Below) (s : IsSound d b) where
       let q3 = bind_some (take mark.RightParen q2.0.1) _ x q2.2 in
       let q4 = bind_some (inner.operand q1.0 q3.0) _ x q3.2 in
       let w = bind_some (cast_spec_of (words_of ts)) _ q2.0 q2.1 in
-      let same : (w.0, after_words ts) ≡ q2.0 = some_is (w.0, after_words ts) q2.0 w.2 in
+      let same : (w.0, after_words ts) ≡ q2.0 = same_Some (w.0, after_words ts) q2.0 w.2 in
       let words : TakesWords (words_of ts) ts q2.0.1 = subst (λ (y : (Option Rate × Option IntType) × List Lexeme). TakesWords (words_of ts) ts y.1) same (words_taken ts) in
       let spec : cast_spec_of (words_of ts) ≡ Some (q2.0.0.0, q2.0.0.1) = w.1 ∙ ap (λ (y : (Option Rate × Option IntType) × List Lexeme). Some y.0) same in
       let i = s.operand inner is q1.0 q3.0 q4.0 q4.1 in
-      subst (λ (y : Read). IsRead d k room all y) (some_is (ParsedCast at q2.0.0.0 q2.0.0.1 q4.0.0, q4.0.1, q4.0.2) x q4.2)
+      subst (λ (y : Read). IsRead d k room all y) (same_Some (ParsedCast at q2.0.0.0 q2.0.0.1 q4.0.0, q4.0.1, q4.0.2) x q4.2)
       ((words_of ts, ts, q2.0.1, q3.0, open_is, words, spec, take_takes mark.RightParen q2.0.1 q3.0 q3.1, i.0), omega (arith, spend_is room q1.0 q1.1, i.1))
 
   paren_sound : (k : ℕ) (at : Place) (inner : Below) → b ≡ Some inner → (room : ℕ) (all ts : List Lexeme) (x : Read) → TakesAt (marked mark.LeftParen) at all ts → paren_of inner at room ts ≡ Some x → IsRead d k room all x
@@ -123,7 +125,7 @@ module _ (d : ℕ) (b : Option Below) (s : IsSound d b) where
       let q1 = bind_some (inner.expr room ts) _ x h in
       let q2 = bind_some (take mark.RightParen q1.0.2) _ x q1.2 in
       let i = s.expr inner is room ts q1.0 q1.1 in
-      subst (λ (y : Read). IsRead d k room all y) (some_is (ParsedParen at q1.0.0, q1.0.1, q2.0) x q2.2)
+      subst (λ (y : Read). IsRead d k room all y) (same_Some (ParsedParen at q1.0.0, q1.0.1, q2.0) x q2.2)
       ((ts, q1.0.2, open_is, i.0, take_takes mark.RightParen q1.0.2 q2.0 q2.1), i.1)
 
   group_sound : (k : ℕ) (at : Place) (room : ℕ) (all ts : List Lexeme) (x : Read) → TakesAt (marked mark.LeftParen) at all ts → group_of b at room ts ≡ Some x → IsRead d k room all x
@@ -142,7 +144,7 @@ module _ (d : ℕ) (b : Option Below) (s : IsSound d b) where
       let q2 = bind_some (spend room) _ x q1.2 in
       let q3 = bind_some (q1.0.operand q2.0 ts) _ x q2.2 in
       let i = s.operand q1.0 q1.1 q2.0 ts q3.0 q3.1 in
-      subst (λ (y : Read). IsRead d k room all y) (some_is (ParsedUnary at op q3.0.0, q3.0.1, q3.0.2) x q3.2)
+      subst (λ (y : Read). IsRead d k room all y) (same_Some (ParsedUnary at op q3.0.0, q3.0.1, q3.0.2) x q3.2)
       ((ts, mark_at, i.0), omega (arith, spend_is room q2.0 q2.1, i.1))
 
   marked_sound : (k : ℕ) (t : Lexeme) (m : Mark) (room : ℕ) (ts : List Lexeme) (x : Read) → t.sort ≡ marked m → marked_of b t.place m room ts ≡ Some x → IsRead d k room (t ∷ ts) x
@@ -153,7 +155,7 @@ module _ (d : ℕ) (b : Option Below) (s : IsSound d b) where
         | inr p ↦
             elim (chosen (truth_of m) _ _ (Some x) p.1) [
               | inl q ↦
-                  subst (λ (y : Read). IsRead d k room (t ∷ ts) y) (some_is (ParsedBool t.place q.0, room, ts) x q.2)
+                  subst (λ (y : Read). IsRead d k room (t ∷ ts) y) (same_Some (ParsedBool t.place q.0, room, ts) x q.2)
                   (record { token = t; is = refl; sort_is = is ∙ ap marked (truth_of_is m q.0 q.1); place_is = refl }, omega arith)
               | inr q ↦
                   elim (which (sameb the_type m mark.LeftParen) _ _ (Some x) q.1) [
@@ -165,7 +167,7 @@ module _ (d : ℕ) (b : Option Below) (s : IsSound d b) where
 
   at_sound : (k : ℕ) (t : Lexeme) (found : Sort) (room : ℕ) (ts : List Lexeme) (x : Read) → t.sort ≡ found → operand_at b found t.place room ts ≡ Some x → IsRead d k room (t ∷ ts) x
   at_sound k t (numbered n u l) room ts x is h =
-      subst (λ (y : Read). IsRead d k room (t ∷ ts) y) (some_is (ParsedNumber t.place n u l, room, ts) x h) (record { token = t; is = refl; sort_is = is; place_is = refl }, omega arith)
+      subst (λ (y : Read). IsRead d k room (t ∷ ts) y) (same_Some (ParsedNumber t.place n u l, room, ts) x h) (record { token = t; is = refl; sort_is = is; place_is = refl }, omega arith)
   at_sound k t (named n) room ts x is h = name_sound k t.place n room (t ∷ ts) ts x (record { token = t; is = refl; sort_is = is; place_is = refl }) h
   at_sound k t (marked m) room ts x is h = marked_sound k t m room ts x is h
 
@@ -181,7 +183,7 @@ module _ (d : ℕ) (b : Option Below) (s : IsSound d b) where
       → IsRead d (suc k) before all (left, room, ts) → chain_of (binary_of b k) k n left room ts ≡ Some x → IsRead d (suc k) before all x
   unfolding chain_of
   chain_sound k zero before room left all ts x side so_far h =
-      subst (λ (y : Read). IsRead d (suc k) before all y) (some_is (left, room, ts) x h) so_far
+      subst (λ (y : Read). IsRead d (suc k) before all y) (same_Some (left, room, ts) x h) so_far
   chain_sound k (suc n) before room left all ts x side so_far h =
       elim (chosen (operator_at k ts) _ _ (Some x) h) [
         | inl p ↦
@@ -194,7 +196,7 @@ module _ (d : ℕ) (b : Option Below) (s : IsSound d b) where
             let r : SpellsExpr d (level op) q2.0.0 p.0.1 q2.0.2 = subst (λ (m : ℕ). SpellsExpr d m q2.0.0 p.0.1 q2.0.2) (sym o.0) right.0 in
             chain_sound k n before q2.0.1 (ParsedBinary p.0.0 left q2.0.0) all q2.0.2 x side
             ((omega (arith, o.0), ts, p.0.1, l, o.1, r), omega (arith, so_far.1, spend_is room q1.0 q1.1, right.1)) q2.2
-        | inr p ↦ subst (λ (y : Read). IsRead d (suc k) before all y) (some_is (left, room, ts) x p.1) so_far
+        | inr p ↦ subst (λ (y : Read). IsRead d (suc k) before all y) (same_Some (left, room, ts) x p.1) so_far
       ]
 
   pub binary_sound : (k room : ℕ) (ts : List Lexeme) (x : Read) → binary_of b k room ts ≡ Some x → IsRead d k room ts x
@@ -217,7 +219,7 @@ module _ (d : ℕ) (b : Option Below) (s : IsSound d b) where
       let q5 = bind_some (q1.0.expr q3.0.1 q4.0) _ x q4.2 in
       let first = s.expr q1.0 q1.1 q2.0 after q3.0 q3.1 in
       let second = s.expr q1.0 q1.1 q3.0.1 q4.0 q5.0 q5.1 in
-      subst (λ (y : Read). IsRead d any_level room ts y) (some_is (ParsedChoice c.0 q3.0.0 q5.0.0, q5.0.1, q5.0.2) x q5.2) (
+      subst (λ (y : Read). IsRead d any_level room ts y) (same_Some (ParsedChoice c.0 q3.0.0 q5.0.0, q5.0.1, q5.0.2) x q5.2) (
         (omega arith, c.2, after, q3.0.2, q4.0, test.0, question, first.0, take_takes mark.Colon q3.0.2 q4.0 q4.1, second.0),
         omega (arith, test.1, spend_is c.1 q2.0 q2.1, first.1, second.1),
       )
@@ -229,5 +231,5 @@ module _ (d : ℕ) (b : Option Below) (s : IsSound d b) where
       let test = binary_sound 10 room ts p.0 p.1 in
       elim (chosen (take mark.Question p.0.2) _ _ (Some x) p.2) [
         | inl q ↦ choice_sound p.0 room ts q.0 x test (take_takes mark.Question p.0.2 q.0 q.1) q.2
-        | inr q ↦ subst (λ (y : Read). IsRead d any_level room ts y) (some_is p.0 x q.1) (looser d 10 11 p.0.0 ts p.0.2 (omega arith) test.0, test.1)
+        | inr q ↦ subst (λ (y : Read). IsRead d any_level room ts y) (same_Some p.0 x q.1) (looser d 10 11 p.0.0 ts p.0.2 (omega arith) test.0, test.1)
       ]

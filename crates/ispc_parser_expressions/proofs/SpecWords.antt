@@ -9,7 +9,8 @@ use Rattle.gang_model.specs.Source.Spells.{TakesWords}
 use Rattle.ispc_lexer.specs.declared.token.Token.{Token}
 use Rattle.ispc_lexer.specs.Views.{lexemes_of}
 use Rattle.ispc_parser_expressions.specs.Parse.{◌>>=◌, if_some, spec_word, words_of, after_words, begins_word, next_word}
-use Rattle.ispc_parser_expressions.proofs.Tools.{some_is, which}
+use Rattle.std.proofs.lemmas.Option.{same_Some}
+use Rattle.ispc_lexer.proofs.Runs.{which}
 
 pub length-lexemes_of : (ts : List Token) → length (lexemes_of ts) ≡ length ts
 length-lexemes_of [] = refl
@@ -18,7 +19,7 @@ length-lexemes_of (t ∷ ts) = ap (λ (n : ℕ). suc n) (length-lexemes_of ts)
 pub spec_word_is : (s : Sort) (w : Mark) → spec_word s ≡ Some w → (s ≡ marked w) × (is_spec_word w ≡ true)
 spec_word_is (marked m) w e =
     elim (which (is_spec_word m) (Some m) None (Some w) e) [
-      | inl p ↦ subst (λ (x : Mark). (marked m ≡ marked x) × (is_spec_word x ≡ true)) (some_is m w p.1) (refl, p.0)
+      | inl p ↦ subst (λ (x : Mark). (marked m ≡ marked x) × (is_spec_word x ≡ true)) (same_Some m w p.1) (refl, p.0)
       | inr p ↦ let no_value = p.1 in absurd cc
     ]
 spec_word_is (named n) w e = absurd cc
@@ -40,7 +41,7 @@ next_word_is (t ∷ ts) w rest e = let p = go (spec_word t.sort) e in record { w
         → (if_some o (λ v. v ∷ words_of ts) [] ≡ w ∷ words_of rest) × (if_some o (λ v. after_words ts) (t ∷ ts) ≡ after_words rest) × (suc (length ts) ≡ suc (length rest))
     go None e = absurd cc
     go (Some v) e =
-        let same : (v, ts) ≡ (w, rest) = some_is (v, ts) (w, rest) e in
+        let same : (v, ts) ≡ (w, rest) = same_Some (v, ts) (w, rest) e in
         subst (λ (x : Mark × List Lexeme). (v ∷ words_of ts ≡ x.0 ∷ words_of x.1) × (after_words ts ≡ after_words x.1) × (suc (length ts) ≡ suc (length x.1))) same (refl, refl, refl)
 
 pub no_next_word : (ts : List Lexeme) → next_word ts ≡ None → (words_of ts ≡ []) × (after_words ts ≡ ts)

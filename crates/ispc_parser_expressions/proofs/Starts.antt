@@ -56,7 +56,7 @@ takes_shorter s ts rest h = rw h.is refl
 pub at_shorter : (s : Sort) (at : Place) (ts rest : List Lexeme) → TakesAt s at ts rest → length ts ≡ suc (length rest)
 at_shorter s at ts rest h = rw h.is refl
 
-words_shorter : (ws : List Mark) (ts rest : List Lexeme) → TakesWords ws ts rest → length rest ≤ length ts
+pub words_shorter : (ws : List Mark) (ts rest : List Lexeme) → TakesWords ws ts rest → length rest ≤ length ts
 words_shorter [] ts rest h = omega (arith, ap length h)
 words_shorter (w ∷ ws) ts rest h = omega (arith, takes_shorter (marked w) ts h.0 h.1, words_shorter ws h.0 rest h.2)
 

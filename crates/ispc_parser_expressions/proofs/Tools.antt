@@ -1,5 +1,5 @@
 -- Results, tests and single tokens.
-use Rattle.std.proofs.Common.{◌≡◌, ◌⊎◌, inl, inr, ℕ, zero, suc, List, [], ◌∷◌, Option, Some, None, Bool, true, false, cond, refl, ap, subst, ◌∙◌}
+use Rattle.std.proofs.Common.{◌≡◌, ◌⊎◌, inl, inr, ℕ, zero, suc, List, [], ◌∷◌, Option, Some, None, Bool, true, false, refl, ap, subst, ◌∙◌}
 use Rattle.std.specs.Prelude.{◌==◌}
 use Rattle.std.proofs.lemmas.Bool.{eqb-true}
 use denote.Enum.Bare.{same_true, true_same}
@@ -14,6 +14,8 @@ use Rattle.gang_model.specs.declared.forms.Infix.TheVariants.{Op, AndAlso, OrEls
 use Rattle.gang_model.specs.Source.Tokens.{Sort, named, numbered, marked, Lexeme}
 use Rattle.gang_model.specs.Source.Spells.{Takes, Opens, truth_mark, unary_mark, infix_mark, level}
 use Rattle.ispc_parser_expressions.specs.Parse.{◌>>=◌, if_some, is_mark, begins, take, unary_op, truth_of, infix_of, mark_of, operator_at, spend}
+use Rattle.ispc_lexer.proofs.Runs.{which}
+use Rattle.std.proofs.lemmas.Option.{same_Some}
 
 -- ---- results
 
@@ -21,20 +23,13 @@ pub bind_some : {A B : Type 0} (r : Option A) (f : A → Option B) (y : B) → (
 bind_some None f y e = absurd cc
 bind_some (Some x) f y e = (x, refl, e)
 
-pub some_is : {A : Type 0} (x y : A) → Some x ≡ Some y → x ≡ y
-some_is x y e = cc
-
-pub which : {A : Type 0} (c : Bool) (x y z : A) → cond c x y ≡ z → ((c ≡ true) × (x ≡ z)) ⊎ ((c ≡ false) × (y ≡ z))
-which true x y z e = inl (refl, e)
-which false x y z e = inr (refl, e)
-
 pub chosen : {A B : Type 0} (o : Option A) (f : A → B) (d z : B) → if_some o f d ≡ z → ((x : A) × (o ≡ Some x) × (f x ≡ z)) ⊎ ((o ≡ None) × (d ≡ z))
 chosen None f d z e = inr (refl, e)
 chosen (Some x) f d z e = inl (x, refl, e)
 
 pub spend_is : (room left : ℕ) → spend room ≡ Some left → room ≡ suc left
 spend_is zero left e = absurd cc
-spend_is (suc room) left e = ap (λ (n : ℕ). suc n) (some_is room left e)
+spend_is (suc room) left e = ap (λ (n : ℕ). suc n) (same_Some room left e)
 
 -- ---- nestings
 
@@ -61,7 +56,7 @@ unfolding take
 take_takes m [] rest e = absurd cc
 take_takes m (t ∷ ts) rest e =
     elim (which (is_mark m t.sort) (Some ts) None (Some rest) e) [
-      | inl p ↦ record { token = t; is = ap (λ (r : List Lexeme). t ∷ r) (some_is ts rest p.1); sort_is = mark_is m t.sort p.0 }
+      | inl p ↦ record { token = t; is = ap (λ (r : List Lexeme). t ∷ r) (same_Some ts rest p.1); sort_is = mark_is m t.sort p.0 }
       | inr p ↦ let no_value = p.1 in absurd cc
     ]
 
@@ -75,10 +70,10 @@ begins_again m ts rest h = rw (h.is, h.sort_is) (is_mark-same m)
 -- ---- operators
 
 pub unary_op_is : (m : Mark) (op : UnaryOp) → unary_op m ≡ Some op → m ≡ unary_mark op
-unary_op_is mark.Minus op e = ap unary_mark (some_is unary.Negate op e)
-unary_op_is mark.Plus op e = ap unary_mark (some_is unary.Plus op e)
-unary_op_is mark.Exclamation op e = ap unary_mark (some_is unary.Not op e)
-unary_op_is mark.Tilde op e = ap unary_mark (some_is unary.Complement op e)
+unary_op_is mark.Minus op e = ap unary_mark (same_Some unary.Negate op e)
+unary_op_is mark.Plus op e = ap unary_mark (same_Some unary.Plus op e)
+unary_op_is mark.Exclamation op e = ap unary_mark (same_Some unary.Not op e)
+unary_op_is mark.Tilde op e = ap unary_mark (same_Some unary.Complement op e)
 unary_op_is _ op e = absurd cc
 
 pub unary_op_again : (op : UnaryOp) → unary_op (unary_mark op) ≡ Some op
@@ -88,29 +83,29 @@ unary_op_again unary.Not = refl
 unary_op_again unary.Complement = refl
 
 pub truth_of_is : (m : Mark) (v : Bool) → truth_of m ≡ Some v → m ≡ truth_mark v
-truth_of_is mark.True v e = ap truth_mark (some_is true v e)
-truth_of_is mark.False v e = ap truth_mark (some_is false v e)
+truth_of_is mark.True v e = ap truth_mark (same_Some true v e)
+truth_of_is mark.False v e = ap truth_mark (same_Some false v e)
 truth_of_is _ v e = absurd cc
 
 pub infix_of_is : (m : Mark) (op : Infix) → infix_of m ≡ Some op → m ≡ infix_mark op
-infix_of_is mark.Plus op e = ap infix_mark (some_is (Op binary.Add) op e)
-infix_of_is mark.Minus op e = ap infix_mark (some_is (Op binary.Sub) op e)
-infix_of_is mark.Star op e = ap infix_mark (some_is (Op binary.Mul) op e)
-infix_of_is mark.Slash op e = ap infix_mark (some_is (Op binary.Div) op e)
-infix_of_is mark.Percent op e = ap infix_mark (some_is (Op binary.Rem) op e)
-infix_of_is mark.Ampersand op e = ap infix_mark (some_is (Op binary.And) op e)
-infix_of_is mark.Bar op e = ap infix_mark (some_is (Op binary.Or) op e)
-infix_of_is mark.Caret op e = ap infix_mark (some_is (Op binary.Xor) op e)
-infix_of_is mark.ShiftLeft op e = ap infix_mark (some_is (Op binary.Shl) op e)
-infix_of_is mark.ShiftRight op e = ap infix_mark (some_is (Op binary.Shr) op e)
-infix_of_is mark.Less op e = ap infix_mark (some_is (Op binary.Less) op e)
-infix_of_is mark.LessEqual op e = ap infix_mark (some_is (Op binary.LessEqual) op e)
-infix_of_is mark.Greater op e = ap infix_mark (some_is (Op binary.Greater) op e)
-infix_of_is mark.GreaterEqual op e = ap infix_mark (some_is (Op binary.GreaterEqual) op e)
-infix_of_is mark.EqualEqual op e = ap infix_mark (some_is (Op binary.Equal) op e)
-infix_of_is mark.NotEqual op e = ap infix_mark (some_is (Op binary.NotEqual) op e)
-infix_of_is mark.AndAnd op e = ap infix_mark (some_is AndAlso op e)
-infix_of_is mark.OrOr op e = ap infix_mark (some_is OrElse op e)
+infix_of_is mark.Plus op e = ap infix_mark (same_Some (Op binary.Add) op e)
+infix_of_is mark.Minus op e = ap infix_mark (same_Some (Op binary.Sub) op e)
+infix_of_is mark.Star op e = ap infix_mark (same_Some (Op binary.Mul) op e)
+infix_of_is mark.Slash op e = ap infix_mark (same_Some (Op binary.Div) op e)
+infix_of_is mark.Percent op e = ap infix_mark (same_Some (Op binary.Rem) op e)
+infix_of_is mark.Ampersand op e = ap infix_mark (same_Some (Op binary.And) op e)
+infix_of_is mark.Bar op e = ap infix_mark (same_Some (Op binary.Or) op e)
+infix_of_is mark.Caret op e = ap infix_mark (same_Some (Op binary.Xor) op e)
+infix_of_is mark.ShiftLeft op e = ap infix_mark (same_Some (Op binary.Shl) op e)
+infix_of_is mark.ShiftRight op e = ap infix_mark (same_Some (Op binary.Shr) op e)
+infix_of_is mark.Less op e = ap infix_mark (same_Some (Op binary.Less) op e)
+infix_of_is mark.LessEqual op e = ap infix_mark (same_Some (Op binary.LessEqual) op e)
+infix_of_is mark.Greater op e = ap infix_mark (same_Some (Op binary.Greater) op e)
+infix_of_is mark.GreaterEqual op e = ap infix_mark (same_Some (Op binary.GreaterEqual) op e)
+infix_of_is mark.EqualEqual op e = ap infix_mark (same_Some (Op binary.Equal) op e)
+infix_of_is mark.NotEqual op e = ap infix_mark (same_Some (Op binary.NotEqual) op e)
+infix_of_is mark.AndAnd op e = ap infix_mark (same_Some AndAlso op e)
+infix_of_is mark.OrOr op e = ap infix_mark (same_Some OrElse op e)
 infix_of_is _ op e = absurd cc
 
 pub infix_of_again : (op : Infix) → infix_of (infix_mark op) ≡ Some op
@@ -133,8 +128,8 @@ infix_of_again (Op binary.NotEqual) = refl
 infix_of_again AndAlso = refl
 infix_of_again OrElse = refl
 
-mark_of_is : (s : Sort) (m : Mark) → mark_of s ≡ Some m → s ≡ marked m
-mark_of_is (marked k) m e = ap marked (some_is k m e)
+pub mark_of_is : (s : Sort) (m : Mark) → mark_of s ≡ Some m → s ≡ marked m
+mark_of_is (marked k) m e = ap marked (same_Some k m e)
 mark_of_is (named n) m e = absurd cc
 mark_of_is (numbered n u l) m e = absurd cc
 
@@ -147,7 +142,7 @@ operator_takes k (t ∷ ts) op rest e =
     let q = bind_some (infix_of p.0) _ (op, rest) p.2 in
     elim (which (level q.0 == k) (Some (q.0, ts)) None (Some (op, rest)) q.2) [
       | inl r ↦
-          subst (λ (x : Infix × List Lexeme). (level x.0 ≡ k) × Takes (marked (infix_mark x.0)) (t ∷ ts) x.1) (some_is (q.0, ts) (op, rest) r.1)
+          subst (λ (x : Infix × List Lexeme). (level x.0 ≡ k) × Takes (marked (infix_mark x.0)) (t ∷ ts) x.1) (same_Some (q.0, ts) (op, rest) r.1)
           (eqb-true (level q.0) k r.0, record { token = t; is = refl; sort_is = mark_of_is t.sort p.0 p.1 ∙ ap marked (infix_of_is p.0 q.0 q.1) })
       | inr r ↦ let no_value = r.1 in absurd cc
     ]

@@ -5,7 +5,7 @@ use Rattle.gang_model.specs.Source.Tokens.{Lexeme}
 use Rattle.ispc_parser_expressions.specs.declared.words.Words.{Words}
 use Rattle.ispc_parser_expressions.specs.Parse.{◌>>=◌, if_some, spec_word, next_word}
 use Rattle.ispc_parser_expressions.specs.Words.{no_words, with_word, words_from, said, said_at}
-use Rattle.ispc_parser_expressions.proofs.Tools.{some_is}
+use Rattle.std.proofs.lemmas.Option.{same_Some}
 
 word_step : (w : Words) (m : Mark) (ts after : List Lexeme) → next_word ts ≡ Some (m, after) → words_from w ts ≡ (with_word m w >>= λ more. words_from more after)
 word_step w m [] after e = absurd cc
@@ -15,7 +15,7 @@ word_step w m (t ∷ ts) after e = go (spec_word t.sort) e
         → if_some o (λ v. with_word v w >>= λ more. words_from more ts) (Some (w, t ∷ ts)) ≡ (with_word m w >>= λ more. words_from more after)
     go None e = absurd cc
     go (Some v) e =
-        let same : (v, ts) ≡ (m, after) = some_is (v, ts) (m, after) e in
+        let same : (v, ts) ≡ (m, after) = same_Some (v, ts) (m, after) e in
         ap (λ (x : Mark × List Lexeme). with_word x.0 w >>= λ more. words_from more x.1) same
 
 pub words_on : (w more : Words) (m : Mark) (ts after : List Lexeme) → next_word ts ≡ Some (m, after) → with_word m w ≡ Some more → words_from more after ≡ words_from w ts
