@@ -1,5 +1,5 @@
 //! The piece of a source that begins here: a blank, a comment, a word or a mark.
-ghost use Rattle.std.specs.Prelude.{◌≡◌, ◌≤◌, length, IfOk, IfErr, IfSome, IsTrue};
+ghost use Rattle.std.specs.Prelude.{◌≡◌, ◌≤◌, length, IfOk, IfSome, IsTrue};
 ghost use Rattle.ispc_lexer.specs.Numbers.{shown};
 ghost use Rattle.ispc_lexer.specs.Pieces as spec;
 ghost use Rattle.ispc_lexer.specs.Steps.{step_view};
@@ -9,8 +9,7 @@ use crate::letters::{is_blank, is_digit, is_word, line_len, word_len};
 use crate::marks::{longest_mark, reserved, text_of};
 use crate::numbers::number_of;
 use crate::token::Kind;
-use source_answers::SourceFault;
-use std::alloc::Global;
+use std::alloc::{AllocError, Global};
 
 /// A piece: its token, if it is no blank and no comment, and how many bytes it has.
 #[derive(Drop)]
@@ -41,9 +40,8 @@ fn comment_len(bytes: &[u8]) -> Option<usize>
 }
 
 #[tactic(auto, unfolding(crate::specs::Pieces::word_of))]
-fn word(alloc: Global, text: &[u8]) -> Result<Option<Kind>, SourceFault>
+fn word(alloc: Global, text: &[u8]) -> Result<Option<Kind>, AllocError>
     ensures value { IfOk result (λ o. shown sort_of o ≡ spec.word_of text.now) }
-    ensures memory { IfErr result (λ e. e ≡ SourceFault.Memory) }
 {
     match text {
         [] => Ok(None),
@@ -94,9 +92,8 @@ fn comment_or_mark(bytes: &[u8]) -> Option<Step>
 
 /// The piece at the front, if one can be taken there.
 #[tactic(auto, unfolding(crate::specs::Pieces::piece_of))]
-pub fn first_step(alloc: Global, bytes: &[u8]) -> Result<Option<Step>, SourceFault>
+pub fn first_step(alloc: Global, bytes: &[u8]) -> Result<Option<Step>, AllocError>
     ensures value { IfOk result (λ o. shown step_view o ≡ shown spec.shape (spec.piece_of bytes.now)) }
-    ensures memory { IfErr result (λ e. e ≡ SourceFault.Memory) }
 {
     match bytes {
         [] => Ok(None),

@@ -14,23 +14,21 @@ use crate::token::Token;
 use gang_model::{RefusalNumber, SourceRefusal};
 use gang_types::Place;
 use source_answers::SourceFault;
-use std::alloc::Global;
+use std::alloc::{AllocError, Global};
 
 const MAX_SOURCE: usize = 65536;
 
-fn push(tokens: &mut Vec<Token>, token: Token) -> Result<(), SourceFault>
+fn push(tokens: &mut Vec<Token>, token: Token) -> Result<(), AllocError>
     ensures value { IfOk result (λ _. lexemes_of tokens.new.items ≡ lexemes_of tokens.old.items ++ lexeme_of token ∷ []) }
-    ensures memory { IfErr result (λ e. e ≡ SourceFault.Memory) }
 {
     tokens.push(token)?;
     Ok(())
 }
 
 /// Puts the step's token at the end, if it has one.
-fn add(tokens: &mut Vec<Token>, step: Step, start: usize, place: Place) -> Result<(), SourceFault>
+fn add(tokens: &mut Vec<Token>, step: Step, start: usize, place: Place) -> Result<(), AllocError>
     requires { start + step.len < 2 ^ 64 }
     ensures value { IfOk result (λ _. lexemes_of tokens.new.items ≡ lexemes_of tokens.old.items ++ spec.lexeme_at (step_view step) start place) }
-    ensures memory { IfErr result (λ e. e ≡ SourceFault.Memory) }
 {
     let end = start + step.len;
     match step.kind {
