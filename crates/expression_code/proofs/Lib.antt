@@ -10,3 +10,6 @@ pub mod Arrays
 pub mod Runs
 pub mod Whole
 pub mod RoomOfWeight
+pub mod LightStatements
+pub mod RoomOfStatements
+pub mod ProgramRoom

@@ -250,6 +250,14 @@ mutual
 finds : (w : ℕ) (e : Expr) → w ≤ max_weight → Fits w e → HasRoom e
 finds w e few u = record { few_vectors = omega (arith, few, u.few_vectors); few_masks = omega (arith, few, u.few_masks) }
 
+-- so does a sound expression of at most 256 operators, calls and indexings
+pub light_has_room : (e : ParsedExpr) (scope : Scope) → weight e ≤ max_weight → OnSound (expression e scope) (λ x. HasRoom x.expr)
+light_has_room e scope light = found (expression e scope) (expression-fits e scope)
+  where
+    found : (j : Judged Typed) → OnSound j (FitsIn (weight e)) → OnSound j (λ x. HasRoom x.expr)
+    found (Sound x) fits = finds (weight e) x.expr light fits
+    found (Faulty first others) fits = tt
+
 pub accepted_has_room : (e : Expr) → IsAccepted e → HasRoom e
 accepted_has_room e accepted = go accepted.stands
   where

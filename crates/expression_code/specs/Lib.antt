@@ -1,5 +1,6 @@
 pub mod Code
 pub mod Room
+pub mod ProgramRoom
 pub mod Values
 pub mod Machine
 pub mod Correct
