@@ -1,5 +1,4 @@
 pub mod Patch
-pub mod Sizes
 pub mod Seen
 pub mod Tops
 pub mod Idle

@@ -1,5 +1,5 @@
 -- The instructions of an expression.
-use Rattle.std.specs.Prelude.{Bool, true, false, ◌||◌, List, [], ◌∷◌, ◌++◌, length}
+use Rattle.std.specs.Prelude.{◌≡◌, Bool, true, false, ◌||◌, List, [], ◌∷◌, ◌++◌, length}
 use Rattle.typed_tree.specs.declared.expressions.Expr.{Expr, Number, ProgramIndex, ProgramCount, LaneMask, Read, Element', Unary', Binary', Convert', AndAlso', OrElse', Choice', Reduce', ScanLanes', OfOne', OfTwo', Extract', Insert', Rotate', Shift', Shuffle', ShuffleTwo', Select'}
 use Rattle.expression_code.specs.declared.code.Leaf.TheVariants as leaf
 use Rattle.expression_code.specs.declared.code.OneOperand.TheVariants as one
@@ -71,3 +71,34 @@ code_of (Shift' p a q n) = code_of a ++ (code_of n ++ Two (two.Move move.Shift) 
 code_of (Shuffle' p a q i) = code_of a ++ (code_of i ++ Two two.Pick ∷ [])
 code_of (ShuffleTwo' p a q b r i) = code_of a ++ (code_of b ++ (code_of i ++ Three three.PickOfTwo ∷ []))
 code_of (Select' p c q a r b) = code_of c ++ (code_of a ++ (code_of b ++ Three three.Select ∷ []))
+
+-- ---- which operations take their operands whole
+
+abbrev pub takes_one : Expr → Bool
+takes_one (Unary' op ty p a) = true
+takes_one (Convert' from to p a) = true
+takes_one (Reduce' f ty p a) = true
+takes_one (ScanLanes' f ty p a) = true
+takes_one (OfOne' f ty p a) = true
+takes_one _ = false
+
+abbrev pub takes_two : Expr → Bool
+takes_two (Binary' op ty p a q b) = true
+takes_two (OfTwo' f ty p a q b) = true
+takes_two (Extract' p a q i) = true
+takes_two (Rotate' p a q n) = true
+takes_two (Shift' p a q n) = true
+takes_two (Shuffle' p a q i) = true
+takes_two _ = false
+
+abbrev pub takes_three : Expr → Bool
+takes_three (Insert' p a q i r x) = true
+takes_three (ShuffleTwo' p a q b r i) = true
+takes_three (Select' p c q a r b) = true
+takes_three _ = false
+
+-- no such operation
+pub record IsOther (e : Expr) : Type 0 where
+  pub not_one : takes_one e ≡ false
+  pub not_two : takes_two e ≡ false
+  pub not_three : takes_three e ≡ false

@@ -1,12 +1,13 @@
 //! From expressions to the machine's instructions.
 ghost use Rattle.std.specs.Prelude.{◌≡◌, ◌-◌, ◌<◌, [], ◌∷◌, ◌++◌, length, slice_set, IfOk, OnOk};
-ghost use Rattle.expression_code.specs.Code.{code_of, arm_code};
-ghost use Rattle.expression_code.specs.declared.code.Instruction.TheVariants.{Enter, One, Two, Three};
+ghost use Rattle.expression_code.specs.Code.{code_of, arm_code, IsOther};
+ghost use Rattle.expression_code.specs.declared.code.Instruction.TheVariants.{Enter};
 ghost use Rattle.typed_tree.specs.Views.{expr_view};
 ghost use Rattle.expression_code.specs.Correct.{Computes};
 ghost use Rattle.expression_code.specs.Room.{HasRoom, IsAccepted};
 
-use crate::code::{Gate, Instruction, Joining, Leaf, Move, OneOperand, ThreeOperands, TwoOperands};
+use crate::code::{Gate, Instruction, Joining, Leaf};
+use crate::operands::{one_operand, three_operands, two_operands};
 use std::alloc::{AllocError, Global};
 use typed_tree::Expr;
 
@@ -28,6 +29,30 @@ pub fn compile(alloc: Global, expression: &Expr) -> Result<Vec<Instruction>, All
 fn emit(code: &mut Vec<Instruction>, expression: &Expr) -> Result<(), AllocError>
     ensures { OnOk result (code.new.items ≡ code.old.items ++ code_of expression.now) }
 {
+    if let Some((operation, operand)) = one_operand(expression) {
+        emit(code, operand)?;
+        return put(code, Instruction::One(operation));
+    }
+    if let Some((operation, left, right)) = two_operands(expression) {
+        emit(code, left)?;
+        emit(code, right)?;
+        return put(code, Instruction::Two(operation));
+    }
+    if let Some((operation, first, second, third)) = three_operands(expression) {
+        emit(code, first)?;
+        emit(code, second)?;
+        emit(code, third)?;
+        return put(code, Instruction::Three(operation));
+    }
+    emit_other(code, expression)
+}
+
+// A leaf, an element, or an expression with parts behind gates.
+#[cycle(emission)]
+fn emit_other(code: &mut Vec<Instruction>, expression: &Expr) -> Result<(), AllocError>
+    requires { IsOther expression.now }
+    ensures { OnOk result (code.new.items ≡ code.old.items ++ code_of expression.now) }
+{
     match expression {
         Expr::Number(number) => put(code, Instruction::Push(Leaf::Number(*number))),
         Expr::ProgramIndex => put(code, Instruction::Push(Leaf::ProgramIndex)),
@@ -38,70 +63,6 @@ fn emit(code: &mut Vec<Instruction>, expression: &Expr) -> Result<(), AllocError
             emit(code, index)?;
             put(code, Instruction::Element(*array))
         }
-        Expr::Unary {
-            operator,
-            value_type,
-            operand,
-        } => emit_one(code, operand, OneOperand::Unary(*operator, *value_type)),
-        Expr::Convert { from, to, operand } => {
-            emit_one(code, operand, OneOperand::Convert(*from, *to))
-        }
-        Expr::Reduce {
-            function,
-            value_type,
-            value,
-        } => emit_one(code, value, OneOperand::Reduce(*function, *value_type)),
-        Expr::ScanLanes {
-            function,
-            value_type,
-            value,
-        } => emit_one(code, value, OneOperand::ScanLanes(*function, *value_type)),
-        Expr::OfOne {
-            function,
-            value_type,
-            value,
-        } => emit_one(code, value, OneOperand::OfOne(*function, *value_type)),
-        Expr::Binary {
-            operator,
-            value_type,
-            left,
-            right,
-        } => emit_two(
-            code,
-            left,
-            right,
-            TwoOperands::Binary(*operator, *value_type),
-        ),
-        Expr::OfTwo {
-            function,
-            value_type,
-            left,
-            right,
-        } => emit_two(
-            code,
-            left,
-            right,
-            TwoOperands::OfTwo(*function, *value_type),
-        ),
-        Expr::Extract { value, index } => emit_two(code, value, index, TwoOperands::Pick),
-        Expr::Rotate { value, by } => emit_two(code, value, by, TwoOperands::Move(Move::Rotate)),
-        Expr::Shift { value, by } => emit_two(code, value, by, TwoOperands::Move(Move::Shift)),
-        Expr::Shuffle { value, places } => emit_two(code, value, places, TwoOperands::Pick),
-        Expr::Insert {
-            value,
-            index,
-            new_value,
-        } => emit_three(code, value, index, new_value, ThreeOperands::Insert),
-        Expr::ShuffleTwo {
-            value,
-            second,
-            places,
-        } => emit_three(code, value, second, places, ThreeOperands::PickOfTwo),
-        Expr::Select {
-            test,
-            first,
-            second,
-        } => emit_three(code, test, first, second, ThreeOperands::Select),
         Expr::AndAlso { left, right } => {
             emit(code, left)?;
             emit_arm(code, Gate::WhereTrue, right)?;
@@ -122,49 +83,8 @@ fn emit(code: &mut Vec<Instruction>, expression: &Expr) -> Result<(), AllocError
             emit_arm(code, Gate::Otherwise, second)?;
             put(code, Instruction::Join(Joining::Choice))
         }
+        _ => unreachable!(),
     }
-}
-
-#[cycle(emission)]
-fn emit_one(
-    code: &mut Vec<Instruction>,
-    operand: &Expr,
-    operation: OneOperand,
-) -> Result<(), AllocError>
-    ensures { OnOk result (code.new.items ≡ code.old.items ++ (code_of operand.now ++ One operation ∷ [])) }
-{
-    emit(code, operand)?;
-    put(code, Instruction::One(operation))
-}
-
-#[cycle(emission)]
-fn emit_two(
-    code: &mut Vec<Instruction>,
-    left: &Expr,
-    right: &Expr,
-    operation: TwoOperands,
-) -> Result<(), AllocError>
-    ensures { OnOk result (code.new.items ≡ code.old.items ++ (code_of left.now ++ (code_of right.now ++ Two operation ∷ []))) }
-{
-    emit(code, left)?;
-    emit(code, right)?;
-    put(code, Instruction::Two(operation))
-}
-
-#[cycle(emission)]
-fn emit_three(
-    code: &mut Vec<Instruction>,
-    first: &Expr,
-    second: &Expr,
-    third: &Expr,
-    operation: ThreeOperands,
-) -> Result<(), AllocError>
-    ensures { OnOk result (code.new.items ≡ code.old.items ++ (code_of first.now ++ (code_of second.now ++ (code_of third.now ++ Three operation ∷ [])))) }
-{
-    emit(code, first)?;
-    emit(code, second)?;
-    emit(code, third)?;
-    put(code, Instruction::Three(operation))
 }
 
 // A part behind a gate that passes it where no lane needs it.

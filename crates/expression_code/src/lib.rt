@@ -6,6 +6,7 @@ mod emission;
 mod evaluation;
 mod library;
 mod machine;
+mod operands;
 mod operations;
 mod stacks;
 mod words;
