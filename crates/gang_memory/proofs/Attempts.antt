@@ -1,7 +1,7 @@
 -- What lanes that name elements come to.
-use Rattle.std.proofs.Common.{ℕ, ◌+◌, ◌<◌, ◌≤◌, true, false, cond, ◌≡◌, sym, ◌∙◌, ap, arith, List, length, slice_index}
-use Rattle.std.specs.Prelude.{nat_lt, Ok, Err}
-use Rattle.std.proofs.lemmas.Bool.Decides.{nat_tests}
+use Rattle.std.proofs.Common.{ℕ, ◌+◌, ◌<◌, ◌≤◌, true, cond, ◌≡◌, sym, ◌∙◌, ap, arith, List, length, slice_index}
+use Rattle.std.specs.Prelude.{Ok, Err}
+use Rattle.std.proofs.lemmas.Bool.{lt-ltb, le-ltb}
 use Rattle.gang_types.specs.declared.faults.FaultName.{FaultName}
 use Rattle.gang_types.specs.declared.faults.FaultName.TheVariants.{Index}
 use Rattle.gang_types.specs.Lanes.{Lanes, has}
@@ -16,12 +16,6 @@ use Rattle.gang_memory.specs.declared.parts.Part.{Part}
 use Rattle.gang_memory.specs.Elements.{Shows, StandsAt}
 use Rattle.gang_memory.specs.Parts.{AreSlots, AreWithin, IsFirstMissing, LiesAt}
 
-below : (a b : ℕ) → a < b → nat_lt a b ≡ true
-below a b h = grind (arith, nat_tests)
-
-not_below : (a b : ℕ) → b ≤ a → nat_lt a b ≡ false
-not_below a b h = grind (arith, nat_tests)
-
 -- where the element of a lane lies
 pub slot_of : (part : Part) (lanes : Lanes) (indices slots : List ℕ) → AreSlots part lanes indices slots → (k : ℕ) → has lanes k ≡ true → at slots k ≡ part.first + at indices k
 slot_of part lanes indices slots are k e = ap (λ ss. at ss k) are.slots_are ∙ lane_kept lanes (λ j. part.first + at indices j) k e
@@ -35,13 +29,13 @@ module _ (words : List ℕ) (part : Part) (state : State) (view : View) (shows :
   element_there : (i : ℕ) → i < part.len → element state view i ≡ Ok (at words (part.first + i))
   element_there i h =
       let inside : i < view.len = omega (arith, h, shows.long) in
-      ap (λ b. cond b (Ok (at (words_of state.memory view.array) (view.first + i))) (Err Index)) (below i view.len inside)
+      ap (λ b. cond b (Ok (at (words_of state.memory view.array) (view.first + i))) (Err Index)) (lt-ltb i view.len inside)
       ∙ ap Ok (sym (shows.elements i h))
 
   element_missing : (i : ℕ) → part.len ≤ i → element state view i ≡ Err Index
   element_missing i h =
       let outside : view.len ≤ i = omega (arith, h, shows.long) in
-      ap (λ b. cond b (Ok (at (words_of state.memory view.array) (view.first + i))) (Err Index)) (not_below i view.len outside)
+      ap (λ b. cond b (Ok (at (words_of state.memory view.array) (view.first + i))) (Err Index)) (le-ltb i view.len outside)
 
   -- each lane's element is there
   pub all_there : (w : ℕ) (lanes : Lanes) (indices slots : List ℕ) → length lanes ≡ w → AreSlots part lanes indices slots

@@ -1,20 +1,19 @@
 -- What lanes read from the words of a scalar, and what they leave in them.
-use Rattle.std.proofs.Common.{ℕ, zero, suc, ◌+◌, ◌<◌, ◌≤◌, ◌≢◌, ◌⊎◌, Bool, true, false, cond, ◌≡◌, refl, sym, ◌∙◌, ap, arith, List, [], ◌∷◌, length, slice_index, inl, inr}
+use Rattle.std.proofs.Common.{ℕ, zero, suc, ◌+◌, ◌<◌, ◌≤◌, ◌≢◌, Bool, true, false, cond, ◌≡◌, refl, sym, ◌∙◌, ap, arith, List, [], ◌∷◌, length, slice_index}
 use Rattle.std.specs.Prelude.{nat_eq, replicate}
-use Rattle.std.proofs.lemmas.Bool.Decides.{nat_tests}
-use Rattle.std.proofs.lemmas.Bool.{cases_lt}
-use Rattle.std.proofs.lemmas.List.{get_or_past, get_or-replicate}
+use Rattle.std.proofs.lemmas.Bool.{eq-eqb}
+use Rattle.std.proofs.lemmas.List.{get_or-replicate}
 use Rattle.gang_types.specs.declared.types.Rate.TheVariants.{Uniform, Varying}
 use Rattle.gang_types.specs.Lanes.{Lanes, has}
 use Rattle.gang_model.specs.Running.Lanes.{at, each, merged}
 use Rattle.gang_model.specs.Running.State.{seen}
 use Rattle.gang_model.specs.Running.Step.{stored_in, scattered_from}
 use Rattle.cross_lane.specs.EachLaws.{each_same}
-use Rattle.gang_memory.specs.Elements.{IsKeptOutside}
 use Rattle.gang_memory.specs.ScalarWords.{IsScalarAt}
+use Rattle.gang_memory.specs.Writes.{IsKeptOutside}
 use Rattle.gang_memory.proofs.Members.{lane_within}
-use Rattle.gang_memory.proofs.Scatters.{length-scattered, scattered_word}
-use Rattle.gang_memory.proofs.Stores.{lane_elsewhere, stored_elsewhere}
+use Rattle.gang_memory.proofs.Scatters.{scattered_word}
+use Rattle.gang_memory.proofs.Stores.{kept_outside, lane_elsewhere, length_kept, stored_elsewhere}
 use Rattle.gang_model.proofs.LaneWords.{length-merged}
 
 -- a slot for each lane, from `first` on
@@ -34,14 +33,8 @@ module _ (w first : ℕ) (lanes : Lanes) (scalar words : List ℕ) (long : lengt
       (λ k h e. ap (at words) (are k h) ∙ is.stands.same k (let all = is.long in omega (arith, h, all)))
 
 -- ---- setting a word for each lane
-differ : (a b : ℕ) → a ≢ b → nat_eq a b ≡ false
-differ a b h = grind (arith, nat_tests)
-
-equal : (a b : ℕ) → a ≡ b → nat_eq a b ≡ true
-equal a b h = grind (arith, nat_tests)
-
 lane_here : (b : Bool) (i s value old : ℕ) → i ≡ s → cond b (cond (nat_eq i s) value old) old ≡ cond b value old
-lane_here true i s value old h = ap (λ t. cond t value old) (equal i s h)
+lane_here true i s value old h = ap (λ t. cond t value old) (eq-eqb i s h)
 lane_here false i s value old h = refl
 
 -- a lane's word after a store by lanes whose slots follow one another
@@ -68,7 +61,7 @@ lane_merged (b ∷ lanes) (x ∷ new) (y ∷ old) (suc j) h e f = lane_merged la
 module _ (w first : ℕ) (lanes : Lanes) (slots values old new : List ℕ) (lanes_long : length lanes ≡ w) (slots_long : length slots ≡ w) (values_long : length values ≡ w) (are : AreConsecutive w first slots)
     (inside : first + w ≤ length old) (stores : new ≡ scattered_from 0 lanes slots values old) where
   new_long : length new ≡ length old
-  new_long = ap length stores ∙ length-scattered 0 lanes slots values old
+  new_long = length_kept lanes slots values old new stores
 
   new_word : (i : ℕ) → i < length old → slice_index new i ≡ stored_in i lanes slots values (slice_index old i)
   new_word i h = ap (λ ws. slice_index ws i) stores ∙ scattered_word lanes slots values old i h
@@ -106,14 +99,6 @@ module _ (w first : ℕ) (lanes : Lanes) (slots values old new : List ℕ) (lane
   }
 
   pub varying_kept : IsKeptOutside first w old new
-  varying_kept = record {
-    long = new_long;
-    same = λ i out. elim (cases_lt i (length old)) [
-      | inl within ↦ new_word i within ∙ stored_elsewhere i lanes slots values (slice_index old i) (λ k e. apart i out k (lane_within w lanes k lanes_long e))
-      | inr past ↦ get_or_past new i 0 (omega (arith, past, new_long)) ∙ sym (get_or_past old i 0 past)
-    ];
-  }
-    where
-      apart : (i : ℕ) → (i < first) ⊎ (first + w ≤ i) → (k : ℕ) → k < w → i ≢ slice_index slots k
-      apart i (inl before) k h = let slot = are k h in omega (arith, before, slot)
-      apart i (inr after) k h = let slot = are k h in omega (arith, after, slot, h)
+  varying_kept =
+      kept_outside first w lanes slots values old new stores
+      (λ k e. let within = lane_within w lanes k lanes_long e in let slot = are k within in (omega (arith, slot), omega (arith, slot, within)))

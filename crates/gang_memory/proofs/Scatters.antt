@@ -1,8 +1,7 @@
 -- What a store by lanes leaves in each word.
-use Rattle.std.proofs.Common.{ℕ, zero, suc, ◌+◌, ◌<◌, ◌≢◌, true, false, cond, ◌≡◌, refl, sym, ◌∙◌, ap, arith, List, [], ◌∷◌, length, slice_index, inl, inr}
+use Rattle.std.proofs.Common.{ℕ, zero, suc, ◌+◌, ◌<◌, true, false, cond, ◌≡◌, refl, sym, ◌∙◌, ap, arith, List, [], ◌∷◌, length, slice_index, inl, inr}
 use Rattle.std.specs.Prelude.{nat_eq, slice_set, take}
-use Rattle.std.proofs.lemmas.Bool.Decides.{nat_tests}
-use Rattle.std.proofs.lemmas.Bool.{cases_eq}
+use Rattle.std.proofs.lemmas.Bool.{cases_eq, eq-eqb, ne_eqb}
 use Rattle.std.proofs.lemmas.List.{get_or-set_same, get_or-set_other, length-set}
 use Rattle.cross_lane.specs.EachLaws.{same_words}
 use Rattle.cross_lane.proofs.Members.{take_whole}
@@ -49,12 +48,6 @@ stored_more i lanes slots values old n h e f =
     let more : n + 1 ≡ suc n = omega arith in
     ap (λ m. stored_in i (take m lanes) slots values old) more ∙ stored_after i lanes slots values old n h e f
 
-two_same : (a b : ℕ) → a ≡ b → nat_eq a b ≡ true
-two_same a b h = grind (arith, nat_tests)
-
-two_differ : (a b : ℕ) → a ≢ b → nat_eq a b ≡ false
-two_differ a b h = grind (arith, nat_tests)
-
 -- a word after one is set
 pub word_set : (words : List ℕ) (slot value i : ℕ) → slot < length words → slice_index (slice_set words slot value) i ≡ cond (nat_eq i slot) value (slice_index words i)
 word_set words slot value i h =
@@ -62,8 +55,8 @@ word_set words slot value i h =
       | inl same ↦
           ap (slice_index (slice_set words slot value)) same
           ∙ get_or-set_same words slot value 0 h
-          ∙ sym (ap (λ b. cond b value (slice_index words i)) (two_same i slot same))
-      | inr other ↦ get_or-set_other words slot i value 0 other ∙ sym (ap (λ b. cond b value (slice_index words i)) (two_differ i slot other))
+          ∙ sym (ap (λ b. cond b value (slice_index words i)) (eq-eqb i slot same))
+      | inr other ↦ get_or-set_other words slot i value 0 other ∙ sym (ap (λ b. cond b value (slice_index words i)) (ne_eqb i slot other))
     ]
 
 -- the words, after the lanes below n have stored to old ones

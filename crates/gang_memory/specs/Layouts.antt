@@ -1,6 +1,6 @@
 -- How the words of a program lie: a list of ranges, each behind the one before it. Which words each has follows from the
 -- program, the lengths of the entry's arrays, and how many words the machine asks for.
-use Rattle.std.specs.Prelude.{◌≡◌, ℕ, zero, suc, ◌+◌, ◌*◌, ◌≤◌, List, [], ◌++◌, All, fold, length, map, max, replicate, sum, if◌then◌else◌}
+use Rattle.std.specs.Prelude.{◌≡◌, ℕ, zero, suc, ◌+◌, ◌*◌, ◌≤◌, List, [], ◌++◌, All, Some, fold, length, map, max, replicate, slice_get, sum, if◌then◌else◌}
 use Rattle.typed_tree.specs.declared.program.Function.{Function}
 use Rattle.typed_tree.specs.declared.program.Global.{Global}
 use Rattle.typed_tree.specs.declared.program.Program.{Program}
@@ -31,8 +31,8 @@ repeated (suc n) sizes = sizes ++ repeated n sizes
 -- and 64 frames that each have room for the variables of any function
 abbrev pub layout_sizes : (width : ℕ) → Program → (lengths machine head : List ℕ) → List ℕ
 layout_sizes width program lengths machine head =
-    map (global_words width) program.globals.items
-    ++ (lengths ++ (machine ++ repeated 64 (frame_sizes width head (most_variables program.functions.items))))
+    let frame = frame_sizes width head (most_variables program.functions.items) in
+    map (global_words width) program.globals.items ++ (lengths ++ (machine ++ repeated 64 frame))
 
 -- how many ranges a frame has
 abbrev pub frame_parts : Frames → ℕ
@@ -44,7 +44,14 @@ frame_words width frames = frames.head_words + frames.variables * width
 
 -- the ranges of all frames
 abbrev pub ranges_of_frames : (width : ℕ) → Frames → List Part
-ranges_of_frames width frames = ranges_from frames.first (repeated frames.count (frame_sizes width (sizes_of frames.head.items) frames.variables))
+ranges_of_frames width frames =
+    let frame = frame_sizes width (sizes_of frames.head.items) frames.variables in
+    ranges_from frames.first (repeated frames.count frame)
+
+-- the range of the frame at a depth that has this number among the parts of its head and then its variables
+abbrev pub IsRangeOfFrame : (width : ℕ) → Frames → (depth number : ℕ) → Part → Type 0
+IsRangeOfFrame width frames depth number part =
+    slice_get (ranges_of_frames width frames) (depth * frame_parts frames + number) ≡ Some part
 
 -- the first word behind all frames
 abbrev pub end_of_frames : (width : ℕ) → Frames → ℕ
@@ -52,11 +59,13 @@ end_of_frames width frames = frames.first + frames.count * frame_words width fra
 
 -- all ranges of a layout
 abbrev pub ranges : (width : ℕ) → Layout → List Part
-ranges width layout = layout.file.items ++ (layout.entry.items ++ (layout.machine.items ++ ranges_of_frames width layout.frames))
+ranges width layout =
+    layout.file.items ++ (layout.entry.items ++ (layout.machine.items ++ ranges_of_frames width layout.frames))
 
 -- The layout is one of the program, with entry arrays of these lengths and parts of these sizes for the machine and for the
 -- head of each frame: all ranges lie one behind the other from word 0 on, and the words end where the last one does.
-pub record IsLayoutOf (width : ℕ) (program : Program) (lengths machine_sizes head_sizes : List ℕ) (layout : Layout) : Type 0 where
+pub record IsLayoutOf (width : ℕ) (program : Program) (lengths machine_sizes head_sizes : List ℕ) (layout : Layout)
+    : Type 0 where
   pub file : sizes_of layout.file.items ≡ map (global_words width) program.globals.items
   pub entry : sizes_of layout.entry.items ≡ lengths
   pub machine : sizes_of layout.machine.items ≡ machine_sizes

@@ -1,5 +1,6 @@
 pub mod Recorded
 pub mod Parts
+pub mod Writes
 pub mod Elements
 pub mod Packed
 pub mod ScalarWords

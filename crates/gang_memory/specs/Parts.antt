@@ -1,10 +1,13 @@
 -- Where the elements of a part of an array lie among the words of a store.
-use Rattle.std.specs.Prelude.{◌≡◌, ℕ, ◌+◌, ◌-◌, ◌<◌, ◌≤◌, true, List, Result, Ok, Err}
+use Rattle.std.specs.Prelude.{◌≡◌, ℕ, ◌+◌, ◌-◌, ◌<◌, ◌≤◌, true, List, Result, Ok, Err, Some}
 use Rattle.gang_types.specs.declared.faults.FaultName.{FaultName}
 use Rattle.gang_types.specs.declared.faults.FaultName.TheVariants.{Index}
 use Rattle.gang_types.specs.Lanes.{Lanes, has}
 use Rattle.gang_model.specs.Running.Lanes.{Fault, at, each}
-use Rattle.gang_model.specs.Running.State.{View}
+use Rattle.gang_model.specs.Running.State.{State, View}
+use Rattle.gang_model.specs.Running.Step.{part}
+use Rattle.gang_model.specs.Running.Value.{value}
+use Rattle.gang_model.specs.Types.Tree.{Expr}
 use Rattle.cross_lane.specs.Calls.{fault_of}
 use Rattle.gang_memory.specs.declared.parts.Part.{Part}
 
@@ -32,3 +35,10 @@ LiesAt base view part = (part.first ≡ base + view.first) × (part.len ≡ view
 abbrev pub part_answer : (base : ℕ) → View → Result Part (ℕ × FaultName) → Result View Fault
 part_answer base view (Ok part) = Ok (record view { first = part.first - base; len = part.len })
 part_answer base view (Err found) = Err (fault_of found)
+
+-- for each view that the whole is, and each expression that has this index in all lanes, the answer is the definition's part
+abbrev pub IsPartFrom : (whole : Part) → Lanes → (index : ℕ) → Result Part (ℕ × FaultName) → Type 0
+IsPartFrom whole lanes index result =
+    (base : ℕ) (view : View) (from : Expr) (state : State) → LiesAt base view whole
+    → value from lanes state ≡ Ok (each lanes (λ k. index))
+    → part_answer base view result ≡ part (Some from) view lanes state

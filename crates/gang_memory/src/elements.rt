@@ -1,11 +1,10 @@
 //! Elements of arrays, read and stored to by the lanes of a mask.
-ghost use Rattle.std.specs.Prelude.{◌≡◌, ℕ, ◌+◌, ◌^◌, ◌<◌, ◌≤◌, length, OnOk, OnErr};
+ghost use Rattle.std.specs.Prelude.{◌≡◌, ◌+◌, ◌^◌, ◌<◌, ◌≤◌, length, OnOk, OnErr};
 ghost use Rattle.gang_types.specs.Masks.{IsGangWidth, lanes_of};
-ghost use Rattle.gang_model.specs.Running.Lanes.{at, try_each};
-ghost use Rattle.gang_model.specs.Running.State.{State, View};
-ghost use Rattle.gang_model.specs.Running.Value.{element};
+ghost use Rattle.gang_model.specs.Running.Lanes.{at};
 ghost use Rattle.cross_lane.specs.Calls.{answer_of};
-ghost use Rattle.gang_memory.specs.Elements.{IsKeptOutside, IsStore, Shows, StoresInArrays};
+ghost use Rattle.gang_memory.specs.Elements.{IsLoad, IsStore, StoresInArrays};
+ghost use Rattle.gang_memory.specs.Writes.{WritesOnly};
 
 use crate::parts::Part;
 use crate::reading::words_at;
@@ -28,7 +27,8 @@ pub fn gather<const W: usize, S: WordStore>(
     requires width { IsGangWidth W }
     requires small { part.first + part.len < 2 ^ 64 }
     requires inside { part.first + part.len ≤ length (S.words store.now) }
-    ensures { (state : State) (view : View) → Shows (S.words store.now) part state view → answer_of result ≡ try_each (lanes_of W mask) (λ k. element state view (at indices.entry k)) }
+    ensures { IsLoad (S.words store.now) part (lanes_of W mask) (at indices.entry)
+        (answer_of result) }
 {
     let slots = slots(part, mask, indices)?;
     Ok(words_at(store, mask, slots))
@@ -51,11 +51,11 @@ pub fn scatter<const W: usize, S: WordStore>(
     requires small { part.first + part.len < 2 ^ 64 }
     requires inside { part.first + part.len ≤ length (S.words store.old) }
     requires left { W ≤ S.left store.old }
-    ensures answer { IsStore part (lanes_of W mask) (at indices.entry) indices.entry values.entry (S.words store.old) result (S.words store.new) }
-    ensures array { OnOk result (StoresInArrays part (lanes_of W mask) indices.entry values.entry (S.words store.old) (S.words store.new)) }
-    ensures others { OnOk result (IsKeptOutside part.first part.len (S.words store.old) (S.words store.new)) }
-    ensures left { S.left store.old ≤ S.left store.new + W }
-    ensures rest { S.rest store.new ≡ S.rest store.old }
+    ensures answer { IsStore part (lanes_of W mask) (at indices.entry) indices.entry values.entry
+        (S.words store.old) result (S.words store.new) }
+    ensures array { OnOk result (StoresInArrays part (lanes_of W mask) indices.entry values.entry
+        (S.words store.old) (S.words store.new)) }
+    ensures only { WritesOnly S.words S.left S.rest part.first part.len W store.old store.new }
     ensures unchanged { OnErr result (store.new ≡ store.old) }
 {
     let targets = slots(part, mask, indices)?;

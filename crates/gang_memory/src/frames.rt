@@ -1,5 +1,5 @@
 //! Where the words of frames lie.
-ghost use Rattle.std.specs.Prelude.{◌≡◌, ◌+◌, ◌*◌, ◌^◌, ◌<◌, ◌≤◌, Some, IfSome, length, slice_get, sum};
+ghost use Rattle.std.specs.Prelude.{◌≡◌, ◌+◌, ◌*◌, ◌^◌, ◌<◌, ◌≤◌, IfSome, length, sum};
 ghost use Rattle.gang_types.specs.Masks.{IsGangWidth};
 ghost use Rattle.gang_memory.specs.Ranges.{ranges_from, sizes_of};
 
@@ -24,7 +24,7 @@ pub struct Frames {
 }
 
 impl Frames {
-    ghost use Rattle.gang_memory.specs.Layouts.{end_of_frames, frame_parts, frame_words, ranges_of_frames};
+    ghost use Rattle.gang_memory.specs.Layouts.{IsRangeOfFrame, end_of_frames, frame_words};
 
     /// A part of the head of the frame at a depth, where the entry's is at depth 0.
     pub fn head<const W: usize>(&self, depth: usize, part: usize) -> Part
@@ -32,7 +32,7 @@ impl Frames {
         requires depth { depth < self.now.count }
         requires part { part < length self.now.head.items }
         requires small { end_of_frames W self.now < 2 ^ 64 }
-        ensures { slice_get (ranges_of_frames W self.now) (depth * frame_parts self.now + part) ≡ Some result }
+        ensures { IsRangeOfFrame W self.now depth part result }
     {
         let inside = self.head[part];
         Part {
@@ -47,7 +47,7 @@ impl Frames {
         requires depth { depth < self.now.count }
         requires number { number < self.now.variables }
         requires small { end_of_frames W self.now < 2 ^ 64 }
-        ensures { slice_get (ranges_of_frames W self.now) (depth * frame_parts self.now + (length self.now.head.items + number)) ≡ Some result }
+        ensures { IsRangeOfFrame W self.now depth (length self.now.head.items + number) result }
     {
         Part {
             first: self.begin::<W>(depth) + self.head_words + number * W,

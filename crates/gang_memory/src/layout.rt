@@ -36,7 +36,7 @@ impl Layout {
         head: &[usize],
     ) -> Result<Self, AllocError>
         requires { IsGangWidth W }
-        ensures { IfOk result (λ layout. IsLayoutOf W program.now lengths.now machine.now head.now layout) }
+        ensures { IfOk result (IsLayoutOf W program.now lengths.now machine.now head.now) }
     {
         let sizes = global_sizes::<W>(alloc, &program.globals)?;
         let file = lay_out(alloc, 0, &sizes)?;

@@ -1,12 +1,9 @@
 //! Packed calls: the lanes of the mask, from the lowest on, take the first elements of a part.
-ghost use Rattle.std.specs.Prelude.{◌≡◌, ℕ, ◌+◌, ◌^◌, ◌<◌, ◌≤◌, length, IfOk, OnOk, OnErr};
+ghost use Rattle.std.specs.Prelude.{◌≡◌, ◌+◌, ◌^◌, ◌<◌, ◌≤◌, length, IfOk, OnOk, OnErr};
 ghost use Rattle.gang_types.specs.Masks.{IsGangWidth, lanes_of};
-ghost use Rattle.gang_model.specs.Running.Lanes.{each, members, try_each};
-ghost use Rattle.gang_model.specs.Running.Library.{rank};
-ghost use Rattle.gang_model.specs.Running.State.{State, View};
-ghost use Rattle.gang_model.specs.Running.Value.{element};
-ghost use Rattle.gang_memory.specs.Elements.{IsKeptOutside, IsStore, Shows, StoresInArrays};
-ghost use Rattle.gang_memory.specs.Packed.{loaded_answer};
+ghost use Rattle.gang_model.specs.Running.Lanes.{members};
+ghost use Rattle.gang_memory.specs.Packed.{IsPackedLoad, IsPackedStore, PacksIntoArrays, ranks_of};
+ghost use Rattle.gang_memory.specs.Writes.{WritesOnly};
 
 use crate::elements::{gather, scatter};
 use crate::parts::Part;
@@ -33,7 +30,7 @@ pub fn packed_load<const W: usize, S: WordStore>(
     requires width { IsGangWidth W }
     requires small { part.first + part.len < 2 ^ 64 }
     requires inside { part.first + part.len ≤ length (S.words store.now) }
-    ensures words { (state : State) (view : View) → Shows (S.words store.now) part state view → loaded_answer result ≡ try_each (lanes_of W mask) (λ k. element state view (rank (lanes_of W mask) k)) }
+    ensures words { IsPackedLoad (S.words store.now) part (lanes_of W mask) result }
     ensures count { IfOk result (λ loaded. loaded.count ≡ length (members (lanes_of W mask))) }
 {
     let words = gather(store, part, mask, ranks(mask))?;
@@ -58,12 +55,12 @@ pub fn packed_store<const W: usize, S: WordStore>(
     requires small { part.first + part.len < 2 ^ 64 }
     requires inside { part.first + part.len ≤ length (S.words store.old) }
     requires left { W ≤ S.left store.old }
-    ensures answer { IsStore part (lanes_of W mask) (rank (lanes_of W mask)) (each (lanes_of W mask) (rank (lanes_of W mask))) values.entry (S.words store.old) result (S.words store.new) }
-    ensures array { OnOk result (StoresInArrays part (lanes_of W mask) (each (lanes_of W mask) (rank (lanes_of W mask))) values.entry (S.words store.old) (S.words store.new)) }
-    ensures others { OnOk result (IsKeptOutside part.first part.len (S.words store.old) (S.words store.new)) }
+    ensures answer { IsPackedStore part (lanes_of W mask) values.entry
+        (S.words store.old) result (S.words store.new) }
+    ensures array { OnOk result (PacksIntoArrays part (lanes_of W mask) values.entry
+        (S.words store.old) (S.words store.new)) }
+    ensures only { WritesOnly S.words S.left S.rest part.first part.len W store.old store.new }
     ensures count { IfOk result (λ count. count ≡ length (members (lanes_of W mask))) }
-    ensures left { S.left store.old ≤ S.left store.new + W }
-    ensures rest { S.rest store.new ≡ S.rest store.old }
     ensures unchanged { OnErr result (store.new ≡ store.old) }
 {
     scatter(store, part, mask, ranks(mask), values)?;
@@ -73,7 +70,7 @@ pub fn packed_store<const W: usize, S: WordStore>(
 // In each lane of the mask how many of its lanes lie below, and 0 in the others.
 fn ranks<const W: usize>(mask: Mask) -> [u64; W]
     requires { IsGangWidth W }
-    ensures { result ≡ each (lanes_of W mask) (rank (lanes_of W mask)) }
+    ensures { result ≡ ranks_of (lanes_of W mask) }
 {
     let mut ranks = [0; W];
     let mut below = 0;

@@ -1,13 +1,8 @@
 //! Parts of arrays.
-ghost use Rattle.std.specs.Prelude.{◌≡◌, ℕ, ◌+◌, ◌^◌, ◌<◌, false, Ok, Some};
+ghost use Rattle.std.specs.Prelude.{◌≡◌, ◌+◌, ◌^◌, ◌<◌, false};
 ghost use Rattle.gang_types.specs.Lanes.{no_lane};
 ghost use Rattle.gang_types.specs.Masks.{IsGangWidth, lanes_of};
-ghost use Rattle.gang_model.specs.Running.Lanes.{each};
-ghost use Rattle.gang_model.specs.Running.State.{State, View};
-ghost use Rattle.gang_model.specs.Running.Step.{part};
-ghost use Rattle.gang_model.specs.Running.Value.{value};
-ghost use Rattle.gang_model.specs.Types.Tree.{Expr};
-ghost use Rattle.gang_memory.specs.Parts.{LiesAt, part_answer};
+ghost use Rattle.gang_memory.specs.Parts.{IsPartFrom};
 
 use gang_types::{FaultName, Mask};
 
@@ -31,7 +26,7 @@ pub fn part_from<const W: usize>(
     requires width { IsGangWidth W }
     requires lane { no_lane (lanes_of W mask) ≡ false }
     requires small { whole.first + whole.len < 2 ^ 64 }
-    ensures { (base : ℕ) (view : View) (from : Expr) (state : State) → LiesAt base view whole → value from (lanes_of W mask) state ≡ Ok (each (lanes_of W mask) (λ k. index)) → part_answer base view result ≡ part (Some from) view (lanes_of W mask) state }
+    ensures { IsPartFrom whole (lanes_of W mask) index result }
 {
     if index > whole.len as u64 {
         return Err((mask.lowest::<W>(), FaultName::Index));

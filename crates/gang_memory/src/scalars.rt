@@ -1,11 +1,9 @@
 //! The words of scalars, read and written by the lanes of a mask.
-ghost use Rattle.std.specs.Prelude.{◌≡◌, ℕ, ◌+◌, ◌^◌, ◌<◌, ◌≤◌, false, List, length, slice_index};
+ghost use Rattle.std.specs.Prelude.{◌≡◌, ℕ, ◌+◌, ◌^◌, ◌<◌, ◌≤◌, length, slice_index};
 ghost use Rattle.gang_types.specs.declared.types.Rate.TheVariants.{Varying};
-ghost use Rattle.gang_types.specs.Lanes.{no_lane};
 ghost use Rattle.gang_types.specs.Masks.{IsGangWidth, lanes_of};
-ghost use Rattle.gang_model.specs.Running.State.{assigned_words, declared_words, seen};
-ghost use Rattle.gang_memory.specs.Elements.{IsKeptOutside};
-ghost use Rattle.gang_memory.specs.ScalarWords.{IsScalarAt, rate_words};
+ghost use Rattle.gang_memory.specs.ScalarWords.{IsAssigned, IsDeclared, IsSeenAt, IsWritable, rate_words};
+ghost use Rattle.gang_memory.specs.Writes.{WritesOnly};
 
 use crate::reading::words_at;
 use crate::store::WordStore;
@@ -33,7 +31,7 @@ pub fn read_scalar<const W: usize, S: WordStore>(
     requires width { IsGangWidth W }
     requires small { first + W < 2 ^ 64 }
     requires inside { first + rate_words W rate ≤ length (S.words store.now) }
-    ensures { (scalar : List ℕ) → IsScalarAt W rate first scalar (S.words store.now) → result ≡ seen rate (lanes_of W mask) scalar }
+    ensures { IsSeenAt W rate first (lanes_of W mask) (S.words store.now) result }
 {
     match rate {
         Rate::Uniform => words_at(store, mask, [first; W]),
@@ -50,14 +48,12 @@ pub fn assign_scalar<const W: usize, S: WordStore>(
     values: [u64; W],
 )
     requires width { IsGangWidth W }
-    requires lane { no_lane (lanes_of W mask) ≡ false }
-    requires small { first + W < 2 ^ 64 }
-    requires inside { first + rate_words W rate ≤ length (S.words store.old) }
-    requires left { W ≤ S.left store.old }
-    ensures scalar { (scalar : List ℕ) → IsScalarAt W rate first scalar (S.words store.old) → IsScalarAt W rate first (assigned_words rate (lanes_of W mask) values.entry scalar) (S.words store.new) }
-    ensures others { IsKeptOutside first (rate_words W rate) (S.words store.old) (S.words store.new) }
-    ensures left { S.left store.old ≤ S.left store.new + W }
-    ensures rest { S.rest store.new ≡ S.rest store.old }
+    requires writable { IsWritable W rate first (lanes_of W mask)
+        (S.words store.old) (S.left store.old) }
+    ensures scalar { IsAssigned W rate first (lanes_of W mask) values.entry
+        (S.words store.old) (S.words store.new) }
+    ensures only { WritesOnly S.words S.left S.rest first (rate_words W rate) W
+        store.old store.new }
 {
     match rate {
         Rate::Uniform => store.set(first, values[mask.lowest::<W>()]),
@@ -75,14 +71,11 @@ pub fn declare_scalar<const W: usize, S: WordStore>(
     values: [u64; W],
 )
     requires width { IsGangWidth W }
-    requires lane { no_lane (lanes_of W mask) ≡ false }
-    requires small { first + W < 2 ^ 64 }
-    requires inside { first + rate_words W rate ≤ length (S.words store.old) }
-    requires left { W ≤ S.left store.old }
-    ensures scalar { IsScalarAt W rate first (declared_words rate (lanes_of W mask) values.entry) (S.words store.new) }
-    ensures others { IsKeptOutside first (rate_words W rate) (S.words store.old) (S.words store.new) }
-    ensures left { S.left store.old ≤ S.left store.new + W }
-    ensures rest { S.rest store.new ≡ S.rest store.old }
+    requires writable { IsWritable W rate first (lanes_of W mask)
+        (S.words store.old) (S.left store.old) }
+    ensures scalar { IsDeclared W rate first (lanes_of W mask) values.entry (S.words store.new) }
+    ensures only { WritesOnly S.words S.left S.rest first (rate_words W rate) W
+        store.old store.new }
 {
     match rate {
         Rate::Uniform => store.set(first, values[mask.lowest::<W>()]),

@@ -15,8 +15,8 @@ pub(crate) fn slots<const W: usize>(
 ) -> Result<[usize; W], (usize, FaultName)>
     requires width { IsGangWidth W }
     requires small { part.first + part.len < 2 ^ 64 }
-    ensures ok { IfOk result (λ slots. AreSlots part (lanes_of W mask) indices.entry slots) }
-    ensures err { IfErr result (λ found. IsFirstMissing part (lanes_of W mask) indices.entry found) }
+    ensures ok { IfOk result (AreSlots part (lanes_of W mask) indices.entry) }
+    ensures err { IfErr result (IsFirstMissing part (lanes_of W mask) indices.entry) }
 {
     let mut slots = [0; W];
     for lane in 0..W {

@@ -17,7 +17,8 @@ pub(crate) fn set_words<const W: usize, S: WordStore>(
     requires width { IsGangWidth W }
     requires within { AreWithin (lanes_of W mask) slots (length (S.words store.old)) }
     requires left { W ≤ S.left store.old }
-    ensures words { S.words store.new ≡ scattered_from 0 (lanes_of W mask) slots.entry values.entry (S.words store.old) }
+    ensures words { S.words store.new
+        ≡ scattered_from 0 (lanes_of W mask) slots.entry values.entry (S.words store.old) }
     ensures left { S.left store.old ≤ S.left store.new + W }
     ensures rest { S.rest store.new ≡ S.rest store.old }
 {

@@ -7,7 +7,7 @@ use Rattle.gang_model.specs.Running.Lanes.{◌>>=◌}
 use Rattle.cross_lane.specs.Calls.{fault_of}
 use Rattle.gang_memory.specs.Elements.{stored, stored_answer}
 use Rattle.gang_memory.proofs.Attempts.{all_there, first_missing, slots_within}
-use Rattle.gang_memory.proofs.Stores.{words_stored, array_stored, kept_outside}
+use Rattle.gang_memory.proofs.Stores.{words_stored, array_stored, part_kept}
 use Rattle.gang_memory.proofs.elements.scatter.Goals as goal
 
 pub returns-in_err-targets-clause-answer : goal.returns-in_err-targets-clause-answer
@@ -36,6 +36,9 @@ returns-clause-array g c base first array in' stands =
     array_stored c.args.part (lanes_of g.row.W c.args.mask) c.args.indices c.in_ok-targets.targets c.args.values (g.S.WordStore.words c.args.store.now) (g.S.WordStore.words c.set_words.new.store) c.in_ok-targets.ensures.ok c.set_words.ensures.words
     base first array in' stands
 
-pub returns-clause-others : goal.returns-clause-others
-returns-clause-others g c =
-    kept_outside c.args.part (lanes_of g.row.W c.args.mask) c.args.indices c.in_ok-targets.targets c.args.values (g.S.WordStore.words c.args.store.now) (g.S.WordStore.words c.set_words.new.store) c.in_ok-targets.ensures.ok c.set_words.ensures.words
+pub returns-clause-only : goal.returns-clause-only
+returns-clause-only g c = record {
+  others = part_kept c.args.part (lanes_of g.row.W c.args.mask) c.args.indices c.in_ok-targets.targets c.args.values (g.S.WordStore.words c.args.store.now) (g.S.WordStore.words c.set_words.new.store) c.in_ok-targets.ensures.ok c.set_words.ensures.words;
+  few = c.set_words.ensures.left;
+  same = c.set_words.ensures.rest;
+}
