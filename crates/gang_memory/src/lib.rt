@@ -25,6 +25,3 @@ pub use parts::{Part, part_from};
 pub use recorded::Recorded;
 pub use scalars::{assign_scalar, declare_scalar, read_scalar, word_count};
 pub use store::WordStore;
-
-#[cfg(test)]
-mod tests;

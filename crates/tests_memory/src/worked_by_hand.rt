@@ -1,10 +1,11 @@
+//! Stores, parts and scalars, with values worked out by hand.
 ghost use Rattle.std.specs.Prelude.{◌≡◌};
 
-use crate::{
-    Part, Recorded, WordStore, assign_scalar, declare_scalar, gather, packed_load, packed_store,
-    part_from, read_scalar, scatter,
+use gang_memory::{
+    Part, Recorded, WordStore, assign_scalar, declare_scalar, packed_load, packed_store, part_from,
+    read_scalar, scatter,
 };
-use gang_types::{FaultName, IntType, Mask, Rate, wrap};
+use gang_types::{FaultName, Mask, Rate};
 use std::test::*;
 use undo_log::{SnapshotRing, Timeline, Undone};
 
@@ -75,58 +76,6 @@ fn a_packed_store_writes_the_first_elements(rt: HostRuntime) -> Result<(), Fail>
     );
     assert_eq!(rt; stored, Ok(2));
     assert!(rt; store.as_slice() == [0, 2, 4, 0].as_slice());
-    Ok(())
-}
-
-#[test]
-fn every_mask_takes_as_many_elements_as_it_has_lanes(rt: HostRuntime) -> Result<(), Fail> {
-    let store = vec![in rt.alloc(); 1, 2, 3, 4, 5, 6, 7, 8]?;
-    for word in 0..256 {
-        let mask = Mask::from_word::<8>(word);
-        assert_eq!(rt;
-            packed_load::<8, _>(&store, part(0, 8), mask).map(|loaded| loaded.count),
-            Ok(mask.count::<8>())
-        );
-    }
-    Ok(())
-}
-
-#[test]
-fn arrays_of_no_element_and_of_one(rt: HostRuntime) -> Result<(), Fail> {
-    let store = vec![in rt.alloc(); 7]?;
-    let mask = Mask::from_word::<4>(12);
-    assert_eq!(rt;
-        gather(&store, part(1, 0), mask, [0; 4]),
-        Err((2, FaultName::Index))
-    );
-    assert_eq!(rt;
-        gather(&store, part(0, 1), mask, [1, 1, 0, 0]),
-        Ok([0, 0, 7, 7])
-    );
-    assert_eq!(rt;
-        gather(&store, part(0, 1), mask, [0, 0, 0, 1]),
-        Err((3, FaultName::Index))
-    );
-    Ok(())
-}
-
-#[test]
-fn the_ends_of_the_index_types_name_no_element(rt: HostRuntime) -> Result<(), Fail> {
-    let store = vec![in rt.alloc(); 5, 6]?;
-    let ends = [
-        wrap(IntType::Int8, -1),
-        wrap(IntType::Int8, 127),
-        wrap(IntType::Int64, -1),
-        1 << 63,
-        u64::MAX,
-        1 << 32,
-    ];
-    for end in ends {
-        assert_eq!(rt;
-            gather(&store, part(0, 2), Mask::all::<4>(), [0, end, 1, end]),
-            Err((1, FaultName::Index))
-        );
-    }
     Ok(())
 }
 

@@ -1,0 +1,15 @@
+//! Scalars, elements, packed calls and layouts of the memory of a program.
+#![tactic(auto)]
+
+#[cfg(test)]
+mod elements;
+#[cfg(test)]
+mod indices;
+#[cfg(test)]
+mod layouts;
+#[cfg(test)]
+mod packed;
+#[cfg(test)]
+mod plain;
+#[cfg(test)]
+mod worked_by_hand;
