@@ -9,6 +9,8 @@ ghost use Rattle.gang_model.specs.Source.Sources.{IsProgramOf};
 ghost use Rattle.gang_model.specs.Texts.Transcript.{setting};
 ghost use Rattle.gang_model.specs.Types.Tree.{Program as ModelProgram};
 ghost use Rattle.typed_tree.specs.Views.{program_view};
+ghost use Rattle.debug_session.specs.Sessions.{StandsFor};
+ghost use Rattle.gang_machine.specs.Standings.{Stands};
 ghost use Rattle.transcript.specs.Endings.{ending_of};
 ghost use Rattle.ispc_compiler.specs.Front.{IsReady};
 ghost use Rattle.ispc_cli.specs.Ranges.{AreInRange};
@@ -18,11 +20,12 @@ use crate::options::{Options, Width};
 use crate::refusal::Refusal;
 use debug_machine::{AnswerWriter, CommandReader, READS};
 use debug_session::Session;
-use gang_machine::open;
+use gang_machine::{Machine, open};
 use ispc_compiler::{Compiled, compile_source};
 use source_answers::SourceFault;
-use std::alloc::Global;
+use std::alloc::{AllocError, Global};
 use transcript::{Ending, answer_lines};
+use undo_log::SnapshotRing;
 
 /// Compiles a source, and answers the command lines that the reader gives. It begins with the exported function of the name
 /// that the options ask for, or with the first exported one where they ask for none.
@@ -97,11 +100,26 @@ fn run_wide<const W: usize, R: CommandReader, O: AnswerWriter>(
     ensures write_fault { result ≡ Ok Ending.WriteFault → O.has_failed writer.new ≡ true }
     ensures reads { R.reads reader.new ≤ READS }
 {
-    match open::<W>(alloc, compiled.program, compiled.entry, options.history) {
+    match begun::<W>(alloc, compiled, options) {
         Err(_) => Err(Refusal::Memory),
-        Ok(machine) => {
-            let mut session = Session::open(machine, options.steps);
-            Ok(answer_lines(&mut session, reader, writer))
-        }
+        Ok(mut session) => Ok(answer_lines(&mut session, reader, writer)),
     }
+}
+
+/// The debugger of a program at a width, before its first step.
+fn begun<const W: usize>(
+    alloc: Global,
+    compiled: Compiled,
+    options: &Options<'_>,
+) -> Result<Session<Machine<W, SnapshotRing>>, AllocError>
+    requires width { IsGangWidth W }
+    requires ready { IsReady compiled }
+    requires numbered { IsNumberedProgram (program_view compiled.program) }
+    requires range { AreInRange options.now }
+    ensures { IfOk result (λ session. StandsFor Stands session
+        (setting (program_view compiled.program) compiled.entry.0 [] (record { width = W; history = options.now.history; steps = options.now.steps }))
+        (fresh options.now.history)) }
+{
+    let machine = open::<W>(alloc, compiled.program, compiled.entry, options.history)?;
+    Ok(Session::open(machine, options.steps))
 }
