@@ -1,0 +1,157 @@
+-- Which of its variables a frame has declared where it stands: each lane that waits for a step has passed their declarations.
+use Rattle.std.specs.Prelude.{◌≡◌, ℕ, suc, zero, ◌<◌, Bool, true, false, ◌||◌, ◌⊎◌, List, [], ◌∷◌, ◌++◌, All, Option, Some, None, slice_get}
+use Rattle.gang_types.specs.declared.places.VarId.{VarId}
+use Rattle.gang_types.specs.declared.places.VarId.TheVariants.{File, Local}
+use Rattle.gang_model.specs.Running.State.{Frame, Store, same_id}
+use Rattle.gang_model.specs.Types.Tree.{StepNumber, Var, Expr, Read, Element, Unary, Binary, Convert, And, Or, Choice, Reduce, Scan, OfOne, OfTwo, Extract, Insert, Rotate, Shift, Shuffle, ShuffleTwo, Select, Target, Scalar, ElementOf, Arg, Value, Array, ResultFor, Nothing, Declares, Assigns, Returns, Stmt, Empty, Then, Declare, Assign, Change, If, Loop, BodyFirst, Break, Continue, Return, Switch, Segment, ForEach, Call, Variable, Standing, Function, Program}
+use Rattle.mask_states.specs.Masked.{Level, Masked}
+use Rattle.machine_states.specs.Variables.{Variables, parameters_of}
+
+-- ---- the tree
+
+-- a number is one of some
+abbrev pub IsAmong : ℕ → List ℕ → Type 0
+IsAmong k [] = ⊥
+IsAmong k (n ∷ numbers) = (k ≡ n) ⊎ IsAmong k numbers
+
+-- a variable is one of the file or of those that are declared
+abbrev pub IsThere : (declared : List ℕ) → VarId → Type 0
+IsThere declared (File k) = Unit {0}
+IsThere declared (Local k) = IsAmong k declared
+
+-- an expression reads such variables alone
+abbrev pub NamesDeclared : (declared : List ℕ) → Expr → Type 0
+NamesDeclared d (Read x) = IsThere d x.id
+NamesDeclared d (Element array index) = NamesDeclared d index
+NamesDeclared d (Unary op type a) = NamesDeclared d a
+NamesDeclared d (Binary op type a b) = NamesDeclared d a × NamesDeclared d b
+NamesDeclared d (Convert from to a) = NamesDeclared d a
+NamesDeclared d (And a b) = NamesDeclared d a × NamesDeclared d b
+NamesDeclared d (Or a b) = NamesDeclared d a × NamesDeclared d b
+NamesDeclared d (Choice test a b) = NamesDeclared d test × NamesDeclared d a × NamesDeclared d b
+NamesDeclared d (Reduce f type a) = NamesDeclared d a
+NamesDeclared d (Scan f type a) = NamesDeclared d a
+NamesDeclared d (OfOne f type a) = NamesDeclared d a
+NamesDeclared d (OfTwo f type a b) = NamesDeclared d a × NamesDeclared d b
+NamesDeclared d (Extract a index) = NamesDeclared d a × NamesDeclared d index
+NamesDeclared d (Insert a index new) = NamesDeclared d a × NamesDeclared d index × NamesDeclared d new
+NamesDeclared d (Rotate a by) = NamesDeclared d a × NamesDeclared d by
+NamesDeclared d (Shift a by) = NamesDeclared d a × NamesDeclared d by
+NamesDeclared d (Shuffle a places) = NamesDeclared d a × NamesDeclared d places
+NamesDeclared d (ShuffleTwo a b places) = NamesDeclared d a × NamesDeclared d b × NamesDeclared d places
+NamesDeclared d (Select test a b) = NamesDeclared d test × NamesDeclared d a × NamesDeclared d b
+NamesDeclared d e = Unit {0}
+
+abbrev pub OptionDeclared : (declared : List ℕ) → Option Expr → Type 0
+OptionDeclared d None = Unit {0}
+OptionDeclared d (Some e) = NamesDeclared d e
+
+abbrev pub ArgsDeclared : (declared : List ℕ) → List Arg → Type 0
+ArgsDeclared d [] = Unit {0}
+ArgsDeclared d (Value x e ∷ args) = NamesDeclared d e × ArgsDeclared d args
+ArgsDeclared d (Array parameter array from ∷ args) = OptionDeclared d from × ArgsDeclared d args
+
+abbrev pub TargetDeclared : (declared : List ℕ) → Target → Type 0
+TargetDeclared d (Scalar x) = IsThere d x.id
+TargetDeclared d (ElementOf array rate index) = NamesDeclared d index
+
+abbrev pub ResultDeclared : (declared : List ℕ) → ResultFor → Type 0
+ResultDeclared d (Assigns x) = IsThere d x.id
+ResultDeclared d result_for = Unit {0}
+
+-- the number of a function's own variable
+abbrev pub own_number : VarId → List ℕ
+own_number (File k) = []
+own_number (Local k) = k ∷ []
+
+-- the variable that a call's result declares
+abbrev pub declared_by_result : ResultFor → List ℕ
+declared_by_result (Declares x) = own_number x.id
+declared_by_result result_for = []
+
+-- the variables that a statement has declared for each lane that goes on behind it
+abbrev pub declared_by : Stmt → List ℕ
+declared_by (Then first rest) = declared_by rest ++ declared_by first
+declared_by (Declare number x e) = own_number x.id
+declared_by (Call number called args result_for) = declared_by_result result_for
+declared_by s = []
+
+-- each variable that a statement names is declared before it
+abbrev pub DeclaresFirst : (declared : List ℕ) → Stmt → Type 0
+DeclaresFirst d (Then first rest) = DeclaresFirst d first × DeclaresFirst (declared_by first ++ d) rest
+DeclaresFirst d (Declare number x e) = OptionDeclared d e
+DeclaresFirst d (Assign number target e) = TargetDeclared d target × NamesDeclared d e
+DeclaresFirst d (Change number target type op in_type e) = TargetDeclared d target × NamesDeclared d e
+DeclaresFirst d (If number test first other) = NamesDeclared d test × DeclaresFirst d first × DeclaresFirst d other
+DeclaresFirst d (Loop number test update body) = NamesDeclared d test × DeclaresFirst d update × DeclaresFirst d body
+DeclaresFirst d (BodyFirst number test body) = NamesDeclared d test × DeclaresFirst d body
+DeclaresFirst d (Return number e) = OptionDeclared d e
+DeclaresFirst d (Call number called args result_for) = ArgsDeclared d args × ResultDeclared d result_for
+DeclaresFirst d s = Unit {0}
+
+-- for each step of a statement, in running order, what is declared before it
+abbrev pub declared_at : (declared : List ℕ) → Stmt → List (List ℕ)
+declared_at d Empty = []
+declared_at d (Then first rest) = declared_at d first ++ declared_at (declared_by first ++ d) rest
+declared_at d (If number test first other) = d ∷ (declared_at d first ++ declared_at d other)
+declared_at d (Loop number test update body) = declared_at d body ++ (declared_at d update ++ d ∷ [])
+declared_at d (BodyFirst number test body) = declared_at d body ++ d ∷ []
+declared_at d (Switch number e segments) = d ∷ declared_at d segments
+declared_at d (Segment label body rest) = declared_at d body ++ declared_at d rest
+declared_at d (ForEach number form body) = d ∷ (declared_at d body ++ d ∷ [])
+declared_at d s = d ∷ []
+
+-- ---- functions
+
+-- the numbers of a function's parameters
+abbrev pub first_numbers : ℕ → List ℕ
+first_numbers zero = []
+first_numbers (suc n) = n ∷ first_numbers n
+
+abbrev pub declared_for : Variables → (function : ℕ) → Function → List (List ℕ)
+declared_for variables n f = declared_at (first_numbers (parameters_of variables n)) f.body
+
+abbrev pub or_no_number : Option (List ℕ) → List ℕ
+or_no_number None = []
+or_no_number (Some numbers) = numbers
+
+-- a variable in scope at a step is declared before it
+abbrev pub IsDeclaredName : (declared : List ℕ) → Variable → Type 0
+IsDeclaredName d v = IsThere d v.id
+
+-- what a function names is declared before, and so are the names in scope at its steps
+pub record IsDeclaredFirst (variables : Variables) (n : ℕ) (f : Function) : Type 0 where
+  pub body : DeclaresFirst (first_numbers (parameters_of variables n)) f.body
+  pub scopes : (number : ℕ) (standing : Standing) (declared : List ℕ) → slice_get f.standings number ≡ Some standing
+      → slice_get (declared_for variables n f) number ≡ Some declared → All (IsDeclaredName declared) standing.scope
+
+abbrev pub AreDeclaredFirst : Variables → Program → Type 0
+AreDeclaredFirst variables p = (n : ℕ) (f : Function) → slice_get p.functions n ≡ Some f → IsDeclaredFirst variables n f
+
+-- ---- frames
+
+-- whether a store has a variable
+abbrev pub has_entry : Store → VarId → Bool
+has_entry [] v = false
+has_entry (entry ∷ store) v = same_id entry.0 v || has_entry store v
+
+-- a frame has these variables
+abbrev pub HasAll : List ℕ → Store → Type 0
+HasAll d store = (k : ℕ) → IsAmong k d → has_entry store (Local k) ≡ true
+
+-- a frame has all that is declared before the steps that lanes wait for in a level
+abbrev pub LevelDeclared : (declared : List (List ℕ)) → Frame → Level → Type 0
+LevelDeclared declared frame level =
+    (lane : ℕ) (number : StepNumber) (d : List ℕ) → slice_get level.numbers lane ≡ Some number → slice_get declared number ≡ Some d → HasAll d frame.vars
+
+abbrev pub FrameDeclared : Variables → Program → Frame → List Level → Type 0
+FrameDeclared variables p frame levels = (f : Function) → slice_get p.functions frame.function ≡ Some f → All (LevelDeclared (declared_for variables frame.function f) frame) levels
+
+-- so has each frame
+abbrev pub FramesDeclared : Variables → Program → List Frame → List (List Level) → Type 0
+FramesDeclared variables p [] levels = Unit {0}
+FramesDeclared variables p (frame ∷ frames) [] = Unit {0}
+FramesDeclared variables p (frame ∷ frames) (levels ∷ rest) = FrameDeclared variables p frame levels × FramesDeclared variables p frames rest
+
+abbrev pub AreDeclared : Variables → Program → Masked → Type 0
+AreDeclared variables p masked = FramesDeclared variables p masked.state.frames masked.levels

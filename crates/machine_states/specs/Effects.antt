@@ -1,0 +1,42 @@
+-- What the machine writes to its regions.
+use Rattle.std.specs.Prelude.{◌≡◌, ℕ, suc, ◌<◌, List, [], ◌∷◌, slice_set}
+use Rattle.gang_types.specs.declared.types.Rate.{Rate}
+use Rattle.gang_types.specs.declared.types.Rate.TheVariants.{Uniform, Varying}
+use Rattle.gang_types.specs.declared.places.VarId.{VarId}
+use Rattle.gang_types.specs.declared.places.VarId.TheVariants.{File, Local}
+use Rattle.gang_types.specs.Lanes.{Lanes, lowest}
+use Rattle.gang_model.specs.Running.Lanes.{at, each, merged}
+use Rattle.gang_model.specs.Types.Tree.{StepNumber}
+use Rattle.mask_states.specs.Masked.{sent}
+use Rattle.machine_states.specs.Regions.{ReturnedOf, NumbersOf, ResultOf, OfFile, OfHead, OfLocal, Region, Regions, with_region}
+
+-- lanes of a frame wait for other steps
+abbrev pub sent_on : (frame : ℕ) → Lanes → (target : ℕ → StepNumber) → Regions → Regions
+sent_on frame lanes target regions = with_region (OfHead frame NumbersOf) (sent lanes target (regions (OfHead frame NumbersOf))) regions
+
+-- where a variable stands, of the file's or of a frame's
+abbrev pub region_of : (frame : ℕ) → VarId → Region
+region_of frame (File k) = OfFile k
+region_of frame (Local k) = OfLocal frame k
+
+-- a scalar's region after its declaration by these lanes: 0 in other lanes; a uniform one gets the value once
+abbrev pub declared_region : Rate → Lanes → (values old : List ℕ) → List ℕ
+declared_region Uniform lanes values old = slice_set old 0 (at values (lowest lanes))
+declared_region Varying lanes values old = each lanes (λ k. at values k)
+
+-- a scalar's region after an assignment by these lanes: the old words in other lanes; a uniform one gets the value once
+abbrev pub assigned_region : Rate → Lanes → (values old : List ℕ) → List ℕ
+assigned_region Uniform lanes values old = slice_set old 0 (at values (lowest lanes))
+assigned_region Varying lanes values old = merged lanes values old
+
+abbrev pub declared_in : (frame : ℕ) → VarId → Rate → Lanes → (values : List ℕ) → Regions → Regions
+declared_in frame v rate lanes values regions = with_region (region_of frame v) (declared_region rate lanes values (regions (region_of frame v))) regions
+
+abbrev pub assigned_in : (frame : ℕ) → VarId → Rate → Lanes → (values : List ℕ) → Regions → Regions
+assigned_in frame v rate lanes values regions = with_region (region_of frame v) (assigned_region rate lanes values (regions (region_of frame v))) regions
+
+-- lanes of a frame have a result, and have returned: the word keeps them with those that had
+abbrev pub returned_in : (frame : ℕ) → Rate → Lanes → (values : List ℕ) → (returned : ℕ) → Regions → Regions
+returned_in frame rate lanes values returned regions =
+    with_region (OfHead frame ReturnedOf) (returned ∷ [])
+    (with_region (OfHead frame ResultOf) (assigned_region rate lanes values (regions (OfHead frame ResultOf))) regions)

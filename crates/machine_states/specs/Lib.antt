@@ -1,0 +1,7 @@
+pub mod Regions
+pub mod Variables
+pub mod Plain
+pub mod Declared
+pub mod Shows
+pub mod Effects
+pub mod Steps

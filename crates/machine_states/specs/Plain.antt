@@ -1,0 +1,84 @@
+-- Programs over scalars: functions and file-scope variables without arrays, all statements but the foreach forms, `switch`, `assert`
+-- and the packed calls, and expressions that read no array (a choice of this project: the forms that the machine runs today).
+use Rattle.std.specs.Prelude.{◌≡◌, ℕ, suc, ◌≤◌, false, List, [], ◌∷◌, All, Option, Some, None, length, slice_get}
+use Rattle.gang_types.specs.declared.places.VarId.TheVariants.{File, Local}
+use Rattle.gang_model.specs.Types.Tree.{Expr, Number, ProgramIndex, ProgramCount, LaneMask, Read, Element, Unary, Binary, Convert, And, Or, Choice, Reduce, Scan, OfOne, OfTwo, Extract, Insert, Rotate, Shift, Shuffle, ShuffleTwo, Select, Scalar, Arg, Value, Array, ResultFor, Nothing, Declares, Assigns, Returns, Stmt, Empty, Then, Declare, Assign, Change, If, Loop, BodyFirst, Break, Continue, Return, Call, Variable, Standing, Function, Program}
+use Rattle.machine_states.specs.Variables.{Variables, IsScalar, IsOwn, own_of, parameters_of}
+
+-- an expression of a function reads scalars alone
+abbrev pub IsPlainExpr : Variables → (function : ℕ) → Expr → Type 0
+IsPlainExpr variables n (Read x) = IsScalar variables n x
+IsPlainExpr variables n (Element array index) = ⊥
+IsPlainExpr variables n (Unary op type a) = IsPlainExpr variables n a
+IsPlainExpr variables n (Binary op type a b) = IsPlainExpr variables n a × IsPlainExpr variables n b
+IsPlainExpr variables n (Convert from to a) = IsPlainExpr variables n a
+IsPlainExpr variables n (And a b) = IsPlainExpr variables n a × IsPlainExpr variables n b
+IsPlainExpr variables n (Or a b) = IsPlainExpr variables n a × IsPlainExpr variables n b
+IsPlainExpr variables n (Choice test a b) = IsPlainExpr variables n test × IsPlainExpr variables n a × IsPlainExpr variables n b
+IsPlainExpr variables n (Reduce f type a) = IsPlainExpr variables n a
+IsPlainExpr variables n (Scan f type a) = IsPlainExpr variables n a
+IsPlainExpr variables n (OfOne f type a) = IsPlainExpr variables n a
+IsPlainExpr variables n (OfTwo f type a b) = IsPlainExpr variables n a × IsPlainExpr variables n b
+IsPlainExpr variables n (Extract a index) = IsPlainExpr variables n a × IsPlainExpr variables n index
+IsPlainExpr variables n (Insert a index new) = IsPlainExpr variables n a × IsPlainExpr variables n index × IsPlainExpr variables n new
+IsPlainExpr variables n (Rotate a by) = IsPlainExpr variables n a × IsPlainExpr variables n by
+IsPlainExpr variables n (Shift a by) = IsPlainExpr variables n a × IsPlainExpr variables n by
+IsPlainExpr variables n (Shuffle a places) = IsPlainExpr variables n a × IsPlainExpr variables n places
+IsPlainExpr variables n (ShuffleTwo a b places) = IsPlainExpr variables n a × IsPlainExpr variables n b × IsPlainExpr variables n places
+IsPlainExpr variables n (Select test a b) = IsPlainExpr variables n test × IsPlainExpr variables n a × IsPlainExpr variables n b
+IsPlainExpr variables n e = Unit {0}
+
+abbrev pub IsPlainOption : Variables → (function : ℕ) → Option Expr → Type 0
+IsPlainOption variables n None = Unit {0}
+IsPlainOption variables n (Some e) = IsPlainExpr variables n e
+
+-- the arguments of a call are values of the called function's variables, by their numbers from the k-th on
+abbrev pub ArgsPlain : Variables → (function called k : ℕ) → List Arg → Type 0
+ArgsPlain variables n called k [] = Unit {0}
+ArgsPlain variables n called k (Value x e ∷ args) = IsOwn variables called k x × IsPlainExpr variables n e × ArgsPlain variables n called (suc k) args
+ArgsPlain variables n called k (Array parameter array from ∷ args) = ⊥
+
+-- a call passes each parameter of the function that it calls, of which there are at most 8
+pub record CallPlain (variables : Variables) (n called : ℕ) (args : List Arg) : Type 0 where
+  pub args_plain : ArgsPlain variables n called 0 args
+  pub all : length args ≡ parameters_of variables called
+  pub few : length args ≤ 8
+
+-- a call's result is declared in a variable of the function, or assigned to one of its own or the file's
+abbrev pub ResultPlain : Variables → (function : ℕ) → ResultFor → Type 0
+ResultPlain variables n Nothing = Unit {0}
+ResultPlain variables n (Declares x) = (k : ℕ) × IsOwn variables n k x
+ResultPlain variables n (Assigns x) = IsScalar variables n x
+ResultPlain variables n Returns = Unit {0}
+
+-- a statement of a function
+abbrev pub IsPlain : Variables → (function : ℕ) → Stmt → Type 0
+IsPlain variables n Empty = Unit {0}
+IsPlain variables n (Then first rest) = IsPlain variables n first × IsPlain variables n rest
+IsPlain variables n (Declare number x e) = ((k : ℕ) × IsOwn variables n k x) × IsPlainOption variables n e
+IsPlain variables n (Assign number (Scalar x) e) = IsScalar variables n x × IsPlainExpr variables n e
+IsPlain variables n (Change number (Scalar x) type op in_type e) = IsScalar variables n x × IsPlainExpr variables n e
+IsPlain variables n (If number test first other) = IsPlainExpr variables n test × IsPlain variables n first × IsPlain variables n other
+IsPlain variables n (Loop number test update body) = IsPlainExpr variables n test × IsPlain variables n update × IsPlain variables n body
+IsPlain variables n (BodyFirst number test body) = IsPlainExpr variables n test × IsPlain variables n body
+IsPlain variables n (Break number) = Unit {0}
+IsPlain variables n (Continue number) = Unit {0}
+IsPlain variables n (Return number e) = IsPlainOption variables n e
+IsPlain variables n (Call number called args result_for) = CallPlain variables n called args × ResultPlain variables n result_for
+IsPlain variables n s = ⊥
+
+-- a name in scope stands for a scalar of the function
+abbrev pub IsPlainName : Variables → (function : ℕ) → Variable → Type 0
+IsPlainName variables n v = (k : ℕ) × (slice_get (own_of variables n) k ≡ Some v) × (v.is_array ≡ false)
+
+-- a function: its statements, and the names that are in scope at its steps and at its closing brace
+pub record IsPlainFunction (variables : Variables) (n : ℕ) (f : Function) : Type 0 where
+  pub body : IsPlain variables n f.body
+  pub scopes : (number : ℕ) (standing : Standing) → slice_get f.standings number ≡ Some standing → All (IsPlainName variables n) standing.scope
+
+-- a program with these variables, of which each function has at most so many
+pub record IsPlainProgram (variables : Variables) (most : ℕ) (p : Program) : Type 0 where
+  pub file : (k : ℕ) (v : Variable) → slice_get variables.file k ≡ Some v → (v.id ≡ File k) × (v.is_array ≡ false)
+  pub own : (n k : ℕ) (v : Variable) → slice_get (own_of variables n) k ≡ Some v → v.id ≡ Local k
+  pub few : (n : ℕ) → length (own_of variables n) ≤ most
+  pub functions : (n : ℕ) (f : Function) → slice_get p.functions n ≡ Some f → IsPlainFunction variables n f

@@ -1,0 +1,88 @@
+-- What the words of a machine become by a step, so that they show the masked state after it.
+use Rattle.std.specs.Prelude.{◌≡◌, ℕ, suc, ◌<◌, ◌≤◌, Bool, true, false, ◌||◌, List, [], ◌∷◌, length, replicate, Option, Some, None, slice_get, slice_set, map}
+use Rattle.gang_types.specs.declared.types.IntType.{IntType}
+use Rattle.gang_types.specs.declared.types.Rate.{Rate}
+use Rattle.gang_types.specs.declared.types.Rate.TheVariants.{Uniform, Varying}
+use Rattle.gang_types.specs.declared.places.VarId.TheVariants.{File, Local}
+use Rattle.gang_types.specs.Lanes.{Lanes, has}
+use Rattle.gang_types.specs.Masks.{lanes_of_word}
+use Rattle.gang_types.specs.Values.{converted}
+use Rattle.gang_model.specs.Running.Lanes.{Fault, at, each}
+use Rattle.gang_model.specs.Running.State.{Store, words_of}
+use Rattle.gang_model.specs.Types.Tree.{StepNumber, ResultFor, Nothing, Declares, Assigns, Returns, Function, Program}
+use Rattle.mask_states.specs.Points.{Point, points_in, closing_number}
+use Rattle.mask_states.specs.Masked.{Masked, least, waiting_for, entered_body}
+use Rattle.mask_states.specs.MaskedStep.{Goes, Fails, masked_step}
+use Rattle.machine_states.specs.Variables.{Variables, own_of, rate_of}
+use Rattle.machine_states.specs.Declared.{has_entry}
+use Rattle.machine_states.specs.Regions.{FunctionOf, LanesOf, ReturnedOf, NumbersOf, ResultOf, Head, OfFile, Depth, OfHead, OfLocal, Regions, lanes_in, with_region}
+use Rattle.machine_states.specs.Shows.{IsScalarIn, Shows}
+use Rattle.machine_states.specs.Effects.{sent_on, declared_in, assigned_in, returned_in}
+
+-- the step that comes next is that of the top frame, of this index and function, with the least number that a lane of it waits for; it
+-- has a point, or is the function's closing brace
+pub record IsNext (p : Program) (regions : Regions) (index n : ℕ) (f : Function) (number : StepNumber) (point : Option Point) : Type 0 where
+  pub depth : regions Depth ≡ suc index ∷ []
+  pub function : regions (OfHead index FunctionOf) ≡ n ∷ []
+  pub is_function : slice_get p.functions n ≡ Some f
+  pub least_number : number ≡ least (closing_number f) (regions (OfHead index NumbersOf))
+  pub is_point : slice_get (points_in f) number ≡ point
+
+-- the lanes of a frame that wait for a step
+abbrev pub waiting_in : Regions → (index : ℕ) → StepNumber → Lanes
+waiting_in regions index number = waiting_for number (regions (OfHead index NumbersOf))
+
+-- the step is done, and these regions show the masked state after it
+abbrev pub GoesTo : Program → Variables → (width : ℕ) → Masked → Regions → Type 0
+GoesTo p variables width masked regions = (next : Masked) × (masked_step p masked ≡ Goes next) × Shows p variables width regions next
+
+-- the step has a fault
+abbrev pub FailsWith : Program → Masked → Fault → Type 0
+FailsWith p masked fault = masked_step p masked ≡ Fails fault
+
+-- a word keeps the lanes of both sets
+abbrev pub KeepsBoth : (width : ℕ) → Lanes → Lanes → (word : ℕ) → Type 0
+KeepsBoth width some others word = (k : ℕ) → k < width → has (lanes_of_word width word) k ≡ (has some k || has others k)
+
+-- ---- calls
+
+-- a frame has begun for these lanes, with these variables declared
+pub record IsBegun (variables : Variables) (width : ℕ) (regions : Regions) (index n : ℕ) (f : Function) (lanes : Lanes) (vars : Store) : Type 0 where
+  pub depth : regions Depth ≡ suc index ∷ []
+  pub function : regions (OfHead index FunctionOf) ≡ n ∷ []
+  pub lanes_are : lanes_in width regions (OfHead index LanesOf) ≡ lanes
+  pub none_returned : lanes_in width regions (OfHead index ReturnedOf) ≡ replicate width false
+  pub numbers : regions (OfHead index NumbersOf) ≡ (entered_body f lanes).numbers
+  pub result_sized : length (regions (OfHead index ResultOf)) ≡ width
+  pub declared : (k : ℕ) → has_entry vars (Local k) ≡ true
+      → IsScalarIn width (rate_of (slice_get (own_of variables n) k)) (words_of vars (Local k)) (regions (OfLocal index k))
+
+-- the words of the file, and of the frames below this index, are the same
+pub record AreSameBelow (index : ℕ) (old new : Regions) : Type 0 where
+  pub file : (k : ℕ) → new (OfFile k) ≡ old (OfFile k)
+  pub heads : (i : ℕ) (part : Head) → i < index → new (OfHead i part) ≡ old (OfHead i part)
+  pub locals : (i k : ℕ) → i < index → new (OfLocal i k) ≡ old (OfLocal i k)
+
+-- ---- results
+
+-- values converted in these lanes
+abbrev pub converted_values : (from to : IntType) → Lanes → List ℕ → List ℕ
+converted_values from to lanes values = each lanes (λ k. converted from to (at values k))
+
+-- A result of this type is given to what it is for: to a variable of the frame of this index, which runs f, or of the file, or as the
+-- result of that frame.
+abbrev pub Delivers : (width index : ℕ) → (f : Function) → ResultFor → IntType → Lanes → (values : List ℕ) → (old new : Regions) → Type 0
+Delivers width index f Nothing type lanes values old new = new ≡ old
+Delivers width index f (Declares x) type lanes values old new = new ≡ declared_in index x.id x.rate lanes (converted_values type x.type lanes values) old
+Delivers width index f (Assigns x) type lanes values old new = new ≡ assigned_in index x.id x.rate lanes (converted_values type x.type lanes values) old
+Delivers width index f Returns type lanes values old new =
+    (word : ℕ) × KeepsBoth width lanes (lanes_in width old (OfHead index ReturnedOf)) word
+    × (new ≡ returned_in index f.result lanes (converted_values type f.result_type lanes values) word old)
+
+-- ---- pokes
+
+-- all words of a scalar's region are set, or one lane's
+abbrev pub poked_region : Rate → (lane : Option ℕ) → (word : ℕ) → List ℕ → List ℕ
+poked_region Uniform None word old = slice_set old 0 word
+poked_region Varying None word old = map (λ x. word) old
+poked_region rate (Some lane) word old = slice_set old lane word

@@ -1,0 +1,2 @@
+//! The words of a machine, and the masked states that they stand for.
+#![tactic(auto)]
