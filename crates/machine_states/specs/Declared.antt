@@ -1,9 +1,9 @@
 -- Which of its variables a frame has declared where it stands: each lane that waits for a step has passed their declarations.
-use Rattle.std.specs.Prelude.{◌≡◌, ℕ, suc, zero, ◌<◌, Bool, true, false, ◌||◌, ◌⊎◌, List, [], ◌∷◌, ◌++◌, All, Option, Some, None, slice_get}
+use Rattle.std.specs.Prelude.{◌≡◌, ℕ, suc, zero, Bool, true, false, ◌||◌, ◌⊎◌, List, [], ◌∷◌, ◌++◌, All, Option, Some, None, slice_get}
 use Rattle.gang_types.specs.declared.places.VarId.{VarId}
 use Rattle.gang_types.specs.declared.places.VarId.TheVariants.{File, Local}
 use Rattle.gang_model.specs.Running.State.{Frame, Store, same_id}
-use Rattle.gang_model.specs.Types.Tree.{StepNumber, Var, Expr, Read, Element, Unary, Binary, Convert, And, Or, Choice, Reduce, Scan, OfOne, OfTwo, Extract, Insert, Rotate, Shift, Shuffle, ShuffleTwo, Select, Target, Scalar, ElementOf, Arg, Value, Array, ResultFor, Nothing, Declares, Assigns, Returns, Stmt, Empty, Then, Declare, Assign, Change, If, Loop, BodyFirst, Break, Continue, Return, Switch, Segment, ForEach, Call, Variable, Standing, Function, Program}
+use Rattle.gang_model.specs.Types.Tree.{StepNumber, Expr, Read, Element, Unary, Binary, Convert, And, Or, Choice, Reduce, Scan, OfOne, OfTwo, Extract, Insert, Rotate, Shift, Shuffle, ShuffleTwo, Select, Target, Scalar, ElementOf, Arg, Value, Array, ResultFor, Declares, Assigns, Stmt, Empty, Then, Declare, Assign, Change, If, Loop, BodyFirst, Return, Switch, Segment, ForEach, Call, Variable, Standing, Function, Program}
 use Rattle.mask_states.specs.Masked.{Level, Masked}
 use Rattle.machine_states.specs.Variables.{Variables, parameters_of}
 

@@ -1,5 +1,5 @@
 -- What the machine writes to its regions.
-use Rattle.std.specs.Prelude.{◌≡◌, ℕ, suc, ◌<◌, List, [], ◌∷◌, slice_set}
+use Rattle.std.specs.Prelude.{ℕ, List, [], ◌∷◌, slice_set}
 use Rattle.gang_types.specs.declared.types.Rate.{Rate}
 use Rattle.gang_types.specs.declared.types.Rate.TheVariants.{Uniform, Varying}
 use Rattle.gang_types.specs.declared.places.VarId.{VarId}

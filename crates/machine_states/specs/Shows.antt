@@ -1,6 +1,6 @@
 -- What it means that the words of a machine show a masked state: each part of it stands in its region. Words of variables that are not
 -- declared, and of frames that were left, show nothing.
-use Rattle.std.specs.Prelude.{◌≡◌, ℕ, ◌≤◌, true, List, [], ◌∷◌, length, take, Option, Some, None, slice_get, if◌then◌else◌}
+use Rattle.std.specs.Prelude.{◌≡◌, ℕ, ◌≤◌, true, List, [], ◌∷◌, length, take, Some, None, slice_get, if◌then◌else◌}
 use Rattle.gang_types.specs.declared.types.Rate.{Rate}
 use Rattle.gang_types.specs.declared.types.Rate.TheVariants.{Uniform, Varying}
 use Rattle.gang_types.specs.declared.places.VarId.TheVariants.{File, Local}

@@ -1,9 +1,9 @@
 -- What the words of a machine become by a step, so that they show the masked state after it.
-use Rattle.std.specs.Prelude.{◌≡◌, ℕ, suc, ◌<◌, ◌≤◌, Bool, true, false, ◌||◌, List, [], ◌∷◌, length, replicate, Option, Some, None, slice_get, slice_set, map}
+use Rattle.std.specs.Prelude.{◌≡◌, ℕ, suc, ◌<◌, true, false, ◌||◌, List, [], ◌∷◌, length, replicate, Option, Some, None, slice_get, slice_set, map}
 use Rattle.gang_types.specs.declared.types.IntType.{IntType}
 use Rattle.gang_types.specs.declared.types.Rate.{Rate}
 use Rattle.gang_types.specs.declared.types.Rate.TheVariants.{Uniform, Varying}
-use Rattle.gang_types.specs.declared.places.VarId.TheVariants.{File, Local}
+use Rattle.gang_types.specs.declared.places.VarId.TheVariants.{Local}
 use Rattle.gang_types.specs.Lanes.{Lanes, has}
 use Rattle.gang_types.specs.Masks.{lanes_of_word}
 use Rattle.gang_types.specs.Values.{converted}
@@ -15,9 +15,9 @@ use Rattle.mask_states.specs.Masked.{Masked, least, waiting_for, entered_body}
 use Rattle.mask_states.specs.MaskedStep.{Goes, Fails, masked_step}
 use Rattle.machine_states.specs.Variables.{Variables, own_of, rate_of}
 use Rattle.machine_states.specs.Declared.{has_entry}
-use Rattle.machine_states.specs.Regions.{FunctionOf, LanesOf, ReturnedOf, NumbersOf, ResultOf, Head, OfFile, Depth, OfHead, OfLocal, Regions, lanes_in, with_region}
+use Rattle.machine_states.specs.Regions.{FunctionOf, LanesOf, ReturnedOf, NumbersOf, ResultOf, Head, OfFile, Depth, OfHead, OfLocal, Regions, lanes_in}
 use Rattle.machine_states.specs.Shows.{IsScalarIn, Shows}
-use Rattle.machine_states.specs.Effects.{sent_on, declared_in, assigned_in, returned_in}
+use Rattle.machine_states.specs.Effects.{declared_in, assigned_in, returned_in}
 
 -- the step that comes next is that of the top frame, of this index and function, with the least number that a lane of it waits for; it
 -- has a point, or is the function's closing brace
