@@ -1,0 +1,4 @@
+pub mod PlainValues
+pub mod Rows
+pub mod PlainStatements
+pub mod Functions

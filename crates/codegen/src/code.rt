@@ -1,0 +1,69 @@
+//! What the steps of a program do.
+
+use expression_code::Instruction;
+use gang_types::{BinaryOp, IntType};
+use typed_tree::{ResultFor, Var};
+
+/// `target op= value`: the operation, its type, and the target's type.
+#[derive(Clone, Copy, Debug, PartialEq, Eq, Drop)]
+pub struct Change {
+    pub operator: BinaryOp,
+    pub value_type: IntType,
+    pub target_type: IntType,
+}
+
+/// An argument of a call: the parameter, and the code of its value.
+#[derive(Drop)]
+pub struct ArgCode {
+    pub parameter: Var,
+    pub value: Vec<Instruction>,
+}
+
+/// What a step does, and the numbers of the steps that its lanes wait for next.
+#[derive(Drop)]
+pub enum StepCode {
+    /// A variable gets a value, or 0 where it has none.
+    Declare {
+        variable: Var,
+        value: Option<Vec<Instruction>>,
+        next: usize,
+    },
+    Assign {
+        variable: Var,
+        value: Vec<Instruction>,
+        next: usize,
+    },
+    Change {
+        variable: Var,
+        change: Change,
+        value: Vec<Instruction>,
+        next: usize,
+    },
+    /// The function's result in the lanes of the step, which return.
+    Return {
+        value: Option<Vec<Instruction>>,
+        next: usize,
+    },
+    /// Nothing: `break` and `continue`.
+    Go {
+        next: usize,
+    },
+    Branch {
+        test: Vec<Instruction>,
+        yes: usize,
+        no: usize,
+    },
+    /// A call; its lanes go on when it is left.
+    Enter {
+        function: usize,
+        args: Vec<ArgCode>,
+        result_for: ResultFor,
+        next: usize,
+    },
+}
+
+/// For each function of a program its steps in running order, but for its closing brace.
+#[derive(Drop)]
+pub struct Code {
+    pub functions: Vec<Vec<StepCode>>,
+}
