@@ -55,7 +55,11 @@ fn put(alloc: Global, statement: &Stmt, next: usize) -> Result<StepCode, AllocEr
             value: optional(alloc, value)?,
             next,
         }),
-        Stmt::Assign { target, value: assigned, .. } => Ok(StepCode::Assign {
+        Stmt::Assign {
+            target,
+            value: assigned,
+            ..
+        } => Ok(StepCode::Assign {
             variable: scalar(target),
             value: value(alloc, assigned)?,
             next,

@@ -1,10 +1,10 @@
 -- Which of its variables a frame has declared where it stands: each lane that waits for a step has passed their declarations.
-use Rattle.std.specs.Prelude.{◌≡◌, ℕ, suc, zero, Bool, true, false, ◌||◌, ◌⊎◌, List, [], ◌∷◌, ◌++◌, All, Option, Some, None, slice_get}
+use Rattle.std.specs.Prelude.{◌≡◌, ℕ, suc, zero, ◌<◌, Bool, true, false, ◌||◌, ◌⊎◌, List, [], ◌∷◌, ◌++◌, All, Option, Some, None, slice_get, slice_index_or, if◌then◌else◌}
 use Rattle.gang_types.specs.declared.places.VarId.{VarId}
 use Rattle.gang_types.specs.declared.places.VarId.TheVariants.{File, Local}
 use Rattle.gang_model.specs.Running.State.{Frame, Store, same_id}
-use Rattle.gang_model.specs.Types.Tree.{StepNumber, Expr, Read, Element, Unary, Binary, Convert, And, Or, Choice, Reduce, Scan, OfOne, OfTwo, Extract, Insert, Rotate, Shift, Shuffle, ShuffleTwo, Select, Target, Scalar, ElementOf, Arg, Value, Array, ResultFor, Declares, Assigns, Stmt, Empty, Then, Declare, Assign, Change, If, Loop, BodyFirst, Return, Switch, Segment, ForEach, Call, Variable, Standing, Function, Program}
-use Rattle.mask_states.specs.Masked.{Level, Masked}
+use Rattle.gang_model.specs.Types.Tree.{StepNumber, Expr, Read, Element, Unary, Binary, Convert, And, Or, Choice, Reduce, Scan, OfOne, OfTwo, Extract, Insert, Rotate, Shift, Shuffle, ShuffleTwo, Select, Target, Scalar, ElementOf, Arg, Value, Array, ResultFor, Declares, Assigns, Returns, Stmt, Empty, Then, Declare, Assign, Change, If, Loop, BodyFirst, Return, Switch, Segment, ForEach, Call, PackedStore, PackedLoad, Variable, Standing, Function, Program}
+use Rattle.mask_states.specs.Masked.{Level, Masked, next_in}
 use Rattle.machine_states.specs.Variables.{Variables, parameters_of}
 
 -- ---- the tree
@@ -76,6 +76,32 @@ declared_by (Declare number x e) = own_number x.id
 declared_by (Call number called args result_for) = declared_by_result result_for
 declared_by s = []
 
+-- whether a result is returned
+abbrev pub is_returned : ResultFor → Bool
+is_returned Returns = true
+is_returned result_for = false
+
+-- whether lanes may return in a statement
+abbrev pub may_return : Stmt → Bool
+may_return (Then first rest) = may_return first || may_return rest
+may_return (If number test first other) = may_return first || may_return other
+may_return (Loop number test update body) = may_return update || may_return body
+may_return (BodyFirst number test body) = may_return body
+may_return (Return number e) = true
+may_return (Switch number e segments) = may_return segments
+may_return (Segment label body rest) = may_return body || may_return rest
+may_return (ForEach number form body) = may_return body
+may_return (Call number called args result_for) = is_returned result_for
+may_return (PackedStore number array from e result_for) = is_returned result_for
+may_return (PackedLoad number array from x result_for) = is_returned result_for
+may_return s = false
+
+-- the variables that a statement has declared for each lane that goes on behind it, and for each that returns in it: those that are
+-- declared before its first part in which lanes may return
+abbrev pub declared_before_return : Stmt → List ℕ
+declared_before_return (Then first rest) = if may_return first then [] else declared_before_return rest ++ declared_by first
+declared_before_return s = if may_return s then [] else declared_by s
+
 -- each variable that a statement names is declared before it
 abbrev pub DeclaresFirst : (declared : List ℕ) → Stmt → Type 0
 DeclaresFirst d (Then first rest) = DeclaresFirst d first × DeclaresFirst (declared_by first ++ d) rest
@@ -111,19 +137,23 @@ first_numbers (suc n) = n ∷ first_numbers n
 abbrev pub declared_for : Variables → (function : ℕ) → Function → List (List ℕ)
 declared_for variables n f = declared_at (first_numbers (parameters_of variables n)) f.body
 
-abbrev pub or_no_number : Option (List ℕ) → List ℕ
-or_no_number None = []
-or_no_number (Some numbers) = numbers
+-- what is declared for each lane that has ended or returned
+abbrev pub declared_at_end : Variables → (function : ℕ) → Function → List ℕ
+declared_at_end variables n f = declared_before_return f.body ++ first_numbers (parameters_of variables n)
+
+-- what is declared before a step of a function, or before its closing brace
+abbrev pub declared_before : Variables → (function : ℕ) → Function → StepNumber → List ℕ
+declared_before variables n f number = slice_index_or (declared_for variables n f) number (declared_at_end variables n f)
 
 -- a variable in scope at a step is declared before it
 abbrev pub IsDeclaredName : (declared : List ℕ) → Variable → Type 0
 IsDeclaredName d v = IsThere d v.id
 
--- what a function names is declared before, and so are the names in scope at its steps
+-- what a function names is declared before, and so are the names in scope at its steps and at its closing brace
 pub record IsDeclaredFirst (variables : Variables) (n : ℕ) (f : Function) : Type 0 where
   pub body : DeclaresFirst (first_numbers (parameters_of variables n)) f.body
-  pub scopes : (number : ℕ) (standing : Standing) (declared : List ℕ) → slice_get f.standings number ≡ Some standing
-      → slice_get (declared_for variables n f) number ≡ Some declared → All (IsDeclaredName declared) standing.scope
+  pub scopes : (number : ℕ) (standing : Standing) → slice_get f.standings number ≡ Some standing
+      → All (IsDeclaredName (declared_before variables n f number)) standing.scope
 
 abbrev pub AreDeclaredFirst : Variables → Program → Type 0
 AreDeclaredFirst variables p = (n : ℕ) (f : Function) → slice_get p.functions n ≡ Some f → IsDeclaredFirst variables n f
@@ -139,13 +169,15 @@ has_entry (entry ∷ store) v = same_id entry.0 v || has_entry store v
 abbrev pub HasAll : List ℕ → Store → Type 0
 HasAll d store = (k : ℕ) → IsAmong k d → has_entry store (Local k) ≡ true
 
--- a frame has all that is declared before the steps that lanes wait for in a level
-abbrev pub LevelDeclared : (declared : List (List ℕ)) → Frame → Level → Type 0
-LevelDeclared declared frame level =
-    (lane : ℕ) (number : StepNumber) (d : List ℕ) → slice_get level.numbers lane ≡ Some number → slice_get declared number ≡ Some d → HasAll d frame.vars
+-- a frame's variables are all that is declared before the steps that lanes wait for in a level. The lanes that are not in the call wait at
+-- its end from the beginning, so what is declared there is asked for once all lanes wait there.
+pub record LevelDeclared (declared : StepNumber → List ℕ) (vars : Store) (level : Level) : Type 0 where
+  pub waits : (lane : ℕ) (number : StepNumber) → slice_get level.numbers lane ≡ Some number → number < level.end → HasAll (declared number) vars
+  pub ends : next_in level ≡ level.end → HasAll (declared level.end) vars
 
 abbrev pub FrameDeclared : Variables → Program → Frame → List Level → Type 0
-FrameDeclared variables p frame levels = (f : Function) → slice_get p.functions frame.function ≡ Some f → All (LevelDeclared (declared_for variables frame.function f) frame) levels
+FrameDeclared variables p frame levels =
+    (f : Function) → slice_get p.functions frame.function ≡ Some f → All (LevelDeclared (declared_before variables frame.function f) frame.vars) levels
 
 -- so has each frame
 abbrev pub FramesDeclared : Variables → Program → List Frame → List (List Level) → Type 0

@@ -1,6 +1,6 @@
 -- What it means that the words of a machine show a masked state: each part of it stands in its region. Words of variables that are not
 -- declared, and of frames that were left, show nothing.
-use Rattle.std.specs.Prelude.{◌≡◌, ℕ, ◌≤◌, true, List, [], ◌∷◌, length, take, Some, None, slice_get, if◌then◌else◌}
+use Rattle.std.specs.Prelude.{◌≡◌, ℕ, ◌<◌, ◌≤◌, true, List, [], ◌∷◌, length, take, Some, None, slice_get, if◌then◌else◌}
 use Rattle.gang_types.specs.declared.types.Rate.{Rate}
 use Rattle.gang_types.specs.declared.types.Rate.TheVariants.{Uniform, Varying}
 use Rattle.gang_types.specs.declared.places.VarId.TheVariants.{File, Local}
@@ -8,7 +8,7 @@ use Rattle.gang_types.specs.Lanes.{Lanes, no_lane}
 use Rattle.gang_model.specs.Running.Lanes.{at, each}
 use Rattle.gang_model.specs.Running.State.{Frame, words_of}
 use Rattle.gang_model.specs.Running.Step.{result_rate}
-use Rattle.gang_model.specs.Types.Tree.{StepNumber, Arg, Nothing, Function, Program}
+use Rattle.gang_model.specs.Types.Tree.{StepNumber, Arg, Nothing, Variable, Function, Program}
 use Rattle.mask_states.specs.Points.{Enter, closing_number}
 use Rattle.mask_states.specs.Placed.{HasPoint}
 use Rattle.mask_states.specs.Masked.{Level, Masked, next_in}
@@ -26,6 +26,11 @@ words_for width Varying = width
 pub record IsScalarIn (width : ℕ) (rate : Rate) (words region : List ℕ) : Type 0 where
   pub long : length words ≡ words_for width rate
   pub stands : words ≡ take (words_for width rate) region
+
+-- each variable has words enough: one of the file its own, one of a frame a word for each lane, whatever its rate
+pub record AreSized (variables : Variables) (width : ℕ) (regions : Regions) : Type 0 where
+  pub file : (k : ℕ) (v : Variable) → slice_get variables.file k ≡ Some v → length (regions (OfFile k)) ≡ words_for width v.rate
+  pub own : (index n k : ℕ) (v : Variable) → index < 64 → slice_get (own_of variables n) k ≡ Some v → length (regions (OfLocal index k)) ≡ width
 
 -- the k-th variable of a frame stands in its region, if it is declared
 abbrev pub ShowsLocal : Variables → (width : ℕ) → Regions → (index : ℕ) → Frame → ℕ → Type 0

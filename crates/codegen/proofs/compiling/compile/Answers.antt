@@ -13,7 +13,7 @@ pub steps-requires : goal.steps-requires
 steps-requires c =
     let table = ap (map points_view) c.deref-points-items.ensures.value ∙ c.in_ok-masked.ensures.points c.requires.numbered in
     let plain = plain_at c.requires.plain.0 c.requires.plain.1 (program_view c.args.program.now) c.requires.plain.2 c.deref-points-items.result.now c.loop-points.points-index
-        c.points-item.result table c.loop-points-test.true c.points-item.is in
+    c.points-item.result table c.loop-points-test.true c.points-item.is in
     λ k d within. subst (λ l. (k < length l) → IsSomePlainPoint (point_view (get_or l k d))) (sym c.deref.ensures.value) (plain k d) within
 
 pub loop-points-preserved : goal.loop-points-preserved

@@ -1,0 +1,183 @@
+-- Where a program stands, each variable that its next step names and that is in scope there is declared.
+use Rattle.std.proofs.Common.{◌≡◌, refl, sym, ap, ◌∙◌, subst, ℕ, zero, suc, ◌<◌, true, List, [], ◌∷◌, length, replicate, get_or-take, slice_get, slice_index_or, Option, Some, None, arith}
+use Rattle.std.specs.Prelude.{All}
+use Rattle.gang_types.specs.declared.types.Rate.{Rate}
+use Rattle.gang_types.specs.declared.types.Rate.TheVariants.{Uniform, Varying}
+use Rattle.gang_types.specs.declared.places.VarId.{VarId}
+use Rattle.gang_types.specs.declared.places.VarId.TheVariants.{File, Local}
+use Rattle.gang_types.specs.Lanes.{has}
+use Rattle.gang_model.specs.Types.Tree.{StepNumber, Var, Nothing, Variable, Standing, Function, Program}
+use Rattle.gang_model.specs.Running.Lanes.{at}
+use Rattle.gang_model.specs.Running.State.{Store, Frame, words_of, words_in, with_words, with_var, with_words_in}
+use Rattle.gang_model.specs.Running.RunningOrder.{IsNumberedProgram}
+use Rattle.gang_model.specs.Running.Step.{new_frame}
+use Rattle.gang_model.specs.Debugger.Events.{Poked, WholeOf, LaneOf, ElementAt, Given, started, initial_memory, poked}
+use Rattle.mask_states.specs.Points.{Point, entry_of, closing_number}
+use Rattle.mask_states.specs.Masked.{Level, Masked, least, next_in, entered_body}
+use Rattle.mask_states.specs.MaskedStep.{untasked, entered_levels, masked_start}
+use Rattle.machine_states.specs.Variables.{Variables, own_of, parameters_of, variable_of, rate_of, IsScalar}
+use Rattle.machine_states.specs.Plain.{IsPlainProgram}
+use Rattle.machine_states.specs.Regions.{FunctionOf, NumbersOf, OfFile, OfHead, OfLocal, Regions}
+use Rattle.machine_states.specs.Declared.{IsThere, first_numbers, declared_before, AreDeclaredFirst, has_entry, HasAll, LevelDeclared, FrameDeclared, FramesDeclared, AreDeclared}
+use Rattle.machine_states.specs.Shows.{IsScalarIn, body_level, ShowsLocal, ShowsFrames, Shows}
+use Rattle.machine_states.specs.Effects.{region_of}
+use Rattle.machine_states.specs.Steps.{IsNext}
+use Rattle.machine_states.proofs.ReadValues.{AreReadAlike}
+use Rattle.machine_states.proofs.DeclaredLists.{same_some}
+use Rattle.machine_states.proofs.DeclaredPoints.{first_declared}
+use Rattle.machine_states.proofs.DeclaredNames.{NamesBefore, point_names}
+use Rattle.machine_states.proofs.StoreEntries.{Keeps, with_words_keeps, has_all_kept, has_all_within}
+use Rattle.machine_states.proofs.DeclaredLevels.{next_declared, entered_declared}
+use Rattle.machine_states.proofs.DeclaredSteps.{one_level, first_level, frame_declared, ends_at}
+
+-- ---- the start
+
+all_lanes : (width : ℕ) → 0 < width → has (replicate width true) 0 ≡ true
+all_lanes zero h = absurd (omega (arith, h))
+all_lanes (suc width) h = refl
+
+some_lanes : (width : ℕ) → 0 < width → 0 < length (replicate width true)
+some_lanes zero h = absurd (omega (arith, h))
+some_lanes (suc width) h = omega arith
+
+module _ (variables : Variables) (most : ℕ) (p : Program) (plain : IsPlainProgram variables most p) (numbered : IsNumberedProgram p) where
+  -- an entry without parameters begins
+  pub start_declared : (entry width : ℕ) (f : Function) → slice_get p.functions entry ≡ Some f → parameters_of variables entry ≡ 0 → 0 < width → AreDeclared variables p (masked_start p entry [] width)
+  start_declared entry width f is none wide =
+      let given : Given = record { passed = record { views = []; vars = [] }; memory = initial_memory width p.globals } in
+      let before : StepNumber → List ℕ = declared_before variables entry f in
+      let no_parameter : HasAll (first_numbers (parameters_of variables entry)) [] = subst (λ m. HasAll (first_numbers m) []) (sym none) (λ k among. absurd among) in
+      let first : HasAll (before (entry_of f.body (closing_number f))) [] =
+      has_all_within (before (entry_of f.body (closing_number f))) (first_numbers (parameters_of variables entry)) [] (first_declared variables entry f (numbered entry f is)) no_parameter in
+      let begun : LevelDeclared before [] (entered_body f (replicate width true)) =
+      entered_declared before f (replicate width true) [] (ends_at variables most p plain numbered entry f) 0 (all_lanes width wide) (some_lanes width wide) first in
+      subst (λ o. FramesDeclared variables p (untasked (started o entry width given)).frames (entered_levels o (replicate width true))) (sym is)
+      (frame_declared variables most p plain numbered (new_frame entry f (replicate width true) None Nothing given.passed) (entered_body f (replicate width true) ∷ []) entry f is refl (one_level before [] (entered_body f (replicate width true)) begun), tt)
+
+-- ---- pokes
+
+module _ (variables : Variables) (p : Program) where
+  level_kept : (before : StepNumber → List ℕ) (vars more : Store) (level : Level) → Keeps vars more → LevelDeclared before vars level → LevelDeclared before more level
+  level_kept before vars more level keeps h = record {
+    waits = λ lane number e below. has_all_kept (before number) vars more keeps (h.waits lane number e below);
+    ends = λ e. has_all_kept (before level.end) vars more keeps (h.ends e);
+  }
+
+  frame_kept : (frame : Frame) (v : VarId) (words : List ℕ) (levels : List Level) → FrameDeclared variables p frame levels → FrameDeclared variables p (with_var v words frame) levels
+  frame_kept frame v words levels h f is k d within =
+      level_kept (declared_before variables frame.function f) frame.vars (with_words frame.vars v words) (slice_index_or levels k d) (with_words_keeps frame.vars v words) (h f is k d within)
+
+  words_declared : (memory : Store) (frames : List Frame) (levels : List (List Level)) (v : VarId) (words : List ℕ) → FramesDeclared variables p frames levels
+      → FramesDeclared variables p (with_words_in (record { memory = memory; frames = frames }) v words).frames levels
+  words_declared memory frames levels (File n) words h = h
+  words_declared memory [] levels (Local n) words h = tt
+  words_declared memory (frame ∷ frames) [] (Local n) words h = tt
+  words_declared memory (frame ∷ frames) (levels ∷ rest) (Local n) words h = (frame_kept frame (Local n) words levels h.0, h.1)
+
+  -- a poke keeps what is declared
+  pub poked_declared : (masked : Masked) (what : Poked) (word : ℕ) → AreDeclared variables p masked → AreDeclared variables p (record masked { state = poked what word masked.state })
+  poked_declared masked (WholeOf v) word h = words_declared masked.state.memory masked.state.frames masked.levels v _ h
+  poked_declared masked (LaneOf v k) word h = words_declared masked.state.memory masked.state.frames masked.levels v _ h
+  poked_declared masked (ElementAt v k) word h = h
+
+-- ---- the next step
+
+-- the top frame has all that is declared before its next step
+pub record TopDeclared (variables : Variables) (w : ℕ) (regions : Regions) (masked : Masked) (index n : ℕ) (f : Function) (number : StepNumber) : Type 0 where
+  pub frame : Frame
+  pub frames : List Frame
+  pub are : masked.state.frames ≡ frame ∷ frames
+  pub height : length frames ≡ index
+  pub function : frame.function ≡ n
+  pub locals : (k : ℕ) → ShowsLocal variables w regions index frame k
+  pub has_all : HasAll (declared_before variables n f number) frame.vars
+
+same_head : (m n : ℕ) → m ∷ [] ≡ n ∷ [] → m ≡ n
+same_head m n e = cc
+
+module _ (variables : Variables) (p : Program) (w : ℕ) (regions : Regions) (index n : ℕ) (f : Function) (number : StepNumber) (point : Option Point) (next : IsNext p regions index n f number point) where
+  top_at : (memory : Store) (frames : List Frame) (levels : List (List Level)) → length frames ≡ suc index → ShowsFrames p variables w regions frames levels → FramesDeclared variables p frames levels
+      → TopDeclared variables w regions (record { state = record { memory = memory; frames = frames }; levels = levels }) index n f number
+  top_at memory [] levels e shown h = absurd (omega (arith, e))
+  top_at memory (frame ∷ frames) [] e shown h = absurd shown
+  top_at memory (frame ∷ frames) (levels ∷ rest) e shown h =
+      let s = shown.0 in
+      let height : length frames ≡ index = omega (arith, e) in
+      let function : frame.function ≡ n = same_head frame.function n (sym s.number ∙ ap (λ i. regions (OfHead i FunctionOf)) height ∙ next.function) in
+      let is : slice_get p.functions frame.function ≡ Some f = ap (λ m. slice_get p.functions m) function ∙ next.is_function in
+      let same : s.function ≡ f = same_some s.function f (sym s.is_function ∙ is) in
+      let level : Level = body_level (closing_number s.function) (regions (OfHead (length frames) NumbersOf)) in
+      let before : StepNumber → List ℕ = declared_before variables frame.function f in
+      let levels_declared : All (LevelDeclared before frame.vars) (level ∷ []) = subst (λ ls. All (LevelDeclared before frame.vars) ls) s.waits (h.0 f is) in
+      let now : next_in level ≡ number =
+      ap (λ g. least (closing_number g) (regions (OfHead (length frames) NumbersOf))) same
+      ∙ ap (λ i. least (closing_number f) (regions (OfHead i NumbersOf))) height ∙ sym next.least_number in
+      let all : HasAll (before (next_in level)) frame.vars = next_declared before frame.vars level (first_level before frame.vars level [] levels_declared) in
+      record {
+        frame = frame;
+        frames = frames;
+        are = refl;
+        height = height;
+        function = function;
+        locals = λ k. subst (λ i. ShowsLocal variables w regions i frame k) height (s.locals k);
+        has_all = subst (λ m. HasAll (declared_before variables m f number) frame.vars) function (subst (λ m. HasAll (before m) frame.vars) now all);
+      }
+
+  pub top_declared : (masked : Masked) → Shows p variables w regions masked → AreDeclared variables p masked → TopDeclared variables w regions masked index n f number
+  top_declared masked shown h =
+      top_at masked.state.memory masked.state.frames masked.levels (sym (same_head (suc index) (length masked.state.frames) (sym next.depth ∙ shown.depth))) shown.frames h
+
+module _ (variables : Variables) (most : ℕ) (p : Program) (plain : IsPlainProgram variables most p) (numbered : IsNumberedProgram p) (first : AreDeclaredFirst variables p) (regions : Regions) (index n : ℕ) (f : Function) (number : StepNumber) where
+  -- what the point of the next step names is declared before it
+  pub next_names : (point : Point) → IsNext p regions index n f number (Some point) → NamesBefore (declared_before variables n f) number point
+  next_names point next =
+      point_names variables n f (numbered n f next.is_function) (plain.functions n f next.is_function).body (first n f next.is_function) number point next.is_point
+
+-- a frame has a variable, if it is one of its own
+abbrev pub HasOwn : Store → VarId → Type 0
+HasOwn store v = (k : ℕ) → v ≡ Local k → has_entry store (Local k) ≡ true
+
+pub there_has : (d : List ℕ) (store : Store) (v : VarId) → HasAll d store → IsThere d v → HasOwn store v
+there_has d store v h there k same = h k (subst (IsThere d) same there)
+
+-- the top frame has each variable that is in scope at the next step, also at the closing brace
+pub scope_has : (variables : Variables) (p : Program) → AreDeclaredFirst variables p → (w : ℕ) (regions : Regions) (masked : Masked) (index n : ℕ) (f : Function) (number : StepNumber)
+    → slice_get p.functions n ≡ Some f → (top : TopDeclared variables w regions masked index n f number) → (standing : Standing) → slice_get f.standings number ≡ Some standing
+    → All (λ v. HasOwn top.frame.vars v.id) standing.scope
+scope_has variables p first w regions masked index n f number is top standing e k v within =
+    there_has (declared_before variables n f number) top.frame.vars (slice_index_or standing.scope k v).id top.has_all ((first n f is).scopes number standing e k v within)
+
+-- ---- words
+
+taken_alike : (w : ℕ) (rate : Rate) (words region : List ℕ) → IsScalarIn w rate words region → AreReadAlike w rate words region
+taken_alike w Uniform words region s = ap (λ ws. at ws 0) s.stands ∙ get_or-take 1 region 0 0 (omega arith)
+taken_alike w Varying words region s = λ k within. ap (λ ws. at ws k) s.stands ∙ get_or-take w region k 0 within
+
+-- lanes read the words of a variable that is declared in its region
+module _ (variables : Variables) (p : Program) (w : ℕ) (regions : Regions) (masked : Masked) (index n : ℕ) (f : Function) (number : StepNumber)
+    (shown : Shows p variables w regions masked) (top : TopDeclared variables w regions masked index n f number) where
+  scalar_rate : (k : ℕ) (rate : Rate) (v : Variable) → slice_get (own_of variables n) k ≡ Some v → v.rate ≡ rate → rate_of (slice_get (own_of variables n) k) ≡ rate
+  scalar_rate k rate v e same = ap rate_of e ∙ same
+
+  own_alike : (k : ℕ) (rate : Rate) → has_entry top.frame.vars (Local k) ≡ true → rate_of (slice_get (own_of variables n) k) ≡ rate
+      → AreReadAlike w rate (words_of top.frame.vars (Local k)) (regions (OfLocal index k))
+  own_alike k rate has same =
+      taken_alike w rate (words_of top.frame.vars (Local k)) (regions (OfLocal index k))
+      (subst (λ r. IsScalarIn w r (words_of top.frame.vars (Local k)) (regions (OfLocal index k)))
+      (ap (λ m. rate_of (slice_get (own_of variables m) k)) top.function ∙ same) (top.locals k has))
+
+  same_alike : (rate : Rate) (words region : List ℕ) → words ≡ region → AreReadAlike w rate words region
+  same_alike Uniform words region e = ap (λ ws. at ws 0) e
+  same_alike Varying words region e = λ k within. ap (λ ws. at ws k) e
+
+  by_id : (id : VarId) (rate : Rate) (v : Variable) → variable_of variables n id ≡ Some v → v.rate ≡ rate → IsThere (declared_before variables n f number) id
+      → AreReadAlike w rate (words_in (record { memory = masked.state.memory; frames = top.frame ∷ top.frames }) id) (regions (region_of index id))
+  by_id (File k) rate v e same there = same_alike rate (words_of masked.state.memory (File k)) (regions (OfFile k)) (shown.file k)
+  by_id (Local k) rate v e same there = own_alike k rate (top.has_all k there) (scalar_rate k rate v e same)
+
+  pub read_alike : (x : Var) → IsScalar variables n x → IsThere (declared_before variables n f number) x.id → AreReadAlike w x.rate (words_in masked.state x.id) (regions (region_of index x.id))
+  read_alike x scalar there =
+      let state_is : record { memory = masked.state.memory; frames = top.frame ∷ top.frames } ≡ masked.state =
+      ap (λ frames. record { memory = masked.state.memory; frames = frames }) (sym top.are) in
+      subst (λ s. AreReadAlike w x.rate (words_in s x.id) (regions (region_of index x.id))) state_is
+      (by_id x.id x.rate scalar.0 scalar.1 (ap (λ y. y.rate) (sym scalar.3)) there)

@@ -1,0 +1,137 @@
+-- Lists of numbers within one another, and what is declared before each step of a statement.
+use Rattle.std.proofs.Common.{◌≡◌, refl, subst, ℕ, ◌+◌, ◌≤◌, Bool, true, false, ◌||◌, List, [], ◌∷◌, ◌++◌, append_assoc, length, length-append, Some, inl, inr, arith}
+use Rattle.std.specs.Prelude.{slice_index_or, if◌then◌else◌}
+use Rattle.std.proofs.lemmas.List.{get_or_past}
+use Rattle.std.proofs.Math.Seq.{get_or-append_seam}
+use Rattle.gang_model.specs.Types.Tree.{StepNumber, Stmt, Empty, Then, Declare, Assign, Change, If, Loop, BodyFirst, Break, Continue, Return, Switch, Segment, ForEach, Call, Check, PackedStore, PackedLoad, Function}
+use Rattle.gang_model.specs.Running.Step.{steps_of}
+use Rattle.mask_states.specs.Points.{closing_number}
+use Rattle.machine_states.specs.Variables.{Variables, parameters_of}
+use Rattle.machine_states.specs.Declared.{IsAmong, declared_by, may_return, declared_before_return, declared_at, first_numbers, declared_for, declared_at_end, declared_before}
+
+-- ---- small facts
+
+pub same_some : {A : Type 0} (x y : A) → Some x ≡ Some y → x ≡ y
+same_some x y e = cc
+
+pub or_front : (b c : Bool) → b ≡ true → (b || c) ≡ true
+or_front true c e = refl
+or_front false c e = absurd cc
+
+pub or_back : (b c : Bool) → c ≡ true → (b || c) ≡ true
+or_back true c e = refl
+or_back false c e = e
+
+-- ---- lists within one another
+
+abbrev pub IsWithin : List ℕ → List ℕ → Type 0
+IsWithin xs ys = (k : ℕ) → IsAmong k xs → IsAmong k ys
+
+pub within_itself : (xs : List ℕ) → IsWithin xs xs
+within_itself xs k h = h
+
+pub within_all : (xs : List ℕ) → IsWithin [] xs
+within_all xs k h = absurd h
+
+pub within_front : (xs ys : List ℕ) → IsWithin xs (xs ++ ys)
+within_front [] ys k h = absurd h
+within_front (x ∷ xs) ys k (inl e) = inl e
+within_front (x ∷ xs) ys k (inr h) = inr (within_front xs ys k h)
+
+pub within_back : (xs ys : List ℕ) → IsWithin ys (xs ++ ys)
+within_back [] ys k h = h
+within_back (x ∷ xs) ys k h = inr (within_back xs ys k h)
+
+pub within_both : (xs ys zs : List ℕ) → IsWithin xs zs → IsWithin ys zs → IsWithin (xs ++ ys) zs
+within_both [] ys zs f g k h = g k h
+within_both (x ∷ xs) ys zs f g k (inl e) = f k (inl e)
+within_both (x ∷ xs) ys zs f g k (inr h) = within_both xs ys zs (λ j a. f j (inr a)) g k h
+
+pub within_then : (xs ys zs : List ℕ) → IsWithin xs ys → IsWithin ys zs → IsWithin xs zs
+within_then xs ys zs f g k h = g k (f k h)
+
+-- one is replaced in front, or behind
+pub within_behind : (ws xs ys zs : List ℕ) → IsWithin ws (xs ++ ys) → IsWithin ys zs → IsWithin ws (xs ++ zs)
+within_behind ws xs ys zs f g = within_then ws (xs ++ ys) (xs ++ zs) f
+    (within_both xs ys (xs ++ zs) (within_front xs zs) (within_then ys zs (xs ++ zs) g (within_back xs zs)))
+
+pub within_grouped : (ws xs ys zs : List ℕ) → IsWithin ws ((xs ++ ys) ++ zs) → IsWithin ws (xs ++ (ys ++ zs))
+within_grouped ws xs ys zs h = subst (IsWithin ws) (append_assoc xs ys zs) h
+
+-- ---- what is declared before each step
+
+-- what is declared before steps, from a number on
+abbrev pub AreBefore : (before : StepNumber → List ℕ) → ℕ → List (List ℕ) → Type 0
+AreBefore before n [] = Unit {0}
+AreBefore before n (d ∷ ds) = (before n ≡ d) × AreBefore before (n + 1) ds
+
+pub length-declared_at : (s : Stmt) (d : List ℕ) → length (declared_at d s) ≡ steps_of s
+length-declared_at Empty d = refl
+length-declared_at (Then first rest) d =
+    omega (arith, length-append (declared_at d first) (declared_at (declared_by first ++ d) rest), length-declared_at first d, length-declared_at rest (declared_by first ++ d))
+length-declared_at (Declare number v e) d = omega arith
+length-declared_at (Assign number target e) d = omega arith
+length-declared_at (Change number target type op in_type e) d = omega arith
+length-declared_at (If number test first other) d =
+    omega (arith, length-append (declared_at d first) (declared_at d other), length-declared_at first d, length-declared_at other d)
+length-declared_at (Loop number test update body) d =
+    omega (arith, length-append (declared_at d body) (declared_at d update ++ d ∷ []), length-append (declared_at d update) (d ∷ []), length-declared_at body d, length-declared_at update d)
+length-declared_at (BodyFirst number test body) d = omega (arith, length-append (declared_at d body) (d ∷ []), length-declared_at body d)
+length-declared_at (Break number) d = omega arith
+length-declared_at (Continue number) d = omega arith
+length-declared_at (Return number e) d = omega arith
+length-declared_at (Switch number e segments) d = omega (arith, length-declared_at segments d)
+length-declared_at (Segment label body rest) d =
+    omega (arith, length-append (declared_at d body) (declared_at d rest), length-declared_at body d, length-declared_at rest d)
+length-declared_at (ForEach number form body) d = omega (arith, length-append (declared_at d body) (d ∷ []), length-declared_at body d)
+length-declared_at (Call number function args result_for) d = omega arith
+length-declared_at (Check number e) d = omega arith
+length-declared_at (PackedStore number array from e result_for) d = omega arith
+length-declared_at (PackedLoad number array from v result_for) d = omega arith
+
+module _ (before : StepNumber → List ℕ) where
+  pub before_front : (n : ℕ) (xs ys : List (List ℕ)) → AreBefore before n (xs ++ ys) → AreBefore before n xs
+  before_front n [] ys h = tt
+  before_front n (d ∷ xs) ys h = (h.0, before_front (n + 1) xs ys h.1)
+
+  before_back : (n : ℕ) (xs ys : List (List ℕ)) → AreBefore before n (xs ++ ys) → AreBefore before (n + length xs) ys
+  before_back n [] ys h = let e : n ≡ n + 0 = omega arith in subst (λ m. AreBefore before m ys) e h
+  before_back n (d ∷ xs) ys h =
+      let e : n + 1 + length xs ≡ n + length (d ∷ xs) = omega arith in
+      subst (λ m. AreBefore before m ys) e (before_back (n + 1) xs ys h.1)
+
+  -- behind those of a statement
+  pub before_after : (n : ℕ) (s : Stmt) (d : List ℕ) (ys : List (List ℕ)) → AreBefore before n (declared_at d s ++ ys) → AreBefore before (n + steps_of s) ys
+  before_after n s d ys h = subst (λ m. AreBefore before (n + m) ys) (length-declared_at s d) (before_back n (declared_at d s) ys h)
+
+-- a list stands behind another
+before_behind : (ds front : List (List ℕ)) (end : List ℕ) → AreBefore (λ k. slice_index_or (front ++ ds) k end) (length front) ds
+before_behind [] front end = tt
+before_behind (d ∷ ds) front end =
+    let n : length (front ++ d ∷ []) ≡ length front + 1 = omega (arith, length-append front (d ∷ [])) in
+    let rest = before_behind ds (front ++ d ∷ []) end in
+    let rest' = subst (λ l. AreBefore (λ k. slice_index_or l k end) (length (front ++ d ∷ [])) ds) (append_assoc front (d ∷ []) ds) rest in
+    (get_or-append_seam front d ds end, subst (λ m. AreBefore (λ k. slice_index_or (front ++ d ∷ ds) k end) m ds) n rest')
+
+-- ---- functions
+
+module _ (variables : Variables) (n : ℕ) (f : Function) where
+  pub before_steps : AreBefore (declared_before variables n f) 0 (declared_for variables n f)
+  before_steps = before_behind (declared_for variables n f) [] (declared_at_end variables n f)
+
+  -- at the closing brace, and past it
+  pub before_end : (number : StepNumber) → closing_number f ≤ number → declared_before variables n f number ≡ declared_at_end variables n f
+  before_end number past = get_or_past (declared_for variables n f) number (declared_at_end variables n f)
+      (omega (arith, past, length-declared_at f.body (first_numbers (parameters_of variables n))))
+
+-- what is declared before a `return` is declared behind the statement
+if_within : (b : Bool) (xs ys : List ℕ) → IsWithin xs ys → IsWithin (if b then [] else xs) ys
+if_within true xs ys h = within_all ys
+if_within false xs ys h = h
+
+pub before_return_within : (s : Stmt) → IsWithin (declared_before_return s) (declared_by s)
+before_return_within (Then first rest) = if_within (may_return first) _ _
+    (within_both (declared_before_return rest) (declared_by first) (declared_by rest ++ declared_by first)
+    (within_then (declared_before_return rest) (declared_by rest) (declared_by rest ++ declared_by first) (before_return_within rest) (within_front (declared_by rest) (declared_by first)))
+    (within_back (declared_by rest) (declared_by first)))
+before_return_within s = if_within (may_return s) (declared_by s) (declared_by s) (within_itself (declared_by s))

@@ -1,0 +1,336 @@
+-- The points of a plain function lead to steps before which no more is declared than before them and by them, and name what is
+-- declared before them.
+use Rattle.std.proofs.Common.{◌≡◌, refl, sym, ap, ◌∙◌, subst, ℕ, zero, suc, ◌+◌, Bool, true, false, ◌||◌, List, [], ◌∷◌, ◌++◌, length, Option, Some, None, unwrap_or, arith}
+use Rattle.std.specs.Prelude.{if◌then◌else◌}
+use Rattle.gang_model.specs.Types.Tree.{StepNumber, Nothing, Declares, Assigns, Returns, Stmt, Empty, Then, Declare, Assign, Change, If, Loop, BodyFirst, Break, Continue, Return, Switch, Segment, ForEach, Call, Check, PackedStore, PackedLoad, Function}
+use Rattle.gang_model.specs.Running.Step.{steps_of}
+use Rattle.gang_model.specs.Running.RunningOrder.{IsNumbered}
+use Rattle.mask_states.specs.Points.{Point, Put, Go, Branch, Choose, Begin, Turn, Enter, Ways, before_step, entry_of, body_ways, update_ways, points_of, closing_number, function_ways, points_in}
+use Rattle.mask_states.specs.Placed.{HasPoint}
+use Rattle.mask_states.proofs.PlacedPoints.{length-points_of}
+use Rattle.machine_states.specs.Variables.{Variables, parameters_of}
+use Rattle.machine_states.specs.Plain.{IsPlainExpr, CallPlain, ResultPlain, IsPlain}
+use Rattle.machine_states.specs.Declared.{own_number, declared_by_result, declared_by, may_return, declared_before_return, declared_at, first_numbers, declared_at_end, declared_before}
+use Rattle.machine_states.proofs.DeclaredLists.{same_some, or_front, or_back, IsWithin, within_itself, within_front, within_back, within_both, within_then, within_grouped, AreBefore, before_front, before_after, before_steps, before_end, before_return_within}
+
+-- ---- what holds of each point
+
+abbrev pub AllPoints : (StepNumber → Point → Type 0) → ℕ → List Point → Type 0
+AllPoints P n [] = Unit {0}
+AllPoints P n (point ∷ points) = P n point × AllPoints P (n + 1) points
+
+module _ (P : StepNumber → Point → Type 0) where
+  all_append : (n : ℕ) (xs ys : List Point) → AllPoints P n xs → AllPoints P (n + length xs) ys → AllPoints P n (xs ++ ys)
+  all_append n [] ys a b = let e : n + 0 ≡ n = omega arith in subst (λ m. AllPoints P m ys) e b
+  all_append n (x ∷ xs) ys a b =
+      let e : n + length (x ∷ xs) ≡ n + 1 + length xs = omega arith in
+      (a.0, all_append (n + 1) xs ys a.1 (subst (λ m. AllPoints P m ys) e b))
+
+  -- of a statement's points and of those behind them
+  pub all_behind : (n : ℕ) (s : Stmt) (ways : Ways) (ys : List Point) → AllPoints P n (points_of s ways) → AllPoints P (n + steps_of s) ys → AllPoints P n (points_of s ways ++ ys)
+  all_behind n s ways ys a b =
+      all_append n (points_of s ways) ys a (subst (λ m. AllPoints P (n + m) ys) (sym (length-points_of s ways)) b)
+
+  all_at_from : (n : ℕ) (points : List Point) (k : ℕ) (point : Point) → AllPoints P n points → HasPoint points k point → P (n + k) point
+  all_at_from n [] k point a h = absurd cc
+  all_at_from n (x ∷ points) zero point a h =
+      let e : n ≡ n + 0 = omega arith in
+      let same : x ≡ point = cc in
+      subst (λ m. P m point) e (subst (P n) same a.0)
+  all_at_from n (x ∷ points) (suc k) point a h =
+      let e : n + 1 + k ≡ n + suc k = omega arith in
+      subst (λ m. P m point) e (all_at_from (n + 1) points k point a.1 h)
+
+  pub all_at : (points : List Point) (number : StepNumber) (point : Point) → AllPoints P 0 points → HasPoint points number point → P number point
+  all_at points number point a h =
+      let e : 0 + number ≡ number = omega arith in subst (λ m. P m point) e (all_at_from 0 points number point a h)
+
+-- ---- plain points
+
+-- a statement that moves no lane
+abbrev pub IsPlainPut : Variables → (function : ℕ) → Stmt → Type 0
+IsPlainPut variables m (Declare number x e) = IsPlain variables m (Declare number x e)
+IsPlainPut variables m (Assign number target e) = IsPlain variables m (Assign number target e)
+IsPlainPut variables m (Change number target type op in_type e) = IsPlain variables m (Change number target type op in_type e)
+IsPlainPut variables m (Return number e) = IsPlain variables m (Return number e)
+IsPlainPut variables m s = ⊥
+
+abbrev pub IsPlainPoint : Variables → (function : ℕ) → StepNumber → Point → Type 0
+IsPlainPoint variables m number (Put s next) = IsPlainPut variables m s
+IsPlainPoint variables m number (Go next) = Unit {0}
+IsPlainPoint variables m number (Branch test yes' no') = IsPlainExpr variables m test
+IsPlainPoint variables m number (Choose e segments entries next) = ⊥
+IsPlainPoint variables m number (Begin form rounds next) = ⊥
+IsPlainPoint variables m number (Turn body) = ⊥
+IsPlainPoint variables m number (Enter n args result_for next) = CallPlain variables m n args × ResultPlain variables m result_for
+
+module _ (variables : Variables) (m : ℕ) where
+  plain_points : (s : Stmt) (ways : Ways) (n : ℕ) → IsPlain variables m s → AllPoints (IsPlainPoint variables m) n (points_of s ways)
+  plain_points Empty ways n p = tt
+  plain_points (Then first rest) ways n p =
+      let here = before_step (entry_of rest ways.next) ways in
+      all_behind (IsPlainPoint variables m) n first here (points_of rest ways) (plain_points first here n p.0) (plain_points rest ways (n + steps_of first) p.1)
+  plain_points (Declare number x e) ways n p = (p, tt)
+  plain_points (Assign number target e) ways n p = (p, tt)
+  plain_points (Change number target type op in_type e) ways n p = (p, tt)
+  plain_points (If number test first other) ways n p =
+      (p.0, all_behind (IsPlainPoint variables m) (n + 1) first ways (points_of other ways) (plain_points first ways (n + 1) p.1) (plain_points other ways (n + 1 + steps_of first) p.2))
+  plain_points (Loop number test update body) ways n p =
+      let inside = body_ways (entry_of update number) ways in
+      let again = update_ways number ways in
+      let last = Branch test (entry_of body (entry_of update number)) ways.next ∷ [] in
+      all_behind (IsPlainPoint variables m) n body inside (points_of update again ++ last) (plain_points body inside n p.2)
+      (all_behind (IsPlainPoint variables m) (n + steps_of body) update again last (plain_points update again (n + steps_of body) p.1) (p.0, tt))
+  plain_points (BodyFirst number test body) ways n p =
+      let inside = body_ways number ways in
+      all_behind (IsPlainPoint variables m) n body inside (Branch test (entry_of body number) ways.next ∷ []) (plain_points body inside n p.1) (p.0, tt)
+  plain_points (Break number) ways n p = (tt, tt)
+  plain_points (Continue number) ways n p = (tt, tt)
+  plain_points (Return number e) ways n p = (p, tt)
+  plain_points (Switch number e segments) ways n p = absurd p
+  plain_points (Segment label body rest) ways n p = absurd p
+  plain_points (ForEach number form body) ways n p = absurd p
+  plain_points (Call number function args result_for) ways n p = ((p.0, p.1), tt)
+  plain_points (Check number e) ways n p = absurd p
+  plain_points (PackedStore number array from e result_for) ways n p = absurd p
+  plain_points (PackedLoad number array from v result_for) ways n p = absurd p
+
+  -- a plain function's points are plain
+  pub plain_point : (f : Function) → IsPlain variables m f.body → (number : StepNumber) (point : Point) → HasPoint (points_in f) number point → IsPlainPoint variables m number point
+  plain_point f p number point h =
+      all_at (IsPlainPoint variables m) (points_in f) number point (plain_points f.body (function_ways f) 0 p) h
+
+-- ---- where points lead
+
+-- no more is declared where a point leads than before it and by it
+abbrev pub LeadsDeclared : (before : StepNumber → List ℕ) → StepNumber → Point → Type 0
+LeadsDeclared before number (Put s next) = IsWithin (before next) (declared_by s ++ before number)
+LeadsDeclared before number (Go next) = IsWithin (before next) (before number)
+LeadsDeclared before number (Branch test yes' no') = IsWithin (before yes') (before number) × IsWithin (before no') (before number)
+LeadsDeclared before number (Choose e segments entries next) = Unit {0}
+LeadsDeclared before number (Begin form rounds next) = Unit {0}
+LeadsDeclared before number (Turn body) = Unit {0}
+LeadsDeclared before number (Enter n args result_for next) = IsWithin (before next) (declared_by_result result_for ++ before number)
+
+-- no more is declared where the ways of a statement lead than before it and, behind it, by it
+pub record AreGoodWays (before : StepNumber → List ℕ) (d : List ℕ) (s : Stmt) (ways : Ways) : Type 0 where
+  pub next : IsWithin (before ways.next) (declared_by s ++ d)
+  pub on_break : (way : StepNumber) → ways.on_break ≡ Some way → IsWithin (before way) d
+  pub on_continue : (way : StepNumber) → ways.on_continue ≡ Some way → IsWithin (before way) d
+  pub on_return : (way : StepNumber) → ways.on_return ≡ Some way → may_return s ≡ true → IsWithin (before way) (declared_before_return s ++ d)
+
+-- what is declared before a part that may return, and what is declared before one behind another
+none_before : (b : Bool) (ws xs d : List ℕ) → b ≡ true → IsWithin ws ((if b then [] else xs) ++ d) → IsWithin ws d
+none_before true ws xs d e h = h
+none_before false ws xs d e h = absurd cc
+
+some_before : (b : Bool) (ws xs ys d : List ℕ) → IsWithin ws ((if b then [] else xs ++ ys) ++ d) → IsWithin ws (xs ++ (ys ++ d))
+some_before true ws xs ys d h = within_then ws d (xs ++ (ys ++ d)) h (within_then d (ys ++ d) (xs ++ (ys ++ d)) (within_back ys d) (within_back xs (ys ++ d)))
+some_before false ws xs ys d h = within_grouped ws xs ys d h
+
+-- what holds where a way leads
+of_way : (P : StepNumber → Type 0) (way : Option StepNumber) (next : StepNumber) → P next → ((n : StepNumber) → way ≡ Some n → P n) → P (unwrap_or way next)
+of_way P None next a b = a
+of_way P (Some n) next a b = b n refl
+
+module _ (before : StepNumber → List ℕ) where
+  at_number : (number n : ℕ) (d : List ℕ) → number ≡ n → before n ≡ d → IsWithin (before number) d
+  at_number number n d e h = let same : before number ≡ d = ap before e ∙ h in subst (λ xs. IsWithin (before number) xs) same (within_itself (before number))
+
+  -- no more is declared before a statement's first step than before the statement
+  pub entry_declared : (s : Stmt) (n next : ℕ) (d : List ℕ) → IsNumbered n s → AreBefore before n (declared_at d s) → IsWithin (before next) (declared_by s ++ d) → IsWithin (before (entry_of s next)) d
+  entry_declared Empty n next d e h g = g
+  entry_declared (Then first rest) n next d e h g =
+      let behind = declared_by first ++ d in
+      let there : IsWithin (before (entry_of rest next)) behind =
+      entry_declared rest (n + steps_of first) next behind e.1 (before_after before n first d (declared_at behind rest) h)
+      (within_grouped (before next) (declared_by rest) (declared_by first) d g) in
+      entry_declared first n (entry_of rest next) d e.0 (before_front before n (declared_at d first) (declared_at behind rest) h) there
+  entry_declared (Declare number x v) n next d e h g = at_number number n d e h.0
+  entry_declared (Assign number target v) n next d e h g = at_number number n d e h.0
+  entry_declared (Change number target type op in_type v) n next d e h g = at_number number n d e h.0
+  entry_declared (If number test first other) n next d e h g = at_number number n d e.0 h.0
+  entry_declared (Loop number test update body) n next d e h g =
+      let behind = before_after before n body d (declared_at d update ++ d ∷ []) h in
+      at_number number (n + steps_of body + steps_of update) d e.0 (before_after before (n + steps_of body) update d (d ∷ []) behind).0
+  entry_declared (BodyFirst number test body) n next d e h g =
+      let test_declared = at_number number (n + steps_of body) d e.0 (before_after before n body d (d ∷ []) h).0 in
+      entry_declared body n number d e.1 (before_front before n (declared_at d body) (d ∷ []) h)
+      (within_then (before number) d (declared_by body ++ d) test_declared (within_back (declared_by body) d))
+  entry_declared (Break number) n next d e h g = at_number number n d e h.0
+  entry_declared (Continue number) n next d e h g = at_number number n d e h.0
+  entry_declared (Return number v) n next d e h g = at_number number n d e h.0
+  entry_declared (Switch number v segments) n next d e h g = at_number number n d e.0 h.0
+  entry_declared (Segment label body rest) n next d e h g =
+      let there : IsWithin (before (entry_of rest next)) d =
+      entry_declared rest (n + steps_of body) next d e.1 (before_after before n body d (declared_at d rest) h)
+      (within_then (before next) d (declared_by rest ++ d) g (within_back (declared_by rest) d)) in
+      entry_declared body n (entry_of rest next) d e.0 (before_front before n (declared_at d body) (declared_at d rest) h)
+      (within_then (before (entry_of rest next)) d (declared_by body ++ d) there (within_back (declared_by body) d))
+  entry_declared (ForEach number form body) n next d e h g = at_number number n d e.0 h.0
+  entry_declared (Call number function args result_for) n next d e h g = at_number number n d e h.0
+  entry_declared (Check number v) n next d e h g = at_number number n d e h.0
+  entry_declared (PackedStore number array from v result_for) n next d e h g = at_number number n d e h.0
+  entry_declared (PackedLoad number array from v result_for) n next d e h g = at_number number n d e h.0
+
+  -- the ways of a part of a statement, before which the same is declared
+  inside_good : (d : List ℕ) (s : Stmt) (ways : Ways) → IsWithin (before ways.next) d
+      → ((way : StepNumber) → ways.on_break ≡ Some way → IsWithin (before way) d)
+      → ((way : StepNumber) → ways.on_continue ≡ Some way → IsWithin (before way) d)
+      → ((way : StepNumber) → ways.on_return ≡ Some way → may_return s ≡ true → IsWithin (before way) d) → AreGoodWays before d s ways
+  inside_good d s ways a b c r = record {
+    next = within_then (before ways.next) d (declared_by s ++ d) a (within_back (declared_by s) d);
+    on_break = b;
+    on_continue = c;
+    on_return = λ way e may. within_then (before way) d (declared_before_return s ++ d) (r way e may) (within_back (declared_before_return s) d);
+  }
+
+  first_good : (d : List ℕ) (first rest : Stmt) (ways : Ways) → AreGoodWays before d (Then first rest) ways → IsWithin (before (entry_of rest ways.next)) (declared_by first ++ d)
+      → AreGoodWays before d first (before_step (entry_of rest ways.next) ways)
+  first_good d first rest ways g there = record {
+    next = there;
+    on_break = g.on_break;
+    on_continue = g.on_continue;
+    on_return = λ way e may.
+        within_then (before way) d (declared_before_return first ++ d)
+        (none_before (may_return first) (before way) (declared_before_return rest ++ declared_by first) d may (g.on_return way e (or_front (may_return first) (may_return rest) may)))
+        (within_back (declared_before_return first) d);
+  }
+
+  rest_good : (d : List ℕ) (first rest : Stmt) (ways : Ways) → AreGoodWays before d (Then first rest) ways → AreGoodWays before (declared_by first ++ d) rest ways
+  rest_good d first rest ways g = record {
+    next = within_grouped (before ways.next) (declared_by rest) (declared_by first) d g.next;
+    on_break = λ way e. within_then (before way) d (declared_by first ++ d) (g.on_break way e) (within_back (declared_by first) d);
+    on_continue = λ way e. within_then (before way) d (declared_by first ++ d) (g.on_continue way e) (within_back (declared_by first) d);
+    on_return = λ way e may. some_before (may_return first) (before way) (declared_before_return rest) (declared_by first) d (g.on_return way e (or_back (may_return first) (may_return rest) may));
+  }
+
+  here : (n : ℕ) (xs ys d : List ℕ) → before n ≡ d → IsWithin xs (ys ++ d) → IsWithin xs (ys ++ before n)
+  here n xs ys d e h = subst (λ zs. IsWithin xs (ys ++ zs)) (sym e) h
+
+  leads_points : (variables : Variables) (m : ℕ) (s : Stmt) (ways : Ways) (n : ℕ) (d : List ℕ) → IsNumbered n s → IsPlain variables m s → AreBefore before n (declared_at d s) → AreGoodWays before d s ways
+      → AllPoints (LeadsDeclared before) n (points_of s ways)
+  leads_points variables m Empty ways n d e p h g = tt
+  leads_points variables m (Then first rest) ways n d e p h g =
+      let behind = declared_by first ++ d in
+      let after = before_after before n first d (declared_at behind rest) h in
+      let good = rest_good d first rest ways g in
+      let there = entry_declared rest (n + steps_of first) ways.next behind e.1 after good.next in
+      all_behind (LeadsDeclared before) n first (before_step (entry_of rest ways.next) ways) (points_of rest ways)
+      (leads_points variables m first (before_step (entry_of rest ways.next) ways) n d e.0 p.0 (before_front before n (declared_at d first) (declared_at behind rest) h) (first_good d first rest ways g there))
+      (leads_points variables m rest ways (n + steps_of first) behind e.1 p.1 after good)
+  leads_points variables m (Declare number x v) ways n d e p h g = (here n (before ways.next) (own_number x.id) d h.0 g.next, tt)
+  leads_points variables m (Assign number target v) ways n d e p h g = (here n (before ways.next) [] d h.0 g.next, tt)
+  leads_points variables m (Change number target type op in_type v) ways n d e p h g = (here n (before ways.next) [] d h.0 g.next, tt)
+  leads_points variables m (If number test first other) ways n d e p h g =
+      let returns = λ (way : StepNumber) (is : ways.on_return ≡ Some way) (may : (may_return first || may_return other) ≡ true).
+      none_before (may_return first || may_return other) (before way) [] d may (g.on_return way is may) in
+      let first_ways = inside_good d first ways g.next g.on_break g.on_continue (λ way is may. returns way is (or_front (may_return first) (may_return other) may)) in
+      let other_ways = inside_good d other ways g.next g.on_break g.on_continue (λ way is may. returns way is (or_back (may_return first) (may_return other) may)) in
+      let first_before = before_front before (n + 1) (declared_at d first) (declared_at d other) h.1 in
+      let other_before = before_after before (n + 1) first d (declared_at d other) h.1 in (
+        (
+          here n (before (entry_of first ways.next)) [] d h.0 (entry_declared first (n + 1) ways.next d e.1 first_before first_ways.next),
+          here n (before (entry_of other ways.next)) [] d h.0 (entry_declared other (n + 1 + steps_of first) ways.next d e.2 other_before other_ways.next),
+        ),
+        all_behind (LeadsDeclared before) (n + 1) first ways (points_of other ways)
+            (leads_points variables m first ways (n + 1) d e.1 p.1 first_before first_ways)
+            (leads_points variables m other ways (n + 1 + steps_of first) d e.2 p.2 other_before other_ways),
+      )
+  leads_points variables m (Loop number test update body) ways n d e p h g =
+      let inside = body_ways (entry_of update number) ways in
+      let again = update_ways number ways in
+      let last = Branch test (entry_of body (entry_of update number)) ways.next ∷ [] in
+      let test_number = n + steps_of body + steps_of update in
+      let returns = λ (way : StepNumber) (is : ways.on_return ≡ Some way) (may : (may_return update || may_return body) ≡ true).
+      none_before (may_return update || may_return body) (before way) [] d may (g.on_return way is may) in
+      let out = λ (way : StepNumber) (is : Some ways.next ≡ Some way). subst (λ k. IsWithin (before k) d) (same_some ways.next way is) g.next in
+      let body_before = before_front before n (declared_at d body) (declared_at d update ++ d ∷ []) h in
+      let behind = before_after before n body d (declared_at d update ++ d ∷ []) h in
+      let update_before = before_front before (n + steps_of body) (declared_at d update) (d ∷ []) behind in
+      let test_before : before test_number ≡ d = (before_after before (n + steps_of body) update d (d ∷ []) behind).0 in
+      let test_declared : IsWithin (before number) d = at_number number test_number d e.0 test_before in
+      let update_good = inside_good d update again test_declared out g.on_continue (λ way is may. returns way is (or_front (may_return update) (may_return body) may)) in
+      let update_declared : IsWithin (before (entry_of update number)) d = entry_declared update (n + steps_of body) number d e.2 update_before update_good.next in
+      let body_good = inside_good d body inside update_declared out
+      (λ way is. subst (λ k. IsWithin (before k) d) (same_some (entry_of update number) way is) update_declared)
+      (λ way is may. returns way is (or_back (may_return update) (may_return body) may)) in
+      let body_declared = entry_declared body n (entry_of update number) d e.1 body_before body_good.next in
+      all_behind (LeadsDeclared before) n body inside (points_of update again ++ last)
+      (leads_points variables m body inside n d e.1 p.2 body_before body_good)
+      (all_behind (LeadsDeclared before) (n + steps_of body) update again last
+      (leads_points variables m update again (n + steps_of body) d e.2 p.1 update_before update_good) (
+        (
+          here test_number (before (entry_of body (entry_of update number))) [] d test_before body_declared,
+          here test_number (before ways.next) [] d test_before g.next,
+        ),
+        tt,
+      ))
+  leads_points variables m (BodyFirst number test body) ways n d e p h g =
+      let inside = body_ways number ways in
+      let test_number = n + steps_of body in
+      let body_before = before_front before n (declared_at d body) (d ∷ []) h in
+      let test_before : before test_number ≡ d = (before_after before n body d (d ∷ []) h).0 in
+      let test_declared : IsWithin (before number) d = at_number number test_number d e.0 test_before in
+      let body_good = inside_good d body inside test_declared
+      (λ way is. subst (λ k. IsWithin (before k) d) (same_some ways.next way is) g.next)
+      (λ way is. subst (λ k. IsWithin (before k) d) (same_some number way is) test_declared)
+      (λ way is may. none_before (may_return body) (before way) [] d may (g.on_return way is may)) in
+      all_behind (LeadsDeclared before) n body inside (Branch test (entry_of body number) ways.next ∷ [])
+      (leads_points variables m body inside n d e.1 p.1 body_before body_good) (
+        (
+          here test_number (before (entry_of body number)) [] d test_before (entry_declared body n number d e.1 body_before body_good.next),
+          here test_number (before ways.next) [] d test_before g.next,
+        ),
+        tt,
+      )
+  leads_points variables m (Break number) ways n d e p h g =
+      (here n (before (unwrap_or ways.on_break ways.next)) [] d h.0 (of_way (λ k. IsWithin (before k) d) ways.on_break ways.next g.next g.on_break), tt)
+  leads_points variables m (Continue number) ways n d e p h g =
+      (here n (before (unwrap_or ways.on_continue ways.next)) [] d h.0 (of_way (λ k. IsWithin (before k) d) ways.on_continue ways.next g.next g.on_continue), tt)
+  leads_points variables m (Return number v) ways n d e p h g =
+      (here n (before (unwrap_or ways.on_return ways.next)) [] d h.0 (of_way (λ k. IsWithin (before k) d) ways.on_return ways.next g.next (λ way is. g.on_return way is refl)), tt)
+  leads_points variables m (Switch number v segments) ways n d e p h g = absurd p
+  leads_points variables m (Segment label body rest) ways n d e p h g = absurd p
+  leads_points variables m (ForEach number form body) ways n d e p h g = absurd p
+  leads_points variables m (Call number function args Nothing) ways n d e p h g = (here n (before ways.next) [] d h.0 g.next, tt)
+  leads_points variables m (Call number function args (Declares x)) ways n d e p h g = (here n (before ways.next) (own_number x.id) d h.0 g.next, tt)
+  leads_points variables m (Call number function args (Assigns x)) ways n d e p h g = (here n (before ways.next) [] d h.0 g.next, tt)
+  leads_points variables m (Call number function args Returns) ways n d e p h g =
+      (here n (before (unwrap_or ways.on_return ways.next)) [] d h.0 (of_way (λ k. IsWithin (before k) d) ways.on_return ways.next g.next (λ way is. g.on_return way is refl)), tt)
+  leads_points variables m (Check number v) ways n d e p h g = absurd p
+  leads_points variables m (PackedStore number array from v result_for) ways n d e p h g = absurd p
+  leads_points variables m (PackedLoad number array from v result_for) ways n d e p h g = absurd p
+
+-- ---- functions
+
+module _ (variables : Variables) (m : ℕ) (f : Function) (numbered : IsNumbered 0 f.body) where
+  -- no more is declared at the closing brace than behind the body
+  end_declared : IsWithin (declared_before variables m f (closing_number f)) (declared_by f.body ++ first_numbers (parameters_of variables m))
+  end_declared =
+      let d = first_numbers (parameters_of variables m) in
+      let behind : IsWithin (declared_at_end variables m f) (declared_by f.body ++ d) =
+      within_both (declared_before_return f.body) d (declared_by f.body ++ d)
+      (within_then (declared_before_return f.body) (declared_by f.body) (declared_by f.body ++ d) (before_return_within f.body) (within_front (declared_by f.body) d))
+      (within_back (declared_by f.body) d) in
+      subst (λ xs. IsWithin xs (declared_by f.body ++ d)) (sym (before_end variables m f (closing_number f) (omega arith))) behind
+
+  -- a call begins with the parameters
+  pub first_declared : IsWithin (declared_before variables m f (entry_of f.body (closing_number f))) (first_numbers (parameters_of variables m))
+  first_declared = entry_declared (declared_before variables m f) f.body 0 (closing_number f) (first_numbers (parameters_of variables m)) numbered (before_steps variables m f) end_declared
+
+  function_good : AreGoodWays (declared_before variables m f) (first_numbers (parameters_of variables m)) f.body (function_ways f)
+  function_good = record {
+    next = end_declared;
+    on_break = λ way is. absurd cc;
+    on_continue = λ way is. absurd cc;
+    on_return = λ way is may.
+        let same : declared_before variables m f way ≡ declared_at_end variables m f =
+        ap (declared_before variables m f) (sym (same_some (closing_number f) way is)) ∙ before_end variables m f (closing_number f) (omega arith) in
+        subst (λ xs. IsWithin xs (declared_at_end variables m f)) (sym same) (within_itself (declared_at_end variables m f));
+  }
+
+  pub point_leads : IsPlain variables m f.body → (number : StepNumber) (point : Point) → HasPoint (points_in f) number point → LeadsDeclared (declared_before variables m f) number point
+  point_leads plain number point h =
+      all_at (LeadsDeclared (declared_before variables m f)) (points_in f) number point
+      (leads_points (declared_before variables m f) variables m f.body (function_ways f) 0 (first_numbers (parameters_of variables m)) numbered plain (before_steps variables m f) function_good) h

@@ -1,0 +1,305 @@
+-- A step keeps what is declared: each frame has all variables that are declared before the steps that its lanes wait for.
+use Rattle.std.proofs.Common.{◌≡◌, refl, sym, ap, ◌∙◌, subst, ℕ, zero, suc, ◌<◌, Bool, true, false, List, [], ◌∷◌, ◌++◌, length, slice_get, Option, Some, None, arith}
+use Rattle.std.specs.Prelude.{map, All, Result, Ok, Err, IfOk, ◌==◌, if◌then◌else◌}
+use Rattle.gang_types.specs.declared.types.IntType.{IntType}
+use Rattle.gang_types.specs.declared.places.VarId.{VarId}
+use Rattle.gang_types.specs.declared.places.VarId.TheVariants.{File, Local}
+use Rattle.gang_types.specs.declared.faults.FaultName.TheVariants.{CallDepth}
+use Rattle.gang_types.specs.Lanes.{Lanes, lowest}
+use Rattle.gang_model.specs.Running.Lanes.{Fault, holds, try_each}
+use Rattle.gang_model.specs.Types.Tree.{StepNumber, Scalar, ElementOf, ResultFor, Nothing, Declares, Assigns, Returns, Stmt, Declare, Assign, Change, Return, Call, Function, Program}
+use Rattle.gang_model.specs.Running.State.{Store, Frame, State, with_words, with_var, with_words_in}
+use Rattle.gang_model.specs.Running.Value.{value}
+use Rattle.gang_model.specs.Running.RunningOrder.{IsNumberedProgram}
+use Rattle.gang_model.specs.Running.Step.{Passed, passed, initial, new_frame, entered, returned_on, deliver, left, leave, run}
+use Rattle.gang_model.proofs.LaneWords.{if_ok_bind, if_ok_after}
+use Rattle.mask_states.specs.Points.{Point, Put, Go, Branch, Choose, Begin, Turn, Enter, entry_of, closing_number, function_ways, points_in}
+use Rattle.mask_states.specs.Placed.{HasPoint}
+use Rattle.mask_states.specs.Masked.{Level, Masked, next_in, next_waiting, sent_in, entered_body}
+use Rattle.mask_states.specs.MaskedStep.{untasked_frame, untasked, points_at, points_for, Acted, entered_levels, act, past_point, past_call, past_calls, MaskedStepped, Goes, Fails, Over, acted, step_point, step_levels, masked_step}
+use Rattle.mask_states.proofs.LaneNumbers.{length-waiting_for}
+use Rattle.mask_states.proofs.PlacedPoints.{length-points_of}
+use Rattle.machine_states.specs.Variables.{Variables, parameters_of}
+use Rattle.machine_states.specs.Plain.{IsPlain, IsPlainProgram}
+use Rattle.machine_states.specs.Regions.{NumbersOf, OfHead, Regions}
+use Rattle.machine_states.specs.Declared.{own_number, declared_by_result, declared_by, first_numbers, declared_before, HasAll, LevelDeclared, FrameDeclared, FramesDeclared, AreDeclared}
+use Rattle.machine_states.specs.Shows.{body_level, ShowsCall, ShowsFrames, Shows}
+use Rattle.machine_states.proofs.DeclaredLists.{same_some, IsWithin, before_end}
+use Rattle.machine_states.proofs.DeclaredPoints.{IsPlainPut, IsPlainPoint, plain_point, LeadsDeclared, point_leads, first_declared}
+use Rattle.machine_states.proofs.StoreEntries.{Keeps, keeps_itself, with_words_keeps, with_words_has, has_all_kept, has_all_within, has_all_both, has_own, passed_has}
+use Rattle.machine_states.proofs.DeclaredLevels.{is_inside, Waits, waits_below, next_declared, EndsAt, sent_on_declared, entered_declared}
+
+-- ---- a frame that gets variables
+
+-- the top frame is that of the same function, has all variables that it had, and these
+pub record Grows (frame : Frame) (frames : List Frame) (d : List ℕ) (after : List Frame) : Type 0 where
+  pub top : Frame
+  pub are : after ≡ top ∷ frames
+  pub function : top.function ≡ frame.function
+  pub keeps : Keeps frame.vars top.vars
+  pub has_all : HasAll d top.vars
+
+stays : (frame : Frame) (frames : List Frame) → Grows frame frames [] (frame ∷ frames)
+stays frame frames = record { top = frame; are = refl; function = refl; keeps = keeps_itself frame.vars; has_all = λ k among. absurd among }
+
+grows_less : (frame : Frame) (frames : List Frame) (d : List ℕ) (after : List Frame) → Grows frame frames d after → Grows frame frames [] after
+grows_less frame frames d after g = record { top = g.top; are = g.are; function = g.function; keeps = g.keeps; has_all = λ k among. absurd among }
+
+module _ (memory : Store) (frame : Frame) (frames : List Frame) where
+  abbrev state : State
+  state = record { memory = memory; frames = frame ∷ frames }
+
+  -- words are set
+  words_grow : (v : VarId) (words : List ℕ) → Grows frame frames (own_number v) (with_words_in state v words).frames
+  words_grow (File n) words = stays frame frames
+  words_grow (Local n) words = record {
+    top = with_var (Local n) words frame;
+    are = refl;
+    function = refl;
+    keeps = with_words_keeps frame.vars (Local n) words;
+    has_all = has_own (Local n) (with_words frame.vars (Local n) words) (with_words_has frame.vars (Local n) words);
+  }
+
+  -- a statement is done
+  run_grows : (variables : Variables) (m : ℕ) (p : Program) (s : Stmt) (lanes : Lanes) → IsPlainPut variables m s → IfOk (run p s lanes state) (λ after. Grows frame frames (declared_by s) after.frames)
+  run_grows variables m p (Declare number x e) lanes plain = if_ok_after _ (initial e lanes state) _ (λ values. words_grow x.id _)
+  run_grows variables m p (Assign number (Scalar x) e) lanes plain =
+      if_ok_after _ (value e lanes state) _ (λ values. grows_less frame frames (own_number x.id) _ (words_grow x.id _))
+  run_grows variables m p (Assign number (ElementOf array rate index) e) lanes plain = absurd plain
+  run_grows variables m p (Change number (Scalar x) type op in_type e) lanes plain =
+      if_ok_after _ (value e lanes state) _ (λ y. if_ok_after _ (try_each lanes _) _ (λ values. grows_less frame frames (own_number x.id) _ (words_grow x.id _)))
+  run_grows variables m p (Change number (ElementOf array rate index) type op in_type e) lanes plain = absurd plain
+  run_grows variables m p (Return number e) lanes plain = if_ok_after _ (initial e lanes state) _ (λ values.
+      record { top = _; are = refl; function = refl; keeps = keeps_itself frame.vars; has_all = λ k among. absurd among })
+  run_grows variables m p s lanes plain = absurd plain
+
+  returned_grows : (f : Option Function) (type : IntType) (lanes : Lanes) (values : List ℕ) → Grows frame frames [] (returned_on f type lanes values frame ∷ frames)
+  returned_grows None type lanes values = stays frame frames
+  returned_grows (Some f) type lanes values = record { top = _; are = refl; function = refl; keeps = keeps_itself frame.vars; has_all = λ k among. absurd among }
+
+  -- a result is given to the caller
+  delivered_grows : (p : Program) (type : IntType) (result_for : ResultFor) (lanes : Lanes) (values : List ℕ) → Grows frame frames (declared_by_result result_for) (deliver p type result_for lanes values state).frames
+  delivered_grows p type Nothing lanes values = stays frame frames
+  delivered_grows p type (Declares x) lanes values = words_grow x.id _
+  delivered_grows p type (Assigns x) lanes values = grows_less frame frames (own_number x.id) _ (words_grow x.id _)
+  delivered_grows p type Returns lanes values = returned_grows (slice_get p.functions frame.function) type lanes values
+
+  left_grows : (p : Program) (above : Frame) (f : Function) → slice_get p.functions above.function ≡ Some f → Grows frame frames (declared_by_result above.result_for) (leave p above state).frames
+  left_grows p above f is =
+      subst (λ o. Grows frame frames (declared_by_result above.result_for) (left p o above state).frames) (sym is)
+      (delivered_grows p f.result_type above.result_for above.lanes _)
+
+-- no frame is left
+none_words : (memory : Store) (v : VarId) (words : List ℕ) → (with_words_in (record { memory = memory; frames = [] }) v words).frames ≡ []
+none_words memory (File n) words = refl
+none_words memory (Local n) words = refl
+
+none_delivered : (p : Program) (memory : Store) (type : IntType) (result_for : ResultFor) (lanes : Lanes) (values : List ℕ) → (deliver p type result_for lanes values (record { memory = memory; frames = [] })).frames ≡ []
+none_delivered p memory type Nothing lanes values = refl
+none_delivered p memory type (Declares x) lanes values = none_words memory x.id _
+none_delivered p memory type (Assigns x) lanes values = none_words memory x.id _
+none_delivered p memory type Returns lanes values = refl
+
+none_left : (p : Program) (memory : Store) (above : Frame) (f : Option Function) → (left p f above (record { memory = memory; frames = [] })).frames ≡ []
+none_left p memory above None = refl
+none_left p memory above (Some f) = none_delivered p memory f.result_type above.result_for above.lanes _
+
+-- ---- one level
+
+pub one_level : (before : StepNumber → List ℕ) (vars : Store) (level : Level) → LevelDeclared before vars level → All (LevelDeclared before vars) (level ∷ [])
+one_level before vars level h zero d within = h
+one_level before vars level h (suc k) d within = absurd (omega (arith, within))
+
+pub first_level : (before : StepNumber → List ℕ) (vars : Store) (level : Level) (levels : List Level) → All (LevelDeclared before vars) (level ∷ levels) → LevelDeclared before vars level
+first_level before vars level levels h = h 0 level (omega arith)
+
+if_or_ok : {A : Type 0} (P : A → Type 0) (b : Bool) (fault : Fault) (x : A) → P x → IfOk (if b then Err fault else Ok x) P
+if_or_ok P true fault x h = tt
+if_or_ok P false fault x h = h
+
+-- ---- steps
+
+-- what holds of the state that a step leads to
+abbrev pub IfGoes : MaskedStepped → (Masked → Type 0) → Type 0
+IfGoes (Goes masked) P = P masked
+IfGoes (Fails fault) P = Unit {0}
+IfGoes Over P = Unit {0}
+
+pub goes_at : (P : Masked → Type 0) (stepped : MaskedStepped) (next : Masked) → stepped ≡ Goes next → IfGoes stepped P → P next
+goes_at P stepped next e h = subst (λ z. IfGoes z P) e h
+
+module _ (variables : Variables) (most : ℕ) (p : Program) (plain : IsPlainProgram variables most p) (numbered : IsNumberedProgram p) where
+  -- a frame by its function
+  pub frame_declared : (frame : Frame) (levels : List Level) (n : ℕ) (f : Function) → slice_get p.functions n ≡ Some f → frame.function ≡ n
+      → All (LevelDeclared (declared_before variables n f) frame.vars) levels → FrameDeclared variables p frame levels
+  frame_declared frame levels n f is same h g is_g =
+      let g_is : slice_get p.functions n ≡ Some g = subst (λ m. slice_get p.functions m ≡ Some g) same is_g in
+      let equal : f ≡ g = same_some f g (sym is ∙ g_is) in
+      subst (λ m. All (LevelDeclared (declared_before variables m g) frame.vars) levels) (sym same)
+      (subst (λ z. All (LevelDeclared (declared_before variables n z) frame.vars) levels) equal h)
+
+  pub ends_at : (n : ℕ) (f : Function) → EndsAt (declared_before variables n f) (closing_number f)
+  ends_at n f number past = before_end variables n f number past ∙ sym (before_end variables n f (closing_number f) (omega arith))
+
+  -- frames without their tasks
+  untasked_declared : (frames : List Frame) (rest : List (List Level)) → FramesDeclared variables p frames rest → FramesDeclared variables p (map untasked_frame frames) rest
+  untasked_declared [] rest h = tt
+  untasked_declared (frame ∷ frames) [] h = tt
+  untasked_declared (frame ∷ frames) (levels ∷ rest) h = (h.0, untasked_declared frames rest h.1)
+
+  -- the lanes of a frame's next step go on
+  module _ (frame : Frame) (f : Function) (is : slice_get p.functions frame.function ≡ Some f) (numbers : List StepNumber) where
+    abbrev level : Level
+    level = body_level (closing_number f) numbers
+
+    abbrev before : StepNumber → List ℕ
+    before = declared_before variables frame.function f
+
+    point_below : (point : Point) → HasPoint (points_in f) (next_in level) point → next_in level < closing_number f
+    point_below point h = omega (arith, is_inside (points_in f) (next_in level) point h, length-points_of f.body (function_ways f))
+
+    moves_on : (point : Point) → HasPoint (points_in f) (next_in level) point → LevelDeclared before frame.vars level
+        → (frames after : List Frame) (rest : List (List Level)) (d : List ℕ) (target : ℕ → StepNumber) → Grows frame frames d after
+        → ((j : ℕ) → IsWithin (before (target j)) (d ++ before (next_in level))) → FramesDeclared variables p frames rest
+        → FramesDeclared variables p after ((sent_in (next_waiting level) target level ∷ []) ∷ rest)
+    moves_on point h declared frames after rest d target g within lower =
+        let low : next_in level < closing_number f = point_below point h in
+        let had : HasAll (before (next_in level)) g.top.vars = has_all_kept (before (next_in level)) frame.vars g.top.vars g.keeps (next_declared before frame.vars level declared) in
+        let new : (j : ℕ) → HasAll (before (target j)) g.top.vars =
+        λ j. has_all_within (before (target j)) (d ++ before (next_in level)) g.top.vars (within j) (has_all_both d (before (next_in level)) g.top.vars g.has_all had) in
+        let sent : LevelDeclared before g.top.vars (sent_in (next_waiting level) target level) =
+        sent_on_declared before level target frame.vars g.top.vars (ends_at frame.function f) low declared g.keeps new in
+        subst (λ fs. FramesDeclared variables p fs ((sent_in (next_waiting level) target level ∷ []) ∷ rest)) (sym g.are)
+        (frame_declared g.top (sent_in (next_waiting level) target level ∷ []) frame.function f is g.function (one_level before g.top.vars (sent_in (next_waiting level) target level) sent), lower)
+
+    -- a frame begins for the lanes of a call
+    enters : (number : StepNumber) (result_for : ResultFor) (n : ℕ) (o : Option Function) → slice_get p.functions n ≡ o → (a : Passed) → HasAll (first_numbers (parameters_of variables n)) a.vars
+        → next_in level < closing_number f → LevelDeclared before frame.vars level
+        → (memory : Store) (frames : List Frame) (rest : List (List Level)) → FramesDeclared variables p frames rest
+        → IfOk (entered o n number result_for a (next_waiting level) (record { memory = memory; frames = frame ∷ frames }))
+        (λ after. FramesDeclared variables p (untasked after).frames ((entered_levels o (next_waiting level) ++ (level ∷ []) ∷ []) ++ rest))
+    enters number result_for n None o_is a has_all low declared memory frames rest lower =
+        (frame_declared frame (level ∷ []) frame.function f is refl (one_level before frame.vars level declared), untasked_declared frames rest lower)
+    enters number result_for n (Some g) o_is a has_all low declared memory frames rest lower =
+        let lanes : Lanes = next_waiting level in
+        let w : Waits level = waits_below level low in
+        let parameters : HasAll (declared_before variables n g (entry_of g.body (closing_number g))) a.vars =
+        has_all_within (declared_before variables n g (entry_of g.body (closing_number g))) (first_numbers (parameters_of variables n)) a.vars (first_declared variables n g (numbered n g o_is)) has_all in
+        let begun : LevelDeclared (declared_before variables n g) a.vars (entered_body g lanes) =
+        entered_declared (declared_before variables n g) g lanes a.vars (ends_at n g) w.lane w.waiting (omega (arith, w.within, length-waiting_for (next_in level) level.numbers)) parameters in
+        if_or_ok _ (length (frame ∷ frames) == 64) (record { name = CallDepth; lane = lowest lanes }) _ (
+          frame_declared (untasked_frame (new_frame n g lanes (Some number) result_for a)) (entered_body g lanes ∷ []) n g o_is refl
+              (one_level (declared_before variables n g) a.vars (entered_body g lanes) begun),
+          (frame_declared frame (level ∷ []) frame.function f is refl (one_level before frame.vars level declared), untasked_declared frames rest lower),
+        )
+
+    branch_within : (b : Bool) (yes' no' : StepNumber) (d : List ℕ) → IsWithin (before yes') d → IsWithin (before no') d → IsWithin (before (if b then yes' else no')) d
+    branch_within true yes' no' d y n = y
+    branch_within false yes' no' d y n = n
+
+    -- what a point does
+    acts : (point : Point) → HasPoint (points_in f) (next_in level) point → LevelDeclared before frame.vars level
+        → (memory : Store) (frames : List Frame) (rest : List (List Level)) → FramesDeclared variables p frames rest
+        → LeadsDeclared before (next_in level) point → IsPlainPoint variables frame.function (next_in level) point
+        → IfOk (act p (next_in level) point (next_waiting level) (record { memory = memory; frames = frame ∷ frames }) level [])
+        (λ a. FramesDeclared variables p a.state.frames (a.levels ++ rest))
+    acts (Put s next) h declared memory frames rest lower leads plain_point =
+        if_ok_bind (λ after. Grows frame frames (declared_by s) after.frames) _ (run p s (next_waiting level) (state memory frame frames)) _
+        (run_grows memory frame frames variables frame.function p s (next_waiting level) plain_point)
+        (λ after g. moves_on (Put s next) h declared frames after.frames rest (declared_by s) (λ k. next) g (λ k. leads) lower)
+    acts (Go next) h declared memory frames rest lower leads plain_point =
+        moves_on (Go next) h declared frames (frame ∷ frames) rest [] (λ k. next) (stays frame frames) (λ k. leads) lower
+    acts (Branch test yes' no') h declared memory frames rest lower leads plain_point =
+        if_ok_after _ (value test (next_waiting level) (state memory frame frames)) _
+        (λ c. moves_on (Branch test yes' no') h declared frames (frame ∷ frames) rest [] (λ k. if holds c k then yes' else no') (stays frame frames)
+        (λ k. branch_within (holds c k) yes' no' (before (next_in level)) leads.0 leads.1) lower)
+    acts (Choose e segments entries next) h declared memory frames rest lower leads plain_point = absurd plain_point
+    acts (Begin form rounds next) h declared memory frames rest lower leads plain_point = absurd plain_point
+    acts (Turn body) h declared memory frames rest lower leads plain_point = absurd plain_point
+    acts (Enter n args result_for next) h declared memory frames rest lower leads plain_point =
+        let s : State = state memory frame frames in
+        let lanes : Lanes = next_waiting level in
+        let low : next_in level < closing_number f = point_below (Enter n args result_for next) h in
+        let run_enters : IfOk (run p (Call (next_in level) n args result_for) lanes s)
+        (λ after. FramesDeclared variables p (untasked after).frames ((entered_levels (slice_get p.functions n) lanes ++ (level ∷ []) ∷ []) ++ rest)) =
+        if_ok_bind (λ a. HasAll (first_numbers (parameters_of variables n)) a.vars) _ (passed args lanes s) _
+        (passed_has variables frame.function n lanes s args plain_point.0)
+        (λ a has_all. enters (next_in level) result_for n (slice_get p.functions n) refl a has_all low declared memory frames rest lower) in
+        if_ok_bind (λ after. FramesDeclared variables p (untasked after).frames ((entered_levels (slice_get p.functions n) lanes ++ (level ∷ []) ∷ []) ++ rest)) _
+        (run p (Call (next_in level) n args result_for) lanes s) _ run_enters (λ after d. d)
+
+  if_acted : (r : Result Acted Fault) (rest : List (List Level)) → IfOk r (λ a. FramesDeclared variables p a.state.frames (a.levels ++ rest)) → IfGoes (acted r rest) (AreDeclared variables p)
+  if_acted (Ok a) rest h = h
+  if_acted (Err fault) rest h = tt
+
+  -- a frame is left: the lanes of its call go on
+  module _ (regions : Regions) (w : ℕ) (above : Frame) (f : Function) (is : slice_get p.functions above.function ≡ Some f) (memory : Store) where
+    caller_declared : (caller : Frame) (others : List Frame) (g : Function) (numbers : List StepNumber) (more : List (List Level)) → slice_get p.functions caller.function ≡ Some g
+        → ShowsCall p above (caller ∷ others) ((body_level (closing_number g) numbers ∷ []) ∷ more)
+        → FramesDeclared variables p (caller ∷ others) ((body_level (closing_number g) numbers ∷ []) ∷ more)
+        → FramesDeclared variables p (leave p above (record { memory = memory; frames = caller ∷ others })).frames
+        (past_call (points_for p caller.function) (body_level (closing_number g) numbers ∷ []) ∷ more)
+    caller_declared caller others g numbers more g_is call h =
+        let waiting : Level = body_level (closing_number g) numbers in
+        let point : Point = Enter above.function call.1 above.result_for call.0 in
+        let has : HasPoint (points_in g) (next_in waiting) point = ap (λ o. slice_get (points_at o) (next_in waiting)) (sym g_is) ∙ call.3 in
+        let leads : LeadsDeclared (declared_before variables caller.function g) (next_in waiting) point =
+        point_leads variables caller.function g (numbered caller.function g g_is) (plain.functions caller.function g g_is).body (next_in waiting) point has in
+        let declared : LevelDeclared (declared_before variables caller.function g) caller.vars waiting =
+        first_level (declared_before variables caller.function g) caller.vars waiting [] (h.0 g g_is) in
+        let past : past_call (points_for p caller.function) (waiting ∷ []) ≡ sent_in (next_waiting waiting) (λ k. call.0) waiting ∷ [] =
+        ap (λ o. past_point o waiting []) call.3 in
+        subst (λ ls. FramesDeclared variables p (leave p above (state memory caller others)).frames (ls ∷ more)) (sym past)
+        (moves_on caller g g_is numbers point has declared others (leave p above (state memory caller others)).frames more (declared_by_result above.result_for) (λ k. call.0)
+        (left_grows memory caller others p above f is) (λ k. leads) h.1)
+
+    leaves : (frames : List Frame) (rest : List (List Level)) → ShowsCall p above frames rest → ShowsFrames p variables w regions frames rest → FramesDeclared variables p frames rest
+        → FramesDeclared variables p (leave p above (record { memory = memory; frames = frames })).frames (past_calls p frames rest)
+    leaves [] rest call shown h = subst (λ fs. FramesDeclared variables p fs rest) (sym (none_left p memory above (slice_get p.functions above.function))) tt
+    leaves (caller ∷ others) [] call shown h = absurd call
+    leaves (caller ∷ others) (levels ∷ more) call shown h =
+        let s = shown.0 in
+        let waits = s.waits in
+        subst (λ ls. FramesDeclared variables p (leave p above (state memory caller others)).frames (past_call (points_for p caller.function) ls ∷ more)) (sym waits)
+        (caller_declared caller others s.function (regions (OfHead (length others) NumbersOf)) more s.is_function
+        (subst (λ ls. ShowsCall p above (caller ∷ others) (ls ∷ more)) waits call)
+        (subst (λ ls. FramesDeclared variables p (caller ∷ others) (ls ∷ more)) waits h))
+
+  -- the step of a frame
+  module _ (regions : Regions) (w : ℕ) (memory : Store) (frame : Frame) (frames : List Frame) (rest : List (List Level)) where
+    steps_at : (f : Function) → slice_get p.functions frame.function ≡ Some f → (numbers : List StepNumber) → LevelDeclared (declared_before variables frame.function f) frame.vars (body_level (closing_number f) numbers)
+        → ShowsCall p frame frames rest → ShowsFrames p variables w regions frames rest → FramesDeclared variables p frames rest
+        → (o : Option Point) → slice_get (points_in f) (next_in (body_level (closing_number f) numbers)) ≡ o
+        → IfGoes (step_point p memory frames frame o (body_level (closing_number f) numbers) [] rest) (AreDeclared variables p)
+    steps_at f is numbers declared call shown lower None o_is = leaves regions w frame f is memory frames rest call shown lower
+    steps_at f is numbers declared call shown lower (Some point) o_is =
+        let level : Level = body_level (closing_number f) numbers in
+        let body : IsPlain variables frame.function f.body = (plain.functions frame.function f is).body in
+        if_acted (act p (next_in level) point (next_waiting level) (state memory frame frames) level []) rest
+        (acts frame f is numbers point o_is declared memory frames rest lower
+        (point_leads variables frame.function f (numbered frame.function f is) body (next_in level) point o_is)
+        (plain_point variables frame.function f body (next_in level) point o_is))
+
+    steps : (levels : List Level) → ShowsFrames p variables w regions (frame ∷ frames) (levels ∷ rest) → FramesDeclared variables p (frame ∷ frames) (levels ∷ rest)
+        → IfGoes (step_levels p memory (frame ∷ frames) (levels ∷ rest)) (AreDeclared variables p)
+    steps levels shown h =
+        let s = shown.0 in
+        let f : Function = s.function in
+        let level : Level = body_level (closing_number f) (regions (OfHead (length frames) NumbersOf)) in
+        let declared : All (LevelDeclared (declared_before variables frame.function f) frame.vars) (level ∷ []) =
+        subst (λ ls. All (LevelDeclared (declared_before variables frame.function f) frame.vars) ls) s.waits (h.0 f s.is_function) in
+        subst (λ ls. IfGoes (step_levels p memory (frame ∷ frames) (ls ∷ rest)) (AreDeclared variables p)) (sym s.waits)
+        (subst (λ o. IfGoes (step_point p memory frames frame (slice_get (points_at o) (next_in level)) level [] rest) (AreDeclared variables p)) (sym s.is_function)
+        (steps_at f s.is_function (regions (OfHead (length frames) NumbersOf)) (first_level (declared_before variables frame.function f) frame.vars level [] declared)
+        shown.1 shown.2 h.1 (slice_get (points_in f) (next_in level)) refl))
+
+  steps_declared : (regions : Regions) (w : ℕ) (memory : Store) (frames : List Frame) (levels : List (List Level)) → ShowsFrames p variables w regions frames levels → FramesDeclared variables p frames levels
+      → IfGoes (step_levels p memory frames levels) (AreDeclared variables p)
+  steps_declared regions w memory [] levels shown h = tt
+  steps_declared regions w memory (frame ∷ frames) [] shown h = tt
+  steps_declared regions w memory (frame ∷ frames) (levels ∷ rest) shown h = steps regions w memory frame frames rest levels shown h
+
+  -- after a step each frame has what is declared where its lanes wait
+  pub step_declared : (regions : Regions) (w : ℕ) (masked next : Masked) → Shows p variables w regions masked → AreDeclared variables p masked → masked_step p masked ≡ Goes next → AreDeclared variables p next
+  step_declared regions w masked next shown h e =
+      goes_at (AreDeclared variables p) (masked_step p masked) next e (steps_declared regions w masked.state.memory masked.state.frames masked.levels shown.frames h)

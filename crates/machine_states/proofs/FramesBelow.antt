@@ -1,0 +1,60 @@
+-- Frames stand on their own regions: they show the same where only other regions change.
+use Rattle.std.proofs.Common.{◌≡◌, sym, ap, ◌∙◌, subst, ℕ, ◌≤◌, List, [], ◌∷◌, length, arith}
+use Rattle.std.specs.Prelude.{slice_get}
+use Rattle.gang_types.specs.Masks.{lanes_of_word}
+use Rattle.gang_model.specs.Types.Tree.{Program}
+use Rattle.gang_model.specs.Running.Lanes.{at}
+use Rattle.gang_model.specs.Running.State.{Frame, words_of}
+use Rattle.gang_model.specs.Running.Step.{result_rate}
+use Rattle.gang_types.specs.declared.places.VarId.TheVariants.{Local}
+use Rattle.mask_states.specs.Points.{closing_number}
+use Rattle.mask_states.specs.Masked.{Level}
+use Rattle.machine_states.specs.Variables.{Variables, own_of, rate_of}
+use Rattle.machine_states.specs.Regions.{FunctionOf, LanesOf, ReturnedOf, NumbersOf, ResultOf, Head, OfHead, OfLocal, Regions, lanes_in}
+use Rattle.machine_states.specs.Shows.{IsScalarIn, ShowsLocal, result_of, body_level, ShowsFrame, ShowsFrames}
+use Rattle.machine_states.specs.Steps.{AreSameBelow}
+use Rattle.machine_states.proofs.ChangedRegions.{AreFramesSame}
+
+module _ (p : Program) (variables : Variables) (w : ℕ) (old new : Regions) where
+  -- a variable whose region is the same
+  pub local_same : (i : ℕ) (frame : Frame) (k : ℕ) → new (OfLocal i k) ≡ old (OfLocal i k) → ShowsLocal variables w old i frame k → ShowsLocal variables w new i frame k
+  local_same i frame k same shown there =
+      subst (λ region. IsScalarIn w (rate_of (slice_get (own_of variables frame.function) k)) (words_of frame.vars (Local k)) region) (sym same) (shown there)
+
+  pub lanes_same : (i : ℕ) (part : Head) → new (OfHead i part) ≡ old (OfHead i part) → lanes_in w old (OfHead i part) ≡ lanes_in w new (OfHead i part)
+  lanes_same i part same = ap (λ words. lanes_of_word w (at words 0)) (sym same)
+
+  -- a frame whose regions are the same
+  pub frame_same : (i : ℕ) (frame : Frame) (levels : List Level) → ((part : Head) → new (OfHead i part) ≡ old (OfHead i part)) → ((k : ℕ) → new (OfLocal i k) ≡ old (OfLocal i k))
+      → ShowsFrame p variables w old i frame levels → ShowsFrame p variables w new i frame levels
+  frame_same i frame levels heads locals shown = record {
+    function = shown.function;
+    is_function = shown.is_function;
+    number = heads FunctionOf ∙ shown.number;
+    lanes = shown.lanes ∙ lanes_same i LanesOf (heads LanesOf);
+    waits = shown.waits ∙ ap (λ numbers. body_level (closing_number shown.function) numbers ∷ []) (sym (heads NumbersOf));
+    sized = ap length (heads NumbersOf) ∙ shown.sized;
+    untasked = shown.untasked;
+    views = shown.views;
+    locals = λ k. local_same i frame k (locals k) (shown.locals k);
+    result = shown.result
+        ∙ ap (λ returned. result_of (result_rate p frame) returned (old (OfHead i ResultOf))) (lanes_same i ReturnedOf (heads ReturnedOf))
+        ∙ ap (result_of (result_rate p frame) (lanes_in w new (OfHead i ReturnedOf))) (sym (heads ResultOf));
+    result_sized = ap length (heads ResultOf) ∙ shown.result_sized;
+  }
+
+  -- frames below an index show the same where the regions below it are the same
+  pub frames_below : (index : ℕ) → AreFramesSame index old new → (frames : List Frame) (levels : List (List Level)) → length frames ≤ index
+      → ShowsFrames p variables w old frames levels → ShowsFrames p variables w new frames levels
+  frames_below index same [] [] few shown = tt
+  frames_below index same [] (levels ∷ rest) few shown = shown
+  frames_below index same (frame ∷ frames) [] few shown = shown
+  frames_below index same (frame ∷ frames) (levels ∷ rest) few shown = (
+    frame_same (length frames) frame levels (λ part. same.heads (length frames) part few) (λ k. same.locals (length frames) k few) shown.0,
+    shown.1,
+    frames_below index same frames rest (omega (arith, few)) shown.2,
+  )
+
+-- regions that are the same below an index have the same frames there
+pub same_frames : (index : ℕ) (old new : Regions) → AreSameBelow index old new → AreFramesSame index old new
+same_frames index old new same = record { heads = same.heads; locals = same.locals }

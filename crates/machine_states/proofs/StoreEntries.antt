@@ -1,0 +1,126 @@
+-- Which variables a store has after words were set.
+use Rattle.std.proofs.Common.{◌≡◌, refl, sym, ap, ◌∙◌, subst, ℕ, zero, suc, ◌+◌, ◌<◌, ◌≤◌, Bool, true, false, ◌||◌, List, [], ◌∷◌, ◌++◌, length, inl, inr, nat_eq, arith}
+use Rattle.std.proofs.lemmas.Bool.Decides.{nat_tests}
+use Rattle.std.specs.Prelude.{Result, Ok, Err, IfOk, if◌then◌else◌}
+use Rattle.gang_types.specs.declared.places.VarId.{VarId}
+use Rattle.gang_types.specs.declared.places.VarId.TheVariants.{File, Local}
+use Rattle.gang_types.specs.Lanes.{Lanes}
+use Rattle.gang_model.specs.Running.Lanes.{Fault}
+use Rattle.gang_model.specs.Running.State.{Store, State, same_id, with_words, declared_words}
+use Rattle.gang_model.specs.Running.Value.{value}
+use Rattle.gang_model.specs.Running.Step.{passed}
+use Rattle.gang_model.specs.Types.Tree.{Arg, Value, Array}
+use Rattle.gang_model.proofs.LaneWords.{if_ok_bind, if_ok_after}
+use Rattle.mask_states.proofs.OwnTasks.{by_bool}
+use Rattle.machine_states.specs.Variables.{Variables, parameters_of}
+use Rattle.machine_states.specs.Plain.{ArgsPlain, CallPlain}
+use Rattle.machine_states.specs.Declared.{IsAmong, own_number, first_numbers, has_entry, HasAll}
+use Rattle.machine_states.proofs.DeclaredLists.{or_front, or_back, IsWithin}
+
+-- ---- variables
+
+same_number : (k : ℕ) → nat_eq k k ≡ true
+same_number k = grind (arith, nat_tests)
+
+equal_number : (m k : ℕ) → nat_eq m k ≡ true → m ≡ k
+equal_number m k e = grind (arith, nat_tests)
+
+-- a variable is the same as itself, and as no other
+pub itself : (v : VarId) → same_id v v ≡ true
+itself (File k) = same_number k
+itself (Local k) = same_number k
+
+pub same_variable : (u v : VarId) → same_id u v ≡ true → u ≡ v
+same_variable (File m) (File k) e = ap File (equal_number m k e)
+same_variable (File m) (Local k) e = absurd cc
+same_variable (Local m) (File k) e = absurd cc
+same_variable (Local m) (Local k) e = ap Local (equal_number m k e)
+
+-- ---- stores
+
+-- a store has all that another has
+abbrev pub Keeps : Store → Store → Type 0
+Keeps old new = (v : VarId) → has_entry old v ≡ true → has_entry new v ≡ true
+
+pub keeps_itself : (store : Store) → Keeps store store
+keeps_itself store v h = h
+
+or_more : (b c d : Bool) → (b || c) ≡ true → (c ≡ true → d ≡ true) → (b || d) ≡ true
+or_more true c d e h = refl
+or_more false c d e h = h e
+
+keeps_at : (b : Bool) (u v : VarId) (old words : List ℕ) (store : Store) → same_id u v ≡ b → Keeps store (with_words store v words)
+    → Keeps ((u, old) ∷ store) (if b then (v, words) ∷ store else (u, old) ∷ with_words store v words)
+keeps_at true u v old words store e more w h = subst (λ x. (same_id x w || has_entry store w) ≡ true) (same_variable u v e) h
+keeps_at false u v old words store e more w h = or_more (same_id u w) (has_entry store w) (has_entry (with_words store v words) w) h (more w)
+
+-- no variable goes when words are set
+pub with_words_keeps : (store : Store) (v : VarId) (words : List ℕ) → Keeps store (with_words store v words)
+with_words_keeps [] v words w h = absurd cc
+with_words_keeps ((u, old) ∷ store) v words w h = keeps_at (same_id u v) u v old words store refl (with_words_keeps store v words) w h
+
+has_at : (b : Bool) (u v : VarId) (old words : List ℕ) (store : Store) → has_entry (with_words store v words) v ≡ true
+    → has_entry (if b then (v, words) ∷ store else (u, old) ∷ with_words store v words) v ≡ true
+has_at true u v old words store more = or_front (same_id v v) (has_entry store v) (itself v)
+has_at false u v old words store more = or_back (same_id u v) (has_entry (with_words store v words) v) more
+
+-- the variable is there
+pub with_words_has : (store : Store) (v : VarId) (words : List ℕ) → has_entry (with_words store v words) v ≡ true
+with_words_has [] v words = or_front (same_id v v) false (itself v)
+with_words_has ((u, old) ∷ store) v words = has_at (same_id u v) u v old words store (with_words_has store v words)
+
+-- ---- all of some variables
+
+pub has_all_kept : (d : List ℕ) (old new : Store) → Keeps old new → HasAll d old → HasAll d new
+has_all_kept d old new keeps h k among = keeps (Local k) (h k among)
+
+pub has_all_within : (d e : List ℕ) (store : Store) → IsWithin d e → HasAll e store → HasAll d store
+has_all_within d e store within h k among = h k (within k among)
+
+pub has_all_both : (d e : List ℕ) (store : Store) → HasAll d store → HasAll e store → HasAll (d ++ e) store
+has_all_both [] e store f g k among = g k among
+has_all_both (x ∷ d) e store f g k (inl same) = f k (inl same)
+has_all_both (x ∷ d) e store f g k (inr among) = has_all_both d e store (λ j a. f j (inr a)) g k among
+
+-- the variable whose words are set
+pub has_own : (v : VarId) (store : Store) → has_entry store v ≡ true → HasAll (own_number v) store
+has_own (File n) store h k among = absurd among
+has_own (Local n) store h k (inl same) = subst (λ m. has_entry store (Local m) ≡ true) (sym same) h
+has_own (Local n) store h k (inr among) = absurd among
+
+-- ---- parameters
+
+pub among_first : (n k : ℕ) → IsAmong k (first_numbers n) → k < n
+among_first zero k among = absurd among
+among_first (suc n) k (inl same) = omega (arith, same)
+among_first (suc n) k (inr among) = omega (arith, among_first n k among)
+
+abbrev HasFrom : ℕ → List Arg → Store → Type 0
+HasFrom k args store = (j : ℕ) → k ≤ j → j < k + length args → has_entry store (Local j) ≡ true
+
+if_ok_map : {A : Type 0} (P Q : A → Type 0) (r : Result A Fault) → ((x : A) → P x → Q x) → IfOk r P → IfOk r Q
+if_ok_map P Q (Ok x) go h = go x h
+if_ok_map P Q (Err fault) go h = tt
+
+module _ (variables : Variables) (n called : ℕ) (lanes : Lanes) (state : State) where
+  value_passed : (k : ℕ) (args : List Arg) (v : VarId) (words : List ℕ) (store : Store) → v ≡ Local k → HasFrom (suc k) args store
+      → (j : ℕ) → k ≤ j → j < suc k + length args → (same_id v (Local j) || has_entry store (Local j)) ≡ true
+  value_passed k args v words store e more j low high = by_bool (nat_eq k j)
+      (λ same. or_front (same_id v (Local j)) (has_entry store (Local j)) (ap (λ u. same_id u (Local j)) e ∙ same))
+      (λ other. or_back (same_id v (Local j)) (has_entry store (Local j)) (more j (let apart : suc k ≤ j = grind (arith, nat_tests) in apart) high))
+
+  -- each argument is there
+  passed_has_from : (k : ℕ) (args : List Arg) → ArgsPlain variables n called k args → IfOk (passed args lanes state) (λ a. HasFrom k args a.vars)
+  passed_has_from k [] p = λ j low high. absurd (omega (arith, low, high))
+  passed_has_from k (Array parameter array from ∷ args) p = absurd p
+  passed_has_from k (Value x e ∷ args) p =
+      if_ok_after (λ a. HasFrom k (Value x e ∷ args) a.vars) (value e lanes state) _ (λ y.
+      if_ok_bind (λ a. HasFrom (suc k) args a.vars) (λ a. HasFrom k (Value x e ∷ args) a.vars) (passed args lanes state) _ (passed_has_from (suc k) args p.2)
+      (λ rest more j low high. value_passed k args x.id (declared_words x.rate lanes y) rest.vars p.0.id more j low (omega (arith, high))))
+
+  -- so a call begins with its parameters
+  pub passed_has : (args : List Arg) → CallPlain variables n called args → IfOk (passed args lanes state) (λ a. HasAll (first_numbers (parameters_of variables called)) a.vars)
+  passed_has args plain =
+      if_ok_map (λ a. HasFrom 0 args a.vars) (λ a. HasAll (first_numbers (parameters_of variables called)) a.vars) (passed args lanes state)
+      (λ a has k among. has k (omega arith) (omega (arith, plain.all, among_first (parameters_of variables called) k among)))
+      (passed_has_from 0 args plain.args_plain)
