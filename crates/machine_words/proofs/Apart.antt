@@ -1,0 +1,136 @@
+-- The ranges of two regions have no word in common, so a write to one leaves the words of the other.
+use Rattle.std.proofs.Common.{ℕ, ◌+◌, ◌*◌, ◌<◌, ◌≤◌, Bool, true, false, cond, ◌≡◌, refl, sym, ◌∙◌, ap, arith, List, length, Some, None}
+use Rattle.std.specs.Prelude.{Option, ◌==◌, ◌&&◌, nat_eq, nat_lt, slice_get}
+use Rattle.std.proofs.lemmas.Bool.{and_from, and_parts, both_ways, eq-eqb, eqb-true, false≢true, ltb-true, true≢false}
+use Rattle.std.proofs.lemmas.Nat.{same_from_place}
+use Rattle.gang_memory.specs.declared.parts.Part.{Part}
+use Rattle.gang_memory.specs.declared.layout.Layout.{Layout}
+use Rattle.gang_memory.specs.Layouts.{frame_parts, ranges}
+use Rattle.gang_memory.specs.Writes.{IsKeptOutside}
+use Rattle.machine_states.specs.Regions.{Head, FunctionOf, LanesOf, ReturnedOf, NumbersOf, ResultOf, Region, OfFile, Depth, OfHead, OfLocal, same_head, same_region}
+use Rattle.machine_words.specs.Ranges.{Changes, IsPlanned, frame_number, head_part, is_there, number_of, range_of, words_at}
+use Rattle.machine_words.proofs.Found.{there}
+use Rattle.machine_words.proofs.InOrder.{AreApart, lies_between, ranges_apart}
+use Rattle.machine_words.proofs.Plans.{Plan, plan_of}
+use Rattle.machine_words.proofs.RangeWords.{kept_words, words_in}
+
+same_part : (a b : Head) → same_head a b ≡ nat_eq (head_part a) (head_part b)
+same_part FunctionOf FunctionOf = refl
+same_part FunctionOf b = refl
+same_part LanesOf LanesOf = refl
+same_part LanesOf b = refl
+same_part ReturnedOf ReturnedOf = refl
+same_part ReturnedOf b = refl
+same_part NumbersOf NumbersOf = refl
+same_part NumbersOf b = refl
+same_part ResultOf ResultOf = refl
+same_part ResultOf b = refl
+
+pub part_below : (a : Head) (n : ℕ) → 5 ≤ n → head_part a < n
+part_below FunctionOf n h = omega arith
+part_below LanesOf n h = omega arith
+part_below ReturnedOf n h = omega arith
+part_below NumbersOf n h = omega arith
+part_below ResultOf n h = omega arith
+
+in_files : (k files rest : ℕ) → k < files → k ≡ files + rest → ⊥
+in_files k files rest h e = omega arith
+
+before_frames : (files entry own rest : ℕ) → own ≡ 1 → files + entry ≡ files + (entry + (own + rest)) → ⊥
+before_frames files entry own rest h e = omega arith
+
+in_frames : (files entry own x y : ℕ) → files + (entry + (own + x)) ≡ files + (entry + (own + y)) → x ≡ y
+in_frames files entry own x y e = omega arith
+
+module _ (width : ℕ) (layout : Layout) where
+  -- a region that is the same has the same range
+  same_range : (r s : Region) → same_region r s ≡ true → range_of width layout r ≡ range_of width layout s
+  same_range (OfFile m) (OfFile n) h = ap (λ k. range_of width layout (OfFile k)) (eqb-true m n h)
+  same_range (OfFile m) s h = absurd (false≢true h)
+  same_range Depth Depth h = refl
+  same_range Depth s h = absurd (false≢true h)
+  same_range (OfHead i a) (OfHead j b) h =
+      let both = and_parts (i == j) (same_head a b) h in
+      ap (λ k. range_of width layout (OfHead k a)) (eqb-true i j both.0)
+      ∙ ap (λ n. cond (nat_lt j layout.frames.count) (slice_get (ranges width layout) (frame_number layout j n)) None) (eqb-true (head_part a) (head_part b) (sym (same_part a b) ∙ both.1))
+  same_range (OfHead i a) s h = absurd (false≢true h)
+  same_range (OfLocal i m) (OfLocal j n) h =
+      let both = and_parts (i == j) (m == n) h in
+      ap (λ k. range_of width layout (OfLocal k m)) (eqb-true i j both.0) ∙ ap (λ k. range_of width layout (OfLocal j k)) (eqb-true m n both.1)
+  same_range (OfLocal i m) s h = absurd (false≢true h)
+
+  -- another region has another number
+  module _ (plan : Plan width layout) where
+    abbrev files : ℕ
+    files = length layout.file.items
+
+    abbrev entry : ℕ
+    entry = length layout.entry.items
+
+    abbrev own : ℕ
+    own = length layout.machine.items
+
+    abbrev parts : ℕ
+    parts = length layout.frames.head.items
+
+    abbrev all : ℕ
+    all = frame_parts layout.frames
+
+    five : 5 ≤ all
+    five = omega (arith, plan.head_long)
+
+    local_below : (i k : ℕ) → is_there layout (OfLocal i k) ≡ true → parts + k < all
+    local_below i k h =
+        let within = ltb-true k layout.frames.variables (and_parts (nat_lt i layout.frames.count) (nat_lt k layout.frames.variables) h).1 in
+        omega (arith, within)
+
+    head_and_local : (i j k : ℕ) (a : Head) → is_there layout (OfLocal j k) ≡ true → frame_number layout i (head_part a) ≡ frame_number layout j (parts + k) → ⊥
+    head_and_local i j k a h e =
+        let same = same_from_place i (head_part a) j (parts + k) all (part_below a all five) (local_below j k h) (in_frames files entry own (i * all + head_part a) (j * all + (parts + k)) e) in
+        let below = part_below a 5 (omega arith) in
+        omega (arith, plan.head_long, same.1, below)
+
+    numbers_apart : (r s : Region) → is_there layout r ≡ true → is_there layout s ≡ true → same_region r s ≡ false → number_of layout r ≡ number_of layout s → ⊥
+    numbers_apart (OfFile m) (OfFile n) h l d e = both_ways (m == n) d (eq-eqb m n e)
+    numbers_apart (OfFile m) Depth h l d e = in_files m files entry (ltb-true m files h) e
+    numbers_apart (OfFile m) (OfHead j b) h l d e = in_files m files (entry + (own + (j * all + head_part b))) (ltb-true m files h) e
+    numbers_apart (OfFile m) (OfLocal j k) h l d e = in_files m files (entry + (own + (j * all + (parts + k)))) (ltb-true m files h) e
+    numbers_apart Depth (OfFile n) h l d e = in_files n files entry (ltb-true n files l) (sym e)
+    numbers_apart Depth Depth h l d e = true≢false d
+    numbers_apart Depth (OfHead j b) h l d e = before_frames files entry own (j * all + head_part b) plan.own_long e
+    numbers_apart Depth (OfLocal j k) h l d e = before_frames files entry own (j * all + (parts + k)) plan.own_long e
+    numbers_apart (OfHead i a) (OfFile n) h l d e = in_files n files (entry + (own + (i * all + head_part a))) (ltb-true n files l) (sym e)
+    numbers_apart (OfHead i a) Depth h l d e = before_frames files entry own (i * all + head_part a) plan.own_long (sym e)
+    numbers_apart (OfHead i a) (OfHead j b) h l d e =
+        let same = same_from_place i (head_part a) j (head_part b) all (part_below a all five) (part_below b all five) (in_frames files entry own (i * all + head_part a) (j * all + head_part b) e) in
+        both_ways ((i == j) && same_head a b) d (and_from (i == j) (same_head a b) (eq-eqb i j same.0) (same_part a b ∙ eq-eqb (head_part a) (head_part b) same.1))
+    numbers_apart (OfHead i a) (OfLocal j k) h l d e = head_and_local i j k a l e
+    numbers_apart (OfLocal i k) (OfFile n) h l d e = in_files n files (entry + (own + (i * all + (parts + k)))) (ltb-true n files l) (sym e)
+    numbers_apart (OfLocal i k) Depth h l d e = before_frames files entry own (i * all + (parts + k)) plan.own_long (sym e)
+    numbers_apart (OfLocal i k) (OfHead j b) h l d e = head_and_local j i k b h (sym e)
+    numbers_apart (OfLocal i m) (OfLocal j n) h l d e =
+        let same = same_from_place i (parts + m) j (parts + n) all (local_below i m h) (local_below j n l) (in_frames files entry own (i * all + (parts + m)) (j * all + (parts + n)) e) in
+        both_ways ((i == j) && (m == n)) d (and_from (i == j) (m == n) (eq-eqb i j same.0) (eq-eqb m n (omega (arith, same.1))))
+
+    regions_apart : (r s : Region) (p q : Part) → same_region r s ≡ false → range_of width layout r ≡ Some p → range_of width layout s ≡ Some q → AreApart p q
+    regions_apart r s p q d e f =
+        let first = there (is_there layout r) (slice_get (ranges width layout) (number_of layout r)) p e in
+        let second = there (is_there layout s) (slice_get (ranges width layout) (number_of layout s)) q f in
+        ranges_apart 0 layout.words (ranges width layout) (number_of layout r) (number_of layout s) p q plan.order first.1 second.1 (numbers_apart r s first.0 second.0 d)
+
+-- A write that keeps all words but those of a region's range changes that region alone.
+module _ (width : ℕ) (layout : Layout) (planned : IsPlanned width layout) (old new : List ℕ) (long : length old ≡ layout.words) (region : Region) (part : Part) (is : range_of width layout region ≡ Some part) where
+  pub changes_only : IsKeptOutside part.first part.len old new → (after : List ℕ) → words_in part new ≡ after → Changes width layout region after old new
+  changes_only kept after here r = by_test (same_region region r) refl
+    where
+      by_range : (o : Option Part) → range_of width layout r ≡ o → same_region region r ≡ false → words_at o new ≡ words_at o old
+      by_range None e d = refl
+      by_range (Some q) e d =
+          let plan = plan_of width layout planned in
+          let there_it_is = there (is_there layout r) (slice_get (ranges width layout) (number_of layout r)) q e in
+          let between = lies_between 0 layout.words (ranges width layout) (number_of layout r) q plan.order there_it_is.1 in
+          kept_words part q old new kept (omega (arith, between, long)) (regions_apart width layout plan region r part q d is e)
+
+      by_test : (b : Bool) → same_region region r ≡ b → words_at (range_of width layout r) new ≡ cond b after (words_at (range_of width layout r) old)
+      by_test true e = ap (λ o. words_at o new) (sym (same_range width layout region r e) ∙ is) ∙ here
+      by_test false e = by_range (range_of width layout r) refl e

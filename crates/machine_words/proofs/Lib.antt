@@ -1,0 +1,9 @@
+pub mod Plans
+pub mod InOrder
+pub mod RangeWords
+pub mod Found
+pub mod Apart
+pub mod RegionWords
+pub mod Sizes
+pub mod AllLanes
+pub mod Writing

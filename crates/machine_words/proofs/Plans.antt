@@ -1,0 +1,34 @@
+-- What the layout of a program has for a machine.
+use Rattle.std.proofs.Common.{ℕ, ◌≡◌, sym, ◌∙◌, ap, List, length}
+use Rattle.std.proofs.lemmas.List.{length-map}
+use Rattle.typed_tree.specs.declared.program.Program.{Program}
+use Rattle.gang_memory.specs.declared.layout.Layout.{Layout}
+use Rattle.gang_memory.specs.Layouts.{IsLayoutOf, end_of_frames, ranges}
+use Rattle.gang_memory.specs.Ranges.{AreInOrder, sizes_of}
+use Rattle.machine_words.specs.Ranges.{IsPlanned, head_sizes, machine_sizes}
+
+pub record Plan (width : ℕ) (layout : Layout) : Type 0 where
+  pub own : sizes_of layout.machine.items ≡ machine_sizes
+  pub own_long : length layout.machine.items ≡ 1
+  pub head : sizes_of layout.frames.head.items ≡ head_sizes width
+  pub head_long : length layout.frames.head.items ≡ 5
+  pub count : layout.frames.count ≡ 64
+  pub order : AreInOrder 0 (ranges width layout) layout.words
+  pub end : layout.words ≡ end_of_frames width layout.frames
+
+pub plan_of : (width : ℕ) (layout : Layout) → IsPlanned width layout → Plan width layout
+unfolding IsPlanned
+plan_of width layout (program, lengths, is) = record {
+  own = is.machine;
+  own_long = sym (length-map layout.machine.items (λ p. p.len)) ∙ ap length is.machine;
+  head = is.head;
+  head_long = sym (length-map layout.frames.head.items (λ p. p.len)) ∙ ap length is.head;
+  count = is.frames;
+  order = is.in_order;
+  end = is.end;
+}
+
+-- the layout that was planned for a program
+pub planned_for : (width : ℕ) (layout : Layout) (program : Program) (lengths : List ℕ) → IsLayoutOf width program lengths machine_sizes (head_sizes width) layout → IsPlanned width layout
+unfolding IsPlanned
+planned_for width layout program lengths is = (program, lengths, is)

@@ -1,0 +1,70 @@
+-- Which of a layout's ranges has the words of a region, where the machine asks for one word itself and for five parts of a head
+-- (a choice of this project).
+use Rattle.std.specs.Prelude.{◌≡◌, ℕ, ◌+◌, ◌*◌, ◌^◌, ◌<◌, Bool, true, ◌&&◌, List, [], ◌∷◌, Option, Some, None, drop, length, nat_lt, slice_get, take, if◌then◌else◌}
+use Rattle.typed_tree.specs.declared.program.Program.{Program}
+use Rattle.machine_states.specs.Regions.{Head, FunctionOf, LanesOf, ReturnedOf, NumbersOf, ResultOf, Region, OfFile, Depth, OfHead, OfLocal, Regions, with_region}
+use Rattle.gang_memory.specs.declared.parts.Part.{Part}
+use Rattle.gang_memory.specs.declared.layout.Layout.{Layout}
+use Rattle.gang_memory.specs.Layouts.{IsLayoutOf, frame_parts, ranges}
+
+-- the number of a part of a head
+abbrev pub head_part : Head → ℕ
+head_part FunctionOf = 0
+head_part LanesOf = 1
+head_part ReturnedOf = 2
+head_part NumbersOf = 3
+head_part ResultOf = 4
+
+-- the machine's own words: how many frames there are
+abbrev pub machine_sizes : List ℕ
+machine_sizes = 1 ∷ []
+
+-- the words of the parts of a head
+abbrev pub head_sizes : (width : ℕ) → List ℕ
+head_sizes width = 1 ∷ 1 ∷ 1 ∷ width ∷ width ∷ []
+
+-- whether there is such a region
+abbrev pub is_there : Layout → Region → Bool
+is_there layout (OfFile k) = nat_lt k (length layout.file.items)
+is_there layout Depth = true
+is_there layout (OfHead i part) = nat_lt i layout.frames.count
+is_there layout (OfLocal i k) = nat_lt i layout.frames.count && nat_lt k layout.frames.variables
+
+-- the number, among all ranges, of a frame's range that has this number in it
+abbrev pub frame_number : Layout → (frame number : ℕ) → ℕ
+frame_number layout i number =
+    length layout.file.items + (length layout.entry.items + (length layout.machine.items + (i * frame_parts layout.frames + number)))
+
+-- the number of a region's range
+abbrev pub number_of : Layout → Region → ℕ
+number_of layout (OfFile k) = k
+number_of layout Depth = length layout.file.items + length layout.entry.items
+number_of layout (OfHead i part) = frame_number layout i (head_part part)
+number_of layout (OfLocal i k) = frame_number layout i (length layout.frames.head.items + k)
+
+-- the range of a region, none where there is no such region
+abbrev pub range_of : (width : ℕ) → Layout → Region → Option Part
+range_of width layout region = if is_there layout region then slice_get (ranges width layout) (number_of layout region) else None
+
+abbrev pub words_at : Option Part → (words : List ℕ) → List ℕ
+words_at None words = []
+words_at (Some part) words = take part.len (drop part.first words)
+
+-- the words of each region
+abbrev pub regions_of : (width : ℕ) → Layout → (words : List ℕ) → Regions
+regions_of width layout words region = words_at (range_of width layout region) words
+
+-- the layout is that of some program
+unfoldable pub IsPlanned : (width : ℕ) → Layout → Type 0
+IsPlanned width layout = (program : Program) × (lengths : List ℕ) × IsLayoutOf width program lengths machine_sizes (head_sizes width) layout
+
+-- words that lie as the layout says
+pub record IsLaid (width : ℕ) (layout : Layout) (words : List ℕ) : Type 0 where
+  pub planned : IsPlanned width layout
+  pub long : length words ≡ layout.words
+  pub small : layout.words < 2 ^ 64
+
+-- the words of one region are these now, and those of each other are the same
+abbrev pub Changes : (width : ℕ) → Layout → Region → (after old new : List ℕ) → Type 0
+Changes width layout region after old new =
+    (r : Region) → regions_of width layout new r ≡ with_region region after (regions_of width layout old) r

@@ -1,0 +1,19 @@
+-- The regions that the code names, as those of a machine's words.
+use Rattle.machine_words.specs.declared.regions.Head.{Head}
+use Rattle.machine_words.specs.declared.regions.Head.TheVariants as head
+use Rattle.machine_words.specs.declared.regions.Region.{Region}
+use Rattle.machine_words.specs.declared.regions.Region.TheVariants as region
+use Rattle.machine_states.specs.Regions as states
+
+abbrev pub head_view : Head → states.Head
+head_view head.Function = states.FunctionOf
+head_view head.Lanes = states.LanesOf
+head_view head.Returned = states.ReturnedOf
+head_view head.Numbers = states.NumbersOf
+head_view head.Result = states.ResultOf
+
+abbrev pub region_view : Region → states.Region
+region_view (region.File number) = states.OfFile number
+region_view region.Depth = states.Depth
+region_view (region.Head frame part) = states.OfHead frame (head_view part)
+region_view (region.Local frame number) = states.OfLocal frame number
