@@ -15,8 +15,8 @@ PLAIN = {
     'Rattle.gang_model.specs.Source.Parsed': 'ParsedExpr ParsedNumber ParsedBool ParsedName ParsedIndex ParsedCall ParsedParen ParsedUnary ParsedCast ParsedBinary ParsedChoice ParsedEnd ParsedValue ParsedPart ParsedPartFrom ParsedEmpty ParsedBlock ParsedDeclare ParsedAssign ParsedChange ParsedIncrement ParsedDoCall ParsedBreak ParsedContinue ParsedReturn ParsedIf ParsedIfElse ParsedWhile ParsedDo ParsedFor ParsedSwitch ParsedForEach ParsedForEachActive ParsedForEachUnique ParsedLast ParsedNext ParsedNoMore ParsedSegment ParsedSource',
     'Rattle.gang_model.specs.Types.SourceRefusals': 'refusal_of',
     'Rattle.gang_model.specs.Source.Limits': 'limit_refusal',
-    'Rattle.gang_model.specs.Source.Known': 'today is_known',
-    'Rattle.tests_refusals.proofs.Trees': 'at spec exported static_one inline_one constant label target dim param function global refused accepted type_of has_type listed_at first_words',
+    'Rattle.gang_model.specs.Source.Known': 'is_known',
+    'Rattle.tests_refusals.proofs.Trees': 'straight_lines at spec exported static_one inline_one constant label target dim param function global refused accepted type_of has_type listed_at first_words',
 }
 ALIASES = ['Rattle.gang_types.specs.declared.types.IntType.TheVariants as t', 'Rattle.gang_types.specs.declared.operators.BinaryOp.TheVariants as op']
 OPENED = 'unfolding value_of residue word_of value_in wrapped binary_of\n'
@@ -72,8 +72,8 @@ def main():
     finish('ListedRows', 'Rows of the names that the debugger lists at each step of a function, the closing brace last.', out)
     out = ''
     for i, (src, want) in enumerate(KNOWN):
-        out += '\n' + commented(src) + f'abbrev tree_{i} : ParsedSource\ntree_{i} =\n{tree(src)}\n\nrow_{i} : is_known today tree_{i} ≡ {str(want).lower()}\nrow_{i} = refl\n'
-    finish('KnownRows', 'Rows of sources with forms that are let through today, and of others.', out)
+        out += '\n' + commented(src) + f'abbrev tree_{i} : ParsedSource\ntree_{i} =\n{tree(src)}\n\nrow_{i} : is_known straight_lines tree_{i} ≡ {str(want).lower()}\nrow_{i} = refl\n'
+    finish('KnownRows', 'Rows of sources that have forms over scalars in straight lines alone, and of others.', out)
     out = ''
     for i, (src, want) in enumerate(WORDS):
         out += '\n' + commented(src) + f'row_{i} : first_words (\n{tree(src)}) ≡ {want} ∷ []\n{OPENED}row_{i} = refl\n'

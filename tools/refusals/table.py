@@ -342,7 +342,7 @@ LISTED = [
     ('void f() { }\nvoid g(int a, uniform int b[]) { }', 1, [['a', 'b']]),
 ]
 
-# a source, and whether the program accepts its forms today
+# a source, and whether its forms are those over scalars in straight lines alone
 KNOWN = [
     ('export void go() {\n    int x = programIndex * 3;\n    x += 1;\n}', True),
     ('export void go() { }', True),

@@ -1,6 +1,6 @@
 -- The words of masks, and the sets of lanes that they stand for.
 use Rattle.std.proofs.Common.{ℕ, zero, suc, ◌+◌, ◌-◌, ◌*◌, ◌%◌, ◌^◌, ◌<◌, ◌≤◌, Bool, true, false, cond, ◌≡◌, refl, sym, ◌∙◌, ap, arith, List, [], ◌∷◌, length, map, inl, inr, w64}
-use Rattle.std.specs.Prelude.{count_ones, not, nat_eq, ◌&&◌, bit_and, bit_or, min, max, replicate, slice_set, slice_index, ◌==◌}
+use Rattle.std.specs.Prelude.{count_ones, not, nat_eq, ◌&&◌, ◌||◌, bit_and, bit_or, min, max, replicate, slice_set, slice_index, ◌==◌}
 use Rattle.std.specs.Int.{bit_at, bit_not}
 use Rattle.std.specs.List.{count_by}
 use lib.Lanes.{mask_l, top, zip2}
@@ -47,6 +47,17 @@ and_lanes w a b =
     ∙ sym (has-and (lanes_of_word w a) (lanes_of_word w b) k
     ∙ ap (λ t. t && has (lanes_of_word w b) k) (has-lanes_of_word w a k h)
     ∙ ap (λ t. nat_eq (bit_at a k) 1 && t) (has-lanes_of_word w b k h)))
+
+either_bit : (a b : ℕ) → a < 2 → b < 2 → nat_eq (max a b) 1 ≡ (nat_eq a 1 || nat_eq b 1)
+either_bit a b h k = grind (arith, nat_tests)
+
+pub or_lanes : (w a b k : ℕ) → k < w → has (lanes_of_word w (bit_or a b)) k ≡ (has (lanes_of_word w a) k || has (lanes_of_word w b) k)
+or_lanes w a b k h =
+    has-lanes_of_word w (bit_or a b) k h
+    ∙ ap (λ i. nat_eq i 1) (bit_at_or a b k)
+    ∙ either_bit (bit_at a k) (bit_at b k) (bit_at-lt a k) (bit_at-lt b k)
+    ∙ sym (ap (λ t. t || has (lanes_of_word w b) k) (has-lanes_of_word w a k h)
+    ∙ ap (λ t. nat_eq (bit_at a k) 1 || t) (has-lanes_of_word w b k h))
 
 one_not_other : (a b : ℕ) → a < 2 → b < 2 → nat_eq (min a (1 - b)) 1 ≡ (nat_eq a 1 && not (nat_eq b 1))
 one_not_other a b h k = grind (arith, nat_tests)

@@ -1,5 +1,5 @@
 //! Sets of lanes, each kept in one word.
-ghost use Rattle.std.specs.Prelude.{◌≡◌, ℕ, ◌+◌, ◌-◌, ◌*◌, ◌/◌, ◌%◌, ◌^◌, ◌<◌, ◌≤◌, Bool, true, false, not, ◌==◌, replicate, slice_set, slice_index, length};
+ghost use Rattle.std.specs.Prelude.{◌≡◌, ℕ, ◌+◌, ◌-◌, ◌*◌, ◌/◌, ◌%◌, ◌^◌, ◌<◌, ◌≤◌, Bool, true, false, not, ◌||◌, ◌==◌, replicate, slice_set, slice_index, length};
 ghost use Rattle.std.specs.List.{count_by};
 ghost use Rattle.gang_types.specs.Lanes.{Lanes, has, no_lane, lowest, without, and, lanes_where};
 ghost use Rattle.gang_types.specs.Masks.{IsGangWidth, lanes_of, lanes_of_word, word_of_lanes};
@@ -115,6 +115,15 @@ impl Mask {
     {
         Mask {
             word: self.word & other.word,
+        }
+    }
+
+    /// The lanes of either set.
+    pub fn or(self, other: Mask) -> Self
+        ensures { (w k : ℕ) → k < w → has (lanes_of w result) k ≡ (has (lanes_of w self) k || has (lanes_of w other) k) }
+    {
+        Mask {
+            word: self.word | other.word,
         }
     }
 

@@ -119,6 +119,7 @@ fn masks_are_sets_of_lanes(rt: HostRuntime) {
         odd.and(Mask::only::<4>(3)).with::<4>(0).word::<4>(),
         0b1001
     );
+    assert_eq!(&rt; odd.or(Mask::only::<4>(2)).word::<4>(), 0b1110);
     assert_eq!(&rt; Mask::none().is_empty::<8>(), true);
     assert_eq!(&rt; Mask::from_word::<8>(0x1ff).word::<8>(), 0xff);
 }

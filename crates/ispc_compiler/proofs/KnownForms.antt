@@ -1,6 +1,7 @@
 -- Forms of the parts of statements.
 use Rattle.std.proofs.Common.{◌≡◌, Bool, List, sym, ap, ◌∙◌, Vec, Global}
-use Rattle.gang_model.specs.Source.Known.{known_stmt, known_stmts, today}
+use Rattle.gang_model.specs.Source.Known.{known_stmt, known_stmts}
+use Rattle.scalar_programs.specs.Today.{today}
 use Rattle.ispc_parser.specs.declared.tree.Stmt.{Stmt, Block}
 use Rattle.ispc_parser.specs.Tree.{stmt_view, stmts_view}
 use Rattle.ispc_parser.proofs.Rows.{view_block}

@@ -2,7 +2,8 @@
 use Rattle.std.specs.Prelude.{◌≡◌, ℕ, true, List, Option, Some, None}
 use Rattle.gang_model.specs.declared.refusals.SourceRefusal.{SourceRefusal}
 use Rattle.gang_model.specs.Running.Entry.{entry_of}
-use Rattle.gang_model.specs.Source.Known.{is_known, today}
+use Rattle.gang_model.specs.Source.Known.{is_known}
+use Rattle.scalar_programs.specs.Today.{today}
 use Rattle.gang_model.specs.Source.Parsed.{Name, ParsedSource}
 use Rattle.gang_model.specs.Types.Resolved.{program_of}
 use Rattle.gang_model.specs.Texts.Run.{source_refusal}
@@ -36,8 +37,8 @@ GivesTree source asked (Some compiled) = CompilesTree source asked compiled
 
 -- the program of a text and its entry, or nothing where it has no function to begin with
 abbrev pub Compiles : List ℕ → (asked : Option Name) → Option Compiled → Type 0
-Compiles text asked None = HasNoEntry text asked
-Compiles text asked (Some compiled) = IsProgramOf text asked (program_view compiled.program) compiled.entry.0 × IsReady compiled
+Compiles text asked None = HasNoEntry today text asked
+Compiles text asked (Some compiled) = IsProgramOf today text asked (program_view compiled.program) compiled.entry.0 × IsReady compiled
 
 -- out of memory, or the refusal that is found
 abbrev pub IsFault : Option SourceRefusal → SourceFault → Type 0
@@ -47,4 +48,4 @@ IsFault found (Refused refusal) = found ≡ Some refusal
 -- out of memory, or the right refusal
 abbrev pub IsRefused : List ℕ → SourceFault → Type 0
 IsRefused text Memory = Unit {0}
-IsRefused text (Refused refusal) = IsRightRefusal text refusal
+IsRefused text (Refused refusal) = IsRightRefusal today text refusal

@@ -1,7 +1,8 @@
 //! Forms of the language that the later stages do not run yet.
 ghost use Rattle.std.specs.Prelude.{◌≡◌, is_ok};
 ghost use Rattle.ispc_parser_expressions.specs.Tree.{expr_view};
-ghost use Rattle.gang_model.specs.Source.Known.{is_known, known_expr, known_form, known_function, known_item, known_stmt, known_stmts, known_target, today};
+ghost use Rattle.gang_model.specs.Source.Known.{is_known, known_expr, known_form, known_function, known_item, known_stmt, known_stmts, known_target};
+ghost use Rattle.scalar_programs.specs.Today.{today};
 ghost use Rattle.ispc_parser.specs.Tree.{function_view, item_view, stmt_view, stmts_view, target_view, tree_view};
 
 use gang_model::GlobalForm;

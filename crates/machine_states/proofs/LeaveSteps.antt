@@ -82,7 +82,7 @@ module _ (p : Program) (variables : Variables) (w : ℕ) (regions : Regions) (ma
 -- ---- a result is given
 
 -- regions with the same words show the same
-shows_alike : (p : Program) (variables : Variables) (w : ℕ) (old new : Regions) → ((r : Region) → new r ≡ old r) → (masked : Masked)
+pub shows_alike : (p : Program) (variables : Variables) (w : ℕ) (old new : Regions) → ((r : Region) → new r ≡ old r) → (masked : Masked)
     → Shows p variables w old masked → Shows p variables w new masked
 shows_alike p variables w old new same masked shows = record {
   file = λ k. shows.file k ∙ sym (same (OfFile k));

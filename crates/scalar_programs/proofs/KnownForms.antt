@@ -6,7 +6,8 @@ use Rattle.gang_types.specs.declared.places.Place.{Place}
 use Rattle.gang_types.specs.declared.operators.BinaryOp.{BinaryOp}
 use Rattle.gang_model.specs.declared.forms.Spec.{Spec}
 use Rattle.gang_model.specs.Source.Parsed.{Name, ParsedExpr, ParsedNumber, ParsedBool, ParsedName, ParsedIndex, ParsedCall, ParsedParen, ParsedUnary, ParsedCast, ParsedBinary, ParsedChoice, ParsedTarget, ParsedStmt, ParsedEmpty, ParsedBlock, ParsedDeclare, ParsedAssign, ParsedChange, ParsedIncrement, ParsedDoCall, ParsedBreak, ParsedContinue, ParsedReturn, ParsedIf, ParsedIfElse, ParsedWhile, ParsedDo, ParsedFor, ParsedSwitch, ParsedForEach, ParsedForEachActive, ParsedForEachUnique, ParsedStmts, ParsedLast, ParsedNext, ParsedParam, ParsedFunction}
-use Rattle.gang_model.specs.Source.Known.{known_expr, known_some, known_target, known_stmt, known_stmts, known_params, today}
+use Rattle.gang_model.specs.Source.Known.{known_expr, known_some, known_target, known_stmt, known_stmts, known_params}
+use Rattle.scalar_programs.specs.Today.{today}
 use Rattle.gang_model.specs.Names.Scope.{has_return, one_returns, before_return}
 use Rattle.gang_model.specs.Types.Calls.{whole_call}
 use Rattle.gang_model.specs.Types.Statements.{call_for}

@@ -6,7 +6,8 @@ use Rattle.gang_model.specs.Source.Parsed.{ParsedExpr, ParsedStmt, ParsedBlock, 
 use Rattle.gang_model.specs.Source.Spells.{Opens, weight, max_weight}
 use Rattle.gang_model.specs.Source.SpellsStatements.{Maybe, SpellsValue, SpellsStmt, SpellsStmts}
 use Rattle.gang_model.specs.Source.SpellsSource.{SpellsFunction, max_nesting}
-use Rattle.gang_model.specs.Source.Known.{known_stmts, today}
+use Rattle.gang_model.specs.Source.Known.{known_stmts}
+use Rattle.scalar_programs.specs.Today.{today}
 use Rattle.scalar_programs.proofs.KnownForms.{by_forms}
 
 -- an expression of at most 256 operators, if there is one

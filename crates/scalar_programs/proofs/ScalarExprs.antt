@@ -24,7 +24,8 @@ use Rattle.gang_model.proofs.StandingLaws.{Each}
 use Rattle.gang_model.specs.Types.Signatures.{declared_type}
 use Rattle.gang_model.specs.Types.Conversions.{Typed, joined, promoted, same_type, as_type, operation_type, right_operand, infixed, prefixed, chosen_by}
 use Rattle.gang_model.specs.Types.Typing.{Entry, Scope, entry_of, named_entry, names_no_value, has_no_value, built_in_value, name_value, cast_rate, cast_faults, cast_to, var_of, truth_value, expression}
-use Rattle.gang_model.specs.Source.Known.{known_expr, today}
+use Rattle.gang_model.specs.Source.Known.{known_expr}
+use Rattle.scalar_programs.specs.Today.{today}
 use Rattle.scalar_programs.specs.Scalars.{IsOneOf, ReadsScalars, vectors, nested_arms, IsScalarExpr}
 
 module _ (file own : List Var) where

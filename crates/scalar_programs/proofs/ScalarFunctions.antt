@@ -19,7 +19,8 @@ use Rattle.gang_model.specs.Types.Calls.{Context}
 use Rattle.gang_model.specs.Types.TypeFaults.{signature_faults}
 use Rattle.gang_model.specs.Types.Statements.{Made, statements}
 use Rattle.gang_model.specs.Types.Resolved.{global_entry, global_entries, no_variable, local_at, standing_with, function_made, judged_function}
-use Rattle.gang_model.specs.Source.Known.{known_stmts, today}
+use Rattle.gang_model.specs.Source.Known.{known_stmts}
+use Rattle.scalar_programs.specs.Today.{today}
 use Rattle.scalar_programs.specs.Scalars.{var_at, steps_in_line, declared_before, IsScalarName, IsStraightFunction}
 use Rattle.scalar_programs.proofs.KnownForms.{none_returns}
 use Rattle.scalar_programs.proofs.LightSources.{AreLight}

@@ -19,7 +19,8 @@ use Rattle.gang_model.proofs.ScopedPrograms.{file_variables, variables_of_global
 use Rattle.gang_model.specs.Types.Typing.{var_of}
 use Rattle.gang_model.specs.Types.TypeFaults.{is_array_form}
 use Rattle.gang_model.specs.Types.Resolved.{global_entry, judged_globals, judged_function, judged_functions, judged_program, program_of}
-use Rattle.gang_model.specs.Source.Known.{known_params, known_stmts, known_function, known_form, known_item, is_known, today}
+use Rattle.gang_model.specs.Source.Known.{known_params, known_stmts, known_function, known_form, known_item, is_known}
+use Rattle.scalar_programs.specs.Today.{today}
 use Rattle.scalar_programs.specs.Scalars.{IsStraightFunction, IsScalarProgram}
 use Rattle.scalar_programs.proofs.KnownForms.{no_params}
 use Rattle.scalar_programs.proofs.LightSources.{light_function}

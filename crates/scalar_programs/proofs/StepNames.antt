@@ -9,7 +9,8 @@ use Rattle.gang_types.specs.declared.places.VarId.TheVariants.{File, Local}
 use Rattle.gang_model.specs.Types.Tree.{Stmt}
 use Rattle.gang_model.specs.Source.Parsed.{Name, ParsedStmt, ParsedStmts, ParsedBlock}
 use Rattle.gang_model.specs.Names.Scope.{Binding, bound, Site, with_name, enclosed, past, locals_in, after, after_all, NameStanding, listed}
-use Rattle.gang_model.specs.Source.Known.{known_stmt, known_stmts, today}
+use Rattle.gang_model.specs.Source.Known.{known_stmt, known_stmts}
+use Rattle.scalar_programs.specs.Today.{today}
 use Rattle.gang_model.proofs.StandingLaws.{Each, Placed, Found, found_listed}
 use Rattle.scalar_programs.specs.Scalars.{declared_by}
 use Rattle.scalar_programs.proofs.KnownForms.{FormCases, by_form, by_forms}

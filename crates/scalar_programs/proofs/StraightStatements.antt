@@ -18,7 +18,8 @@ use Rattle.gang_model.specs.Types.Typing.{Entry, Scope, declared, var_of}
 use Rattle.gang_model.specs.Types.Calls.{Context}
 use Rattle.gang_model.specs.Types.TypeFaults.{variable_faults}
 use Rattle.gang_model.specs.Types.Statements.{declaration, assignment, target_of, rate_of, operand_for, changed, number_one, Made, made, scope_after, statement, statements}
-use Rattle.gang_model.specs.Source.Known.{known_stmt, known_stmts, today}
+use Rattle.gang_model.specs.Source.Known.{known_stmt, known_stmts}
+use Rattle.scalar_programs.specs.Today.{today}
 use Rattle.scalar_programs.specs.Scalars.{var_at, declared_by, IsStraight, steps_in_line}
 use Rattle.scalar_programs.proofs.KnownForms.{FormCases, by_forms}
 use Rattle.scalar_programs.proofs.LightSources.{IsLight, AreLight}

@@ -17,7 +17,8 @@ use Rattle.gang_model.specs.Types.Conversions.{Typed, may_become, as_type, opera
 use Rattle.gang_model.specs.Types.Typing.{Entry, Scope, entry_of, has_no_value, first_of, expression, given_value}
 use Rattle.gang_model.specs.Types.Calls.{Context, WholeCall, whole_call}
 use Rattle.gang_model.specs.Types.Statements.{first_value, declaration, Aimed, assigned, scalar_target, target_of, rate_of, assigned_type, call_for, assigned_by, assignment, operand_for, changed, number_one}
-use Rattle.gang_model.specs.Source.Known.{known_expr, known_some, today}
+use Rattle.gang_model.specs.Source.Known.{known_expr, known_some}
+use Rattle.scalar_programs.specs.Today.{today}
 use Rattle.scalar_programs.specs.Scalars.{IsOneOf, IsScalarExpr, declared_by, IsStraight, steps_in_line}
 use Rattle.scalar_programs.proofs.KnownForms.{no_call, no_call_for}
 use Rattle.scalar_programs.proofs.LightSources.{IsLightValue}

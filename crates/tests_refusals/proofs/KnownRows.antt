@@ -1,12 +1,12 @@
--- Rows of sources with forms that are let through today, and of others.
+-- Rows of sources that have forms over scalars in straight lines alone, and of others.
 use Rattle.std.specs.Prelude.{◌≡◌, refl, true, false, [], ◌∷◌, Some, None, codes}
 use Rattle.gang_types.specs.declared.types.Rate.TheVariants.{Uniform}
 use Rattle.gang_types.specs.declared.operators.UnaryOp.TheVariants.{Negate}
 use Rattle.gang_model.specs.declared.forms.Infix.TheVariants.{Op}
 use Rattle.gang_model.specs.declared.forms.GlobalForm.TheVariants.{Plain, Array}
 use Rattle.gang_model.specs.Source.Parsed.{ParsedNumber, ParsedBool, ParsedName, ParsedIndex, ParsedCall, ParsedParen, ParsedUnary, ParsedBinary, ParsedEnd, ParsedValue, ParsedEmpty, ParsedBlock, ParsedDeclare, ParsedAssign, ParsedChange, ParsedDoCall, ParsedBreak, ParsedReturn, ParsedIf, ParsedWhile, ParsedForEach, ParsedLast, ParsedNext, ParsedSource}
-use Rattle.gang_model.specs.Source.Known.{today, is_known}
-use Rattle.tests_refusals.proofs.Trees.{at, spec, exported, target, dim, param, function, global}
+use Rattle.gang_model.specs.Source.Known.{is_known}
+use Rattle.tests_refusals.proofs.Trees.{straight_lines, at, spec, exported, target, dim, param, function, global}
 use Rattle.gang_types.specs.declared.types.IntType.TheVariants as t
 use Rattle.gang_types.specs.declared.operators.BinaryOp.TheVariants as op
 
@@ -20,7 +20,7 @@ tree_0 =
     (ParsedNext (ParsedDeclare (at 2 5) (spec None (Some t.Int32)) (at 2 9) (codes "x") (Some (ParsedBinary (Op op.Mul) (ParsedName (at 2 13) (codes "programIndex")) (ParsedNumber (at 2 28) 3 false false)))) (ParsedNext (ParsedChange (at 3 5) (target (at 3 5) (codes "x") None) op.Add (ParsedNumber (at 3 10) 1 false false)) ParsedLast)) (at 4 1)
     ∷ []
 
-row_0 : is_known today tree_0 ≡ true
+row_0 : is_known straight_lines tree_0 ≡ true
 row_0 = refl
 
 -- export void go() { }
@@ -30,7 +30,7 @@ tree_1 =
     ParsedLast (at 1 20)
     ∷ []
 
-row_1 : is_known today tree_1 ≡ true
+row_1 : is_known straight_lines tree_1 ≡ true
 row_1 = refl
 
 -- export void go() { int x = (1 + programIndex) * 0x10; x = x; }
@@ -40,7 +40,7 @@ tree_2 =
     (ParsedNext (ParsedDeclare (at 1 20) (spec None (Some t.Int32)) (at 1 24) (codes "x") (Some (ParsedBinary (Op op.Mul) (ParsedParen (at 1 28) (ParsedBinary (Op op.Add) (ParsedNumber (at 1 29) 1 false false) (ParsedName (at 1 33) (codes "programIndex")))) (ParsedNumber (at 1 49) 16 false false)))) (ParsedNext (ParsedAssign (at 1 55) (target (at 1 55) (codes "x") None) (ParsedName (at 1 59) (codes "x"))) ParsedLast)) (at 1 62)
     ∷ []
 
-row_2 : is_known today tree_2 ≡ true
+row_2 : is_known straight_lines tree_2 ≡ true
 row_2 = refl
 
 -- export void go() { int x; }
@@ -50,7 +50,7 @@ tree_3 =
     (ParsedNext (ParsedDeclare (at 1 20) (spec None (Some t.Int32)) (at 1 24) (codes "x") None) ParsedLast) (at 1 27)
     ∷ []
 
-row_3 : is_known today tree_3 ≡ true
+row_3 : is_known straight_lines tree_3 ≡ true
 row_3 = refl
 
 -- export void go() { int x = 2147483648; }
@@ -60,7 +60,7 @@ tree_4 =
     (ParsedNext (ParsedDeclare (at 1 20) (spec None (Some t.Int32)) (at 1 24) (codes "x") (Some (ParsedNumber (at 1 28) 2147483648 false false))) ParsedLast) (at 1 40)
     ∷ []
 
-row_4 : is_known today tree_4 ≡ true
+row_4 : is_known straight_lines tree_4 ≡ true
 row_4 = refl
 
 -- export void go() { int x = 1u; }
@@ -70,7 +70,7 @@ tree_5 =
     (ParsedNext (ParsedDeclare (at 1 20) (spec None (Some t.Int32)) (at 1 24) (codes "x") (Some (ParsedNumber (at 1 28) 1 true false))) ParsedLast) (at 1 32)
     ∷ []
 
-row_5 : is_known today tree_5 ≡ true
+row_5 : is_known straight_lines tree_5 ≡ true
 row_5 = refl
 
 -- export void go() { int x = 1 - 1; }
@@ -80,7 +80,7 @@ tree_6 =
     (ParsedNext (ParsedDeclare (at 1 20) (spec None (Some t.Int32)) (at 1 24) (codes "x") (Some (ParsedBinary (Op op.Sub) (ParsedNumber (at 1 28) 1 false false) (ParsedNumber (at 1 32) 1 false false)))) ParsedLast) (at 1 35)
     ∷ []
 
-row_6 : is_known today tree_6 ≡ true
+row_6 : is_known straight_lines tree_6 ≡ true
 row_6 = refl
 
 -- export void go() { int8 x = 1; }
@@ -90,7 +90,7 @@ tree_7 =
     (ParsedNext (ParsedDeclare (at 1 20) (spec None (Some t.Int8)) (at 1 25) (codes "x") (Some (ParsedNumber (at 1 29) 1 false false))) ParsedLast) (at 1 32)
     ∷ []
 
-row_7 : is_known today tree_7 ≡ true
+row_7 : is_known straight_lines tree_7 ≡ true
 row_7 = refl
 
 -- export void go() { uniform int x = 1; }
@@ -100,7 +100,7 @@ tree_8 =
     (ParsedNext (ParsedDeclare (at 1 20) (spec (Some Uniform) (Some t.Int32)) (at 1 32) (codes "x") (Some (ParsedNumber (at 1 36) 1 false false))) ParsedLast) (at 1 39)
     ∷ []
 
-row_8 : is_known today tree_8 ≡ true
+row_8 : is_known straight_lines tree_8 ≡ true
 row_8 = refl
 
 -- export void go() { int x = programCount; }
@@ -110,7 +110,7 @@ tree_9 =
     (ParsedNext (ParsedDeclare (at 1 20) (spec None (Some t.Int32)) (at 1 24) (codes "x") (Some (ParsedName (at 1 28) (codes "programCount")))) ParsedLast) (at 1 42)
     ∷ []
 
-row_9 : is_known today tree_9 ≡ true
+row_9 : is_known straight_lines tree_9 ≡ true
 row_9 = refl
 
 -- export void go() { int x = 1; x -= 1; }
@@ -120,7 +120,7 @@ tree_10 =
     (ParsedNext (ParsedDeclare (at 1 20) (spec None (Some t.Int32)) (at 1 24) (codes "x") (Some (ParsedNumber (at 1 28) 1 false false))) (ParsedNext (ParsedChange (at 1 31) (target (at 1 31) (codes "x") None) op.Sub (ParsedNumber (at 1 36) 1 false false)) ParsedLast)) (at 1 39)
     ∷ []
 
-row_10 : is_known today tree_10 ≡ true
+row_10 : is_known straight_lines tree_10 ≡ true
 row_10 = refl
 
 -- export void go() { { } }
@@ -130,7 +130,7 @@ tree_11 =
     (ParsedNext (ParsedBlock ParsedLast) ParsedLast) (at 1 24)
     ∷ []
 
-row_11 : is_known today tree_11 ≡ true
+row_11 : is_known straight_lines tree_11 ≡ true
 row_11 = refl
 
 -- export void go() { if (1) ; }
@@ -140,7 +140,7 @@ tree_12 =
     (ParsedNext (ParsedIf (at 1 20) (ParsedNumber (at 1 24) 1 false false) ParsedEmpty) ParsedLast) (at 1 29)
     ∷ []
 
-row_12 : is_known today tree_12 ≡ false
+row_12 : is_known straight_lines tree_12 ≡ false
 row_12 = refl
 
 -- void go() { }
@@ -150,7 +150,7 @@ tree_13 =
     ParsedLast (at 1 13)
     ∷ []
 
-row_13 : is_known today tree_13 ≡ true
+row_13 : is_known straight_lines tree_13 ≡ true
 row_13 = refl
 
 -- export void go() { }
@@ -163,7 +163,7 @@ tree_14 =
     ParsedLast (at 2 20)
     ∷ []
 
-row_14 : is_known today tree_14 ≡ true
+row_14 : is_known straight_lines tree_14 ≡ true
 row_14 = refl
 
 -- uniform int a;
@@ -172,7 +172,7 @@ tree_15 =
     global (at 1 13) (codes "a") (spec (Some Uniform) (Some t.Int32)) Plain
     ∷ []
 
-row_15 : is_known today tree_15 ≡ true
+row_15 : is_known straight_lines tree_15 ≡ true
 row_15 = refl
 
 -- export void go() { int x = any(1); }
@@ -182,7 +182,7 @@ tree_16 =
     (ParsedNext (ParsedDeclare (at 1 20) (spec None (Some t.Int32)) (at 1 24) (codes "x") (Some (ParsedCall (at 1 28) (codes "any") (ParsedValue (ParsedNumber (at 1 32) 1 false false) ParsedEnd)))) ParsedLast) (at 1 36)
     ∷ []
 
-row_16 : is_known today tree_16 ≡ false
+row_16 : is_known straight_lines tree_16 ≡ false
 row_16 = refl
 
 -- uniform int a[3];
@@ -191,7 +191,7 @@ tree_17 =
     global (at 1 13) (codes "a") (spec (Some Uniform) (Some t.Int32)) (Array 3)
     ∷ []
 
-row_17 : is_known today tree_17 ≡ false
+row_17 : is_known straight_lines tree_17 ≡ false
 row_17 = refl
 
 -- export void go() { int x = a[0]; }
@@ -201,7 +201,7 @@ tree_18 =
     (ParsedNext (ParsedDeclare (at 1 20) (spec None (Some t.Int32)) (at 1 24) (codes "x") (Some (ParsedIndex (at 1 28) (codes "a") (ParsedNumber (at 1 30) 0 false false)))) ParsedLast) (at 1 34)
     ∷ []
 
-row_18 : is_known today tree_18 ≡ false
+row_18 : is_known straight_lines tree_18 ≡ false
 row_18 = refl
 
 -- export void go() { a[0] = 1; }
@@ -211,7 +211,7 @@ tree_19 =
     (ParsedNext (ParsedAssign (at 1 20) (target (at 1 20) (codes "a") (Some (ParsedNumber (at 1 22) 0 false false))) (ParsedNumber (at 1 27) 1 false false)) ParsedLast) (at 1 30)
     ∷ []
 
-row_19 : is_known today tree_19 ≡ false
+row_19 : is_known straight_lines tree_19 ≡ false
 row_19 = refl
 
 -- void f(int n) { }
@@ -221,7 +221,7 @@ tree_20 =
     ParsedLast (at 1 17)
     ∷ []
 
-row_20 : is_known today tree_20 ≡ false
+row_20 : is_known straight_lines tree_20 ≡ false
 row_20 = refl
 
 -- export void go() { f(); }
@@ -231,7 +231,7 @@ tree_21 =
     (ParsedNext (ParsedDoCall (at 1 20) (codes "f") ParsedEnd) ParsedLast) (at 1 25)
     ∷ []
 
-row_21 : is_known today tree_21 ≡ false
+row_21 : is_known straight_lines tree_21 ≡ false
 row_21 = refl
 
 -- export void go() { int x = -f(); }
@@ -241,7 +241,7 @@ tree_22 =
     (ParsedNext (ParsedDeclare (at 1 20) (spec None (Some t.Int32)) (at 1 24) (codes "x") (Some (ParsedUnary (at 1 28) Negate (ParsedCall (at 1 29) (codes "f") ParsedEnd)))) ParsedLast) (at 1 34)
     ∷ []
 
-row_22 : is_known today tree_22 ≡ false
+row_22 : is_known straight_lines tree_22 ≡ false
 row_22 = refl
 
 -- export void go() { { while (true) ; } }
@@ -251,7 +251,7 @@ tree_23 =
     (ParsedNext (ParsedBlock (ParsedNext (ParsedWhile (at 1 22) (ParsedBool (at 1 29) true) ParsedEmpty) ParsedLast)) ParsedLast) (at 1 39)
     ∷ []
 
-row_23 : is_known today tree_23 ≡ false
+row_23 : is_known straight_lines tree_23 ≡ false
 row_23 = refl
 
 -- export void go() { break; }
@@ -261,7 +261,7 @@ tree_24 =
     (ParsedNext (ParsedBreak (at 1 20)) ParsedLast) (at 1 27)
     ∷ []
 
-row_24 : is_known today tree_24 ≡ false
+row_24 : is_known straight_lines tree_24 ≡ false
 row_24 = refl
 
 -- export void go() { return; }
@@ -271,7 +271,7 @@ tree_25 =
     (ParsedNext (ParsedReturn (at 1 20) None) ParsedLast) (at 1 28)
     ∷ []
 
-row_25 : is_known today tree_25 ≡ false
+row_25 : is_known straight_lines tree_25 ≡ false
 row_25 = refl
 
 -- export void go() { foreach (i = 0 ... 4) ; }
@@ -281,5 +281,5 @@ tree_26 =
     (ParsedNext (ParsedForEach (at 1 20) false (dim (at 1 29) (codes "i") (ParsedNumber (at 1 33) 0 false false) (ParsedNumber (at 1 39) 4 false false) ∷ []) ParsedEmpty) ParsedLast) (at 1 44)
     ∷ []
 
-row_26 : is_known today tree_26 ≡ false
+row_26 : is_known straight_lines tree_26 ≡ false
 row_26 = refl

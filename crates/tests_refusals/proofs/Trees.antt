@@ -10,9 +10,14 @@ use Rattle.gang_model.specs.declared.refusals.RefusalNumber.{RefusalNumber}
 use Rattle.gang_model.specs.declared.refusals.SourceRefusal.{SourceRefusal}
 use Rattle.gang_model.specs.Source.Parsed.{Name, ParsedExpr, ParsedDim, ParsedTarget, ParsedStmts, ParsedParam, ParsedItem, ParsedFunctionItem, ParsedGlobalItem, ParsedSource, functions_in}
 use Rattle.gang_model.specs.Source.Judged.{Sound, Faulty}
+use Rattle.gang_model.specs.Source.Known.{Forms}
 use Rattle.gang_model.specs.Names.Scope.{NameStanding, standings_at}
 use Rattle.gang_model.specs.Types.Typing.{expression}
 use Rattle.gang_model.specs.Types.Resolved.{program_of}
+
+-- all forms over scalars, in straight lines
+abbrev pub straight_lines : Forms
+straight_lines = record { scalars = true; control = false; calls = false; arrays = false; rounds = false; library = false; switches = false }
 
 abbrev pub at : ℕ → ℕ → Place
 at line col = record { line = line; col = col }

@@ -1,4 +1,4 @@
--- The forms of the language that the program accepts today; the definitions have the whole language
+-- Which forms of the language a source has; the definitions have the whole language
 -- (a choice of this project: forms are let through in the order in which their running code is proved).
 use Rattle.std.specs.Prelude.{◌≡◌, ◌^◌, Bool, true, false, not, ◌&&◌, ◌||◌, nat_lt, List, [], ◌∷◌, length, ◌==◌, Option, Some, None, codes, is_none, is_some}
 use Rattle.std.specs.List.{list_all}
@@ -31,10 +31,6 @@ pub record Forms : Type 0 where
   pub rounds : Bool
   pub library : Bool
   pub switches : Bool
-
--- the forms that are let through today
-abbrev pub today : Forms
-today = record { scalars = true; control = false; calls = false; arrays = false; rounds = false; library = false; switches = false }
 
 -- `+` and `*`
 abbrev pub is_plain_operation : Infix → Bool
@@ -156,7 +152,3 @@ known_item forms (ParsedGlobalItem g) = known_form g.form forms
 -- whether a source has forms that are let through alone
 abbrev pub is_known : Forms → ParsedSource → Bool
 is_known forms source = (forms.scalars || nat_lt (length source) 2) && list_all (known_item forms) source
-
--- a source that the program accepts today, if it has no fault
-abbrev pub Known : ParsedSource → Type 0
-Known source = is_known today source ≡ true

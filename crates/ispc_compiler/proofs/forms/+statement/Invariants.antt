@@ -1,6 +1,7 @@
 -- the statements that are left decide
 use Rattle.std.proofs.Common.{◌≡◌, drop}
-use Rattle.gang_model.specs.Source.Known.{known_stmts, today}
+use Rattle.gang_model.specs.Source.Known.{known_stmts}
+use Rattle.scalar_programs.specs.Today.{today}
 use Rattle.ispc_parser.specs.Tree.{stmts_view}
 use Rattle.ispc_compiler.proofs.forms.+statement.Given as goal
 

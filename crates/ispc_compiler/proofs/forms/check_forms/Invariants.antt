@@ -1,6 +1,7 @@
 -- the definitions that are left decide
 use Rattle.std.proofs.Common.{◌≡◌, drop, map}
-use Rattle.gang_model.specs.Source.Known.{is_known, today}
+use Rattle.gang_model.specs.Source.Known.{is_known}
+use Rattle.scalar_programs.specs.Today.{today}
 use Rattle.ispc_parser.specs.Tree.{item_view, tree_view}
 use Rattle.ispc_compiler.proofs.forms.check_forms.Given as goal
 
