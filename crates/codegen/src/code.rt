@@ -62,8 +62,10 @@ pub enum StepCode {
     },
 }
 
-/// For each function of a program its steps in running order, but for its closing brace.
+/// For each function of a program its steps in running order, but for its closing brace, and the step that lanes wait for that begin
+/// it.
 #[derive(Drop)]
 pub struct Code {
     pub functions: Vec<Vec<StepCode>>,
+    pub entries: Vec<usize>,
 }

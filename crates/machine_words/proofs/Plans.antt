@@ -17,18 +17,16 @@ pub record Plan (width : ℕ) (layout : Layout) : Type 0 where
   pub end : layout.words ≡ end_of_frames width layout.frames
 
 pub plan_of : (width : ℕ) (layout : Layout) → IsPlanned width layout → Plan width layout
-unfolding IsPlanned
-plan_of width layout (program, lengths, is) = record {
-  own = is.machine;
-  own_long = sym (length-map layout.machine.items (λ p. p.len)) ∙ ap length is.machine;
+plan_of width layout is = record {
+  own = is.own;
+  own_long = sym (length-map layout.machine.items (λ p. p.len)) ∙ ap length is.own;
   head = is.head;
   head_long = sym (length-map layout.frames.head.items (λ p. p.len)) ∙ ap length is.head;
-  count = is.frames;
-  order = is.in_order;
+  count = is.count;
+  order = is.order;
   end = is.end;
 }
 
 -- the layout that was planned for a program
 pub planned_for : (width : ℕ) (layout : Layout) (program : Program) (lengths : List ℕ) → IsLayoutOf width program lengths machine_sizes (head_sizes width) layout → IsPlanned width layout
-unfolding IsPlanned
-planned_for width layout program lengths is = (program, lengths, is)
+planned_for width layout program lengths is = record { own = is.machine; head = is.head; count = is.frames; order = is.in_order; end = is.end }

@@ -1,11 +1,11 @@
 -- Which of a layout's ranges has the words of a region, where the machine asks for one word itself and for five parts of a head
 -- (a choice of this project).
 use Rattle.std.specs.Prelude.{◌≡◌, ℕ, ◌+◌, ◌*◌, ◌^◌, ◌<◌, Bool, true, ◌&&◌, List, [], ◌∷◌, Option, Some, None, drop, length, nat_lt, slice_get, take, if◌then◌else◌}
-use Rattle.typed_tree.specs.declared.program.Program.{Program}
 use Rattle.machine_states.specs.Regions.{Head, FunctionOf, LanesOf, ReturnedOf, NumbersOf, ResultOf, Region, OfFile, Depth, OfHead, OfLocal, Regions, with_region}
 use Rattle.gang_memory.specs.declared.parts.Part.{Part}
 use Rattle.gang_memory.specs.declared.layout.Layout.{Layout}
-use Rattle.gang_memory.specs.Layouts.{IsLayoutOf, frame_parts, ranges}
+use Rattle.gang_memory.specs.Layouts.{end_of_frames, frame_parts, ranges}
+use Rattle.gang_memory.specs.Ranges.{AreInOrder, sizes_of}
 
 -- the number of a part of a head
 abbrev pub head_part : Head → ℕ
@@ -54,9 +54,13 @@ words_at (Some part) words = take part.len (drop part.first words)
 abbrev pub regions_of : (width : ℕ) → Layout → (words : List ℕ) → Regions
 regions_of width layout words region = words_at (range_of width layout region) words
 
--- the layout is that of some program
-unfoldable pub IsPlanned : (width : ℕ) → Layout → Type 0
-IsPlanned width layout = (program : Program) × (lengths : List ℕ) × IsLayoutOf width program lengths machine_sizes (head_sizes width) layout
+-- the layout has the parts that the machine asks for, in 64 frames, and all its ranges lie one behind the other
+pub record IsPlanned (width : ℕ) (layout : Layout) : Type 0 where
+  pub own : sizes_of layout.machine.items ≡ machine_sizes
+  pub head : sizes_of layout.frames.head.items ≡ head_sizes width
+  pub count : layout.frames.count ≡ 64
+  pub order : AreInOrder 0 (ranges width layout) layout.words
+  pub end : layout.words ≡ end_of_frames width layout.frames
 
 -- words that lie as the layout says
 pub record IsLaid (width : ℕ) (layout : Layout) (words : List ℕ) : Type 0 where

@@ -12,6 +12,6 @@ returns c = λ numbered.
     let old = c.in_ok-points.points.items in
     let new = c.lower_statements.new.points.items in
     let ends = c.in_ok-closing.ensures ∙ zero-add (steps_of (stmts_view c.deref.result.now)) ∙ ap (λ items. steps_of (stmts_view items)) c.deref.ensures.value in
-    let made = subst (λ items. Lowered closing old new (stmts_view items) (ways_view c.of_function.result) c.in_ok-lower_statements.field-0) c.deref-2.ensures.value c.in_ok-lower_statements.ensures in
-    function_lowered f closing old new c.reverse.new.self.items (ways_view c.of_function.result) c.in_ok-lower_statements.field-0 ends c.in_ok-points.ensures.items
+    let made = subst (λ items. Lowered closing old new (stmts_view items) (ways_view c.of_function.result) c.in_ok-entry.entry) c.deref-2.ensures.value c.in_ok-entry.ensures in
+    function_lowered f closing old new c.reverse.new.self (ways_view c.of_function.result) c.in_ok-entry.entry ends c.in_ok-points.ensures.items
     (c.of_function.ensures f ends) made c.reverse.ensures.items numbered
