@@ -1,0 +1,223 @@
+-- The first words of a run: those of the file's variables, one after the other, and the entry's frame.
+use Rattle.std.proofs.Common.{◌≡◌, refl, sym, ap, ◌∙◌, subst, ℕ, zero, suc, ◌+◌, ◌-◌, ◌^◌, ◌<◌, ◌≤◌, true, false, cond, List, [], ◌∷◌, length, Option, Some, None, inl, inr, zero-add, arith}
+use Rattle.std.specs.Prelude.{map, option_map, replicate, slice_get, slice_set}
+use Rattle.std.proofs.lemmas.Bool.{cases_lt, le-ltb, ne_eqb}
+use Rattle.std.proofs.lemmas.List.{get_or-replicate, length-map, length-replicate}
+use Rattle.std.proofs.lemmas.Option.{none-some, same_Some, slice_get-map}
+use Rattle.gang_types.specs.declared.types.Rate.{Rate}
+use Rattle.gang_types.specs.declared.types.Rate.TheVariants.{Uniform, Varying}
+use Rattle.gang_types.specs.declared.places.VarId.TheVariants.{File}
+use Rattle.gang_types.specs.Lanes.{Lanes, lowest}
+use Rattle.gang_types.specs.MaskLaws.{gang_width-le}
+use Rattle.gang_model.specs.Types.Tree.{Function}
+use Rattle.gang_model.specs.Types.Tree as model
+use Rattle.gang_model.specs.Running.Lanes.{at}
+use Rattle.gang_model.specs.Running.State.{same_id, words_of}
+use Rattle.gang_model.specs.Debugger.Events.{global_words, initial_memory, scalar_words}
+use Rattle.undo_log.specs.History.{History}
+use Rattle.typed_tree.specs.declared.program.Global.{Global}
+use Rattle.typed_tree.specs.Views.{global_view, variable_view}
+use Rattle.gang_memory.specs.Layouts.{IsLayoutOf, global_words as layout_words, ranges}
+use Rattle.gang_memory.specs.Recorded.{left_in, without_words}
+use Rattle.mask_states.specs.MaskedStep.{masked_start}
+use Rattle.machine_states.specs.Effects.{assigned_region}
+use Rattle.machine_states.specs.Regions.{OfFile}
+use Rattle.machine_states.specs.Shows.{words_for}
+use Rattle.machine_states.specs.Steps.{IsBegun}
+use Rattle.machine_states.specs.Variables.{parameters_of}
+use Rattle.machine_states.proofs.AlwaysDeclared.{start_declared}
+use Rattle.machine_states.proofs.Beginnings.{begins}
+use Rattle.machine_states.proofs.StoreWords.{another, itself}
+use Rattle.machine_words.proofs.AllLanes.{merged_all}
+use Rattle.machine_words.specs.declared.words.MachineWords.{MachineWords}
+use Rattle.machine_words.specs.Ranges.{head_sizes, machine_sizes, regions_of, words_at}
+use Rattle.machine_words.specs.Words.{AreLaid, Writes, left_of, regions_in, words_of as all_words}
+use Rattle.machine_steps.specs.declared.compiled.CompiledProgram.{CompiledProgram}
+use Rattle.machine_steps.specs.Calls.{BeginsFrame}
+use Rattle.machine_steps.specs.Compiled.{function_of, program_of, variables_of}
+use Rattle.machine_steps.specs.Standing.{AreFor, IsShown}
+use Rattle.machine_steps.proofs.GangLanes.{gang_wide}
+use Rattle.machine_steps.proofs.Standings.{file_sized}
+use Rattle.machine_steps.proofs.WrittenRegions.{one_word, written_away, written_here}
+
+item_at : {A : Type 0} (xs : List A) (k : ℕ) → k < length xs → (x : A) × (slice_get xs k ≡ Some x)
+item_at [] k h = absurd (omega (arith, h))
+item_at (x ∷ xs) zero h = (x, refl)
+item_at (x ∷ xs) (suc k) h = item_at xs k (omega (arith, h))
+
+same_variables : (o : Option Global) → option_map (λ (h : Global). variable_view h.variable) o ≡ option_map (λ (u : model.Global). u.variable) (option_map global_view o)
+same_variables None = refl
+same_variables (Some h) = refl
+
+same_file : (m n : ℕ) → File m ≡ File n → m ≡ n
+same_file m n e = cc
+
+-- ---- one variable
+
+lowest_of_all : (w : ℕ) → lowest (replicate w true) ≡ 0
+lowest_of_all zero = refl
+lowest_of_all (suc w) = refl
+
+-- a scalar that all lanes assign one word to
+pub first_words : (w : ℕ) → 0 < w → (rate : Rate) (lanes : Lanes) (word : ℕ) (old : List ℕ) → lanes ≡ replicate w true → length old ≡ words_for w rate
+    → assigned_region rate lanes (replicate w word) old ≡ scalar_words rate w word
+first_words w wide Uniform lanes word old all long =
+    ap (λ k. slice_set old 0 (at (replicate w word) k)) (ap lowest all ∙ lowest_of_all w)
+    ∙ ap (slice_set old 0) (get_or-replicate w 0 word 0 wide)
+    ∙ one_word old word long
+first_words w wide Varying lanes word old all long =
+    ap (λ l. assigned_region Varying l (replicate w word) old) all ∙ merged_all w (replicate w word) old (length-replicate w word) long
+
+-- ---- the memory of a run
+
+module _ (w : ℕ) where
+  -- the variables from a number on
+  abbrev pub AreNumbered : (first : ℕ) → List model.Global → Type 0
+  AreNumbered first globals = (k : ℕ) (g : model.Global) → slice_get globals k ≡ Some g → g.variable.id ≡ File (first + k)
+
+  numbered_behind : (first : ℕ) (g : model.Global) (globals : List model.Global) → AreNumbered first (g ∷ globals) → AreNumbered (suc first) globals
+  numbered_behind first g globals ids k h e = ids (suc k) h e ∙ ap File (let next : first + suc k ≡ suc first + k = omega arith in next)
+
+  behind_first : (first : ℕ) (g : model.Global) (globals : List model.Global) → AreNumbered first (g ∷ globals) → (k : ℕ)
+      → words_of (initial_memory w (g ∷ globals)) (File (first + suc k)) ≡ words_of (initial_memory w globals) (File (suc first + k))
+  behind_first first g globals ids k =
+      let next : first + suc k ≡ suc first + k = omega arith in
+      ap (λ b. cond b (global_words w g) (words_of (initial_memory w globals) (File (first + suc k))))
+      (ap (λ v. same_id v (File (first + suc k))) (ids 0 g refl) ∙ another (File (first + 0)) (File (first + suc k)) (λ e. omega (arith, same_file (first + 0) (first + suc k) e)))
+      ∙ ap (λ n. words_of (initial_memory w globals) (File n)) next
+
+  pub initial_at : (first : ℕ) (globals : List model.Global) → AreNumbered first globals
+      → (k : ℕ) (g : model.Global) → slice_get globals k ≡ Some g → words_of (initial_memory w globals) (File (first + k)) ≡ global_words w g
+  initial_at first [] ids k g is = absurd (none-some g is)
+  initial_at first (h ∷ globals) ids zero g is =
+      ap (λ b. cond b (global_words w h) (words_of (initial_memory w globals) (File (first + 0)))) (ap (λ v. same_id v (File (first + 0))) (ids 0 h refl) ∙ itself (File (first + 0)))
+      ∙ ap (global_words w) (same_Some h g is)
+  initial_at first (h ∷ globals) ids (suc k) g is = behind_first first h globals ids k ∙ initial_at (suc first) globals (numbered_behind first h globals ids) k g is
+
+  pub initial_past : (first : ℕ) (globals : List model.Global) → AreNumbered first globals → (k : ℕ) → length globals ≤ k → words_of (initial_memory w globals) (File (first + k)) ≡ []
+  initial_past first [] ids k above = refl
+  initial_past first (h ∷ globals) ids zero above = absurd (omega (arith, above))
+  initial_past first (h ∷ globals) ids (suc k) above =
+      behind_first first h globals ids k ∙ initial_past (suc first) globals (numbered_behind first h globals ids) k (omega (arith, above))
+
+-- ---- the loop
+
+-- the first so many variables of the file have their words, and the words lie as before
+pub record AreFilled {T : Type 0} (history : T → History) (width count : ℕ) (globals : List Global) (old new : MachineWords T) : Type 0 where
+  pub file : (k : ℕ) (g : Global) → k < count → slice_get globals k ≡ Some g → regions_in history width new (OfFile k) ≡ scalar_words g.variable.rate width g.word
+  pub layout : new.layout ≡ old.layout
+  pub laid : AreLaid history width new
+  pub rest : without_words (history new.store.timeline) ≡ without_words (history old.store.timeline)
+
+module _ {T : Type 0} (history : T → History) (left : T → ℕ) (width : ℕ) (compiled : CompiledProgram) (old : MachineWords T) (lie : AreFor history width compiled old) where
+  abbrev globals : List Global
+  globals = compiled.program.globals.items
+
+  pub none_filled : AreFilled history width 0 globals old old
+  none_filled = record {
+    file = λ k g below e. absurd (omega (arith, below));
+    layout = refl;
+    laid = lie.laid;
+    rest = refl;
+  }
+
+  module _ (fresh : (history old.store.timeline).past ≡ []) (count : ℕ) (mid : MachineWords T) (filled : AreFilled history width count globals old mid) where
+    -- where no event is kept any number of words may be set
+    pub plenty_left : 32 ≤ left_of history left mid
+    plenty_left =
+        let none : (history mid.store.timeline).past ≡ [] = ap (λ h. h.past) filled.rest ∙ fresh in
+        let many : left_of history left mid ≡ 2 ^ 64 - 1 = ap (λ past. left_in past (left mid.store.timeline)) none in
+        omega (arith, many)
+
+    pub width_left : width + 4 ≤ left_of history left mid
+    width_left = omega (arith, gang_width-le width lie.gang, plenty_left)
+
+    module _ (g : Global) (is : slice_get globals count ≡ Some g) where
+      pub next_file : length (regions_in history width mid (OfFile count)) ≡ words_for width g.variable.rate
+      next_file =
+          file_sized history width compiled old mid lie filled.layout filled.laid count (variable_view g.variable)
+          (slice_get-map (λ (h : Global). variable_view h.variable) globals count ∙ ap (option_map (λ (h : Global). variable_view h.variable)) is)
+
+      pub one_filled : (new : MachineWords T) (lanes : Lanes) → lanes ≡ replicate width true
+          → Writes history left width (OfFile count) (assigned_region g.variable.rate lanes (replicate width g.word) (regions_in history width mid (OfFile count))) width mid new
+          → AreFilled history width (count + 1) globals old new
+      one_filled new lanes all w = record {
+        file = λ k h below e. elim (cases_lt k count) [
+          | inl before ↦ written_away w (OfFile k) (ne_eqb count k (λ q. omega (arith, q, before))) ∙ filled.file k h before e
+          | inr past ↦
+              let same : k ≡ count = omega (arith, below, past) in
+              let this : g ≡ h = same_Some g h (sym is ∙ sym (ap (slice_get globals) same) ∙ e) in
+              ap (λ j. regions_in history width new (OfFile j)) same ∙ written_here w
+              ∙ first_words width (let wide : 4 ≤ width = gang_wide width lie.gang in omega (arith, wide)) g.variable.rate lanes g.word (regions_in history width mid (OfFile count)) all next_file
+              ∙ ap (λ (f : Global). scalar_words f.variable.rate width f.word) this
+        ];
+        layout = w.layout ∙ filled.layout;
+        laid = w.laid;
+        rest = w.rest ∙ filled.rest;
+      }
+
+  -- ---- the state
+
+  -- a region of no variable of the file has no words
+  no_file : (new : MachineWords T) → new.layout ≡ old.layout → (k : ℕ) → length globals ≤ k → regions_in history width new (OfFile k) ≡ []
+  no_file new same k above =
+      let files : length old.layout.file.items ≡ length globals =
+      sym (length-map old.layout.file.items (λ p. p.len)) ∙ ap length lie.layout.file ∙ length-map globals (layout_words width) in
+      ap (λ l. regions_of width l (all_words history new) (OfFile k)) same
+      ∙ ap (λ b. words_at (cond b (slice_get (ranges width old.layout) k) None) (all_words history new)) (le-ltb k (length old.layout.file.items) (omega (arith, above, files)))
+
+  module _ (entry : ℕ) (f : Function) (is : function_of compiled entry ≡ Some f) (none : parameters_of (variables_of compiled) entry ≡ 0) (mid new : MachineWords T) (lanes : Lanes) (all : lanes ≡ replicate width true)
+      (count : ℕ) (filled : AreFilled history width count globals old mid) (over : length globals ≤ count)
+      (begun : BeginsFrame history left (variables_of compiled) width 0 entry f lanes mid new) where
+    first_layout : new.layout ≡ old.layout
+    first_layout = begun.layout ∙ filled.layout
+
+    pub first_rest : without_words (history new.store.timeline) ≡ without_words (history old.store.timeline)
+    first_rest = begun.rest ∙ filled.rest
+
+    pub first_lie : AreFor history width compiled new
+    first_lie = record {
+      gang = lie.gang;
+      compiled_is = lie.compiled_is;
+      layout = subst (λ l. IsLayoutOf width compiled.program [] machine_sizes (head_sizes width) l) (sym first_layout) lie.layout;
+      laid = begun.laid;
+      room = omega (arith, lie.room, ap (λ h. h.room) first_rest);
+    }
+
+    -- the variables of the file have their numbers, and are no arrays
+    file_ids : (k : ℕ) (g : model.Global) → slice_get (map global_view globals) k ≡ Some g → (g.variable.id ≡ File (0 + k)) × (g.variable.is_array ≡ false)
+    file_ids k g e =
+        let variable : slice_get (variables_of compiled).file k ≡ Some g.variable =
+        slice_get-map (λ (h : Global). variable_view h.variable) globals k ∙ same_variables (slice_get globals k)
+        ∙ ap (option_map (λ (u : model.Global). u.variable)) (sym (slice_get-map global_view globals k) ∙ e) in
+        let plain = lie.compiled_is.runnable.plain.file k g.variable variable in
+        (plain.0 ∙ ap File (sym (zero-add k)), plain.1)
+
+    first_file : (k : ℕ) → regions_in history width new (OfFile k) ≡ words_of (initial_memory width (program_of compiled).globals) (File k)
+    first_file k =
+        let views = map global_view globals in
+        let names = ap (λ n. words_of (initial_memory width views) (File n)) (zero-add k) in
+        elim (cases_lt k (length globals)) [
+          | inl below ↦
+              let there = item_at globals k below in
+              let g = there.0 in
+              let is_view : slice_get views k ≡ Some (global_view g) = slice_get-map global_view globals k ∙ ap (option_map global_view) there.1 in
+              begun.kept.file k ∙ filled.file k g (omega (arith, below, over)) there.1
+              ∙ sym (initial_at width 0 views (λ j u e. (file_ids j u e).0) k (global_view g) is_view
+              ∙ ap (λ b. cond b (replicate g.length 0) (scalar_words g.variable.rate width g.word)) (file_ids k (global_view g) is_view).1)
+              ∙ names
+          | inr past ↦
+              let above : length views ≤ k = omega (arith, past, length-map globals global_view) in
+              begun.kept.file k ∙ no_file mid filled.layout k past ∙ sym (initial_past width 0 views (λ j u e. (file_ids j u e).0) k above) ∙ names
+        ]
+
+    pub first_shown : IsShown history width compiled new (masked_start (program_of compiled) entry [] width)
+    first_shown =
+        let runnable = lie.compiled_is.runnable in
+        let begun_for_all : IsBegun (variables_of compiled) width (regions_in history width new) 0 entry f (replicate width true) [] =
+        subst (λ l. IsBegun (variables_of compiled) width (regions_in history width new) 0 entry f l []) all begun.begun in
+        record {
+          shows = begins (program_of compiled) (variables_of compiled) width (regions_in history width new) entry f is begun_for_all first_file;
+          declared = start_declared (variables_of compiled) runnable.most (program_of compiled) runnable.plain runnable.lowerable.numbered entry width f is none
+              (let wide : 4 ≤ width = gang_wide width lie.gang in omega (arith, wide));
+        }

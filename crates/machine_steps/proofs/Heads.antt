@@ -1,0 +1,94 @@
+-- The words of frames' heads, and the regions after a write.
+use Rattle.std.proofs.Common.{ℕ, suc, ◌<◌, ◌≤◌, ◌≡◌, refl, sym, ◌∙◌, ap, subst, arith, Bool, true, false, List, [], ◌∷◌, length, inl, inr}
+use Rattle.std.specs.Prelude.{◌||◌, if◌then◌else◌, replicate, slice_index, slice_set}
+use Rattle.undo_log.specs.History.{History}
+use Rattle.gang_types.specs.declared.types.Rate.{Rate}
+use Rattle.gang_types.specs.declared.types.Rate.TheVariants.{Uniform, Varying}
+use Rattle.gang_types.specs.declared.masks.Mask.{Mask}
+use Rattle.gang_types.specs.Lanes.{Lanes, has}
+use Rattle.gang_types.specs.Masks.{IsGangWidth, lanes_of, lanes_of_word, word_of_lanes}
+use Rattle.gang_types.specs.MaskLaws.{lanes_of_word_of_lanes, length-lanes_of_word}
+use Rattle.gang_model.specs.Running.Lanes.{merged, words_from}
+use Rattle.mask_states.specs.Masked.{sent}
+use Rattle.machine_states.specs.Regions.{Head, OfHead, Region, Regions, same_region, with_region}
+use Rattle.machine_states.specs.Shows.{words_for}
+use Rattle.machine_states.specs.Steps.{KeepsBoth}
+use Rattle.machine_words.specs.declared.words.MachineWords.{MachineWords}
+use Rattle.machine_words.specs.Ranges.{head_part, head_sizes, regions_of}
+use Rattle.machine_words.specs.Words.{AreLaid, Writes, regions_in, words_of}
+use Rattle.machine_words.proofs.Sizes.{head_words}
+
+-- a gang has a lane
+pub gang_some : (w : ℕ) → IsGangWidth w → 0 < w
+gang_some w (inl e) = omega arith
+gang_some w (inr (inl e)) = omega arith
+gang_some w (inr (inr e)) = omega arith
+
+-- a word for each lane is room for a scalar
+pub rate_room : (w : ℕ) → IsGangWidth w → (rate : Rate) → words_for w rate ≤ w
+rate_room w gang Uniform = omega (arith, gang_some w gang)
+rate_room w gang Varying = omega arith
+
+-- ---- words
+
+-- the only word is set
+pub only_word : (words : List ℕ) (x : ℕ) → length words ≡ 1 → slice_set words 0 x ≡ x ∷ []
+only_word [] x e = absurd (omega (arith, e))
+only_word (y ∷ []) x e = refl
+only_word (y ∷ z ∷ words) x e = absurd (omega (arith, e))
+
+pub one_word : (words : List ℕ) (x : ℕ) → length words ≡ 1 → x ≡ slice_index words 0 → words ≡ x ∷ []
+one_word [] x e is = absurd (omega (arith, e))
+one_word (y ∷ []) x e is = ap (λ z. z ∷ []) (sym is)
+one_word (y ∷ z ∷ words) x e is = absurd (omega (arith, e))
+
+pub first_word : (words : List ℕ) (n x : ℕ) → words ≡ n ∷ [] → x ≡ slice_index words 0 → x ≡ n
+first_word words n x e is = is ∙ ap (λ ws. slice_index ws 0) e
+
+pub alike : (region : Region) (some others : List ℕ) (old new : Regions) (r : Region) → some ≡ others → old r ≡ new r → with_region region some old r ≡ with_region region others new r
+alike region some others old new r e f =
+    ap (λ words. if same_region region r then words else old r) e ∙ ap (λ words. if same_region region r then others else words) f
+
+module _ {T : Type 0} (history : T → History) (left : T → ℕ) (w : ℕ) where
+  -- the regions after a write
+  pub regions_after : (old new : MachineWords T) (region : Region) (after : List ℕ) (writes : ℕ) → Writes history left w region after writes old new
+      → (r : Region) → regions_in history w new r ≡ with_region region after (regions_in history w old) r
+  regions_after old new region after writes is r = ap (λ layout. regions_of w layout (words_of history new) r) is.layout ∙ is.changes r
+
+  -- how many words a part of a head has
+  pub head_long : (words : MachineWords T) → AreLaid history w words → (i : ℕ) (part : Head) → i < 64
+      → length (regions_in history w words (OfHead i part)) ≡ slice_index (head_sizes w) (head_part part)
+  head_long words laid i part h = head_words w words.layout (words_of history words) laid i part (subst (λ n. i < n) (sym laid.planned.count) h)
+
+-- ---- lanes
+
+either_way : (a b : Bool) → (a || b) ≡ (b || a)
+either_way true true = refl
+either_way true false = refl
+either_way false true = refl
+either_way false false = refl
+
+-- the word of a mask keeps its lanes
+pub word_keeps : (w word : ℕ) (mask : Mask) → word ≡ word_of_lanes (lanes_of w mask) → lanes_of_word w word ≡ lanes_of w mask
+word_keeps w word mask e = ap (lanes_of_word w) e ∙ lanes_of_word_of_lanes w (lanes_of w mask) (length-lanes_of_word w mask.word)
+
+pub keeps_both : (w word : ℕ) (some other both : Mask) (others : Lanes) → lanes_of w other ≡ others
+    → ((v k : ℕ) → k < v → has (lanes_of v both) k ≡ (has (lanes_of v other) k || has (lanes_of v some) k))
+    → word ≡ word_of_lanes (lanes_of w both) → KeepsBoth w (lanes_of w some) others word
+keeps_both w word some other both others is either e k h =
+    ap (λ lanes. has lanes k) (word_keeps w word both e)
+    ∙ either w k h
+    ∙ either_way (has (lanes_of w other) k) (has (lanes_of w some) k)
+    ∙ ap (λ lanes. has (lanes_of w some) k || has lanes k) is
+
+-- ---- lanes that go on
+
+merged_each : (m : ℕ) (lanes : Lanes) (x : ℕ) (old : List ℕ) → merged lanes (replicate (length lanes) x) old ≡ merged lanes (words_from m lanes (λ k. x)) old
+merged_each m [] x old = refl
+merged_each m (b ∷ lanes) x [] = refl
+merged_each m (true ∷ lanes) x (y ∷ old) = ap (λ words. x ∷ words) (merged_each (suc m) lanes x old)
+merged_each m (false ∷ lanes) x (y ∷ old) = ap (λ words. y ∷ words) (merged_each (suc m) lanes x old)
+
+-- one number is written for all lanes of the set
+pub sent_to : (w : ℕ) (lanes : Lanes) (next : ℕ) (numbers : List ℕ) → length lanes ≡ w → merged lanes (replicate w next) numbers ≡ sent lanes (λ k. next) numbers
+sent_to w lanes next numbers long = ap (λ n. merged lanes (replicate n next) numbers) (sym long) ∙ merged_each 0 lanes next numbers

@@ -1,0 +1,62 @@
+use Rattle.std.proofs.Common.{arith, subst}
+use Rattle.gang_types.specs.MaskLaws.{gang_width-le}
+use Rattle.machine_words.specs.Words.{regions_in}
+use Rattle.machine_steps.specs.Standing.{DoesNext}
+use Rattle.machine_steps.proofs.stepping.perform.Goals as goal
+
+pub declare-requires : goal.declare-requires
+declare-requires g c =
+    let small = gang_width-le g.row.W c.requires.sound.lie.gang in
+    (omega (arith, small), (c.requires.sound, subst (λ code. DoesNext g.row.W c.args.compiled.now (regions_in g.T.Timeline.history g.row.W c.args.words.now) c.args.active code) c.in-Declare.is c.requires.does))
+
+pub returns-in-Declare : goal.returns-in-Declare
+returns-in-Declare g c = c.declare.ensures
+
+pub assign-requires : goal.assign-requires
+assign-requires g c =
+    let small = gang_width-le g.row.W c.requires.sound.lie.gang in
+    (omega (arith, small), (c.requires.sound, subst (λ code. DoesNext g.row.W c.args.compiled.now (regions_in g.T.Timeline.history g.row.W c.args.words.now) c.args.active code) c.in-Assign.is c.requires.does))
+
+pub returns-in-Assign : goal.returns-in-Assign
+returns-in-Assign g c = c.assign.ensures
+
+pub change-requires : goal.change-requires
+change-requires g c =
+    let small = gang_width-le g.row.W c.requires.sound.lie.gang in
+    (omega (arith, small), (c.requires.sound, subst (λ code. DoesNext g.row.W c.args.compiled.now (regions_in g.T.Timeline.history g.row.W c.args.words.now) c.args.active code) c.in-Change.is c.requires.does))
+
+pub returns-in-Change : goal.returns-in-Change
+returns-in-Change g c = c.change.ensures
+
+pub finish-requires : goal.finish-requires
+finish-requires g c =
+    let small = gang_width-le g.row.W c.requires.sound.lie.gang in
+    (omega (arith, small), (c.requires.sound, subst (λ code. DoesNext g.row.W c.args.compiled.now (regions_in g.T.Timeline.history g.row.W c.args.words.now) c.args.active code) c.in-Return.is c.requires.does))
+
+pub returns-in-Return : goal.returns-in-Return
+returns-in-Return g c = c.finish.ensures
+
+pub go-requires : goal.go-requires
+go-requires g c = record {
+  sound = c.requires.sound;
+  does = subst (λ code. DoesNext g.row.W c.args.compiled.now (regions_in g.T.Timeline.history g.row.W c.args.words.now) c.args.active code) c.in-Go.is c.requires.does;
+}
+
+pub returns-in-Go : goal.returns-in-Go
+returns-in-Go g c = c.go.ensures
+
+pub branch-compiled-requires : goal.branch-compiled-requires
+branch-compiled-requires g c =
+    let small = gang_width-le g.row.W c.requires.sound.lie.gang in
+    (omega (arith, small), (c.requires.sound, subst (λ code. DoesNext g.row.W c.args.compiled.now (regions_in g.T.Timeline.history g.row.W c.args.words.now) c.args.active code) c.in-Branch.is c.requires.does))
+
+pub returns-in-Branch : goal.returns-in-Branch
+returns-in-Branch g c = c.branch-compiled.ensures
+
+pub enter-requires : goal.enter-requires
+enter-requires g c =
+    let small = gang_width-le g.row.W c.requires.sound.lie.gang in
+    (omega (arith, small), (c.requires.sound, (c.in-Enter.result_for, c.in-Enter.next, subst (λ code. DoesNext g.row.W c.args.compiled.now (regions_in g.T.Timeline.history g.row.W c.args.words.now) c.args.active code) c.in-Enter.is c.requires.does)))
+
+pub returns-in-Enter : goal.returns-in-Enter
+returns-in-Enter g c = c.enter.ensures

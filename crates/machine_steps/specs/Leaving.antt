@@ -1,0 +1,79 @@
+-- What becomes of the words of a machine when a frame is left: its result goes to what it is for, and the lanes of the call go on.
+use Rattle.std.specs.Prelude.{◌≡◌, ℕ, ◌+◌, ◌-◌, ◌≤◌, List, [], ◌∷◌, Some, slice_get}
+use Rattle.gang_types.specs.declared.types.IntType.{IntType}
+use Rattle.gang_types.specs.declared.types.Rate.{Rate}
+use Rattle.gang_types.specs.Lanes.{Lanes}
+use Rattle.gang_model.specs.Types.Tree.{Arg, Function, Program, ResultFor, StepNumber}
+use Rattle.gang_model.specs.Running.State.{seen}
+use Rattle.undo_log.specs.History.{History}
+use Rattle.gang_memory.specs.Recorded.{without_words}
+use Rattle.mask_states.specs.Points.{Enter, closing_number, points_in}
+use Rattle.mask_states.specs.Masked.{least}
+use Rattle.machine_states.specs.Effects.{sent_on}
+use Rattle.machine_states.specs.Plain.{ResultPlain}
+use Rattle.machine_states.specs.Regions.{FunctionOf, LanesOf, NumbersOf, OfHead, Region, Regions, ResultOf, ReturnedOf, lanes_in}
+use Rattle.machine_states.specs.Shows.{result_of}
+use Rattle.machine_states.specs.Steps.{Delivers, waiting_in}
+use Rattle.machine_words.specs.declared.words.MachineWords.{MachineWords}
+use Rattle.machine_words.specs.Words.{AreLaid, left_of, regions_in}
+use Rattle.machine_steps.specs.declared.compiled.CompiledProgram.{CompiledProgram}
+use Rattle.machine_steps.specs.Compiled.{function_of, program_of, variables_of}
+
+-- ---- the result
+
+-- the lanes of the call that made a frame
+abbrev pub lanes_called : (width : ℕ) → Regions → (frame : ℕ) → Lanes
+lanes_called width regions frame = lanes_in width regions (OfHead frame LanesOf)
+
+-- the result of a frame of a function with a result of this rate, as lanes see it
+abbrev pub result_seen : (width : ℕ) → Regions → (frame : ℕ) → Rate → Lanes → List ℕ
+result_seen width regions frame rate lanes =
+    seen rate lanes (result_of rate (lanes_in width regions (OfHead frame ReturnedOf)) (regions (OfHead frame ResultOf)))
+
+-- a frame of f stands on one of g, which has what the result is for
+pub record IsAbove (compiled : CompiledProgram) (regions : Regions) (frame function : ℕ) (for : ResultFor) (f g : Function) : Type 0 where
+  pub callee : function_of compiled function ≡ Some f
+  pub n : ℕ
+  pub runs : regions (OfHead (frame - 1) FunctionOf) ≡ n ∷ []
+  pub caller : function_of compiled n ≡ Some g
+  pub plain : ResultPlain (variables_of compiled) n for
+
+-- A result of this type is given to what it is for, by the lanes of its call; nothing else is changed but what `Delivers` says. At most
+-- w + 1 words were set.
+pub record GivesResult {T : Type 0} (history : T → History) (left : T → ℕ) (width below : ℕ) (g : Function) (for : ResultFor) (type : IntType) (lanes : Lanes) (values : List ℕ) (old new : MachineWords T) : Type 0 where
+  pub delivered : Regions
+  pub delivers : Delivers width below g for type lanes values (regions_in history width old) delivered
+  pub regions : (r : Region) → regions_in history width new r ≡ delivered r
+  pub layout : new.layout ≡ old.layout
+  pub laid : AreLaid history width new
+  pub rest : without_words (history new.store.timeline) ≡ without_words (history old.store.timeline)
+  pub few : left_of history left old ≤ left_of history left new + (width + 1)
+
+-- ---- the call
+
+-- the next step of a frame that runs g is a call, with what its result is for and where its lanes go on
+pub record IsAtCall (p : Program) (regions : Regions) (frame n : ℕ) (g : Function) (for : ResultFor) (next : StepNumber) : Type 0 where
+  pub called : ℕ
+  pub args : List Arg
+  pub runs : regions (OfHead frame FunctionOf) ≡ n ∷ []
+  pub is_function : slice_get p.functions n ≡ Some g
+  pub calls : slice_get (points_in g) (least (closing_number g) (regions (OfHead frame NumbersOf))) ≡ Some (Enter called args for next)
+
+-- The result of a frame of f is given to the frame below, which made its call, and the lanes that wait there go on behind the call.
+-- At most 2 * w + 1 words were set.
+pub record GoesPastCall {T : Type 0} (history : T → History) (left : T → ℕ) (width : ℕ) (compiled : CompiledProgram) (frame : ℕ) (f : Function) (old new : MachineWords T) : Type 0 where
+  pub n : ℕ
+  pub g : Function
+  pub for : ResultFor
+  pub next : StepNumber
+  pub call : IsAtCall (program_of compiled) (regions_in history width old) (frame - 1) n g for next
+  pub delivered : Regions
+  pub delivers : Delivers width (frame - 1) g for f.result_type (lanes_called width (regions_in history width old) frame)
+      (result_seen width (regions_in history width old) frame f.result (lanes_called width (regions_in history width old) frame))
+      (regions_in history width old) delivered
+  pub regions : (r : Region) → regions_in history width new r
+      ≡ sent_on (frame - 1) (waiting_in (regions_in history width old) (frame - 1) (least (closing_number g) (regions_in history width old (OfHead (frame - 1) NumbersOf)))) (λ k. next) delivered r
+  pub layout : new.layout ≡ old.layout
+  pub laid : AreLaid history width new
+  pub rest : without_words (history new.store.timeline) ≡ without_words (history old.store.timeline)
+  pub few : left_of history left old ≤ left_of history left new + (width + width + 1)

@@ -1,0 +1,81 @@
+//! One step.
+ghost use Rattle.machine_steps.specs.Standing.{AreSound, DoesNext, Ends, IsShown, Steps};
+ghost use Rattle.machine_words.specs.Words.{regions_in};
+ghost use Rattle.mask_states.specs.Masked.{Masked};
+
+use crate::active::{Active, next_step};
+use crate::assignments::{assign, change, declare, finish};
+use crate::calls::enter;
+use crate::compiled::CompiledProgram;
+use crate::leaving::leave;
+use crate::moves::{branch, go};
+use codegen::StepCode;
+use debug_machine::{Fault, StepEnd};
+use expression_code::Stacks;
+use machine_words::MachineWords;
+use undo_log::Timeline;
+
+/// Does the next step and records it. A fault and the end change nothing.
+pub fn step<const W: usize, T: Timeline + Drop>(
+    compiled: &CompiledProgram,
+    words: &mut MachineWords<T>,
+    stacks: &mut Stacks<W>,
+) -> StepEnd
+    requires sound { AreSound T.history W compiled.now words.old }
+    ensures steps { (masked : Masked) → IsShown T.history W compiled.now words.old masked → Steps T.history W compiled.now masked words.old result words.new }
+    ensures sound { AreSound T.history W compiled.now words.new }
+{
+    let Some(active) = next_step::<W, T>(compiled, words) else {
+        return StepEnd::Ended;
+    };
+    let Some(code) = compiled.steps(active.function).get(active.step) else {
+        leave::<W, T>(compiled, active, words);
+        return StepEnd::Done;
+    };
+    match perform(compiled, active, code, words, stacks) {
+        Ok(()) => StepEnd::Done,
+        Err(fault) => StepEnd::Fault(fault),
+    }
+}
+
+/// Does the next step by its code.
+fn perform<const W: usize, T: Timeline + Drop>(
+    compiled: &CompiledProgram,
+    active: Active,
+    code: &StepCode,
+    words: &mut MachineWords<T>,
+    stacks: &mut Stacks<W>,
+) -> Result<(), Fault>
+    requires sound { AreSound T.history W compiled.now words.old }
+    requires does { DoesNext W compiled.now (regions_in T.history W words.old) active code.now }
+    ensures { Ends T.history W compiled.now words.old result words.new }
+{
+    match code {
+        StepCode::Declare {
+            variable,
+            value,
+            next,
+        } => declare(compiled, active, *variable, value, *next, words, stacks),
+        StepCode::Assign {
+            variable,
+            value,
+            next,
+        } => assign(compiled, active, *variable, value, *next, words, stacks),
+        StepCode::Change {
+            variable,
+            change: operation,
+            value,
+            next,
+        } => change(
+            compiled, active, *variable, *operation, value, *next, words, stacks,
+        ),
+        StepCode::Return { value, next } => finish(compiled, active, value, *next, words, stacks),
+        StepCode::Go { next } => go::<W, T>(compiled, active, *next, words),
+        StepCode::Branch { test, yes, no } => {
+            branch(compiled, active, test, (*yes, *no), words, stacks)
+        }
+        StepCode::Enter { function, args, .. } => {
+            enter(compiled, active, *function, args, words, stacks)
+        }
+    }
+}

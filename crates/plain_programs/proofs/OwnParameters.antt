@@ -1,0 +1,47 @@
+-- How many of a function's variables are parameters: as many as it has parameters, since a body declares none.
+use Rattle.std.proofs.Common.{ℕ, suc, true, List, [], ◌∷◌, ◌++◌, length, ◌≡◌, refl, ◌∙◌, ap}
+use Rattle.std.specs.Prelude.{cond, filter, map}
+use Rattle.gang_model.specs.Types.Tree.{Variable}
+use Rattle.gang_model.specs.Source.Parsed.{ParsedParam, ParsedFunction, ParsedSource}
+use Rattle.gang_model.specs.Source.Known.{known_stmts}
+use Rattle.gang_model.specs.Source.Judged.{Judged, Sound, Faulty}
+use Rattle.gang_model.specs.Types.Resolved.{param_variables}
+use Rattle.gang_model.specs.Types.Statements.{Made}
+use Rattle.gang_model.proofs.JudgedLaws.{OnSound}
+use Rattle.gang_model.proofs.StandingLaws.{Each}
+use Rattle.plain_programs.specs.Sources.{plain_forms, own_variables, variables_made}
+use Rattle.plain_programs.proofs.KnownFunctions.{IsKnownFunction}
+use Rattle.plain_programs.proofs.OwnVariables.{context_of, scope_of, body_of}
+use Rattle.plain_programs.proofs.PlainForms.{IsDeclaredScalar, MadePlain, statements_plain}
+
+-- how many variables are parameters
+abbrev pub parameters_among : List Variable → ℕ
+parameters_among variables = length (filter (λ v. v.is_parameter) variables)
+
+none_declared : (declared : List Variable) → Each IsDeclaredScalar declared → parameters_among declared ≡ 0
+none_declared [] scalars = refl
+none_declared (v ∷ declared) scalars =
+    let later = filter (λ w. w.is_parameter) declared in
+    ap (λ b. length (cond b (v ∷ later) later)) scalars.0.1 ∙ none_declared declared scalars.1
+
+first_counted : (k : ℕ) (params : List ParsedParam) (declared : List Variable) → Each IsDeclaredScalar declared
+    → parameters_among (param_variables k params ++ declared) ≡ length params
+first_counted k [] declared scalars = none_declared declared scalars
+first_counted k (p ∷ params) declared scalars = ap suc (first_counted (suc k) params declared scalars)
+
+made_scalars : (j : Judged Made) → OnSound j MadePlain → Each IsDeclaredScalar (variables_made j)
+made_scalars (Sound m) plain = plain.1
+made_scalars (Faulty first others) plain = tt
+
+parameters_counted : (source : ParsedSource) (f : ParsedFunction) → known_stmts f.body plain_forms ≡ true → parameters_among (own_variables source f) ≡ length f.params
+parameters_counted source f known =
+    first_counted 0 f.params (variables_made (body_of source f))
+    (made_scalars (body_of source f) (statements_plain f.body (context_of source f) (scope_of source f) (length f.params) 0 known))
+
+-- the same of each function
+pub all_parameters_counted : (source : ParsedSource) (functions : List ParsedFunction) → Each IsKnownFunction functions
+    → map parameters_among (map (own_variables source) functions) ≡ map (λ f. length f.params) functions
+all_parameters_counted source [] known = refl
+all_parameters_counted source (f ∷ functions) known =
+    ap (λ count. count ∷ map parameters_among (map (own_variables source) functions)) (parameters_counted source f known.0.body)
+    ∙ ap (λ counts. length f.params ∷ counts) (all_parameters_counted source functions known.1)

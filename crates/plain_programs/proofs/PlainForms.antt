@@ -1,0 +1,225 @@
+-- The typed form of a sound statement of the known forms has the forms of plain statements, and declares scalars of its function.
+use Rattle.std.proofs.Common.{ℕ, ◌+◌, true≢false, true, false, ◌&&◌, List, [], ◌++◌, ◌≡◌, refl, sym, ap}
+use Rattle.std.specs.Prelude.{is_some, Option, Some, None}
+use Rattle.gang_types.specs.declared.types.IntType.{IntType}
+use Rattle.gang_types.specs.declared.types.IntType.TheVariants as t
+use Rattle.gang_types.specs.declared.types.Rate.{Rate}
+use Rattle.gang_types.specs.declared.types.Rate.TheVariants.{Varying}
+use Rattle.gang_types.specs.declared.places.Place.{Place}
+use Rattle.gang_types.specs.declared.places.VarId.TheVariants.{Local}
+use Rattle.gang_model.specs.Types.Tree.{Var, ResultFor, Nothing, Declares, Assigns, Returns, StepNumber, Stmt, Empty, Then, Declare, Assign, Change, If, Loop, BodyFirst, Break, Continue, Return, Call, Variable}
+use Rattle.gang_model.specs.Source.Parsed.{Name, ParsedExpr, ParsedArgs, ParsedTarget, ParsedStmt, ParsedEmpty, ParsedBlock, ParsedDeclare, ParsedAssign, ParsedChange, ParsedIncrement, ParsedDoCall, ParsedBreak, ParsedContinue, ParsedReturn, ParsedIf, ParsedIfElse, ParsedWhile, ParsedDo, ParsedFor, ParsedSwitch, ParsedForEach, ParsedForEachActive, ParsedForEachUnique, ParsedStmts, ParsedLast, ParsedNext}
+use Rattle.gang_model.specs.Source.Known.{known_call, known_expr, known_args, known_some, known_target, known_stmt, known_stmts}
+use Rattle.gang_model.specs.Running.Numbering.{steps_in}
+use Rattle.gang_model.specs.Names.Scope.{locals_in}
+use Rattle.gang_model.specs.Source.Judged.{Judged, Sound, unless, both, ◌>>=◌}
+use Rattle.gang_model.proofs.JudgedLaws.{OnSound, on_any, on_then, on_both, on_unless, on_pair, and_true}
+use Rattle.gang_model.proofs.StandingLaws.{Each, each_join}
+use Rattle.gang_model.specs.Types.LibraryTable.{StatementCall, statement_call}
+use Rattle.gang_model.specs.Types.Signatures.{ResultType}
+use Rattle.gang_model.specs.Types.Typing.{Scope, Passing, arguments, given_value, first_of, var_of, declared}
+use Rattle.gang_model.specs.Types.Overloads.{candidates, overload}
+use Rattle.gang_model.specs.Types.Calls.{Context, Called, call_of_kind, call_of, WholeCall, whole_call, right_call, result_faults}
+use Rattle.gang_model.specs.Types.TypeFaults.{variable_faults}
+use Rattle.gang_model.specs.Types.Statements.{first_value, declaration, scalar_target, target_of, rate_of, assigned_type, variable_of, call_for, assigned_by, operand_for, empty_return, returned_value, returned, value_return, returning, test_of, Made, made, scope_after, statement, statements}
+use Rattle.plain_programs.specs.Sources.{plain_forms}
+use Rattle.plain_programs.proofs.KnownCalls.{IsUserCall, no_library, user_call, user_call_for}
+
+-- ---- forms
+
+-- a variable is a function's
+abbrev pub IsLocal : Var → Type 0
+IsLocal x = (k : ℕ) × (x.id ≡ Local k)
+
+-- what a call's result declares is a variable of a function
+abbrev pub DeclaresLocal : ResultFor → Type 0
+DeclaresLocal (Declares x) = IsLocal x
+DeclaresLocal result_for = Unit {0}
+
+-- a statement of the forms of plain ones, which declares variables of a function
+abbrev pub HasPlainForm : Stmt → Type 0
+HasPlainForm Empty = Unit {0}
+HasPlainForm (Then first rest) = HasPlainForm first × HasPlainForm rest
+HasPlainForm (Declare number x e) = IsLocal x
+HasPlainForm (Assign number target e) = Unit {0}
+HasPlainForm (Change number target type op in_type e) = Unit {0}
+HasPlainForm (If number test first other) = HasPlainForm first × HasPlainForm other
+HasPlainForm (Loop number test update body) = HasPlainForm update × HasPlainForm body
+HasPlainForm (BodyFirst number test body) = HasPlainForm body
+HasPlainForm (Break number) = Unit {0}
+HasPlainForm (Continue number) = Unit {0}
+HasPlainForm (Return number e) = Unit {0}
+HasPlainForm (Call number called args result_for) = DeclaresLocal result_for
+HasPlainForm s = ⊥
+
+abbrev pub IsNoArray : Variable → Type 0
+IsNoArray v = v.is_array ≡ false
+
+-- a variable that a body may declare: no array, and no parameter
+abbrev pub IsDeclaredScalar : Variable → Type 0
+IsDeclaredScalar v = IsNoArray v × (v.is_parameter ≡ false)
+
+-- a statement of plain forms that declares such variables alone
+abbrev pub MadePlain : Made → Type 0
+MadePlain m = HasPlainForm m.stmt × Each IsDeclaredScalar m.variables
+
+-- ---- calls
+
+abbrev CalledPlain : Called → Type 0
+CalledPlain c = HasPlainForm c.stmt
+
+kind_plain : (kind : Option StatementCall) (context : Context) (p : Place) (name : Name) (given : List Passing) (result_for : ResultFor) (n : StepNumber)
+    → kind ≡ None → DeclaresLocal result_for → OnSound (call_of_kind kind context p name given result_for n) CalledPlain
+kind_plain None context p name given result_for n none local =
+    on_then (overload p (candidates 0 context.functions name given)) _ (λ c. Unit {0}) CalledPlain (on_any (overload p (candidates 0 context.functions name given))) (λ c _. local)
+kind_plain (Some call) context p name given result_for n none local = absurd (true≢false (ap is_some none))
+
+call_plain : (context : Context) (scope : Scope) (p : Place) (name : Name) (args : ParsedArgs) (result_for : ResultFor) (n : StepNumber)
+    → statement_call name ≡ None → DeclaresLocal result_for → OnSound (call_of context scope p name args result_for n) CalledPlain
+call_plain context scope p name args result_for n none local =
+    on_then (arguments args scope) _ (λ given. Unit {0}) CalledPlain (on_any (arguments args scope))
+    (λ given _. kind_plain (statement_call name) context p name given result_for n none local)
+
+right_plain : (context : Context) (scope : Scope) (p : Place) (call : WholeCall) (rate : Rate) (result_for : ResultFor) (n : StepNumber)
+    → IsUserCall (Some call) → DeclaresLocal result_for → OnSound (right_call context scope p call rate result_for n) HasPlainForm
+right_plain context scope p call rate result_for n none local =
+    on_then (call_of context scope call.at call.name call.args result_for n) _ CalledPlain HasPlainForm (call_plain context scope call.at call.name call.args result_for n none local)
+    (λ c h. on_unless (result_faults p c.result rate) c.stmt HasPlainForm h)
+
+-- ---- statements of one step
+
+first_plain : (call : Option WholeCall) (context : Context) (scope : Scope) (v : Var) (e : ParsedExpr) (n : StepNumber) → IsUserCall call → IsLocal v
+    → OnSound (first_value call context scope v e n) HasPlainForm
+first_plain (Some call) context scope v e n user local = right_plain context scope (first_of e) call v.rate (Declares v) n user local
+first_plain None context scope v e n user local =
+    on_then (given_value e scope v.type v.rate) _ (λ x. Unit {0}) HasPlainForm (on_any (given_value e scope v.type v.rate)) (λ x _. local)
+
+declaration_plain : (context : Context) (scope : Scope) (v : Var) (e : Option ParsedExpr) (n : StepNumber) → known_some e plain_forms ≡ true → IsLocal v
+    → OnSound (declaration context scope v e n) HasPlainForm
+declaration_plain context scope v None n known local = local
+declaration_plain context scope v (Some e) n known local =
+    first_plain (whole_call context.functions e) context scope v e n (user_call context.functions e known) local
+
+assigned_plain : (call : Option WholeCall) (context : Context) (scope : Scope) (target : ParsedTarget) (e : ParsedExpr) (n : StepNumber) → IsUserCall call
+    → OnSound (assigned_by call context scope target e n) HasPlainForm
+assigned_plain (Some call) context scope target e n user =
+    let v = scalar_target scope target.at target.name in
+    on_pair v (right_call context scope (first_of e) call (variable_of v).rate (Assigns (variable_of v)) n) _ (λ x. Unit {0}) HasPlainForm HasPlainForm (on_any v)
+    (right_plain context scope (first_of e) call (variable_of v).rate (Assigns (variable_of v)) n user tt) (λ x s _ h. h)
+assigned_plain None context scope target e n user =
+    let aim = target_of scope target.at target.name target.index in
+    let given = given_value e scope (assigned_type aim) (rate_of aim) in
+    on_pair aim given _ (λ x. Unit {0}) (λ x. Unit {0}) HasPlainForm (on_any aim) (on_any given) (λ a x _ _. tt)
+
+returned_plain : (call : Option WholeCall) (context : Context) (scope : Scope) (e : ParsedExpr) (r : IntType × Rate) (n : StepNumber) → IsUserCall call
+    → OnSound (returned_value call context scope e r n) HasPlainForm
+returned_plain (Some call) context scope e r n user = right_plain context scope (first_of e) call r.1 Returns n user tt
+returned_plain None context scope e r n user =
+    on_then (given_value e scope r.0 r.1) _ (λ x. Unit {0}) HasPlainForm (on_any (given_value e scope r.0 r.1)) (λ x _. tt)
+
+value_return_plain : (context : Context) (scope : Scope) (e : ParsedExpr) (result : ResultType) (n : StepNumber) → known_expr e plain_forms ≡ true
+    → OnSound (value_return context scope e result n) HasPlainForm
+value_return_plain context scope e None n known =
+    on_then (returned context scope e (t.Int32, Varying) n) _ (λ s. Unit {0}) HasPlainForm (on_any (returned context scope e (t.Int32, Varying) n)) (λ s _. tt)
+value_return_plain context scope e (Some r) n known =
+    returned_plain (whole_call context.functions e) context scope e r n (user_call context.functions e known)
+
+empty_return_plain : (p : Place) (result : ResultType) (n : StepNumber) → OnSound (empty_return p result n) HasPlainForm
+empty_return_plain p None n = tt
+empty_return_plain p (Some r) n = tt
+
+returning_plain : (context : Context) (scope : Scope) (p : Place) (e : Option ParsedExpr) (n : StepNumber) → known_some e plain_forms ≡ true
+    → OnSound (returning context scope p e n) HasPlainForm
+returning_plain context scope p None n known = empty_return_plain p context.result n
+returning_plain context scope p (Some e) n known = value_return_plain context scope e context.result n known
+
+alone_plain : (j : Judged Stmt) → OnSound j HasPlainForm → OnSound (j >>= (λ s. Sound (made s []))) MadePlain
+alone_plain j h = on_then j _ HasPlainForm MadePlain h (λ s k. (k, tt))
+
+-- ---- all statements
+
+mutual
+  -- a sound statement of the known forms
+  pub statement_plain : (s : ParsedStmt) (context : Context) (scope : Scope) (k : ℕ) (n : StepNumber) → known_stmt s plain_forms ≡ true
+      → OnSound (statement s context scope k n) MadePlain
+  statement_plain ParsedEmpty context scope k n known = (tt, tt)
+  statement_plain (ParsedBlock ss) context scope k n known = statements_plain ss context scope k n known
+  statement_plain (ParsedDeclare p spec at name e) context scope k n known =
+      let v = declared name (Local k) spec false false in
+      let sound = unless (variable_faults at spec) v in
+      on_pair sound (declaration context scope (var_of v.variable) e n) _ (λ w. Unit {0}) HasPlainForm MadePlain (on_any sound)
+      (declaration_plain context scope (var_of v.variable) e n known (k, refl)) (λ w s _ h. (h, ((refl, refl), tt)))
+  statement_plain (ParsedAssign p target e) context scope k n known =
+      let call = call_for target.index (whole_call context.functions e) in
+      let parts = and_true (known_target target plain_forms) (known_expr e plain_forms) known in
+      alone_plain (assigned_by call context scope target e n)
+      (assigned_plain call context scope target e n (user_call_for target.index (whole_call context.functions e) (user_call context.functions e parts.1)))
+  statement_plain (ParsedChange p target op e) context scope k n known =
+      let aim = target_of scope target.at target.name target.index in
+      let operand = operand_for (rate_of aim) e scope in
+      on_pair aim operand _ (λ a. Unit {0}) (λ x. Unit {0}) MadePlain (on_any aim) (on_any operand) (λ a x _ _. (tt, tt))
+  statement_plain (ParsedIncrement p target op) context scope k n known =
+      let aim = target_of scope target.at target.name target.index in
+      on_then aim _ (λ a. Unit {0}) MadePlain (on_any aim) (λ a _. (tt, tt))
+  statement_plain (ParsedDoCall p name args) context scope k n known =
+      let user = no_library name (and_true (known_call name plain_forms) (known_args args plain_forms) known).0 in
+      on_then (call_of context scope p name args Nothing n) _ CalledPlain MadePlain (call_plain context scope p name args Nothing n user tt) (λ c h. (h, tt))
+  statement_plain (ParsedBreak p) context scope k n known = (tt, tt)
+  statement_plain (ParsedContinue p) context scope k n known = (tt, tt)
+  statement_plain (ParsedReturn p e) context scope k n known =
+      alone_plain (returning context scope p e n) (returning_plain context scope p e n known)
+  statement_plain (ParsedIf p e a) context scope k n known =
+      let parts = and_true (known_expr e plain_forms) (known_stmt a plain_forms) known in
+      on_pair (test_of scope (Some e)) (statement a context scope k (n + 1)) _ (λ x. Unit {0}) MadePlain MadePlain (on_any (test_of scope (Some e)))
+      (statement_plain a context scope k (n + 1) parts.1) (λ c m _ h. ((h.0, tt), h.1))
+  statement_plain (ParsedIfElse p e a b) context scope k n known =
+      let parts = and_true (known_expr e plain_forms) (known_stmt a plain_forms && known_stmt b plain_forms) known in
+      let arms = and_true (known_stmt a plain_forms) (known_stmt b plain_forms) parts.1 in
+      let first = statement a context scope k (n + 1) in
+      let other = statement b context scope (k + locals_in a) (n + 1 + steps_in a) in
+      on_pair (test_of scope (Some e)) (both first other) _ (λ x. Unit {0}) (λ ms. MadePlain ms.0 × MadePlain ms.1) MadePlain (on_any (test_of scope (Some e)))
+      (on_both first other MadePlain MadePlain (statement_plain a context scope k (n + 1) arms.0)
+      (statement_plain b context scope (k + locals_in a) (n + 1 + steps_in a) arms.1))
+      (λ c ms _ h. ((h.0.0, h.1.0), each_join IsDeclaredScalar ms.0.variables ms.1.variables h.0.1 h.1.1))
+  statement_plain (ParsedWhile p e body) context scope k n known =
+      let parts = and_true (known_expr e plain_forms) (known_stmt body plain_forms) known in
+      on_pair (test_of scope (Some e)) (statement body context scope k n) _ (λ x. Unit {0}) MadePlain MadePlain (on_any (test_of scope (Some e)))
+      (statement_plain body context scope k n parts.1) (λ c m _ h. ((tt, h.0), h.1))
+  statement_plain (ParsedDo body p e) context scope k n known =
+      let parts = and_true (known_stmt body plain_forms) (known_expr e plain_forms) known in
+      on_pair (statement body context scope k n) (test_of scope (Some e)) _ MadePlain (λ x. Unit {0}) MadePlain
+      (statement_plain body context scope k n parts.0) (on_any (test_of scope (Some e))) (λ m c h _. h)
+  statement_plain (ParsedFor p start e update body) context scope k n known =
+      let parts = and_true (known_stmt start plain_forms) (known_some e plain_forms && (known_stmt update plain_forms && known_stmt body plain_forms)) known in
+      let later = (and_true (known_some e plain_forms) (known_stmt update plain_forms && known_stmt body plain_forms) parts.1).1 in
+      let rounds = and_true (known_stmt update plain_forms) (known_stmt body plain_forms) later in
+      let inside = scope_after start scope k in
+      let k' = k + locals_in start in
+      let b = n + steps_in start in
+      let u = n + steps_in start + steps_in body in
+      let before = statement start context scope k n in
+      let updating = statement update context inside k' u in
+      let inner = statement body context inside (k' + locals_in update) b in
+      on_pair (both before (test_of inside e)) (both updating inner) _ (λ x. MadePlain x.0 × Unit {0}) (λ x. MadePlain x.0 × MadePlain x.1) MadePlain
+      (on_both before (test_of inside e) MadePlain (λ x. Unit {0}) (statement_plain start context scope k n parts.0) (on_any (test_of inside e)))
+      (on_both updating inner MadePlain MadePlain (statement_plain update context inside k' u rounds.0)
+      (statement_plain body context inside (k' + locals_in update) b rounds.1))
+      (λ x y h l. (
+        (h.0.0, (l.0.0, l.1.0)),
+        each_join IsDeclaredScalar x.0.variables (y.0.variables ++ y.1.variables) h.0.1 (each_join IsDeclaredScalar y.0.variables y.1.variables l.0.1 l.1.1),
+      ))
+  statement_plain (ParsedSwitch p e segments) context scope k n known = absurd (true≢false (sym known))
+  statement_plain (ParsedForEach p is_tiled dims body) context scope k n known = absurd (true≢false (sym known))
+  statement_plain (ParsedForEachActive p at name body) context scope k n known = absurd (true≢false (sym known))
+  statement_plain (ParsedForEachUnique p at name e body) context scope k n known = absurd (true≢false (sym known))
+
+  -- sound statements of the known forms
+  pub statements_plain : (ss : ParsedStmts) (context : Context) (scope : Scope) (k : ℕ) (n : StepNumber) → known_stmts ss plain_forms ≡ true
+      → OnSound (statements ss context scope k n) MadePlain
+  statements_plain ParsedLast context scope k n known = (tt, tt)
+  statements_plain (ParsedNext s ss) context scope k n known =
+      let parts = and_true (known_stmt s plain_forms) (known_stmts ss plain_forms) known in
+      let inside = scope_after s scope k in
+      on_pair (statement s context scope k n) (statements ss context inside (k + locals_in s) (n + steps_in s)) _ MadePlain MadePlain MadePlain
+      (statement_plain s context scope k n parts.0) (statements_plain ss context inside (k + locals_in s) (n + steps_in s) parts.1)
+      (λ a b h l. ((h.0, l.0), each_join IsDeclaredScalar a.variables b.variables h.1 l.1))

@@ -1,0 +1,158 @@
+-- A sound function of the known forms is plain, with scalars of its own in scope at each of its steps.
+use Rattle.std.proofs.Common.{ℕ, zero, suc, ◌+◌, ◌≤◌, true, false, List, [], ◌∷◌, ◌++◌, length, ◌≡◌, refl, sym, ◌∙◌, ap, subst, arith}
+use Rattle.std.specs.Prelude.{All, map, Some, slice_get}
+use Rattle.std.proofs.lemmas.List.Elements.{All-nil, All-cons}
+use Rattle.std.proofs.lemmas.Option.{none-some, get_or_from_slice_get}
+use Rattle.gang_types.specs.declared.places.VarId.{VarId}
+use Rattle.gang_types.specs.declared.places.VarId.TheVariants.{File, Local}
+use Rattle.gang_model.specs.Types.Tree.{Variable, Standing}
+use Rattle.gang_model.specs.Types.WellScoped.{Table, variable_at}
+use Rattle.gang_model.specs.Source.Parsed.{ParsedParam, ParsedFunction, ParsedGlobal, ParsedSource, functions_in, globals_in}
+use Rattle.gang_model.specs.Source.SpellsSource.{max_params}
+use Rattle.gang_model.specs.Source.Judged.{Judged, Sound, Faulty, unless}
+use Rattle.gang_model.specs.Names.Bindings.{variable_bindings}
+use Rattle.gang_model.specs.Names.Scope.{Binding, NameStanding, file_scope, standings_of}
+use Rattle.gang_model.specs.Types.Typing.{Scope, declared}
+use Rattle.gang_model.specs.Types.TypeFaults.{signature_faults}
+use Rattle.gang_model.specs.Types.Statements.{Made}
+use Rattle.gang_model.specs.Types.Resolved.{global_entries, global_entry, param_entries, param_variables, no_variable, local_at, standing_with, function_made, judged_function}
+use Rattle.gang_model.proofs.JudgedLaws.{OnSound, on_any, on_pair}
+use Rattle.gang_model.proofs.StandingLaws.{Each, each_join, each_left, each_right, Found, AllFound}
+use Rattle.gang_model.proofs.VariableLaws.{Consecutive, function_numbers, steps_found}
+use Rattle.gang_model.proofs.ScopedStmts.{ScopeScoped, Own, AllRight, statements_scoped}
+use Rattle.machine_states.specs.Variables.{Variables, own_of, variable_of}
+use Rattle.machine_states.specs.Plain.{IsPlainName, IsPlainFunction}
+use Rattle.plain_programs.specs.Sources.{file_variables, source_variables, variables_made}
+use Rattle.plain_programs.proofs.Elements.{each_get, each_follows, get_mapped}
+use Rattle.plain_programs.proofs.KnownFunctions.{IsKnownFunction, HasFewParams}
+use Rattle.plain_programs.proofs.OwnVariables.{context_of, scope_of, body_of, BodyFaithful, body_faithful, own_bound, own_is, parameters_first}
+use Rattle.plain_programs.proofs.PlainForms.{IsNoArray, IsDeclaredScalar, MadePlain, statements_plain}
+use Rattle.plain_programs.proofs.ScopedTrees.{AreParameters, IsTable, stmt_plain}
+
+-- ---- what is in scope
+
+-- variables stand in the table by their numbers
+own_found : (table : Table) (k : ℕ) (later : List Variable) → Consecutive k (variable_bindings later)
+    → ((i : ℕ) (v : Variable) → slice_get later i ≡ Some v → slice_get table.own (k + i) ≡ Some v) → Each (Own table) later
+own_found table k [] numbered at = tt
+own_found table k (v ∷ later) numbered at = (
+  ap (variable_at table) numbered.0 ∙ subst (λ n. slice_get table.own n ≡ Some v) (omega arith) (at 0 v refl),
+  own_found table (suc k) later numbered.1 (λ i w there. subst (λ n. slice_get table.own n ≡ Some w) (omega arith) (at (suc i) w there)),
+)
+
+-- so do the variables of the file
+file_found : (table : Table) (k : ℕ) (globals : List ParsedGlobal)
+    → ((i : ℕ) (v : Variable) → slice_get (file_variables k globals) i ≡ Some v → slice_get table.file (k + i) ≡ Some v) → ScopeScoped table (global_entries k globals)
+file_found table k [] at = tt
+file_found table k (g ∷ globals) at = (
+  subst (λ n. slice_get table.file n ≡ Some (global_entry k g).variable) (omega arith) (at 0 (global_entry k g).variable refl),
+  file_found table (suc k) globals (λ i w there. subst (λ n. slice_get table.file n ≡ Some w) (omega arith) (at (suc i) w there)),
+)
+
+params_found : (table : Table) (k : ℕ) (params : List ParsedParam) (scope : Scope) → ScopeScoped table scope → Each (Own table) (param_variables k params)
+    → ScopeScoped table (param_entries k params scope)
+params_found table k [] scope h own = h
+params_found table k (p ∷ params) scope h own = params_found table (suc k) params (declared p.name (Local k) p.spec p.is_array true ∷ scope) (own.0, h) own.1
+
+params_scalar : (k : ℕ) (params : List ParsedParam) → Each (λ p. p.is_array ≡ false) params → Each IsNoArray (param_variables k params)
+params_scalar k [] h = tt
+params_scalar k (p ∷ params) h = (h.0, params_scalar (suc k) params h.1)
+
+-- ---- names at steps
+
+-- the variable of a declaration, by its number
+variable_of_binding : (variables : List Variable) (k : ℕ) (b : Binding) → slice_get (variable_bindings variables) k ≡ Some b → (v : Variable) × (slice_get variables k ≡ Some v)
+variable_of_binding [] k b e = absurd (none-some b e)
+variable_of_binding (v ∷ variables) zero b e = (v, refl)
+variable_of_binding (v ∷ variables) (suc k) b e = variable_of_binding variables k b e
+
+module _ (variables : Variables) (n : ℕ) (own : List Variable) (is : own_of variables n ≡ own) (scalars : Each IsNoArray own) where
+  name_plain : (b : Binding) → Found (variable_bindings own) b → IsPlainName variables n (local_at own b.id)
+  name_plain b found =
+      let k = found.0 in
+      let v = variable_of_binding own k b found.2 in
+      let same : local_at own b.id ≡ v.0 = ap (local_at own) found.1 ∙ get_or_from_slice_get own k v.0 no_variable v.1 in
+      subst (IsPlainName variables n) (sym same) (k, subst (λ vs. slice_get vs k ≡ Some v.0) (sym is) v.1, each_get IsNoArray own k v.0 scalars v.1)
+
+  names_plain : (names : List Binding) → Each (Found (variable_bindings own)) names → All (IsPlainName variables n) (map (λ b. local_at own b.id) names)
+  names_plain [] found = All-nil (IsPlainName variables n)
+  names_plain (b ∷ names) found =
+      All-cons (IsPlainName variables n) (local_at own b.id) (map (λ c. local_at own c.id) names) (name_plain b found.0) (names_plain names found.1)
+
+  scopes_plain : (standings : List NameStanding) → Each (AllFound (variable_bindings own)) standings → (number : ℕ) (there : Standing)
+      → slice_get (map (standing_with own) standings) number ≡ Some there → All (IsPlainName variables n) there.scope
+  scopes_plain standings found number there e =
+      let named = get_mapped (standing_with own) standings number there e in
+      subst (λ s. All (IsPlainName variables n) s.scope) named.2 (names_plain named.0.names (each_get (AllFound (variable_bindings own)) standings number named.0 found named.1))
+
+-- ---- functions
+
+module _ (source : ParsedSource) (known : Each IsKnownFunction (functions_in source)) (few : HasFewParams source) (file : Each IsNoArray (file_variables 0 (globals_in source)))
+    (n : ℕ) (f : ParsedFunction) (at : slice_get (functions_in source) n ≡ Some f) where
+  abbrev variables : Variables
+  variables = source_variables source
+
+  module _ (m : Made) (owned : own_of variables n ≡ param_variables 0 f.params ++ m.variables) (faithful : BodyFaithful f m) (plain : MadePlain m) where
+    abbrev own : List Variable
+    own = param_variables 0 f.params ++ m.variables
+
+    abbrev table : Table
+    table = record { file = file_variables 0 (globals_in source); own = own; parameters = map (λ g. param_variables 0 g.params) (functions_in source) }
+
+    own_scalars : Each IsNoArray own
+    own_scalars =
+        each_join IsNoArray (param_variables 0 f.params) m.variables
+        (params_scalar 0 f.params (each_get IsKnownFunction (functions_in source) n f known at).no_arrays)
+        (each_follows IsDeclaredScalar IsNoArray m.variables (λ v h. h.0) plain.1)
+
+    same_variable : (id : VarId) → variable_of variables n id ≡ variable_at table id
+    same_variable (File k) = refl
+    same_variable (Local k) = ap (λ vs. slice_get vs k) owned
+
+    no_array_at : (id : VarId) (v : Variable) → variable_at table id ≡ Some v → v.is_array ≡ false
+    no_array_at (File k) v e = each_get IsNoArray (file_variables 0 (globals_in source)) k v file e
+    no_array_at (Local k) v e = each_get IsNoArray own k v own_scalars e
+
+    table_is : IsTable variables n table
+    table_is = record {
+      same = same_variable;
+      scalars = no_array_at;
+      parameters = λ called parameters e.
+          let g = get_mapped (λ h. param_variables 0 h.params) (functions_in source) called parameters e in
+          subst (AreParameters variables called) g.2
+          (parameters_first source called g.0 g.1 (each_get (λ h. length h.params ≤ max_params) (functions_in source) called g.0 few g.1));
+    }
+
+    own_in_table : Each (Own table) own
+    own_in_table =
+        own_found table 0 own (subst (Consecutive 0) (sym (own_bound f m faithful)) (function_numbers f)) (λ i v e. subst (λ k. slice_get own k ≡ Some v) (omega arith) e)
+
+    scope_in_table : ScopeScoped table (scope_of source f)
+    scope_in_table =
+        params_found table 0 f.params (global_entries 0 (globals_in source))
+        (file_found table 0 (globals_in source) (λ i v e. subst (λ k. slice_get table.file k ≡ Some v) (omega arith) e))
+        (each_left (Own table) (param_variables 0 f.params) m.variables own_in_table)
+
+    made_plain : AllRight table (scope_of source f) m → IsPlainFunction variables n (function_made (file_scope source) f m)
+    made_plain right = record {
+      body = stmt_plain variables n table table_is m.stmt plain.0 (right scope_in_table (each_right (Own table) (param_variables 0 f.params) m.variables own_in_table));
+      scopes = scopes_plain variables n own owned own_scalars (standings_of (file_scope source) f)
+          (subst (λ bs. Each (AllFound bs) (standings_of (file_scope source) f)) (sym (own_bound f m faithful)) (steps_found source f));
+    }
+
+  body_plain : (j : Judged Made) → own_of variables n ≡ param_variables 0 f.params ++ variables_made j → OnSound j (BodyFaithful f) → OnSound j MadePlain
+      → ((table : Table) → table.parameters ≡ map (λ g. param_variables 0 g.params) (functions_in source) → OnSound j (AllRight table (scope_of source f)))
+      → OnSound j (λ m. IsPlainFunction variables n (function_made (file_scope source) f m))
+  body_plain (Sound m) owned faithful plain right = made_plain m owned faithful plain (right (table m owned faithful plain) refl)
+  body_plain (Faulty first others) owned faithful plain right = tt
+
+  -- a sound function of the known forms is plain
+  pub function_plain : OnSound (judged_function source f) (IsPlainFunction variables n)
+  function_plain =
+      let body = each_get IsKnownFunction (functions_in source) n f known at in
+      on_pair (unless (signature_faults f) f) (body_of source f) _ (λ g. Unit {0}) (λ m. IsPlainFunction variables n (function_made (file_scope source) f m)) (IsPlainFunction variables n)
+      (on_any (unless (signature_faults f) f))
+      (body_plain (body_of source f) (own_is source n f at) (body_faithful source f)
+      (statements_plain f.body (context_of source f) (scope_of source f) (length f.params) 0 body.body)
+      (λ table calls. statements_scoped table f.body (context_of source f) (scope_of source f) (length f.params) 0 calls))
+      (λ g m _ h. h)

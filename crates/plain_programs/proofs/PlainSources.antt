@@ -1,0 +1,124 @@
+-- A known source without faults has a plain program.
+use Rattle.std.proofs.Common.{ℕ, zero, suc, ◌+◌, ◌≤◌, true≢false, true, false, List, [], ◌∷◌, length, ◌≡◌, refl, sym, ◌∙◌, ap, subst, arith}
+use Rattle.std.proofs.lemmas.Option.{same_Some, none-some}
+use Rattle.std.specs.Prelude.{is_some, map, Option, Some, None, slice_get}
+use Rattle.std.specs.List.{list_all}
+use Rattle.gang_types.specs.declared.places.VarId.TheVariants.{File}
+use Rattle.gang_model.specs.declared.forms.GlobalForm.{GlobalForm}
+use Rattle.gang_model.specs.declared.forms.GlobalForm.TheVariants.{Plain, Array, Initial}
+use Rattle.gang_model.specs.declared.refusals.SourceRefusal.{SourceRefusal}
+use Rattle.gang_model.specs.Texts.Text.{Bytes}
+use Rattle.gang_model.specs.Source.Sources.{IsProgramOf}
+use Rattle.gang_model.specs.Source.Limits.{most_variables, limit_refusal}
+use Rattle.gang_model.specs.Types.Tree.{Variable, Function, Program}
+use Rattle.gang_model.specs.Source.Parsed.{Name, ParsedFunction, ParsedGlobal, ParsedSource, ParsedFunctionItem, ParsedGlobalItem, functions_in, globals_in}
+use Rattle.gang_model.specs.Source.Known.{known_function, known_form, known_item, is_known}
+use Rattle.gang_model.specs.Types.SourceRefusals.{first_refusal, refusal_of, IsAccepted}
+use Rattle.gang_model.specs.Types.TypeFaults.{is_array_form}
+use Rattle.gang_model.specs.Types.Resolved.{global_entry, judged_function, judged_functions, program_of}
+use Rattle.gang_model.proofs.JudgedLaws.{OnSound, on_pair, and_true}
+use Rattle.gang_model.proofs.StandingLaws.{Each}
+use Rattle.machine_states.specs.Variables.{Variables, own_of}
+use Rattle.machine_states.specs.Plain.{IsPlainFunction, IsPlainProgram}
+use Rattle.plain_programs.specs.Sources.{plain_forms, file_variables, own_variables, source_variables}
+use Rattle.plain_programs.proofs.Elements.{each_get}
+use Rattle.plain_programs.proofs.FewVariables.{few_variables}
+use Rattle.plain_programs.proofs.KnownFunctions.{IsKnownFunction, known_functions, HasFewParams, few_params}
+use Rattle.plain_programs.proofs.OwnVariables.{own_at, most_of, within_most}
+use Rattle.plain_programs.proofs.PlainForms.{IsNoArray}
+use Rattle.plain_programs.proofs.PlainFunctions.{function_plain}
+use Rattle.plain_programs.proofs.ProgramParts.{program_functions}
+
+-- ---- file-scope variables
+
+-- a file-scope variable of a known form
+abbrev IsKnownGlobal : ParsedGlobal → Type 0
+IsKnownGlobal g = known_form g.form plain_forms ≡ true
+
+known_globals : (source : ParsedSource) → list_all (known_item plain_forms) source ≡ true → Each IsKnownGlobal (globals_in source)
+known_globals [] known = tt
+known_globals (ParsedFunctionItem f ∷ items) known = known_globals items (and_true (known_function f plain_forms) (list_all (known_item plain_forms) items) known).1
+known_globals (ParsedGlobalItem g ∷ items) known =
+    let all = and_true (known_form g.form plain_forms) (list_all (known_item plain_forms) items) known in
+    (all.0, known_globals items all.1)
+
+no_array : (form : GlobalForm) → known_form form plain_forms ≡ true → is_array_form form ≡ false
+no_array Plain known = refl
+no_array (Array n) known = absurd (true≢false (sym known))
+no_array (Initial value) known = refl
+
+file_scalars : (k : ℕ) (globals : List ParsedGlobal) → Each IsKnownGlobal globals → Each IsNoArray (file_variables k globals)
+file_scalars k [] known = tt
+file_scalars k (g ∷ globals) known = (no_array g.form known.0, file_scalars (suc k) globals known.1)
+
+file_number : (first : ℕ) (globals : List ParsedGlobal) (k : ℕ) (v : Variable) → slice_get (file_variables first globals) k ≡ Some v → v.id ≡ File (first + k)
+file_number first [] k v e = absurd (none-some v e)
+file_number first (g ∷ globals) zero v e = ap (λ x. x.id) (sym (same_Some (global_entry first g).variable v e)) ∙ ap File (omega arith)
+file_number first (g ∷ globals) (suc k) v e = file_number (suc first) globals k v e ∙ ap File (omega arith)
+
+-- ---- functions
+
+-- plain functions, the first of which has the number k
+abbrev ArePlain : Variables → ℕ → List Function → Type 0
+ArePlain variables k [] = Unit {0}
+ArePlain variables k (f ∷ functions) = IsPlainFunction variables k f × ArePlain variables (suc k) functions
+
+plain_at : (variables : Variables) (k : ℕ) (functions : List Function) → ArePlain variables k functions
+    → (n : ℕ) (f : Function) → slice_get functions n ≡ Some f → IsPlainFunction variables (k + n) f
+plain_at variables k [] plain n f e = absurd (none-some f e)
+plain_at variables k (g ∷ functions) plain zero f e =
+    subst (λ n. IsPlainFunction variables n f) (omega arith) (subst (IsPlainFunction variables k) (same_Some g f e) plain.0)
+plain_at variables k (g ∷ functions) plain (suc n) f e =
+    subst (λ i. IsPlainFunction variables i f) (omega arith) (plain_at variables (suc k) functions plain.1 n f e)
+
+module _ (source : ParsedSource) (known : Each IsKnownFunction (functions_in source)) (few : HasFewParams source) (file : Each IsNoArray (file_variables 0 (globals_in source))) where
+  functions_plain : (k : ℕ) (later : List ParsedFunction)
+      → ((i : ℕ) (f : ParsedFunction) → slice_get later i ≡ Some f → slice_get (functions_in source) (k + i) ≡ Some f)
+      → OnSound (judged_functions source later) (ArePlain (source_variables source) k)
+  functions_plain k [] at = tt
+  functions_plain k (f ∷ later) at =
+      let variables = source_variables source in
+      on_pair (judged_function source f) (judged_functions source later) _ (IsPlainFunction variables k) (ArePlain variables (suc k)) (ArePlain variables k)
+      (function_plain source known few file k f (subst (λ n. slice_get (functions_in source) n ≡ Some f) (omega arith) (at 0 f refl)))
+      (functions_plain (suc k) later (λ i g e. subst (λ n. slice_get (functions_in source) n ≡ Some g) (omega arith) (at (suc i) g e)))
+      (λ g typed one others. (one, others))
+
+  program_plain : (p : Program) → program_of source ≡ Some p → ArePlain (source_variables source) 0 p.functions
+  program_plain p =
+      program_functions source (ArePlain (source_variables source) 0) p
+      (functions_plain 0 (functions_in source) (λ i f there. subst (λ n. slice_get (functions_in source) n ≡ Some f) (omega arith) there))
+
+-- ---- the whole source
+
+-- a known source without faults of types has a plain program, with any bound on the variables of its functions
+pub plain_program : (source : ParsedSource) (most : ℕ) (p : Program) → is_known plain_forms source ≡ true → HasFewParams source
+    → ((n : ℕ) → length (own_of (source_variables source) n) ≤ most) → program_of source ≡ Some p → IsPlainProgram (source_variables source) most p
+plain_program source most p known few within made =
+    let globals = file_scalars 0 (globals_in source) (known_globals source known) in
+    let all = program_plain source (known_functions source known) few globals p made in
+    record {
+      file = λ k v e. (file_number 0 (globals_in source) k v e ∙ ap File (omega arith), each_get IsNoArray (file_variables 0 (globals_in source)) k v globals e);
+      own = own_at source;
+      few = within;
+      functions = λ n f e. subst (λ i. IsPlainFunction (source_variables source) i f) (omega arith) (plain_at (source_variables source) 0 p.functions all n f e);
+    }
+
+-- an accepted source of the known forms has a plain program
+pub plain_source : (source : ParsedSource) → is_known plain_forms source ≡ true → IsAccepted source → HasFewParams source
+    → (p : Program) → program_of source ≡ Some p → (most : ℕ) × IsPlainProgram (source_variables source) most p
+plain_source source known accepted few p made =
+    let all = map (own_variables source) (functions_in source) in
+    (most_of all, plain_program source (most_of all) p known few (within_most all) made)
+
+pub no_refusal : (first later : Option SourceRefusal) → first_refusal first later ≡ None → (first ≡ None) × (later ≡ None)
+no_refusal None later e = (refl, e)
+no_refusal (Some refusal) later e = absurd (true≢false (ap is_some e))
+
+-- the program of an accepted text is plain, and no function of it has more variables than a source may have
+pub plain_text : (text : Bytes) (asked : Option Name) (p : Program) (entry : ℕ) (is : IsProgramOf plain_forms text asked p entry)
+    → IsPlainProgram (source_variables is.source) most_variables p
+plain_text text asked p entry is =
+    let source = is.source in
+    let reads = is.accepted.reads in
+    let limits = (no_refusal (refusal_of source) (limit_refusal source) is.accepted.sound).1 in
+    plain_program source most_variables p is.accepted.known (few_params source reads.tokens reads.tree) (few_variables source limits) is.program_is

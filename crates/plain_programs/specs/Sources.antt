@@ -1,0 +1,49 @@
+-- The forms that a plain program may have, and the variables of a source, which its typed program has too.
+use Rattle.std.specs.Prelude.{◌≡◌, ℕ, suc, true, false, List, [], ◌∷◌, ◌++◌, Some, length, map, slice_get}
+use Rattle.gang_types.specs.declared.places.VarId.TheVariants.{Local}
+use Rattle.gang_model.specs.Types.Tree.{Variable}
+use Rattle.gang_model.specs.Source.Parsed.{ParsedFunction, ParsedGlobal, ParsedSource, functions_in, globals_in}
+use Rattle.gang_model.specs.Source.Known.{Forms}
+use Rattle.gang_model.specs.Source.Judged.{Judged, Sound, Faulty}
+use Rattle.gang_model.specs.Types.Signatures.{result_of}
+use Rattle.gang_model.specs.Types.Statements.{Made, statements}
+use Rattle.gang_model.specs.Types.Resolved.{global_entries, global_of, param_entries, param_variables}
+use Rattle.machine_states.specs.Variables.{Variables, own_of}
+use Rattle.codegen.specs.Programs as programs
+use Rattle.typed_tree.specs.declared.program.Program.{Program}
+
+-- all over scalars, control flow and calls of the source's own functions
+abbrev pub plain_forms : Forms
+plain_forms = record { scalars = true; control = true; calls = true; arrays = false; rounds = false; library = false; switches = false }
+
+-- the file-scope variables, by their numbers from k on
+abbrev pub file_variables : ℕ → List ParsedGlobal → List Variable
+file_variables k [] = []
+file_variables k (g ∷ globals) = (global_of k g).variable ∷ file_variables (suc k) globals
+
+-- the variables that a body declares
+abbrev pub variables_made : Judged Made → List Variable
+variables_made (Sound made) = made.variables
+variables_made (Faulty first others) = []
+
+-- the variables of a function, by their numbers, the parameters first
+abbrev pub own_variables : ParsedSource → ParsedFunction → List Variable
+own_variables source f = param_variables 0 f.params
+    ++ variables_made (statements f.body (record { functions = functions_in source; result = result_of f.spec })
+    (param_entries 0 f.params (global_entries 0 (globals_in source))) (length f.params) 0)
+
+-- the variables of a source
+abbrev pub source_variables : ParsedSource → Variables
+source_variables source = record {
+  file = file_variables 0 (globals_in source);
+  own = map (own_variables source) (functions_in source);
+  parameters = map (λ f. length f.params) (functions_in source);
+}
+
+-- a typed program's functions have the variables of the source's, by their numbers
+abbrev pub HasVariablesOf : ParsedSource → Program → Type 0
+HasVariablesOf source program = map programs.own_variables program.functions.items ≡ map (own_variables source) (functions_in source)
+
+-- a name in scope is one of the function's variables, by its number
+abbrev pub IsOwnName : Variables → (function : ℕ) → Variable → Type 0
+IsOwnName variables function v = (k : ℕ) × (slice_get (own_of variables function) k ≡ Some v) × (v.id ≡ Local k)
