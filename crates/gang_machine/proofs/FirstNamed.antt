@@ -9,7 +9,11 @@ use Rattle.gang_model.specs.Types.Resolved.{local_at, no_variable, standing_with
 use Rattle.gang_model.specs.Names.Scope.{NameStanding, names_at}
 use Rattle.gang_model.specs.Types.Tree.{Variable}
 use Rattle.gang_model.proofs.SameTexts.{bytes_same}
-use Rattle.gang_machine.proofs.Lines.{drop_first}
+
+pub drop_first : {A : Type 0} (xs : List A) (i : ℕ) (x : A) → slice_get xs i ≡ Some x → drop i xs ≡ x ∷ drop (suc i) xs
+drop_first [] i x e = cc
+drop_first (y ∷ xs) zero x e = let same : y ≡ x = cc in ap (λ z. z ∷ xs) same
+drop_first (y ∷ xs) (suc i) x e = drop_first xs i x e
 
 -- the test of a name, as the definitions name it
 pub same_name : (text read name : List ℕ) (b : Bool) → read ≡ text → b ≡ bytes_eq read name → b ≡ same_text text name

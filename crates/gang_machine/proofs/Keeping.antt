@@ -5,79 +5,77 @@ use Rattle.std.specs.Prelude.{cond, filter, fold}
 use Rattle.undo_log.specs.declared.timeline.Undone.{Undone}
 use Rattle.undo_log.specs.History.{History, Moment, moment, steps_in, is_step as is_kept_step}
 use Rattle.debug_machine.specs.Machines.{kind_of}
-use Rattle.gang_model.specs.Types.Tree.{Var, Function}
-use Rattle.gang_model.specs.Running.State.{State}
-use Rattle.gang_model.specs.Debugger.Events.{Event, Step, Poke, happen}
-use Rattle.gang_model.specs.Debugger.Debugger.{Debugger, Setting, is_step, kept_steps, moved, now, taken_back}
-use Rattle.typed_tree.specs.declared.program.Function.{Function as TreeFunction}
-use Rattle.typed_tree.specs.declared.program.Global.{Global as TreeGlobal}
-use Rattle.typed_tree.specs.Views.{function_view}
-use Rattle.gang_machine.specs.Standings.{AreKept, Shows, Stands, file_of, view_of}
-
--- ---- the kept events
-
-module _ (w entry : ℕ) (file : List Var) (f : Function) (s : Setting) where
-  pub kept_front : (n : ℕ) (events : List Event) (past : List Moment) → AreKept w entry file f s events past → AreKept w entry file f s events (take n past)
-  kept_front zero events past h = tt
-  kept_front (suc n) events [] h = tt
-  kept_front (suc n) [] (m ∷ past) h = absurd h
-  kept_front (suc n) (event ∷ events) (m ∷ past) h = (h.0, h.1, kept_front n events past h.2)
-
-  -- they are the newest ones
-  pub events_kept : (events : List Event) (past : List Moment) → AreKept w entry file f s events past → map (λ (m : Moment). m.event) past ≡ map kind_of (take (length past) events)
-  events_kept events [] h = refl
-  events_kept [] (m ∷ past) h = absurd h
-  events_kept (event ∷ events) (m ∷ past) h = rw (h.0, events_kept events past h.2)
+use Rattle.gang_model.specs.Debugger.Events.{Event, Step, Poke}
+use Rattle.gang_model.specs.Debugger.Debugger.{Debugger, Setting, is_step, kept_steps, moved, taken_back}
+use Rattle.typed_tree.specs.declared.program.Program.{Program}
+use Rattle.typed_tree.specs.Views.{program_view}
+use Rattle.gang_memory.specs.declared.layout.Layout.{Layout}
+use Rattle.gang_machine.specs.Standings.{AreKept, ShowsWords, Stands, masked_at, view_of}
 
 count_from : (events : List Event) (n : ℕ) → fold (λ a x. a + cond (is_kept_step x) 1 0) n (map kind_of events) ≡ n + length (filter is_step events)
 count_from [] n = omega arith
 count_from (Step ∷ events) n = count_from events (n + 1) ∙ omega arith
 count_from (Poke what word ∷ events) n = count_from events (n + 0) ∙ omega arith
 
--- ---- a machine
+module _ (w entry : ℕ) (program : Program) (layout : Layout) where
+  -- each kept list of words shows the state before its event
+  abbrev pub Kept : List Event → List Moment → Type 0
+  Kept events past = AreKept w entry program layout events past
 
-module _ (w entry : ℕ) (f : TreeFunction) (globals : List TreeGlobal) (lines : List ℕ) (old : History) (s : Setting) (d : Debugger) (stands : Stands (view_of w entry f globals lines old) s d) where
-  -- an event that is recorded, and does what the definitions' does
-  pub stands_moved : (event : Event) (new : History) (next : State) → happen s.program event (now s d) ≡ next → Shows w entry (file_of globals) (function_view f) new.words next
-      → new.past ≡ take old.limit (moment (kind_of event) old.words ∷ old.past) → new.limit ≡ old.limit → Stands (view_of w entry f globals lines new) s (moved event d)
-  stands_moved event new next happens shows past limit = record {
-    function = stands.function;
-    globals = stands.globals;
-    lines = stands.lines;
-    words = subst (Shows w entry (file_of globals) (function_view f) new.words) (sym happens) shows;
-    past = rw past (kept_front w entry (file_of globals) (function_view f) s old.limit (event ∷ d.events) (moment (kind_of event) old.words ∷ old.past) (refl, stands.words, stands.past));
-    kept = rw (past, length-take, stands.kept, stands.limit) (omega arith);
-    limit = stands.limit ∙ sym limit;
-  }
+  pub kept_front : (n : ℕ) (events : List Event) (past : List Moment) → Kept events past → Kept events (take n past)
+  kept_front zero events past h = tt
+  kept_front (suc n) events [] h = tt
+  kept_front (suc n) [] (m ∷ past) h = absurd h
+  kept_front (suc n) (event ∷ events) (m ∷ past) h = (h.0, h.1, kept_front n events past h.2)
 
-  -- the newest event is taken back
-  pub stands_undone : (new : History) (kind : Undone) → old.past ≡ moment kind new.words ∷ new.past → new.limit ≡ old.limit
-      → (event : Event) × (events : List Event) × (kept : ℕ) × (d.events ≡ event ∷ events) × (d.kept ≡ kept + 1) × (kind ≡ kind_of event) × Stands (view_of w entry f globals lines new) s (taken_back d)
-  stands_undone new kind past limit = go d.events refl (subst (AreKept w entry (file_of globals) (function_view f) s d.events) past stands.past) (stands.kept ∙ ap length past)
-    where
-      go : (events : List Event) → d.events ≡ events → AreKept w entry (file_of globals) (function_view f) s d.events (moment kind new.words ∷ new.past) → d.kept ≡ suc (length new.past)
-          → (event : Event) × (events : List Event) × (kept : ℕ) × (d.events ≡ event ∷ events) × (d.kept ≡ kept + 1) × (kind ≡ kind_of event) × Stands (view_of w entry f globals lines new) s (taken_back d)
-      go [] is are count = absurd (subst (λ events. AreKept w entry (file_of globals) (function_view f) s events (moment kind new.words ∷ new.past)) is are)
-      go (event ∷ events) is are count =
-          let all = subst (λ events. AreKept w entry (file_of globals) (function_view f) s events (moment kind new.words ∷ new.past)) is are in (
-            event,
-            events,
-            length new.past,
-            is,
-            omega (arith, count),
-            all.0,
-            record {
-              function = stands.function;
-              globals = stands.globals;
-              lines = stands.lines;
-              words = rw is all.1;
-              past = rw is all.2;
-              kept = omega (arith, count);
-              limit = stands.limit ∙ sym limit;
-            },
-          )
+  -- they are the newest ones
+  pub events_kept : (events : List Event) (past : List Moment) → Kept events past → map (λ (m : Moment). m.event) past ≡ map kind_of (take (length past) events)
+  events_kept events [] h = refl
+  events_kept [] (m ∷ past) h = absurd h
+  events_kept (event ∷ events) (m ∷ past) h = rw (h.0, events_kept events past h.2)
 
-  pub steps_kept : steps_in old.past ≡ kept_steps d
-  steps_kept =
-      ap (count_by is_kept_step) (events_kept w entry (file_of globals) (function_view f) s d.events old.past stands.past ∙ ap (λ n. map kind_of (take n d.events)) (sym stands.kept))
-      ∙ count_from (take d.kept d.events) 0 ∙ omega arith
+  module _ (lines : List ℕ) (old : History) (s : Setting) (d : Debugger) (stands : Stands (view_of w entry program lines layout old) s d) where
+    -- an event that is recorded, and does what the definitions' does
+    pub stands_moved : (event : Event) (new : History) → ShowsWords w program layout new.words (masked_at w entry (program_view program) (event ∷ d.events))
+        → new.past ≡ take old.limit (moment (kind_of event) old.words ∷ old.past) → new.limit ≡ old.limit → Stands (view_of w entry program lines layout new) s (moved event d)
+    stands_moved event new shows past limit = record {
+      program = stands.program;
+      first = stands.first;
+      lines = stands.lines;
+      words = shows;
+      past = rw past (kept_front old.limit (event ∷ d.events) (moment (kind_of event) old.words ∷ old.past) (refl, stands.words, stands.past));
+      kept = rw (past, length-take, stands.kept, stands.limit) (omega arith);
+      limit = stands.limit ∙ sym limit;
+    }
+
+    -- the newest event is taken back
+    pub stands_undone : (new : History) (kind : Undone) → old.past ≡ moment kind new.words ∷ new.past → new.limit ≡ old.limit
+        → (event : Event) × (events : List Event) × (kept : ℕ) × (d.events ≡ event ∷ events) × (d.kept ≡ kept + 1) × (kind ≡ kind_of event) × Stands (view_of w entry program lines layout new) s (taken_back d)
+    stands_undone new kind past limit = go d.events refl (subst (Kept d.events) past stands.past) (stands.kept ∙ ap length past)
+      where
+        go : (events : List Event) → d.events ≡ events → Kept d.events (moment kind new.words ∷ new.past) → d.kept ≡ suc (length new.past)
+            → (event : Event) × (events : List Event) × (kept : ℕ) × (d.events ≡ event ∷ events) × (d.kept ≡ kept + 1) × (kind ≡ kind_of event) × Stands (view_of w entry program lines layout new) s (taken_back d)
+        go [] is are count = absurd (subst (λ events. Kept events (moment kind new.words ∷ new.past)) is are)
+        go (event ∷ events) is are count =
+            let all = subst (λ events. Kept events (moment kind new.words ∷ new.past)) is are in (
+              event,
+              events,
+              length new.past,
+              is,
+              omega (arith, count),
+              all.0,
+              record {
+                program = stands.program;
+                first = stands.first;
+                lines = stands.lines;
+                words = rw is all.1;
+                past = rw is all.2;
+                kept = omega (arith, count);
+                limit = stands.limit ∙ sym limit;
+              },
+            )
+
+    pub steps_kept : steps_in old.past ≡ kept_steps d
+    steps_kept =
+        ap (count_by is_kept_step) (events_kept d.events old.past stands.past ∙ ap (λ n. map kind_of (take n d.events)) (sym stands.kept))
+        ∙ count_from (take d.kept d.events) 0 ∙ omega arith

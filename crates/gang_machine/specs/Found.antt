@@ -4,7 +4,7 @@ use Rattle.debug_machine.specs.declared.machine.NamedVariable.{NamedVariable}
 use Rattle.debug_machine.specs.declared.machine.Shown.{Shown}
 use Rattle.gang_model.specs.Source.Names.{named}
 use Rattle.gang_model.specs.Types.Tree.{Variable}
-use Rattle.gang_machine.specs.Layout.{rate_words}
+use Rattle.gang_memory.specs.ScalarWords.{rate_words}
 
 -- what is shown is the variable, with its type and as many words as it has
 pub record IsSeen (width : ℕ) (v : Variable) (shown : Shown) : Type 0 where

@@ -1,6 +1,4 @@
 pub mod Found
-pub mod Layout
 pub mod Machines
-pub mod Remaining
+pub mod Nexts
 pub mod Standings
-pub mod Stored

@@ -1,5 +1,4 @@
-//! A machine that runs a scalar program step by step, and takes steps back: a program whose entry is a straight line of
-//! declarations and assignments of scalars, in any blocks, with variables of the file.
+//! A machine that runs a compiled program step by step, and takes steps back.
 #![tactic(auto)]
 
 mod breakpoint_lines;
@@ -7,12 +6,6 @@ mod listing;
 mod machine;
 mod names;
 mod opening;
-mod poking;
-mod slots;
-mod variables;
 
 pub use machine::Machine;
 pub use opening::open;
-
-#[cfg(test)]
-mod tests;

@@ -8,8 +8,8 @@ ghost use Rattle.typed_tree.specs.Views.{function_view, variable_view};
 ghost use Rattle.gang_machine.specs.Found.{FindsNumber, IsNamed, IsSeen, SeesFound};
 ghost use Rattle.gang_machine.specs.Standings.{file_variables};
 
-use crate::slots::count_of;
 use debug_machine::{NamedVariable, Shown};
+use gang_memory::word_count;
 use gang_types::{IntType, Rate, VarId};
 use typed_tree::{Function, Global, Variable};
 
@@ -71,7 +71,7 @@ fn shown<const W: usize>(variable: &Variable) -> Shown
         rate: variable.rate,
         is_array: variable.is_array,
         is_constant: variable.is_constant,
-        count: count_of::<W>(variable.rate),
+        count: word_count::<W>(variable.rate),
     }
 }
 

@@ -2,7 +2,7 @@
 use Rattle.std.specs.Prelude.{ℕ, List, Option, option_map}
 use Rattle.gang_model.specs.Source.Parsed.{Name}
 use Rattle.gang_model.specs.Source.Sources.{HasNoEntry, IsRightRefusal}
-use Rattle.scalar_programs.specs.Today.{today}
+use Rattle.plain_programs.specs.Sources.{plain_forms}
 use Rattle.gang_model.specs.Texts.Transcript.{Options as ModelOptions}
 use Rattle.ispc_cli.specs.declared.options.Options.{Options}
 use Rattle.ispc_cli.specs.declared.options.Width.{Width}
@@ -25,7 +25,7 @@ asked_of options = option_map (λ name. name.now) options.entry
 
 -- whether a refusal of a run of this text with this entry asked for is right; out of memory may come at any time
 abbrev pub IsRight : (text : List ℕ) → (asked : Option Name) → Refusal → Type 0
-IsRight text asked (refusal.Source r) = IsRightRefusal today text r
-IsRight text asked refusal.NoEntry = HasNoEntry today text asked
+IsRight text asked (refusal.Source r) = IsRightRefusal plain_forms text r
+IsRight text asked refusal.NoEntry = HasNoEntry plain_forms text asked
 IsRight text asked refusal.NoScript = ⊥
 IsRight text asked refusal.Memory = Unit {0}

@@ -4,9 +4,8 @@ ghost use Rattle.std.specs.Io.KnownBytes.{Appends};
 ghost use Rattle.gang_types.specs.Masks.{IsGangWidth};
 ghost use Rattle.gang_model.specs.Debugger.Debugger.{fresh};
 ghost use Rattle.gang_model.specs.Texts.Endings.{Ends};
-ghost use Rattle.gang_model.specs.Running.RunningOrder.{IsNumberedProgram};
 ghost use Rattle.gang_model.specs.Source.Sources.{IsProgramOf};
-ghost use Rattle.scalar_programs.specs.Today.{today};
+ghost use Rattle.plain_programs.specs.Sources.{plain_forms};
 ghost use Rattle.gang_model.specs.Texts.Transcript.{setting};
 ghost use Rattle.gang_model.specs.Types.Tree.{Program as ModelProgram};
 ghost use Rattle.typed_tree.specs.Views.{program_view};
@@ -47,7 +46,7 @@ pub fn run<R: CommandReader, O: AnswerWriter>(
     requires fresh { R.reads reader.old ≡ 0 }
     requires reader_works { R.has_failed reader.old ≡ false }
     requires writer_works { O.has_failed writer.old ≡ false }
-    ensures transcript { IfOk result (λ ending. (program : ModelProgram) × (entry : ℕ) × IsProgramOf today source.now (asked_of options.now) program entry
+    ensures transcript { IfOk result (λ ending. (program : ModelProgram) × (entry : ℕ) × IsProgramOf plain_forms source.now (asked_of options.now) program entry
         × ((out : List ℕ) × Appends (O.written writer.old) (O.written writer.new) out
         × Ends (setting program entry [] (options_view options.now)) (fresh options.now.history) (ending_of ending) (R.left reader.old) (R.left reader.new) out)) }
     ensures refused { IfErr result (λ refusal. IsRight source.now (asked_of options.now) refusal × ((reader.new ≡ reader.old) × (writer.new ≡ writer.old))) }
@@ -86,7 +85,6 @@ fn run_wide<const W: usize, R: CommandReader, O: AnswerWriter>(
 ) -> Result<Ending, Refusal>
     requires width { IsGangWidth W }
     requires ready { IsReady compiled }
-    requires numbered { IsNumberedProgram (program_view compiled.program) }
     requires range { AreInRange options.now }
     requires fresh { R.reads reader.old ≡ 0 }
     requires reader_works { R.has_failed reader.old ≡ false }
@@ -115,7 +113,6 @@ fn begun<const W: usize>(
 ) -> Result<Session<Machine<W, SnapshotRing>>, AllocError>
     requires width { IsGangWidth W }
     requires ready { IsReady compiled }
-    requires numbered { IsNumberedProgram (program_view compiled.program) }
     requires range { AreInRange options.now }
     ensures { IfOk result (λ session. StandsFor Stands session
         (setting (program_view compiled.program) compiled.entry.0 [] (record { width = W; history = options.now.history; steps = options.now.steps }))

@@ -9,8 +9,8 @@ use Rattle.gang_model.specs.Source.Limits.{limit_refusal}
 use Rattle.gang_model.specs.Source.Parsed.{Name, ParsedSource}
 use Rattle.gang_model.specs.Types.Resolved.{program_of}
 use Rattle.gang_model.specs.Texts.Run.{source_refusal}
-use Rattle.gang_model.specs.Types.SourceRefusals.{IsAccepted, first_refusal, names_refusal, types_refusal}
-use Rattle.gang_model.specs.Source.Sources.{IsTreeNumber}
+use Rattle.gang_model.specs.Types.SourceRefusals.{first_refusal, names_refusal, types_refusal}
+use Rattle.gang_model.specs.Source.Sources.{IsProgramOf, IsTreeNumber}
 use Rattle.gang_model.specs.Source.SpellsSource.{IsTree}
 use Rattle.gang_model.specs.Source.Tokens.{Lexeme}
 use Rattle.source_answers.specs.declared.fault.SourceFault.{SourceFault}
@@ -18,7 +18,8 @@ use Rattle.source_answers.specs.declared.fault.SourceFault.TheVariants.{Memory, 
 use Rattle.ispc_lexer.specs.Refusal.{IsRefusal as IsLexerRefusal}
 use Rattle.ispc_parser.specs.Refusals.{IsRefusal as IsParserRefusal}
 use Rattle.ispc_parser_expressions.specs.Parse.{IsParserNumber}
-use Rattle.scalar_programs.proofs.ScalarPrograms.{scalar-program}
+use Rattle.plain_programs.specs.Sources.{HasVariablesOf, plain_forms}
+use Rattle.plain_programs.proofs.RunnableSources.{entry_text, no_parameters, runnable_text}
 use Rattle.typed_tree.specs.Views.{program_view}
 use Rattle.ispc_compiler.specs.declared.front.Compiled.{Compiled}
 use Rattle.ispc_compiler.specs.Front.{Compiles, CompilesTree, GivesTree, IsFault, IsRefused, ReadsKnown}
@@ -89,15 +90,21 @@ by_limits source n t =
 pub by_limits_fault : (source : ParsedSource) (fault : SourceFault) → names_refusal source ≡ None → types_refusal source ≡ None → IsFault (limit_refusal source) fault → IsFault (source_refusal source) fault
 by_limits_fault source fault n t h = subst (λ found. IsFault found fault) (sym (by_limits source n t)) h
 
-accepted : (source : ParsedSource) → names_refusal source ≡ None → types_refusal source ≡ None → IsAccepted source
-accepted source n t = ap (λ n. first_refusal n (types_refusal source)) n ∙ t
-
 -- the program of a tree without a fault
 pub tree_compiles : (text : List ℕ) (source : ParsedSource) (asked : Option Name) (compiled : Compiled) → ReadsKnown text source → names_refusal source ≡ None → types_refusal source ≡ None
-    → limit_refusal source ≡ None → program_of source ≡ Some (program_view compiled.program) → entry_of source asked ≡ Some compiled.entry.0 → CompilesTree source asked compiled
-tree_compiles text source asked compiled known n t l program entry = record {
-  sound = by_limits source n t ∙ l;
-  program = program;
-  entry = entry;
-  ready = scalar-program source known.reads.tokens (program_view compiled.program) asked compiled.entry.0 known.reads.tree known.known (accepted source n t) program entry;
-}
+    → limit_refusal source ≡ None → program_of source ≡ Some (program_view compiled.program) → HasVariablesOf source compiled.program → entry_of source asked ≡ Some compiled.entry.0
+    → CompilesTree source asked compiled
+tree_compiles text source asked compiled known n t l program own entry =
+    let sound = by_limits source n t ∙ l in
+    let is : IsProgramOf plain_forms text asked (program_view compiled.program) compiled.entry.0 =
+    record { source = source; accepted = record { reads = known.reads; known = known.known; sound = sound }; program_is = program; entry_is = entry } in
+    record {
+      sound = sound;
+      program = program;
+      entry = entry;
+      ready = record {
+        runnable = runnable_text text asked compiled.entry.0 compiled.program is own;
+        entry = entry_text text asked compiled.entry.0 compiled.program is;
+        no_parameters = no_parameters text asked compiled.entry.0 compiled.program is own;
+      };
+    }

@@ -1,27 +1,31 @@
 -- What the phases from a text to a program give.
-use Rattle.std.specs.Prelude.{◌≡◌, ℕ, true, List, Option, Some, None}
+use Rattle.std.specs.Prelude.{◌≡◌, ℕ, true, List, Option, Some, None, slice_get}
 use Rattle.gang_model.specs.declared.refusals.SourceRefusal.{SourceRefusal}
 use Rattle.gang_model.specs.Running.Entry.{entry_of}
 use Rattle.gang_model.specs.Source.Known.{is_known}
-use Rattle.scalar_programs.specs.Today.{today}
+use Rattle.plain_programs.specs.Sources.{plain_forms}
 use Rattle.gang_model.specs.Source.Parsed.{Name, ParsedSource}
 use Rattle.gang_model.specs.Types.Resolved.{program_of}
+use Rattle.gang_model.specs.Types.Tree.{Function}
 use Rattle.gang_model.specs.Texts.Run.{source_refusal}
 use Rattle.gang_model.specs.Source.Sources.{HasNoEntry, IsProgramOf, IsRightRefusal, ReadsAs}
-use Rattle.scalar_programs.specs.Scalars.{IsScalarProgram}
+use Rattle.machine_states.specs.Variables.{parameters_of}
+use Rattle.codegen.specs.Programs.{IsRunnable, variables_of}
 use Rattle.typed_tree.specs.Views.{program_view}
 use Rattle.source_answers.specs.declared.fault.SourceFault.{SourceFault}
 use Rattle.source_answers.specs.declared.fault.SourceFault.TheVariants.{Memory, Refused}
 use Rattle.ispc_compiler.specs.declared.front.Compiled.{Compiled}
 
--- a program that the machine runs from its entry on
-abbrev pub IsReady : Compiled → Type 0
-IsReady compiled = IsScalarProgram (program_view compiled.program) compiled.entry.0
+-- a program that a machine runs from its entry on, a function without parameters
+pub record IsReady (compiled : Compiled) : Type 0 where
+  pub runnable : IsRunnable compiled.program
+  pub entry : (f : Function) × (slice_get (program_view compiled.program).functions compiled.entry.0 ≡ Some f)
+  pub no_parameters : parameters_of (variables_of compiled.program) compiled.entry.0 ≡ 0
 
 -- a text reads as a tree of which all forms are let through
 pub record ReadsKnown (text : List ℕ) (source : ParsedSource) : Type 0 where
   pub reads : ReadsAs text source
-  pub known : is_known today source ≡ true
+  pub known : is_known plain_forms source ≡ true
 
 -- the program and the entry of a tree without a fault
 pub record CompilesTree (source : ParsedSource) (asked : Option Name) (compiled : Compiled) : Type 0 where
@@ -37,8 +41,8 @@ GivesTree source asked (Some compiled) = CompilesTree source asked compiled
 
 -- the program of a text and its entry, or nothing where it has no function to begin with
 abbrev pub Compiles : List ℕ → (asked : Option Name) → Option Compiled → Type 0
-Compiles text asked None = HasNoEntry today text asked
-Compiles text asked (Some compiled) = IsProgramOf today text asked (program_view compiled.program) compiled.entry.0 × IsReady compiled
+Compiles text asked None = HasNoEntry plain_forms text asked
+Compiles text asked (Some compiled) = IsProgramOf plain_forms text asked (program_view compiled.program) compiled.entry.0 × IsReady compiled
 
 -- out of memory, or the refusal that is found
 abbrev pub IsFault : Option SourceRefusal → SourceFault → Type 0
@@ -48,4 +52,4 @@ IsFault found (Refused refusal) = found ≡ Some refusal
 -- out of memory, or the right refusal
 abbrev pub IsRefused : List ℕ → SourceFault → Type 0
 IsRefused text Memory = Unit {0}
-IsRefused text (Refused refusal) = IsRightRefusal today text refusal
+IsRefused text (Refused refusal) = IsRightRefusal plain_forms text refusal

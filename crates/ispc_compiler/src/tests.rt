@@ -42,21 +42,19 @@ fn arrays_are_no_form_yet(rt: HostRuntime) {
 }
 
 #[test]
-fn calls_are_no_form_yet(rt: HostRuntime) {
-    assert!(rt; is_not_yet(rt.alloc(), b"void f(int x) { }", 6));
-    assert!(rt; is_not_yet(rt.alloc(), b"void f() { { } g(); }", 16));
-    assert!(rt; is_not_yet(rt.alloc(), b"void f() { x += true ? 1 : g(); }", 28));
-    assert!(rt; is_not_yet(rt.alloc(), b"int f() { return 1; }", 11));
+fn library_calls_are_no_form_yet(rt: HostRuntime) {
+    assert!(rt; is_not_yet(rt.alloc(), b"void f() { { } assert(true); }", 16));
+    assert!(rt; is_not_yet(rt.alloc(), b"void f() { x += true ? 1 : abs(2); }", 28));
+    assert!(rt; is_not_yet(rt.alloc(), b"int f() { return popcnt(1); }", 18));
+    assert!(rt; is_not_yet(rt.alloc(), b"void f(int x) { f(abs(x)); }", 19));
+    assert!(rt; is_not_yet(rt.alloc(), b"void f() { do ; while (any(true)); }", 24));
 }
 
 #[test]
-fn control_is_no_form_yet(rt: HostRuntime) {
-    assert!(rt; is_not_yet(rt.alloc(), b"void f() { { if (true) ; } }", 14));
-    assert!(rt; is_not_yet(rt.alloc(), b"void f() { while (true) ; }", 12));
-    assert!(rt; is_not_yet(rt.alloc(), b"void f() { do ; while (true); }", 17));
-    assert!(rt; is_not_yet(rt.alloc(), b"void f() { for (;;) ; }", 12));
-    assert!(rt; is_not_yet(rt.alloc(), b"void f() { break; }", 12));
-    assert!(rt; is_not_yet(rt.alloc(), b"void f() { continue; }", 12));
+fn parameters_of_exported_functions_are_no_form_yet(rt: HostRuntime) {
+    assert!(rt; is_not_yet(rt.alloc(), b"export void f(int x) { }", 13));
+    assert!(rt; is_not_yet(rt.alloc(), b"void f(int x[]) { }", 6));
+    assert!(rt; is_not_yet(rt.alloc(), b"void f(int x, int y[]) { }", 6));
 }
 
 #[test]
@@ -71,6 +69,20 @@ fn rounds_are_no_form_yet(rt: HostRuntime) {
     );
     assert!(rt; is_not_yet(rt.alloc(), b"void f() { foreach_active (i) ; }", 12));
     assert!(rt; is_not_yet(rt.alloc(), b"void f() { foreach_unique (v in 1) ; }", 12));
+    assert!(rt;
+        is_not_yet(
+            rt.alloc(),
+            b"void f() { { if (true) foreach_active (i) ; } }",
+            24
+        )
+    );
+    assert!(rt;
+        is_not_yet(
+            rt.alloc(),
+            b"void f() { for (;;) { foreach_active (i) ; } }",
+            23
+        )
+    );
 }
 
 #[test]
@@ -91,7 +103,7 @@ fn the_first_phase_that_finds_a_fault_names_it(rt: HostRuntime) {
 #[test]
 fn a_program_has_its_entry(rt: HostRuntime) {
     let source =
-        b"int g; void f() { } export void e() { int8 x = g; { x++; ; } } export void l() { g /= 2; }";
+        b"int g; void f(int a) { if (a > 0) return; } export void e() { f(g); } export void l() { g /= 2; }";
     assert!(rt; compiled(rt.alloc(), source, None) == Ok(Some((3, 1, FuncId(1)))));
     assert!(rt; compiled(rt.alloc(), source, Some(b"l")) == Ok(Some((3, 1, FuncId(2)))));
     assert!(rt; compiled(rt.alloc(), source, Some(b"f")) == Ok(None));

@@ -105,3 +105,13 @@ pub fault_collected : {A B : Type 0} (view : B → List A) (fault : Option Sourc
 fault_collected view fault items x Memory e h = tt
 fault_collected view None items x (Refused f) e h = cc
 fault_collected view (Some g) items x (Refused f) e h = h ∙ ap Err cc
+
+-- no fault was found
+pub none_found : (fault : Option SourceRefusal) (gone_on : Unit {0}) → Ok gone_on ≡ refusal_of fault → fault ≡ None
+none_found None gone_on e = refl
+none_found (Some f) gone_on e = cc
+
+-- one was
+pub one_found : (fault : Option SourceRefusal) (g : SourceRefusal) → merged fault (Some g) ≡ None → ⊥
+one_found None g e = cc
+one_found (Some f) g e = cc

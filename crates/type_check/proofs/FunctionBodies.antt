@@ -1,20 +1,20 @@
 -- The body of a function, from what its statements make.
-use Rattle.std.proofs.Common.{◌≡◌, ℕ, suc, refl, sym, ap, ◌∙◌, List, [], ◌∷◌, ◌++◌, length}
-use Rattle.std.specs.Prelude.{Ok, Err}
+use Rattle.std.proofs.Common.{◌≡◌, ℕ, suc, refl, sym, ap, subst, ◌∙◌, List, [], ◌∷◌, ◌++◌, length}
+use Rattle.std.specs.Prelude.{Ok, Err, Some}
 use Rattle.gang_model.specs.declared.refusals.SourceRefusal.{SourceRefusal}
 use Rattle.gang_model.specs.Types.Tree as tree
-use Rattle.gang_model.specs.Source.Parsed.{ParsedFunction, ParsedParam, ParsedStmts}
+use Rattle.gang_model.specs.Source.Parsed.{ParsedFunction, ParsedParam, ParsedSource, ParsedStmts, functions_in, globals_in}
 use Rattle.gang_model.specs.Types.Calls.{Context}
-use Rattle.gang_model.specs.Source.Judged.{Judged, Sound, ◌>>=◌, answer_of}
+use Rattle.gang_model.specs.Source.Judged.{Judged, Sound, Faulty, ◌>>=◌, answer_of, sound_part}
 use Rattle.gang_model.specs.Types.Signatures.{result_of}
 use Rattle.gang_model.specs.Types.Typing.{Scope}
 use Rattle.gang_model.specs.Types.Statements.{Made, statements}
-use Rattle.gang_model.specs.Types.Resolved.{param_entries, param_variables}
+use Rattle.gang_model.specs.Types.Resolved.{global_entries, param_entries, param_variables}
 use Rattle.source_answers.specs.declared.fault.SourceFault.TheVariants.{Refused}
 use Rattle.source_answers.specs.Answers.{Answers}
 use Rattle.source_answers.proofs.Answered.{answers-refused}
 use Rattle.type_check_parts.specs.Makes.{Makes}
-use Rattle.type_check.specs.Bodies.{WithVariables, judged_body}
+use Rattle.type_check.specs.Bodies.{WithVariables, declared_variables, judged_body, variables_made}
 
 count-params : (k : ℕ) (params : List ParsedParam) → length (param_variables k params) ≡ length params
 count-params k [] = refl
@@ -47,3 +47,15 @@ pub body-refused : {B : Type 0} (view : B → WithVariables) (functions : List P
     → answer_of j ≡ Err fault → j ≡ judged_statements functions f file → Answers view (Err (Refused fault)) (judged_body functions f file)
 body-refused view functions f file fault j h is =
     answers-refused (λ (m : Made). m) view (Refused fault) (judged_statements functions f file) (λ m. Sound (m.stmt, param_variables 0 f.params ++ m.variables)) (ap answer_of (sym is) ∙ h)
+
+-- the variables of a function whose body is sound
+module _ (params : List tree.Variable) (body : WithVariables) where
+  variables_of : (j : Judged Made) → (j >>= (λ m. Sound (m.stmt, params ++ m.variables))) ≡ Sound body → params ++ variables_made j ≡ body.1
+  variables_of (Sound made) is = let same : Some (made.stmt, params ++ made.variables) ≡ Some body = ap sound_part is in cc
+  variables_of (Faulty first others) is = cc
+
+pub body_variables : (source : ParsedSource) (functions : List ParsedFunction) (f : ParsedFunction) (file : Scope) (body : WithVariables) → functions ≡ functions_in source
+    → file ≡ global_entries 0 (globals_in source) → judged_body functions f file ≡ Sound body → declared_variables source f ≡ body.1
+body_variables source functions f file body fs gs is =
+    variables_of (param_variables 0 f.params) body (judged_statements (functions_in source) f (global_entries 0 (globals_in source)))
+    (subst (λ gs. judged_body (functions_in source) f gs ≡ Sound body) gs (subst (λ fs. judged_body fs f file ≡ Sound body) fs is))

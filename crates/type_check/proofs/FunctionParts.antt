@@ -1,5 +1,5 @@
 -- Functions, one after another.
-use Rattle.std.proofs.Common.{◌≡◌, ℕ, ◌+◌, ◌<◌, ◌≤◌, refl, sym, ap, ◌∙◌, List, [], ◌∷◌, ◌++◌, arith, length, get_or, take, map, append-nil, Bor}
+use Rattle.std.proofs.Common.{◌≡◌, ℕ, ◌+◌, ◌<◌, ◌≤◌, refl, sym, ap, ap₂, ◌∙◌, List, [], ◌∷◌, ◌++◌, arith, length, get_or, take, map, append-nil, Bor}
 use Rattle.std.specs.Prelude.{Option, Some, Err, option_map, slice_get}
 use Rattle.std.specs.List.{zip}
 use Rattle.std.proofs.Math.ListN.{drop_of_length-le}
@@ -21,7 +21,8 @@ use Rattle.ispc_parser.specs.Tree.{function_view}
 use Rattle.ispc_names.specs.Tables.{AreTablesOf}
 use Rattle.ispc_names_table.specs.declared.table.StepScopes.{StepScopes}
 use Rattle.ispc_names_table.specs.Scopes.{standings_view}
-use Rattle.type_check.specs.Bodies.{WithVariables, judged_body, with_body}
+use Rattle.typed_tree.specs.declared.program.Function.{Function as TypedFunction}
+use Rattle.type_check.specs.Bodies.{WithVariables, declared_variables, judged_body, own_variables, with_body}
 use Rattle.type_check.proofs.Collecting.{all_of, Collects, collects-fault, collects-sound}
 
 -- ---- a function from its signature and its body
@@ -136,19 +137,28 @@ module _ (source : ParsedSource) (fs : List (Bor Function)) (tables : List StepS
 abbrev pub function_parts : ParsedSource → List (Bor Function) → ℕ → List (Judged tree.Function)
 function_parts source fs n = map (judged_function source) (views (take n fs))
 
-parts-last : (source : ParsedSource) (fs : List (Bor Function)) (n : ℕ) (f : Bor Function) → n < length fs → f ≡ get_or fs n f
-    → function_parts source fs (n + 1) ≡ function_parts source fs n ++ judged_function source (function_view f.now) ∷ []
-parts-last source fs n f lt is =
-    ap (λ gs. map (judged_function source) (views gs)) (take_more fs n f lt ∙ ap (λ g. take n fs ++ g ∷ []) (sym is))
-    ∙ (ap (map (judged_function source)) (map-append (λ (g : Bor Function). function_view g.now) (take n fs) (f ∷ []))
-    ∙ map-append (judged_function source) (views (take n fs)) (function_view f.now ∷ []))
+views-last : {A : Type 0} (of : ParsedFunction → A) (fs : List (Bor Function)) (n : ℕ) (f : Bor Function) → n < length fs → f ≡ get_or fs n f
+    → map of (views (take (n + 1) fs)) ≡ map of (views (take n fs)) ++ of (function_view f.now) ∷ []
+views-last of fs n f lt is =
+    ap (λ gs. map of (views gs)) (take_more fs n f lt ∙ ap (λ g. take n fs ++ g ∷ []) (sym is))
+    ∙ (ap (map of) (map-append (λ (g : Bor Function). function_view g.now) (take n fs) (f ∷ []))
+    ∙ map-append of (views (take n fs)) (function_view f.now ∷ []))
+
+-- one more function with its variables
+pub variables-made : (source : ParsedSource) (fs : List (Bor Function)) (n m : ℕ) (f : Bor Function) (before : List TypedFunction) (made : TypedFunction) → n < length fs → f ≡ get_or fs n f → m ≡ n + 1
+    → map own_variables before ≡ map (declared_variables source) (views (take n fs)) → own_variables made ≡ declared_variables source (function_view f.now)
+    → map own_variables (before ++ made ∷ []) ≡ map (declared_variables source) (views (take m fs))
+variables-made source fs n m f before made lt is next h e =
+    map-append own_variables before (made ∷ [])
+    ∙ ap₂ (λ xs x. xs ++ x ∷ []) h e
+    ∙ sym (ap (λ k. map (declared_variables source) (views (take k fs))) next ∙ views-last (declared_variables source) fs n f lt is)
 
 -- one more function that stands for something
 pub functions-sound : (source : ParsedSource) (fs : List (Bor Function)) (n m : ℕ) (f : Bor Function) (fault : Option SourceRefusal) (items : List tree.Function) (made : tree.Function)
     → n < length fs → f ≡ get_or fs n f → m ≡ n + 1 → Collects fault items (all_of (function_parts source fs n)) → judged_function source (function_view f.now) ≡ Sound made
     → Collects fault (items ++ made ∷ []) (all_of (function_parts source fs m))
 functions-sound source fs n m f fault items made lt is next h e =
-    ap (λ js. answer_of (all_of js)) (ap (function_parts source fs) next ∙ parts-last source fs n f lt is)
+    ap (λ js. answer_of (all_of js)) (ap (function_parts source fs) next ∙ views-last (judged_function source) fs n f lt is)
     ∙ collects-sound fault items made (function_parts source fs n) (judged_function source (function_view f.now)) h e
 
 -- one more function with a fault
@@ -156,7 +166,7 @@ pub functions-fault : (source : ParsedSource) (fs : List (Bor Function)) (n m : 
     → n < length fs → f ≡ get_or fs n f → m ≡ n + 1 → Collects fault items (all_of (function_parts source fs n)) → answer_of (judged_function source (function_view f.now)) ≡ Err g
     → Collects (merged fault (Some g)) items (all_of (function_parts source fs m))
 functions-fault source fs n m f fault g items lt is next h e =
-    ap (λ js. answer_of (all_of js)) (ap (function_parts source fs) next ∙ parts-last source fs n f lt is)
+    ap (λ js. answer_of (all_of js)) (ap (function_parts source fs) next ∙ views-last (judged_function source) fs n f lt is)
     ∙ collects-fault fault g items (function_parts source fs n) (judged_function source (function_view f.now)) h e
 
 -- every function is judged

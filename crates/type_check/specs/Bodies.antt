@@ -1,14 +1,16 @@
 -- The bodies of functions.
-use Rattle.std.specs.Prelude.{List, ◌++◌, length, map}
+use Rattle.std.specs.Prelude.{◌≡◌, List, [], ◌++◌, length, map}
 use Rattle.gang_model.specs.Types.Tree as tree
-use Rattle.gang_model.specs.Source.Parsed.{ParsedFunction}
-use Rattle.gang_model.specs.Source.Judged.{Judged, Sound, ◌>>=◌}
+use Rattle.gang_model.specs.Source.Parsed.{ParsedFunction, ParsedSource, functions_in, globals_in}
+use Rattle.gang_model.specs.Source.Judged.{Judged, Sound, Faulty, ◌>>=◌}
 use Rattle.gang_model.specs.Types.Signatures.{result_of}
 use Rattle.gang_model.specs.Types.Typing.{Scope}
-use Rattle.gang_model.specs.Types.Statements.{statements}
+use Rattle.gang_model.specs.Types.Statements.{Made, statements}
 use Rattle.gang_model.specs.Names.Scope.{NameStanding}
-use Rattle.gang_model.specs.Types.Resolved.{param_entries, param_variables, rate_or_uniform, standing_with, type_or_int32}
+use Rattle.gang_model.specs.Types.Resolved.{global_entries, param_entries, param_variables, rate_or_uniform, standing_with, type_or_int32}
 use Rattle.typed_tree.specs.Views.{stmts_view, variable_view}
+use Rattle.typed_tree.specs.declared.program.Function.{Function}
+use Rattle.typed_tree.specs.declared.program.Program.{Program}
 use Rattle.type_check.specs.declared.functions.Body.{Body}
 
 -- a body with the variables of its function
@@ -33,3 +35,24 @@ with_body f body standings = record {
   body = body.0;
   standings = map (standing_with body.1) standings;
 }
+
+-- ---- variables
+
+-- the variables that statements declare, by their numbers
+abbrev pub variables_made : Judged Made → List tree.Variable
+variables_made (Sound made) = made.variables
+variables_made (Faulty first others) = []
+
+-- the variables of a function of a source, by their numbers, the parameters first
+abbrev pub declared_variables : ParsedSource → ParsedFunction → List tree.Variable
+declared_variables source f = param_variables 0 f.params
+    ++ variables_made (statements f.body (record { functions = functions_in source; result = result_of f.spec })
+    (param_entries 0 f.params (global_entries 0 (globals_in source))) (length f.params) 0)
+
+-- the variables of a function in the typed tree
+abbrev pub own_variables : Function → List tree.Variable
+own_variables f = map variable_view f.variables.items
+
+-- each function has the variables that the source declares in it
+abbrev pub AreVariablesOf : ParsedSource → List Function → Type 0
+AreVariablesOf source functions = map own_variables functions ≡ map (declared_variables source) (functions_in source)

@@ -6,6 +6,7 @@ ghost use Rattle.gang_model.specs.Types.SourceRefusals.{names_refusal, types_ref
 ghost use Rattle.source_answers.specs.declared.fault.SourceFault.TheVariants.{Memory, Refused};
 ghost use Rattle.ispc_parser.specs.Tree.{tree_view};
 ghost use Rattle.typed_tree.specs.Views.{program_view};
+ghost use Rattle.type_check.specs.Bodies.{AreVariablesOf};
 
 use crate::typed::typed_program;
 use ispc_names::Named;
@@ -31,6 +32,7 @@ impl Model for Checked {
     ghost use Rattle.ispc_parser.specs.declared.tree.Tree as declared;
     ghost use Rattle.ispc_parser.specs.Tree.{tree_view};
     ghost use Rattle.typed_tree.specs.Views.{program_view};
+    ghost use Rattle.type_check.specs.Bodies.{AreVariablesOf};
 
     ghost Value = { declared.Tree };
 
@@ -38,7 +40,8 @@ impl Model for Checked {
 
     ghost view = { λ c. c.tree };
 
-    ghost invariant = { λ c. (names_refusal (tree_view c.tree) ≡ None) × (program_of (tree_view c.tree) ≡ Some (program_view c.program)) };
+    ghost invariant = { λ c. (names_refusal (tree_view c.tree) ≡ None) × (program_of (tree_view c.tree) ≡ Some (program_view c.program))
+        × AreVariablesOf (tree_view c.tree) c.program.functions.items };
 }
 
 impl Checked {
@@ -53,14 +56,16 @@ impl Checked {
 
     /// The typed program.
     pub fn program(&self) -> &Program
-        ensures { program_of (tree_view self.now) ≡ Some (program_view result.now) }
+        ensures program { program_of (tree_view self.now) ≡ Some (program_view result.now) }
+        ensures variables { AreVariablesOf (tree_view self.now) result.now.functions.items }
     {
         &self.program
     }
 
     /// The typed program, without the tree.
     pub fn into_program(self) -> Program
-        ensures { program_of (tree_view self) ≡ Some (program_view result) }
+        ensures program { program_of (tree_view self) ≡ Some (program_view result) }
+        ensures variables { AreVariablesOf (tree_view self) result.functions.items }
     {
         self.program
     }

@@ -9,7 +9,7 @@ ghost use Rattle.ispc_names_table.specs.Scopes.{standings_view};
 ghost use Rattle.typed_tree.specs.Views as typed;
 ghost use Rattle.source_answers.specs.Answers.{Answers};
 ghost use Rattle.type_check_parts.specs.Makes.{IfAnswered};
-ghost use Rattle.type_check.specs.Bodies.{body_view, judged_body, with_body};
+ghost use Rattle.type_check.specs.Bodies.{AreVariablesOf, body_view, declared_variables, judged_body, own_variables, with_body};
 
 use crate::signatures::{result_of, signature_fault};
 use gang_types::{IntType, Rate, VarId};
@@ -84,6 +84,7 @@ fn function_with(
     body: Body,
     scopes: StepScopes,
 ) -> Result<Function, AllocError>
+    ensures variables { IfOk result (λ made. own_variables made ≡ (body_view body).1) }
     ensures typed { IfOk result (λ made. typed.function_view made ≡ with_body (parsed.function_view function.now) (body_view body) (standings_view scopes)) }
 {
     let no_result = (IntType::Int32, Rate::Uniform);
@@ -111,6 +112,10 @@ fn typed_function(
         → scope.old.entries ≡ model.global_entries 0 (globals_in source)
         → standings_view scopes ≡ standings_of (file_scope source) (parsed.function_view function.now)
         → Answers typed.function_view result (model.judged_function source (parsed.function_view function.now)) }
+    ensures variables { (source : ParsedSource)
+        → map (λ f. parsed.function_view f.now) functions.now ≡ functions_in source
+        → scope.old.entries ≡ model.global_entries 0 (globals_in source)
+        → IfOk result (λ made. own_variables made ≡ declared_variables source (parsed.function_view function.now)) }
     ensures entries { IfAnswered result (scope.new.entries ≡ scope.old.entries) }
 {
     let signature = refuse(signature_fault(function));
@@ -130,11 +135,16 @@ pub(crate) fn typed_functions(
     tables: Vec<StepScopes>,
     mut scope: TypeScope,
 ) -> Result<Vec<Function>, SourceFault>
-    ensures { (source : ParsedSource)
+    ensures functions { (source : ParsedSource)
         → map (λ f. parsed.function_view f.now) functions.now ≡ functions_in source
         → scope.entries ≡ model.global_entries 0 (globals_in source)
         → AreTablesOf source tables.items
         → Answers (λ made. map typed.function_view made.items) result (model.judged_functions source (functions_in source)) }
+    ensures variables { (source : ParsedSource)
+        → map (λ f. parsed.function_view f.now) functions.now ≡ functions_in source
+        → scope.entries ≡ model.global_entries 0 (globals_in source)
+        → AreTablesOf source tables.items
+        → IfOk result (λ made. AreVariablesOf source made.items) }
 {
     let mut typed = Vec::new(alloc);
     let mut first = None;

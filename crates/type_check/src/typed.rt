@@ -1,9 +1,11 @@
 //! The typed program of a tree.
+ghost use Rattle.std.specs.Prelude.{IfOk};
 ghost use Rattle.gang_model.specs.Types.Resolved.{judged_program};
 ghost use Rattle.ispc_parser.specs.Tree.{tree_view};
 ghost use Rattle.ispc_names.specs.Tables.{AreTablesOf};
 ghost use Rattle.typed_tree.specs.Views.{program_view};
 ghost use Rattle.source_answers.specs.Answers.{Answers};
+ghost use Rattle.type_check.specs.Bodies.{AreVariablesOf};
 
 use crate::functions::typed_functions;
 use crate::globals::{declared_globals, typed_globals};
@@ -14,7 +16,8 @@ use source_answers::{SourceFault, both};
 use std::alloc::Global;
 use typed_tree::Program;
 
-/// The typed program of a tree, whose functions have these steps.
+/// The typed program of a tree, whose functions have these steps. Each function has the variables that are declared in it, by their
+/// numbers.
 ///
 /// # Errors
 ///
@@ -25,7 +28,8 @@ pub fn typed_program(
     tables: Vec<StepScopes>,
 ) -> Result<Program, SourceFault>
     requires { AreTablesOf (tree_view tree.now) tables.items }
-    ensures { Answers program_view result (judged_program (tree_view tree.now)) }
+    ensures program { Answers program_view result (judged_program (tree_view tree.now)) }
+    ensures variables { IfOk result (λ program. AreVariablesOf (tree_view tree.now) program.functions.items) }
 {
     let functions = functions_of(alloc, tree)?;
     let globals = globals_of(alloc, tree)?;

@@ -1,9 +1,9 @@
 -- the definitions that are left decide
 use Rattle.std.proofs.Common.{◌≡◌, drop, map}
 use Rattle.gang_model.specs.Source.Known.{is_known}
-use Rattle.scalar_programs.specs.Today.{today}
+use Rattle.plain_programs.specs.Sources.{plain_forms}
 use Rattle.ispc_parser.specs.Tree.{item_view, tree_view}
 use Rattle.ispc_compiler.proofs.forms.check_forms.Given as goal
 
 abbrev pub invariant-loop-item : goal.invariant-loop-item
-invariant-loop-item l = is_known today (tree_view l.fn.tree) ≡ is_known today (map item_view (drop l.item-index l.item-items))
+invariant-loop-item l = is_known plain_forms (tree_view l.fn.tree) ≡ is_known plain_forms (map item_view (drop l.item-index l.item-items))

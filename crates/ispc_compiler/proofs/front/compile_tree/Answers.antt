@@ -1,10 +1,11 @@
-use Rattle.std.proofs.Common.{◌∙◌, ap, sym}
+use Rattle.std.proofs.Common.{◌∙◌, ap, subst, sym}
 use Rattle.std.specs.Prelude.{option_map}
 use Rattle.gang_model.specs.Running.Entry.{entry_of}
 use Rattle.gang_model.specs.Source.Limits.{limit_refusal}
 use Rattle.gang_model.specs.Types.Resolved.{program_of}
 use Rattle.gang_model.specs.Types.SourceRefusals.{types_refusal}
 use Rattle.ispc_parser.specs.Tree.{tree_view}
+use Rattle.plain_programs.specs.Sources.{HasVariablesOf}
 use Rattle.ispc_compiler.proofs.Fronts.{tree_compiles}
 use Rattle.ispc_compiler.proofs.front.compile_tree.Goals as goal
 
@@ -18,5 +19,6 @@ returns-clause-compiled c =
     c.in_ok-named.ensures.named.1
     (sym (ap types_refusal named) ∙ c.in_ok-checked.ensures.checked.1)
     (sym (ap limit_refusal (ap tree_view c.tree.ensures.value ∙ checked)) ∙ c.in_ok-check_limits.ensures.sound)
-    (sym (ap program_of checked) ∙ c.into_program-program.ensures)
+    (sym (ap program_of checked) ∙ c.into_program-program.ensures.program)
+    (subst (λ s. HasVariablesOf s c.into_program-program.result) checked c.into_program-program.ensures.variables)
     (sym (ap (λ s. entry_of s asked) checked) ∙ (sym c.entry_of.ensures ∙ ap (option_map (λ f. f.0)) c.in-Some.is))

@@ -13,8 +13,9 @@ use Rattle.gang_model.proofs.JudgedLaws.{answer_unless}
 use Rattle.source_answers.specs.declared.fault.SourceFault.TheVariants.{Refused}
 use Rattle.typed_tree.specs.declared.program.Function.{Function}
 use Rattle.typed_tree.specs.Views as typed
-use Rattle.type_check.proofs.Collecting.{all_collected, fault_collected}
-use Rattle.type_check.proofs.FunctionParts.{pair-at, steps-of, all-paired, functions-sound, functions-fault, functions-done}
+use Rattle.type_check.specs.Bodies.{declared_variables, own_variables}
+use Rattle.type_check.proofs.Collecting.{all_collected, fault_collected, none_found, one_found}
+use Rattle.type_check.proofs.FunctionParts.{pair-at, steps-of, variables-made, views, all-paired, functions-sound, functions-fault, functions-done}
 use Rattle.type_check_expressions.proofs.Residuals.{answers-fault}
 use Rattle.type_check.proofs.functions.typed_functions.Goals as goal
 
@@ -36,6 +37,10 @@ loop-function-preserved-in-Continue-1 c =
     let before = c.loop-function.typed.items in
     record {
       entries = c.in-Ok.ensures.entries ∙ c.loop-function.invariant.entries;
+      variables = λ source are entries stand none.
+          ap (map own_variables) c.in_ok-push-in-Ok.ensures.items
+          ∙ variables-made source fs (length xs) (length (xs ++ (f, t) ∷ [])) f.now before made pair.in_left pair.left_is (length_push xs (f, t)) (c.loop-function.invariant.variables source are entries stand none)
+          (c.in-Ok.ensures.variables source are (c.loop-function.invariant.entries ∙ entries));
       collects = λ source are entries stand.
           functions-sound source fs (length xs) (length (xs ++ (f, t) ∷ [])) f.now c.loop-function.first (map typed.function_view before) (typed.function_view made) pair.in_left pair.left_is
           (length_push xs (f, t)) (c.loop-function.invariant.collects source are entries stand)
@@ -64,6 +69,7 @@ loop-function-preserved c =
     let judged = rw is at c.in-Err-Refused.ensures.function in
     record {
       entries = same ∙ c.loop-function.invariant.entries;
+      variables = λ source are entries stand none. absurd (one_found c.loop-function.first refusal (sym c.least-first.ensures ∙ none));
       collects = λ source are entries stand.
           functions-fault source fs (length xs) (length (xs ++ (f, t) ∷ [])) f.now c.loop-function.first refusal items pair.in_left pair.left_is
           (length_push xs (f, t)) (c.loop-function.invariant.collects source are entries stand)
@@ -71,8 +77,8 @@ loop-function-preserved c =
           ∙ sym (ap (λ first. answer_unless first items) c.least-first.ensures);
     }
 
-pub returns-in_err-refuse : goal.returns-in_err-refuse
-returns-in_err-refuse c = λ source are entries stand.
+pub returns-in_err-refuse-clause-functions : goal.returns-in_err-refuse-clause-functions
+returns-in_err-refuse-clause-functions c = λ source are entries stand.
     let fs = c.args.functions.now in
     let tables = c.args.tables in
     let s = c.into_iter-function-iterator.result in
@@ -88,8 +94,8 @@ returns-in_err-refuse c = λ source are entries stand.
     (fault_collected (λ (made : Vec Function alloc.Global). map typed.function_view made.items) c.loop-function.first items judged c.in_err-refuse.field-0.0 c.in_err-refuse.ensures
     (functions-done source fs (length xs) c.loop-function.first items are (all-paired source fs tables.items are stand (length xs) ended.1) (c.loop-function.invariant.collects source are entries stand)))
 
-pub returns : goal.returns
-returns c = λ source are entries stand.
+pub returns-clause-functions : goal.returns-clause-functions
+returns-clause-functions c = λ source are entries stand.
     let fs = c.args.functions.now in
     let tables = c.args.tables in
     let s = c.into_iter-function-iterator.result in
@@ -102,3 +108,18 @@ returns c = λ source are entries stand.
     let items = map typed.function_view c.loop-function.typed.items in
     all_collected c.loop-function.first items (judged_functions source (functions_in source)) tt c.in_ok-refuse.ensures
     (functions-done source fs (length xs) c.loop-function.first items are (all-paired source fs tables.items are stand (length xs) ended.1) (c.loop-function.invariant.collects source are entries stand))
+
+pub returns-clause-variables : goal.returns-clause-variables
+returns-clause-variables c = λ source are entries stand.
+    let fs = c.args.functions.now in
+    let tables = c.args.tables in
+    let s = c.into_iter-function-iterator.result in
+    let begun = c.into_iter-function-iterator.ensures.into_iter_gives in
+    let xs = c.loop-function.yielded in
+    let road = YieldsList-from_zip {s = s} (YieldsList-from_slice fs (ap (λ z. iter_rest (zip_first z)) begun ∙ (ap iter_rest c.zip-function-items.ensures.first ∙ c.iter.ensures.rest)))
+    (YieldsList-from_vec tables.items (ap (λ z. into_iter_items (zip_second z)) begun ∙ c.zip-function-items.ensures.second.0)
+    (ap (λ z. into_iter_len (zip_second z)) begun ∙ (c.zip-function-items.ensures.second.1 ∙ tables.ok.0))) in
+    let ended = YieldsList-end road xs c.loop-function.function-iterator c.loop-function.yielded_by c.next.result c.next.new.self c.in-None.is c.next.ensures.steps in
+    c.loop-function.invariant.variables source are entries stand (none_found c.loop-function.first tt c.in_ok-refuse.ensures)
+    ∙ ap (λ gs. map (declared_variables source) (views gs)) (all-paired source fs tables.items are stand (length xs) ended.1)
+    ∙ ap (map (declared_variables source)) are

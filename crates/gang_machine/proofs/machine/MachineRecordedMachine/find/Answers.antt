@@ -1,24 +1,30 @@
-use Rattle.std.proofs.Common.{subst, sym, Some, None}
-use Rattle.std.specs.Prelude.{slice_get}
+use Rattle.std.proofs.Common.{sym, subst, None}
 use Rattle.gang_model.specs.Source.Names.{named}
-use Rattle.gang_model.specs.Debugger.Positions.{scope_of}
-use Rattle.typed_tree.specs.Views.{function_view}
 use Rattle.gang_machine.specs.Found.{SeesFound}
-use Rattle.gang_machine.specs.Standings.{Stands, file_variables}
-use Rattle.gang_machine.proofs.Finding.{finds_global, finds_local}
+use Rattle.gang_machine.specs.Nexts.{Sees}
+use Rattle.gang_machine.specs.Standings.{file_variables}
+use Rattle.gang_machine.proofs.Finding.{SeesLocal, finds_global, finds_local, sees_local}
 use Rattle.gang_machine.proofs.machine.MachineRecordedMachine.find.Goals as goal
+use Rattle.gang_machine.proofs.machine.MachineRecordedMachine.find.Goals.{in-Some, in-None}
 
-pub returns-in-Some : goal.returns-in-Some
-returns-in-Some g c s d stands =
-    let m = c.self.inside in
-    let here = subst (λ m. Stands m s d) (sym c.self.view_is) stands in
-    let seen = subst (λ i. SeesFound g.row.W (named c.args.name.now (scope_of (slice_get (function_view m.function).standings i))) (Some c.in-Some.shown)) c.word-at.ensures c.in-Some.ensures in
-    finds_local g.row.W m.entry m.locals m.function m.globals.items m.lines.items (g.T.Timeline.history m.timeline) c.self.invariant.running s d here c.args.name.now c.in-Some.shown seen
+pub returns-in-Some-local : goal.returns-in-Some-local
+returns-in-Some-local g c s d stands =
+    let name = c.args.name.now in
+    let there : SeesLocal g.row.W (file_variables c.args.self.now.program.globals.items) s d name c.match-next.local =
+    elim c.match-next.branch [
+      | in-Some w ↦ sees_local g.row.W _ _ s d name _ c.match-next.local (w.in-Some.ensures.step s d stands).sees w.local_named-local.ensures w.local-is
+      | in-None w ↦ sees_local g.row.W _ _ s d name None c.match-next.local (c.next.ensures.ended w.in-None.is s d stands).sees tt w.local-is
+    ] in
+    finds_local g.row.W there.0 _ s d there.1 name c.in-Some-local.shown (subst (SeesFound g.row.W (named name there.0)) c.in-Some-local.is there.2)
 
-pub returns-in-None : goal.returns-in-None
-returns-in-None g c s d stands =
-    let m = c.self.inside in
-    let here = subst (λ m. Stands m s d) (sym c.self.view_is) stands in
-    let none = subst (λ i. SeesFound g.row.W (named c.args.name.now (scope_of (slice_get (function_view m.function).standings i))) None) c.word-at.ensures c.in-None.ensures in
-    let seen = subst (λ gs. SeesFound g.row.W (named c.args.name.now (file_variables gs)) c.file_named.result) c.deref.ensures.value c.file_named.ensures in
-    finds_global g.row.W m.entry m.locals m.function m.globals.items m.lines.items (g.T.Timeline.history m.timeline) c.self.invariant.running s d here c.args.name.now c.file_named.result none seen
+pub returns-in-None-local : goal.returns-in-None-local
+returns-in-None-local g c s d stands =
+    let name = c.args.name.now in
+    let there : SeesLocal g.row.W (file_variables c.args.self.now.program.globals.items) s d name c.match-next.local =
+    elim c.match-next.branch [
+      | in-Some w ↦ sees_local g.row.W _ _ s d name _ c.match-next.local (w.in-Some.ensures.step s d stands).sees w.local_named-local.ensures w.local-is
+      | in-None w ↦ sees_local g.row.W _ _ s d name None c.match-next.local (c.next.ensures.ended w.in-None.is s d stands).sees tt w.local-is
+    ] in
+    let sees = subst (λ m. Sees g.row.W there.0 (file_variables m.program.globals.items) s d) (sym c.self.view_is) there.1 in
+    finds_global g.row.W there.0 _ s d sees name c.file_named.result (subst (SeesFound g.row.W (named name there.0)) c.in-None-local.is there.2)
+    (subst (λ gs. SeesFound g.row.W (named name (file_variables gs)) c.file_named.result) c.deref.ensures.value c.file_named.ensures)

@@ -7,4 +7,4 @@ pub returns : goal.returns
 returns g c s d stands =
     let m = c.self.inside in
     c.kept_steps.ensures
-    ∙ steps_kept g.row.W m.entry m.function m.globals.items m.lines.items (g.T.Timeline.history m.timeline) s d (subst (λ m. Stands m s d) (sym c.self.view_is) stands)
+    ∙ steps_kept g.row.W m.entry m.compiled.program m.words.layout m.lines.items (g.T.Timeline.history m.words.store.timeline) s d (subst (λ m. Stands m s d) (sym c.self.view_is) stands)

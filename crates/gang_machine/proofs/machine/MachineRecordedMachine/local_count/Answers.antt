@@ -1,15 +1,13 @@
-use Rattle.std.proofs.Common.{◌∙◌, ap, length, subst, sym}
-use Rattle.std.specs.Prelude.{filter, not, slice_get}
-use Rattle.gang_model.specs.Debugger.Positions.{scope_of}
-use Rattle.typed_tree.specs.Views.{function_view}
-use Rattle.gang_machine.specs.Standings.{Stands}
+use Rattle.std.proofs.Common.{◌∙◌, ap, length}
 use Rattle.gang_machine.proofs.Finding.{listed_is}
 use Rattle.gang_machine.proofs.machine.MachineRecordedMachine.local_count.Goals as goal
 
-pub returns : goal.returns
-returns g c s d stands =
-    let m = c.self.inside in
-    let here = subst (λ m. Stands m s d) (sym c.self.view_is) stands in
-    c.listed_count.ensures
-    ∙ ap (λ i. length (filter (λ v. not v.is_parameter) (scope_of (slice_get (function_view m.function).standings i)))) c.word-at.ensures
-    ∙ ap length (listed_is g.row.W m.entry m.locals m.function m.globals.items m.lines.items (g.T.Timeline.history m.timeline) c.self.invariant.running s d here)
+pub returns-in-Some : goal.returns-in-Some
+returns-in-Some g c s d stands =
+    let next = c.in-Some.ensures.step s d stands in
+    c.listed_count.ensures ∙ ap length (listed_is _ _ _ s d next.sees)
+
+pub returns-in-None : goal.returns-in-None
+returns-in-None g c s d stands =
+    let ended = c.next.ensures.ended c.in-None.is s d stands in
+    ap length (listed_is _ _ _ s d ended.sees)

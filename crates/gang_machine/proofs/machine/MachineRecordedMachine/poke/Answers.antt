@@ -1,17 +1,25 @@
-use Rattle.std.proofs.Common.{◌≡◌, length, sym, subst, arith}
+use Rattle.std.proofs.Common.{subst, sym}
+use Rattle.undo_log.specs.declared.timeline.Undone.TheVariants as undone
 use Rattle.gang_machine.specs.Standings.{Stands}
-use Rattle.gang_machine.proofs.Poked.{pokes_at}
-use Rattle.gang_machine.proofs.Reading.{runs_on}
+use Rattle.gang_machine.proofs.Poking.{shown_poked, stands_poked}
+use Rattle.gang_machine.proofs.Recording.{machine_recorded, words_recorded}
 use Rattle.gang_machine.proofs.machine.MachineRecordedMachine.poke.Goals as goal
+
+pub invariant_of-self : goal.invariant_of-self
+invariant_of-self g c =
+    let m = c.self.inside in
+    machine_recorded g.T.Timeline.history g.row.W m.compiled m.words c.poke.new.words undone.Poke c.poke.ensures.records c.self.invariant c.poke.ensures.sound
 
 pub returns-clause-poke : goal.returns-clause-poke
 returns-clause-poke g c s d v stands is part =
     let m = c.self.inside in
-    let h = g.T.Timeline.history m.timeline in
-    let new = g.T.Timeline.history c.record_poke.new.timeline in
-    let globals_long : c.len.result ≡ length m.globals.items = omega (arith, c.len.ensures) in
-    let here = subst (λ m. Stands m s d) (sym c.self.view_is) stands in
-    let e = c.record_poke.ensures in
-    let machine_new = runs_on g.row.W m.entry m.locals m.function m.globals.items m.lines.items h c.self.invariant.running new e.long e.size e.limit in
-    pokes_at g.row.W m.entry m.locals m.function m.globals.items m.lines.items h c.self.invariant.running s d here new v c.args.shown c.args.at c.args.word c.len.result c.place_among-place.result is part
-    globals_long c.place_among-place.ensures e.words machine_new e.past e.limit
+    let e = c.poke.ensures in
+    let here = subst (λ m. Stands m s d) (sym c.self.view_is) stands in (
+      stands_poked g.T.Timeline.history g.row.W m.entry m.compiled m.lines.items m.words c.poke.new.words c.self.invariant s d here v c.args.shown c.args.at c.args.word is part e.records e.sound e.shown,
+      shown_poked g.T.Timeline.history g.row.W m.entry m.compiled m.lines.items m.words c.poke.new.words c.self.invariant s d here v c.args.shown c.args.at c.args.word is part e.records e.sound e.shown,
+    )
+
+pub poke-requires : goal.poke-requires
+poke-requires g c =
+    let i = c.self.invariant in
+    record { sound = record { lie = i.lie; masked = i.masked; shown = i.shown; called = i.called } }

@@ -1,11 +1,18 @@
-use Rattle.std.proofs.Common.{subst, sym}
+use Rattle.std.proofs.Common.{refl, subst, sym}
 use Rattle.gang_machine.specs.Standings.{Stands}
 use Rattle.gang_machine.proofs.Keeping.{stands_undone}
+use Rattle.gang_machine.proofs.Recording.{machine_undone}
 use Rattle.gang_machine.proofs.machine.MachineRecordedMachine.undo.Goals as goal
+
+pub invariant_of-self-2 : goal.invariant_of-self-2
+invariant_of-self-2 g c =
+    let m = c.self.inside in
+    let (past, long, limit, room) = c.in_ok-back.ensures.answer in
+    machine_undone g.T.Timeline.history g.row.W m.compiled m.words (record { layout = m.words.layout; store = record { timeline = c.back.new.self } }) c.in_ok-back.back.event c.self.invariant refl past limit room
 
 pub returns-clause-undo : goal.returns-clause-undo
 returns-clause-undo g c s d stands =
     let m = c.self.inside in
     let (past, long, limit, room) = c.in_ok-back.ensures.answer in
-    stands_undone g.row.W m.entry m.function m.globals.items m.lines.items (g.T.Timeline.history m.timeline) s d (subst (λ m. Stands m s d) (sym c.self.view_is) stands)
+    stands_undone g.row.W m.entry m.compiled.program m.words.layout m.lines.items (g.T.Timeline.history m.words.store.timeline) s d (subst (λ m. Stands m s d) (sym c.self.view_is) stands)
     (g.T.Timeline.history c.back.new.self) c.in_ok-back.back.event past limit

@@ -1,0 +1,217 @@
+-- What is in scope where a machine stands, and the words of each variable that is seen.
+use Rattle.std.proofs.Common.{◌≡◌, refl, sym, ap, subst, ◌∙◌, ℕ, ◌⊎◌, inl, inr, false, List, [], ◌∷◌, length, map, Option, Some, None}
+use Rattle.std.specs.Prelude.{All, slice_get, if◌then◌else◌}
+use Rattle.std.proofs.lemmas.Option.{get_or_from_slice_get, none-some, slice_get_within}
+use Rattle.undo_log.specs.History.{History}
+use Rattle.gang_types.specs.declared.places.VarId.{VarId}
+use Rattle.gang_types.specs.declared.places.VarId.TheVariants.{Local}
+use Rattle.gang_types.specs.declared.types.Rate.{Rate}
+use Rattle.gang_types.specs.declared.types.Rate.TheVariants.{Uniform, Varying}
+use Rattle.gang_model.specs.Types.Tree as t
+use Rattle.gang_model.specs.Types.Tree.{Function, Standing, StepNumber, Variable}
+use Rattle.gang_model.specs.Running.State.{Frame, view_of as array_of, words_in}
+use Rattle.gang_model.specs.Debugger.Debugger.{Debugger, Setting, elements, now, shown_words}
+use Rattle.gang_model.specs.Debugger.Positions.{scope_now, scope_of, spot_in, standing_in}
+use Rattle.debug_machine.specs.Machines.{IsOneOf, file_variables as variables_of_file}
+use Rattle.typed_tree.specs.declared.program.Function.{Function as TypedFunction}
+use Rattle.typed_tree.specs.declared.program.Global.{Global}
+use Rattle.typed_tree.specs.Views.{function_view, variable_view}
+use Rattle.gang_memory.specs.ScalarWords.{rate_words}
+use Rattle.mask_states.specs.Points.{closing_number, points_in}
+use Rattle.mask_states.specs.Masked.{Level, Masked, least, masked_spot, top_spot}
+use Rattle.codegen.specs.Programs.{IsRunnable}
+use Rattle.machine_states.specs.Declared.{AreDeclared}
+use Rattle.machine_states.specs.Plain.{IsPlainName}
+use Rattle.machine_states.specs.Regions.{Depth, NumbersOf, OfHead, Regions}
+use Rattle.machine_states.specs.Shows.{AreSized, Shows, ShowsFrames, words_for}
+use Rattle.machine_states.specs.Steps.{IsNext as IsNextStep}
+use Rattle.machine_states.specs.Variables.{Variables, own_of}
+use Rattle.machine_states.proofs.AlwaysDeclared.{HasOwn, scope_has, top_declared}
+use Rattle.machine_states.proofs.DeclaredLists.{same_some}
+use Rattle.machine_states.proofs.TopFrame.{spot}
+use Rattle.machine_states.proofs.WrittenVariables.{HasVariable, variable_in}
+use Rattle.machine_words.specs.declared.words.MachineWords.{MachineWords}
+use Rattle.machine_words.specs.Words.{regions_in}
+use Rattle.machine_steps.specs.declared.compiled.CompiledProgram.{CompiledProgram}
+use Rattle.machine_steps.specs.Compiled.{program_of, variables_of}
+use Rattle.machine_steps.specs.Seen.{IsInScope, IsSeen, StandsAt}
+use Rattle.machine_steps.specs.Standing.{IsShown}
+use Rattle.machine_steps.proofs.Standings.{sized}
+use Rattle.machine_steps.proofs.Viewed.{viewed_at}
+use Rattle.gang_machine.specs.Machines.{IsMachine}
+use Rattle.gang_machine.specs.Nexts.{HasEnded, IsNext, Sees}
+use Rattle.gang_machine.specs.Standings.{Stands, file_variables, view_of}
+use Rattle.gang_machine.proofs.Agreeing.{masked_now, spot_is, standing_is, words_are}
+use Rattle.gang_machine.proofs.Placing.{scope_ended}
+
+-- ---- the next step
+
+-- a step of the top frame comes next
+record HasNext (p : t.Program) (regions : Regions) : Type 0 where
+  pub index : ℕ
+  pub function : ℕ
+  pub f : Function
+  pub number : StepNumber
+  pub next : IsNextStep p regions index function f number (slice_get (points_in f) number)
+
+module _ (p : t.Program) (variables : Variables) (w : ℕ) (regions : Regions) where
+  next_of : (frames : List Frame) (levels : List (List Level)) → regions Depth ≡ length frames ∷ [] → ShowsFrames p variables w regions frames levels
+      → (top_spot frames levels ≡ None) ⊎ HasNext p regions
+  next_of [] levels deep shows = inl refl
+  next_of (frame ∷ frames) [] deep shows = absurd shows
+  next_of (frame ∷ frames) (levels ∷ rest) deep shows =
+      let f = shows.0.function in
+      inr (record {
+        index = length frames;
+        function = frame.function;
+        f = f;
+        number = least (closing_number f) (regions (OfHead (length frames) NumbersOf));
+        next = record { depth = deep; function = shows.0.number; is_function = shows.0.is_function; least_number = refl; is_point = refl };
+      })
+
+  -- a program that has not ended has a next step
+  next_or_ended : (masked : Masked) → Shows p variables w regions masked → (masked_spot masked ≡ None) ⊎ HasNext p regions
+  next_or_ended masked shows = next_of masked.state.frames masked.levels shows.depth shows.frames
+
+-- ---- variables that are seen
+
+module _ (w : ℕ) (compiled : CompiledProgram) (runnable : IsRunnable compiled.program) (masked : Masked) where
+  -- a name in scope stands for a scalar of its function
+  in_scope : (function number : ℕ) (f : Function) (standing : Standing) → StandsAt compiled function number f standing → (k : ℕ) (v : Variable) → slice_get standing.scope k ≡ Some v
+      → IsPlainName (variables_of compiled) function v
+  in_scope function number f standing stands k v e =
+      let scopes : All (IsPlainName (variables_of compiled) function) standing.scope = (runnable.plain.functions function f stands.is_function).scopes number standing stands.stands in
+      subst (IsPlainName (variables_of compiled) function) (get_or_from_slice_get standing.scope k v v e) (scopes k v (slice_get_within standing.scope k v e))
+
+  -- what is seen is no array
+  pub seen_plain : (v : Variable) → IsSeen compiled masked v → v.is_array ≡ false
+  seen_plain v (inl (function, number, f, standing, at_spot, stands, k, e)) = (in_scope function number f standing stands k v e).2
+  seen_plain v (inr (k, is)) = (runnable.plain.file k v is).1
+
+  module _ (regions : Regions) (shows : Shows (program_of compiled) (variables_of compiled) w regions masked) (declared : AreDeclared (variables_of compiled) (program_of compiled) masked)
+      (sizes : AreSized (variables_of compiled) w regions) where
+    scope_long : (v : Variable) → IsInScope compiled masked v → (masked_spot masked ≡ None) ⊎ HasNext (program_of compiled) regions → length (words_in masked.state v.id) ≡ words_for w v.rate
+    scope_long v (function, number, f, standing, at_spot, stands, k, e) (inl ended) = absurd (none-some (spot_in function number) (sym ended ∙ at_spot))
+    scope_long v (function, number, f, standing, at_spot, stands, k, e) (inr has) =
+        let p = program_of compiled in
+        let variables = variables_of compiled in
+        let point = slice_get (points_in has.f) has.number in
+        let here = same_some (spot_in function number) (spot_in has.function has.number)
+        (sym at_spot ∙ spot p variables w regions masked shows has.index has.function has.f has.number point has.next) in
+        let same_function : function ≡ has.function = ap (λ s. s.function.0) here in
+        let same_number : number ≡ has.number = ap (λ s. s.number) here in
+        let same : f ≡ has.f = same_some f has.f (sym stands.is_function ∙ ap (slice_get p.functions) same_function ∙ has.next.is_function) in
+        let top = top_declared variables p w regions has.index has.function has.f has.number point has.next masked shows declared in
+        let standing_there : slice_get has.f.standings has.number ≡ Some standing =
+        ap (λ h. slice_get h.standings has.number) (sym same) ∙ ap (slice_get f.standings) (sym same_number) ∙ stands.stands in
+        let all = scope_has variables p runnable.declared w regions masked has.index has.function has.f has.number has.next.is_function top standing standing_there in
+        let own : HasOwn top.frame.vars v.id =
+        subst (λ (u : Variable). HasOwn top.frame.vars u.id) (get_or_from_slice_get standing.scope k v v e) (all k v (slice_get_within standing.scope k v e)) in
+        let plain = in_scope function number f standing stands k v e in
+        let j = plain.0 in
+        let id : v.id ≡ Local j = runnable.plain.own function j v plain.1 in
+        let is : slice_get (own_of variables has.function) j ≡ Some v = ap (λ m. slice_get (own_of variables m) j) (sym same_function) ∙ plain.1 in
+        let there : HasVariable masked.state.frames (Local j) = subst (λ frames. HasVariable frames (Local j)) (sym top.are) (own j id) in
+        ap (λ i. length (words_in masked.state i)) id
+        ∙ (variable_in p variables w has.index has.function regions masked shows has.next.depth has.next.function sizes (Local j) v is there).long
+
+    -- it has as many words as its rate says
+    pub seen_long : (v : Variable) → IsSeen compiled masked v → length (words_in masked.state v.id) ≡ words_for w v.rate
+    seen_long v (inl scope) = scope_long v scope (next_or_ended (program_of compiled) (variables_of compiled) w regions masked shows)
+    seen_long v (inr (k, is)) = ap (λ i. length (words_in masked.state i)) (runnable.plain.file k v is).0 ∙ ap length (shows.file k) ∙ sizes.file k v is
+
+rate_same : (w : ℕ) (rate : Rate) → words_for w rate ≡ rate_words w rate
+rate_same w Uniform = refl
+rate_same w Varying = refl
+
+-- the variables of the file are those of the globals
+file_same : (globals : List Global) → file_variables globals ≡ map (λ g. variable_view g.variable) globals
+file_same [] = refl
+file_same (global ∷ globals) = ap (λ vs. variable_view global.variable ∷ vs) (file_same globals)
+
+-- ---- where a machine stands
+
+module _ {T : Type 0} (history : T → History) (w entry : ℕ) (compiled : CompiledProgram) (lines : List ℕ) (words : MachineWords T) (is_machine : IsMachine history w compiled words) (s : Setting) (d : Debugger)
+    (stands : Stands (view_of w entry compiled.program lines words.layout (history words.store.timeline)) s d) where
+  abbrev runnable : IsRunnable compiled.program
+  runnable = is_machine.lie.compiled_is.runnable
+
+  abbrev masked : Masked
+  masked = masked_now w entry compiled.program lines words.layout (history words.store.timeline) runnable.lowerable s d stands
+
+  pub shown_here : IsShown history w compiled words masked
+  shown_here = record { shows = stands.words.shows; declared = stands.words.declared }
+
+  pub file_here : variables_of_file s ≡ file_variables compiled.program.globals.items
+  file_here = ap (λ (q : t.Program). map (λ g. g.variable) q.globals) stands.program
+
+  scope_none : masked_spot masked ≡ None → scope_now s.program (now s d) ≡ []
+  scope_none over = scope_ended w entry compiled.program lines words.layout (history words.store.timeline) runnable.lowerable s d stands over
+
+  -- ---- what is seen
+
+  scope_seen_at : (function number : ℕ) (f : Function) → masked_spot masked ≡ Some (spot_in function number) → slice_get (program_of compiled).functions function ≡ Some f → (o : Option Standing)
+      → slice_get f.standings number ≡ o → (v : Variable) (k : ℕ) → slice_get (scope_of o) k ≡ Some v → IsInScope compiled masked v
+  scope_seen_at function number f at_spot is_function None none v k e = cc
+  scope_seen_at function number f at_spot is_function (Some standing) is v k e = (function, number, f, standing, at_spot, record { is_function = is_function; stands = is }, k, e)
+
+  scope_seen : (masked_spot masked ≡ None) ⊎ HasNext (program_of compiled) (regions_in history w words) → (v : Variable) → IsOneOf (scope_now s.program (now s d)) v → IsInScope compiled masked v
+  scope_seen (inl over) v (k, e) = absurd (none-some v (ap (λ vs. slice_get vs k) (sym (scope_none over)) ∙ e))
+  scope_seen (inr has) v (k, e) =
+      let at_spot = spot (program_of compiled) (variables_of compiled) w (regions_in history w words) masked shown_here.shows has.index has.function has.f has.number (slice_get (points_in has.f) has.number) has.next in
+      let standing = standing_is w entry compiled.program lines words.layout (history words.store.timeline) runnable.lowerable s d stands (Some (spot_in has.function has.number)) at_spot
+      ∙ ap (λ o. standing_in o has.number) has.next.is_function in
+      scope_seen_at has.function has.number has.f at_spot has.next.is_function (slice_get has.f.standings has.number) refl v k (ap (λ o. slice_get (scope_of o) k) (sym standing) ∙ e)
+
+  -- a variable in scope, or of the file, is seen
+  pub is_seen : (v : Variable) → IsOneOf (scope_now s.program (now s d)) v ⊎ IsOneOf (variables_of_file s) v → IsSeen compiled masked v
+  is_seen v (inl there) = inl (scope_seen (next_or_ended (program_of compiled) (variables_of compiled) w (regions_in history w words) masked shown_here.shows) v there)
+  is_seen v (inr (k, e)) = inr (k, ap (λ vs. slice_get vs k) (sym (file_here ∙ file_same compiled.program.globals.items)) ∙ e)
+
+  -- its words are those of the masked state
+  seen_words : (v : Variable) → IsSeen compiled masked v → shown_words (now s d) v ≡ words_in masked.state v.id
+  seen_words v seen =
+      ap (λ b. if b then elements (array_of (now s d) v.id) (now s d) else words_in (now s d) v.id) (seen_plain w compiled runnable masked v seen)
+      ∙ words_are w entry compiled.program lines words.layout (history words.store.timeline) runnable.lowerable s d stands v.id
+
+  pub words_by_name : (v : Variable) (id : VarId) → IsSeen compiled masked v → v.id ≡ id → shown_words (now s d) v ≡ words_in masked.state id
+  words_by_name v id seen same = seen_words v seen ∙ ap (words_in masked.state) same
+
+  pub shown_long : (v : Variable) → IsSeen compiled masked v → length (shown_words (now s d) v) ≡ words_for w v.rate
+  shown_long v seen =
+      ap length (seen_words v seen)
+      ∙ seen_long w compiled runnable masked (regions_in history w words) shown_here.shows shown_here.declared
+      (sized history w compiled words words is_machine.lie refl is_machine.lie.laid) v seen
+
+  -- what a debugger sees
+  pub sees : (scope : List Variable) → scope_now s.program (now s d) ≡ scope → Sees w scope (file_variables compiled.program.globals.items) s d
+  sees scope is = record {
+    scope_is = is;
+    file_is = file_here;
+    long = λ v there. shown_long v (is_seen v (found there)) ∙ rate_same w v.rate;
+  }
+    where
+      found : {v : Variable} → IsOneOf scope v ⊎ IsOneOf (file_variables compiled.program.globals.items) v → IsOneOf (scope_now s.program (now s d)) v ⊎ IsOneOf (variables_of_file s) v
+      found {v = v} (inl there) = inl (subst (λ vs. IsOneOf vs v) (sym is) there)
+      found {v = v} (inr there) = inr (subst (λ vs. IsOneOf vs v) (sym file_here) there)
+
+  -- ---- the next step
+
+  -- at a step of one of the program's functions
+  pub is_next : (number step : ℕ) (function : TypedFunction) → slice_get compiled.program.functions.items number ≡ Some function → masked_spot masked ≡ Some (spot_in number step)
+      → IsNext w (view_of w entry compiled.program lines words.layout (history words.store.timeline)) s d function step
+  is_next number step function is_function at_spot = record {
+    number = number;
+    is_function = is_function;
+    stands = spot_is w entry compiled.program lines words.layout (history words.store.timeline) runnable.lowerable s d stands ∙ at_spot;
+    sees = sees (scope_of (slice_get (function_view function).standings step))
+        (ap scope_of (standing_is w entry compiled.program lines words.layout (history words.store.timeline) runnable.lowerable s d stands (Some (spot_in number step)) at_spot)
+        ∙ ap (λ o. scope_of (standing_in o step)) (viewed_at function_view compiled.program.functions.items number function is_function));
+  }
+
+  -- and once the program has ended
+  pub has_ended : masked_spot masked ≡ None → HasEnded w (view_of w entry compiled.program lines words.layout (history words.store.timeline)) s d
+  has_ended over = record {
+    stands = spot_is w entry compiled.program lines words.layout (history words.store.timeline) runnable.lowerable s d stands ∙ over;
+    sees = sees [] (scope_none over);
+  }

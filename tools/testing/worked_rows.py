@@ -1,0 +1,42 @@
+"""The worked rows of tools/transcripts, as runs of the program: those of sources whose forms are there today."""
+
+import importlib.util
+import re
+
+from .tried import Run
+
+# What stands in a source with a form that is not there yet: an array, a call of the library, a `switch` or a foreach form, or an
+# exported function with parameters.
+FORM_TO_COME = re.compile(
+    r"\[|\b(foreach\w*|switch|assert|abs|min|max|clamp|select|any|all|none|popcnt|lanemask|packmask|packed_\w+|reduce_\w+"
+    r"|exclusive_scan_\w+|extract|insert|broadcast|rotate|shift|shuffle)\b|export void \w+\([^)]+\)"
+)
+
+
+def rows(root):
+    """The rows of tools/transcripts/rows.py."""
+    spec = importlib.util.spec_from_file_location("rows", root / "tools/transcripts/rows.py")
+    module = importlib.util.module_from_spec(spec)
+    spec.loader.exec_module(module)
+    return module.ROWS
+
+
+def options(run):
+    named = [("--width", run.width, 4), ("--history", run.history, 64), ("--steps", run.steps, 1000000), ("--entry", run.entry, "")]
+    return [word for name, value, usual in named if value != usual for word in (name, str(value))]
+
+
+def run_of(name, source, run):
+    file = f"{name.replace(' ', '-')}.ispc"
+    words, data = [file, *options(run)], {file: source.encode()}
+    if run.refusal:
+        return Run(name, b"step\n", words, b"", f"{run.refusal}\n".encode(), 2, data)
+    return Run(name, run.commands().encode(), words, run.transcript().encode(), b"", data=data)
+
+
+def runs(root):
+    found = []
+    for row in rows(root):
+        parts = [(source, run) for source, given in row.parts for run in given if not run.input and not FORM_TO_COME.search(source)]
+        found += [run_of(f"row {row.name} {number}", source, run) for number, (source, run) in enumerate(parts, 1)]
+    return found
