@@ -99,7 +99,10 @@ fn check_statement(statement: &Stmt) -> Result<(), Place>
         Stmt::Break { .. } | Stmt::Continue { .. } => Ok(()),
         Stmt::Return { value, .. } => check_some(value),
         Stmt::If {
-            test, first, other, ..
+            test,
+            first,
+            other,
+            ..
         } => {
             check_expression(test)?;
             check_statement(first)?;
