@@ -1,7 +1,9 @@
 -- What follows from the definition of a list with a value for each lane of a set, and 0 in the others.
 use Rattle.std.proofs.Common.{inl, inr, ℕ, zero, suc, ◌+◌, ◌<◌, Bool, true, false, cond, ◌≡◌, refl, sym, ◌∙◌, ap, arith, eq-eqb, List, [], ◌∷◌, length, slice_index}
 use Rattle.std.specs.Prelude.{nat_eq, slice_set}
+use Rattle.std.specs.List.{range_with_len}
 use Rattle.std.proofs.lemmas.Bool.Decides.{nat_tests}
+use Rattle.std.proofs.lemmas.List.FromFn.{get_or-range_with_len}
 use Rattle.std.proofs.lemmas.List.{get_or-set_same, get_or-set_other}
 use Rattle.std.proofs.lemmas.Bool.{cases_eq}
 use Rattle.gang_types.specs.Lanes.{Lanes, has}
@@ -58,3 +60,9 @@ lane_set lanes words index new i h e =
   where
     two_differ : (a b : ℕ) → (a ≡ b → ⊥) → nat_eq a b ≡ false
     two_differ a b h = grind (arith, nat_tests)
+
+-- the numbers of the lanes: that of lane i is i
+pub lane_number : (w : ℕ) (numbers : List ℕ) → numbers ≡ range_with_len 0 w → (i : ℕ) → i < w → slice_index numbers i ≡ i
+lane_number w numbers all i h =
+    let from_0 : 0 + i ≡ i = omega arith in
+    ap (λ xs. slice_index xs i) all ∙ get_or-range_with_len 0 w i 0 h ∙ from_0

@@ -14,6 +14,7 @@ mod scans;
 mod shuffles;
 mod windows;
 
+pub use active::{active_words, lane_numbers};
 pub use packed::packed_places;
 pub use reductions::{
     all, any, lanemask, none, packmask, popcnt_lanes, reduce_add, reduce_equal, reduce_max,

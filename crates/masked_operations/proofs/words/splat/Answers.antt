@@ -8,6 +8,6 @@ use Rattle.masked_operations.proofs.words.splat.Goals as goal
 
 pub returns : goal.returns
 returns g c =
-    c.only.ensures
+    c.active_words.ensures
     ∙ each_same g.row.W (lanes_of g.row.W c.args.mask) (slice_index (replicate g.row.W c.args.word)) (λ k. c.args.word) (length-lanes_of_word g.row.W c.args.mask.word)
     (λ i h e. lane_splat g.row.W i c.args.word h)
