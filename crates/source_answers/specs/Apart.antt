@@ -1,13 +1,14 @@
 -- Answers for parts of a tree where out of memory is set apart.
-use Rattle.std.specs.Prelude.{Result, Ok, Err}
+use Rattle.std.specs.Prelude.{Result, Ok, Err, alloc_error}
+use Rattle.std.specs.declared.alloc.AllocError.{AllocError}
 use Rattle.gang_model.specs.declared.refusals.SourceRefusal.{SourceRefusal}
 use Rattle.source_answers.specs.declared.fault.SourceFault.{SourceFault}
 use Rattle.source_answers.specs.declared.fault.SourceFault.TheVariants.{Memory, Refused}
 
 -- out of memory, set apart from the answer
-abbrev pub apart : {A : Type 0} → Result A SourceFault → Result (Result A SourceRefusal) SourceFault
+abbrev pub apart : {A : Type 0} → Result A SourceFault → Result (Result A SourceRefusal) AllocError
 apart (Ok a) = Ok (Ok a)
-apart (Err Memory) = Err Memory
+apart (Err Memory) = Err alloc_error
 apart (Err (Refused fault)) = Ok (Err fault)
 
 -- an answer as a result with out of memory among its errors

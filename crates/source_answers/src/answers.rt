@@ -6,18 +6,23 @@ ghost use Rattle.source_answers.specs.Apart.{apart, in_order, joined};
 use crate::fault::SourceFault;
 use crate::least_faults::least;
 use gang_model::SourceRefusal;
+use std::alloc::AllocError;
 
 /// What a part of a tree stands for, or its least fault.
 pub type Answer<A> = Result<A, SourceRefusal>;
 
-/// The answer for a part, unless out of memory.
-pub fn set_apart<A: Drop>(part: Result<A, SourceFault>) -> Result<Answer<A>, SourceFault>
+/// The answer for a part.
+///
+/// # Errors
+///
+/// Out of memory.
+pub fn set_apart<A: Drop>(part: Result<A, SourceFault>) -> Result<Answer<A>, AllocError>
     ensures { result ≡ apart part }
 {
     match part {
         Ok(value) => Ok(Ok(value)),
         Err(SourceFault::Refused(fault)) => Ok(Err(fault)),
-        Err(SourceFault::Memory) => Err(SourceFault::Memory),
+        Err(SourceFault::Memory) => Err(AllocError),
     }
 }
 

@@ -1,5 +1,5 @@
 //! Why a source has no program.
-ghost use Rattle.std.specs.Prelude.{◌≡◌, IfErr, IfOk};
+ghost use Rattle.std.specs.Prelude.{◌≡◌, IfOk};
 ghost use Rattle.source_answers.specs.declared.fault.SourceFault.TheVariants.{Memory};
 
 use gang_model::SourceRefusal;
@@ -33,9 +33,8 @@ impl<T: Drop> From<AllocFailed<T>> for SourceFault {
 /// # Errors
 ///
 /// Out of memory.
-pub fn boxed<T: Drop>(alloc: Global, value: T) -> Result<Box<T>, SourceFault>
+pub fn boxed<T: Drop>(alloc: Global, value: T) -> Result<Box<T>, AllocError>
     ensures value { IfOk result (λ place. place.value ≡ value) }
-    ensures memory { IfErr result (λ fault. fault ≡ Memory) }
 {
     Ok(Box::new(alloc, value)?)
 }
@@ -49,10 +48,9 @@ pub fn both_boxed<A: Drop, B: Drop>(
     alloc: Global,
     first: A,
     second: B,
-) -> Result<(Box<A>, Box<B>), SourceFault>
+) -> Result<(Box<A>, Box<B>), AllocError>
     ensures first { IfOk result (λ places. places.0.value ≡ first) }
     ensures second { IfOk result (λ places. places.1.value ≡ second) }
-    ensures memory { IfErr result (λ fault. fault ≡ Memory) }
 {
     let first = boxed(alloc, first)?;
     boxed(alloc, second).map(|second| (first, second))
