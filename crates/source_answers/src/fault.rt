@@ -4,11 +4,14 @@ ghost use Rattle.source_answers.specs.declared.fault.SourceFault.TheVariants.{Me
 
 use gang_model::SourceRefusal;
 use std::alloc::{AllocError, AllocFailed, Global};
+use thiserror::Error;
 
 /// Out of memory, or a refusal with its place.
-#[derive(Clone, Copy, Debug, PartialEq, Eq, Drop)]
+#[derive(Clone, Copy, Debug, PartialEq, Eq, Drop, Error)]
 pub enum SourceFault {
+    #[error("out of memory")]
     Memory,
+    #[error("{line}:{col}: {number:?}", line = .0.place.line, col = .0.place.col, number = .0.number)]
     Refused(SourceRefusal),
 }
 

@@ -6,34 +6,17 @@ ghost use Rattle.gang_model.specs.Source.Judged.{least_fault, merged, or_later};
 use gang_model::{RefusalNumber, SourceRefusal};
 use gang_types::Place;
 
-fn rank(number: RefusalNumber) -> u8
-    ensures { result ≡ judged.rank number }
+/// What faults are ordered by: the line, the column and the number.
+fn order(fault: SourceRefusal) -> (u32, u32, u8)
+    ensures { result ≡ (fault.place.line, fault.place.col, judged.rank fault.number) }
 {
-    match number {
-        RefusalNumber::S1 => 1,
-        RefusalNumber::S2 => 2,
-        RefusalNumber::S3 => 3,
-        RefusalNumber::S4 => 4,
-        RefusalNumber::S5 => 5,
-        RefusalNumber::S6 => 6,
-        RefusalNumber::S7 => 7,
-        RefusalNumber::S8 => 8,
-        RefusalNumber::S9 => 9,
-        RefusalNumber::S10 => 10,
-        RefusalNumber::S11 => 11,
-        RefusalNumber::S12 => 12,
-        RefusalNumber::S13 => 13,
-    }
+    (fault.place.line, fault.place.col, fault.number as u8 + 1)
 }
 
 fn is_less(left: SourceRefusal, right: SourceRefusal) -> bool
     ensures { result ≡ judged.is_less left right }
 {
-    left.place.line < right.place.line
-        || (left.place.line == right.place.line && left.place.col < right.place.col)
-        || (left.place.line == right.place.line
-            && left.place.col == right.place.col
-            && rank(left.number) < rank(right.number))
+    order(left) < order(right)
 }
 
 /// The least of the least faults of two parts.
