@@ -3,6 +3,7 @@ ghost use Rattle.std.specs.Prelude.{◌≡◌, ◌+◌, ◌<◌, ◌≤◌, ℕ,
 ghost use Rattle.undo_log.specs.History.{History, with_word, marked, limited, TakenBack, steps_in};
 
 use std::alloc::AllocError;
+use thiserror::Error;
 
 /// What an event is: a step of the program, or a value that the user set.
 #[derive(Clone, Copy, Debug, PartialEq, Eq)]
@@ -19,7 +20,8 @@ pub struct Back {
 }
 
 /// No event is kept, so none can be taken back.
-#[derive(Clone, Copy, Debug, PartialEq, Eq)]
+#[derive(Clone, Copy, Debug, PartialEq, Eq, Error)]
+#[error("no event is kept")]
 pub struct NoHistory;
 
 /// Words that are set, and taken back event by event. No call takes memory but `set_limit` to a larger limit.
