@@ -6,7 +6,6 @@ ghost use Rattle.type_check_values.specs.Views.{typed_view};
 
 use crate::boxes::boxed;
 use crate::typed::Typed;
-use crate::types::same_type;
 use gang_types::{BinaryOp, IntType};
 use std::alloc::{AllocError, Global};
 use typed_tree::Expr;
@@ -19,7 +18,7 @@ use typed_tree::Expr;
 pub fn as_type(alloc: Global, to: IntType, value: Typed) -> Result<Expr, AllocError>
     ensures converted { IfOk result (λ e. expr_view e ≡ model.as_type to (typed_view value)) }
 {
-    if same_type(value.value_type, to) {
+    if value.value_type == to {
         return Ok(value.expr);
     }
     let operand = boxed(alloc, value.expr)?;

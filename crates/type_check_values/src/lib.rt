@@ -11,8 +11,6 @@ mod types;
 pub use boxes::{both_boxed, boxed};
 pub use conversions::{as_bool, as_type, boxed_as_type, right_operand};
 pub use operations::{chosen_by, infixed, prefixed};
-pub use rates::{is_varying, joined_rate, may_become, same_rate};
+pub use rates::{is_varying, joined_rate, may_become};
 pub use typed::Typed;
-pub use types::{
-    declared_rate, declared_type, joined, literal_type, operation_type, promoted, same_type,
-};
+pub use types::{declared_rate, declared_type, joined, literal_type, operation_type, promoted};

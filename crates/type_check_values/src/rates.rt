@@ -14,13 +14,6 @@ pub fn is_varying(rate: Rate) -> bool
     }
 }
 
-/// Whether two rates are one.
-pub fn same_rate(left: Rate, right: Rate) -> bool
-    ensures { result ≡ model.same_rate left right }
-{
-    is_varying(left) == is_varying(right)
-}
-
 /// Varying if one of the two is.
 pub fn joined_rate(left: Rate, right: Rate) -> Rate
     ensures { result ≡ model.joined_rate left right }

@@ -5,13 +5,6 @@ ghost use Rattle.gang_model.specs.Types.Signatures as signatures;
 
 use gang_types::{BinaryOp, IntType, Rate, is_bool, is_signed, width};
 
-/// Whether two types are one.
-pub fn same_type(left: IntType, right: IntType) -> bool
-    ensures { result ≡ model.same_type left right }
-{
-    width(left) == width(right) && is_signed(left) == is_signed(right)
-}
-
 /// The joined type of two operands: the wider one, at equal width the unsigned one; of bool and another type the other.
 pub fn joined(left: IntType, right: IntType) -> IntType
     ensures { result ≡ model.joined left right }
