@@ -9,6 +9,7 @@ use Rattle.gang_model.specs.Types.LibraryTable.{is_among}
 use Rattle.gang_model.specs.Names.Scope.{Binding, Environment, declaration}
 use Rattle.ispc_names_scopes.specs.declared.bindings.Innermost.{Innermost}
 use Rattle.ispc_names_scopes.specs.Innermost.{innermost_of}
+use Rattle.ispc_names_scopes.specs.Scopes.{position_of}
 use Rattle.gang_model.proofs.SameTexts.{same_text-sym}
 
 abbrev pub id_of : Option Innermost → Option VarId
@@ -21,6 +22,19 @@ id_of-innermost (b ∷ env) name = by (same_text b.name name) (id_of-innermost e
   where
     by : (t : Bool) → id_of (innermost_of env name) ≡ declaration env name
         → id_of (if t then Some (record { id = b.id; outside = length env }) else innermost_of env name) ≡ (if t then Some b.id else declaration env name)
+    by true later = refl
+    by false later = later
+
+abbrev pub outside_of : Option Innermost → Option ℕ
+outside_of None = None
+outside_of (Some i) = Some i.outside
+
+pub outside_of-innermost : (env : Environment) (name : Name) → outside_of (innermost_of env name) ≡ position_of env name
+outside_of-innermost [] name = refl
+outside_of-innermost (b ∷ env) name = by (same_text b.name name) (outside_of-innermost env name)
+  where
+    by : (t : Bool) → outside_of (innermost_of env name) ≡ position_of env name
+        → outside_of (if t then Some (record { id = b.id; outside = length env }) else innermost_of env name) ≡ (if t then Some (length env) else position_of env name)
     by true later = refl
     by false later = later
 

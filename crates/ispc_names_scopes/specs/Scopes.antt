@@ -1,6 +1,7 @@
 -- The declarations in scope, scope by scope.
-use Rattle.std.specs.Prelude.{ℕ, ◌-◌, List, map, take, length}
+use Rattle.std.specs.Prelude.{ℕ, ◌-◌, List, [], ◌∷◌, map, take, length, Option, Some, None, if◌then◌else◌}
 use Rattle.gang_types.specs.declared.places.VarId.TheVariants.{File}
+use Rattle.gang_model.specs.Source.Names.{same_text}
 use Rattle.gang_model.specs.Source.Parsed.{Name}
 use Rattle.gang_model.specs.Names.Scope.{Binding, Environment, Site, bound}
 
@@ -22,3 +23,8 @@ site s = record { environment = s.environment; here = here s; next = s.next }
 -- a file-scope variable
 abbrev pub bound_in_file : Name → ℕ → Binding
 bound_in_file name number = bound name (File number)
+
+-- how many declarations stand outside the innermost one of a name
+abbrev pub position_of : Environment → Name → Option ℕ
+position_of [] name = None
+position_of (b ∷ environment) name = if same_text b.name name then Some (length environment) else position_of environment name

@@ -3,7 +3,7 @@ ghost use Rattle.std.specs.Prelude.{◌≡◌, [], ◌∷◌, ◌-◌, ◌≤◌
 ghost use Rattle.gang_types.specs.declared.places.VarId.TheVariants.{Local};
 ghost use Rattle.gang_model.specs.Types.LibraryTable.{is_among};
 ghost use Rattle.gang_model.specs.Names.Scope as scope;
-ghost use Rattle.ispc_names_scopes.specs.Scopes.{bound_in_file, here, site};
+ghost use Rattle.ispc_names_scopes.specs.Scopes.{bound_in_file, here, position_of, site};
 
 use crate::bindings::Bindings;
 use gang_types::VarId;
@@ -66,7 +66,21 @@ impl Scopes {
         ensures next { OnOk result (self.new.next ≡ self.old.next) }
         ensures unchanged { OnErr result (self.new ≡ self.old) }
     {
-        self.bindings.push(alloc, name, VarId::File(number))
+        self.bind(alloc, name, VarId::File(number))
+    }
+
+    /// Declares a variable that has its number already.
+    ///
+    /// # Errors
+    ///
+    /// Out of memory; the declarations are then as before.
+    pub fn bind(&mut self, alloc: Global, name: &[u8], id: VarId) -> Result<(), AllocError>
+        ensures environment { OnOk result (self.new.environment ≡ scope.bound name.now id ∷ self.old.environment) }
+        ensures outside { OnOk result (self.new.outside ≡ self.old.outside) }
+        ensures next { OnOk result (self.new.next ≡ self.old.next) }
+        ensures unchanged { OnErr result (self.new ≡ self.old) }
+    {
+        self.bindings.push(alloc, name, id)
     }
 
     /// Declares a variable of the function in the present scope.
@@ -147,6 +161,14 @@ impl Scopes {
     {
         let innermost = self.bindings.innermost(name)?;
         Some(innermost.id)
+    }
+
+    /// How many declarations stand outside the innermost one of a name.
+    pub fn position(&self, name: &[u8]) -> Option<usize>
+        ensures { result ≡ position_of self.now.environment name.now }
+    {
+        let innermost = self.bindings.innermost(name)?;
+        Some(innermost.outside)
     }
 
     /// Whether the present scope declares a name.

@@ -7,16 +7,15 @@ use Rattle.std.specs.Slice.{IsItemAt}
 use Rattle.std.proofs.lemmas.Option.{slice_get_past, slice_get_read}
 use Rattle.std.proofs.lemmas.List.{reverse-append, reverse-reverse, length-reverse, take-append-drop, length-append, length-drop}
 use Rattle.std.proofs.Math.Seq.{drop-append_seam}
-use Rattle.gang_types.specs.declared.places.VarId.{VarId}
-use Rattle.gang_types.specs.declared.places.VarId.TheVariants.{File, Local}
 use Rattle.gang_model.specs.Source.Names.{same_text}
 use Rattle.gang_model.specs.Source.Parsed.{Name}
-use Rattle.gang_model.specs.Names.Scope.{Environment, declaration}
+use Rattle.gang_model.specs.Names.Scope.{Environment}
 use Rattle.gang_model.specs.Types.Typing as typing
 use Rattle.gang_model.proofs.SameTexts.{same_text-equal}
+use Rattle.ispc_names_scopes.specs.Scopes.{position_of}
 use Rattle.type_check_scopes.specs.declared.entries.Declared.{Declared}
 use Rattle.type_check_scopes.specs.Entries.{declared_view}
-use Rattle.type_check_scopes.specs.Tables.{entries_of, IsNumbered}
+use Rattle.type_check_scopes.specs.Tables.{entries_of}
 
 length-entries_of : (env : Environment) (ds : List Declared) → length env ≡ length ds → length (entries_of env ds) ≡ length ds
 length-entries_of [] [] h = refl
@@ -26,11 +25,10 @@ length-entries_of (b ∷ env) (d ∷ ds) h = omega (arith, length-entries_of env
 
 -- ---- the innermost of a name
 
--- what a table has at a number
-abbrev pub at_number : List Declared → Option VarId → Option Declared
-at_number ds None = None
-at_number ds (Some (File n)) = slice_get ds n
-at_number ds (Some (Local n)) = None
+-- what a list has at a position
+abbrev pub at_position : {A : Type 0} → List A → Option ℕ → Option A
+at_position xs None = None
+at_position xs (Some n) = slice_get xs n
 
 -- what is read from a table
 pub copied-item : {A : Type 0} (xs : List A) (n : ℕ) (r : Option (Bor A)) → IsItemAt xs n r → option_copied r ≡ slice_get xs n
@@ -54,49 +52,43 @@ slice_get-before (y ∷ xs) x zero h = refl
 slice_get-before (y ∷ xs) x (suc n) h = slice_get-before xs x n (omega arith)
 
 -- a table with one more declaration says the same of the bindings that stood before
-at_number-more : (env : Environment) (name : Name) (ds : List Declared) (d : Declared) → IsNumbered env → length env ≤ length ds
-    → at_number (ds ++ d ∷ []) (declaration env name) ≡ at_number ds (declaration env name)
-at_number-more [] name ds d all h = refl
-at_number-more (b ∷ env) name ds d all h = by (same_text b.name name) (at_number-more env name ds d all.1 (omega arith))
+at_position-more : {A : Type 0} (env : Environment) (name : Name) (xs : List A) (x : A) → length env ≤ length xs
+    → at_position (xs ++ x ∷ []) (position_of env name) ≡ at_position xs (position_of env name)
+at_position-more [] name xs x h = refl
+at_position-more (b ∷ env) name xs x h = by (same_text b.name name) (at_position-more env name xs x (omega arith))
   where
-    by : (t : Bool) → at_number (ds ++ d ∷ []) (declaration env name) ≡ at_number ds (declaration env name)
-        → at_number (ds ++ d ∷ []) (if t then Some b.id else declaration env name) ≡ at_number ds (if t then Some b.id else declaration env name)
-    by true later = ap (λ i. at_number (ds ++ d ∷ []) (Some i)) all.0 ∙ (slice_get-before ds d (length env) (omega arith) ∙ sym (ap (λ i. at_number ds (Some i)) all.0))
+    by : (t : Bool) → at_position (xs ++ x ∷ []) (position_of env name) ≡ at_position xs (position_of env name)
+        → at_position (xs ++ x ∷ []) (if t then Some (length env) else position_of env name) ≡ at_position xs (if t then Some (length env) else position_of env name)
+    by true later = slice_get-before xs x (length env) (omega arith)
     by false later = later
 
 reverse-cons : {A : Type 0} (x : A) (xs : List A) → reverse (x ∷ xs) ≡ reverse xs ++ x ∷ []
 reverse-cons x xs = reverse-append (x ∷ []) xs
 
-found-innermost : (env : Environment) (ds : List Declared) (name : Name) → IsNumbered env → length env ≡ length ds
-    → option_map (declared_view name) (at_number (reverse ds) (declaration env name)) ≡ typing.entry_of (entries_of env ds) name
-found-innermost [] ds name all h = refl
-found-innermost (b ∷ env) [] name all h = absurd (by h)
+found-innermost : (env : Environment) (ds : List Declared) (name : Name) → length env ≡ length ds
+    → option_map (declared_view name) (at_position (reverse ds) (position_of env name)) ≡ typing.entry_of (entries_of env ds) name
+found-innermost [] ds name h = refl
+found-innermost (b ∷ env) [] name h = absurd (by h)
   where
     by : suc (length env) ≡ 0 → ⊥
     by e = omega arith
-found-innermost (b ∷ env) (d ∷ ds) name all h = by (same_text b.name name) refl (found-innermost env ds name all.1 (omega arith))
+found-innermost (b ∷ env) (d ∷ ds) name h = by (same_text b.name name) refl (found-innermost env ds name (omega arith))
   where
     same : length env ≡ length (reverse ds)
     same = omega (arith, length-reverse ds)
 
-    by : (t : Bool) → same_text b.name name ≡ t → option_map (declared_view name) (at_number (reverse ds) (declaration env name)) ≡ typing.entry_of (entries_of env ds) name
-        → option_map (declared_view name) (at_number (reverse (d ∷ ds)) (if t then Some b.id else declaration env name))
+    by : (t : Bool) → same_text b.name name ≡ t → option_map (declared_view name) (at_position (reverse ds) (position_of env name)) ≡ typing.entry_of (entries_of env ds) name
+        → option_map (declared_view name) (at_position (reverse (d ∷ ds)) (if t then Some (length env) else position_of env name))
         ≡ (if t then Some (declared_view b.name d) else typing.entry_of (entries_of env ds) name)
     by true e later =
-        ap (λ xs. option_map (declared_view name) (at_number xs (Some b.id))) (reverse-cons d ds)
-        ∙ (ap (λ i. option_map (declared_view name) (at_number (reverse ds ++ d ∷ []) (Some i))) all.0
+        ap (λ xs. option_map (declared_view name) (slice_get xs (length env))) (reverse-cons d ds)
         ∙ (ap (option_map (declared_view name)) (slice_get-seam (reverse ds) d (length env) same)
-        ∙ ap (λ n. Some (declared_view n d)) (sym (same_text-equal b.name name e))))
+        ∙ ap (λ n. Some (declared_view n d)) (sym (same_text-equal b.name name e)))
     by false e later =
-        ap (λ xs. option_map (declared_view name) (at_number xs (declaration env name))) (reverse-cons d ds)
-        ∙ (ap (option_map (declared_view name)) (at_number-more env name (reverse ds) d all.1 (omega (arith, same))) ∙ later)
+        ap (λ xs. option_map (declared_view name) (at_position xs (position_of env name))) (reverse-cons d ds)
+        ∙ (ap (option_map (declared_view name)) (at_position-more env name (reverse ds) d (omega (arith, same))) ∙ later)
 
 -- ---- what is left
-
-pub numbered-drop : (n : ℕ) (env : Environment) → IsNumbered env → IsNumbered (drop n env)
-numbered-drop zero env all = all
-numbered-drop (suc n) [] all = tt
-numbered-drop (suc n) (b ∷ env) all = numbered-drop n env all.1
 
 entries_of-drop : (n : ℕ) (env : Environment) (ds : List Declared) → length env ≡ length ds → entries_of (drop n env) (drop n ds) ≡ drop n (entries_of env ds)
 entries_of-drop zero env ds h = refl
@@ -119,11 +111,11 @@ reverse-take n xs =
 pub count-entries : (env : Environment) (ds : List Declared) → length env ≡ length ds → length (entries_of env (reverse ds)) ≡ length ds
 count-entries env ds h = length-entries_of env (reverse ds) (h ∙ sym (length-reverse ds)) ∙ length-reverse ds
 
-pub found-in_table : (env : Environment) (ds : List Declared) (name : Name) → IsNumbered env → length env ≡ length ds
-    → option_map (declared_view name) (at_number ds (declaration env name)) ≡ typing.entry_of (entries_of env (reverse ds)) name
-found-in_table env ds name all h =
-    ap (λ xs. option_map (declared_view name) (at_number xs (declaration env name))) (sym (reverse-reverse ds))
-    ∙ found-innermost env (reverse ds) name all (h ∙ sym (length-reverse ds))
+pub found-in_table : (env : Environment) (ds : List Declared) (name : Name) → length env ≡ length ds
+    → option_map (declared_view name) (at_position ds (position_of env name)) ≡ typing.entry_of (entries_of env (reverse ds)) name
+found-in_table env ds name h =
+    ap (λ xs. option_map (declared_view name) (at_position xs (position_of env name))) (sym (reverse-reverse ds))
+    ∙ found-innermost env (reverse ds) name (h ∙ sym (length-reverse ds))
 
 -- so many declarations as there are bindings left
 pub length-left : {A B : Type 0} (n : ℕ) (xs : List A) (ys : List B) → length xs ≡ length ys → length (drop (length xs - n) xs) ≡ length (take n ys)

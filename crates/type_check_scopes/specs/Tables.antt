@@ -1,6 +1,5 @@
 -- What the bindings of names declare, by a table of declarations.
-use Rattle.std.specs.Prelude.{List, [], ◌∷◌, ◌≡◌, length}
-use Rattle.gang_types.specs.declared.places.VarId.TheVariants.{File}
+use Rattle.std.specs.Prelude.{List, [], ◌∷◌}
 use Rattle.gang_model.specs.Names.Scope.{Environment}
 use Rattle.gang_model.specs.Types.Typing as typing
 use Rattle.type_check_scopes.specs.declared.entries.Declared.{Declared}
@@ -11,8 +10,3 @@ abbrev pub entries_of : Environment → List Declared → List typing.Entry
 entries_of [] ds = []
 entries_of (b ∷ environment) [] = []
 entries_of (b ∷ environment) (d ∷ ds) = declared_view b.name d ∷ entries_of environment ds
-
--- each binding has as its number how many stand outside it
-abbrev pub IsNumbered : Environment → Type 0
-IsNumbered [] = Unit {0}
-IsNumbered (b ∷ environment) = (b.id ≡ File (length environment)) × IsNumbered environment

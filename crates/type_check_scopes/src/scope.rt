@@ -6,7 +6,6 @@ ghost use Rattle.typed_tree.specs.Views.{variable_view};
 ghost use Rattle.type_check_scopes.specs.Entries.{declared_view};
 
 use crate::entries::Declared;
-use gang_types::VarId;
 use ispc_names_scopes::{ScopeMark, Scopes};
 use std::alloc::{AllocError, Global};
 use std::marker::Model;
@@ -19,8 +18,8 @@ pub struct TypeMark {
     pub declared: usize,
 }
 
-/// What is in scope, and the variables of the function. A name is looked up in an index; its number there is a position in
-/// `declared`, for a file-scope variable and a variable of the function alike.
+/// What is in scope, and the variables of the function. A name is looked up in an index; its position there is that of its
+/// declaration in `declared`.
 #[derive(Drop)]
 pub struct TypeScope {
     scopes: Scopes,
@@ -32,13 +31,13 @@ impl Model for TypeScope {
     ghost use Rattle.std.specs.Prelude.{◌≡◌, length, map, reverse};
     ghost use Rattle.typed_tree.specs.Views.{variable_view};
     ghost use Rattle.type_check_scopes.specs.Entries.{Typing};
-    ghost use Rattle.type_check_scopes.specs.Tables.{IsNumbered, entries_of};
+    ghost use Rattle.type_check_scopes.specs.Tables.{entries_of};
 
     ghost Value = { Typing };
 
     ghost view = { λ s. record { entries = entries_of s.scopes.environment (reverse s.declared.items); locals = map variable_view s.locals.items } };
 
-    ghost invariant = { λ s. IsNumbered s.scopes.environment × (length s.scopes.environment ≡ length s.declared.items) };
+    ghost invariant = { λ s. length s.scopes.environment ≡ length s.declared.items };
 }
 
 /// The variable of a declaration, with its own copy of the name.
@@ -73,15 +72,12 @@ impl TypeScope {
         ensures locals { OnOk result (self.new.locals ≡ self.old.locals) }
         ensures unchanged { OnErr result (self.new ≡ self.old) }
     {
-        let number = self.declared.len();
         self.declared.push(declared)?;
-        match self.scopes.declare_in_file(alloc, name, number) {
-            Ok(()) => Ok(()),
-            Err(_) => {
-                self.declared.truncate(number);
-                Err(AllocError)
-            }
+        let bound = self.scopes.bind(alloc, name, declared.id);
+        if bound.is_err() {
+            self.declared.pop();
         }
+        bound
     }
 
     /// Declares a file-scope variable, before those that stand already. So the variables of a file are declared from the last to
@@ -169,10 +165,8 @@ impl TypeScope {
     pub fn find(&self, name: &[u8]) -> Option<Declared>
         ensures { option_map (declared_view name.now) result ≡ typing.entry_of self.now.entries name.now }
     {
-        let VarId::File(number) = self.scopes.find(name)? else {
-            return None;
-        };
-        self.declared.get(number).copied()
+        let position = self.scopes.position(name)?;
+        self.declared.get(position).copied()
     }
 
     /// The variables of the function, by their numbers, which end then.

@@ -4,5 +4,5 @@ use Rattle.type_check_scopes.proofs.scope.TypeScope.mark.Goals as goal
 
 pub returns : goal.returns
 returns c =
-    let count = count-entries c.self.inside.scopes.environment c.self.inside.declared.items c.self.invariant.1 in
+    let count = count-entries c.self.inside.scopes.environment c.self.inside.declared.items c.self.invariant in
     c.len.ensures ∙ (c.self.inside.declared.ok.0 ∙ (sym count ∙ ap (λ s. length s.entries) c.self.view_is))
