@@ -1,7 +1,7 @@
 -- Every value has a word for each lane of the gang; what `try_each` gives is the value of each lane, or the fault of the lowest
 -- lane that has one.
 use Rattle.std.proofs.Common.{◌≡◌, refl, sym, ap, ◌∙◌, subst, ℕ, zero, suc, ◌+◌, ◌<◌, true, false, List, [], ◌∷◌, length, arith}
-use Rattle.std.specs.Prelude.{Result, Ok, Err, IfOk, MatchResult}
+use Rattle.std.specs.Prelude.{Bool, Result, Ok, Err, IfOk, MatchResult, if◌then◌else◌}
 use Rattle.gang_types.specs.declared.faults.FaultName.{FaultName}
 use Rattle.gang_types.specs.declared.types.Rate.{Rate}
 use Rattle.gang_types.specs.declared.types.Rate.TheVariants.{Uniform, Varying}
@@ -54,6 +54,11 @@ length-seen Varying lanes words = length-each lanes _
 pub if_ok_after : {A B : Type 0} (Q : B → Type 0) (r : Result A Fault) (next : A → Result B Fault) → ((x : A) → IfOk (next x) Q) → IfOk (r >>= next) Q
 if_ok_after Q (Ok x) next go = go x
 if_ok_after Q (Err fault) next go = tt
+
+-- what holds of a value, unless there is a fault
+pub if_or_ok : {A : Type 0} (P : A → Type 0) (b : Bool) (fault : Fault) (x : A) → P x → IfOk (if b then Err fault else Ok x) P
+if_or_ok P true fault x h = tt
+if_or_ok P false fault x h = h
 
 -- an expression's value has a word for each lane of the gang
 pub length-value : (e : Expr) (lanes : Lanes) (state : State) → IfOk (value e lanes state) (Fills lanes)

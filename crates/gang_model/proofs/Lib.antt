@@ -4,6 +4,7 @@ pub mod CommandReplies
 pub mod FrameCount
 pub mod JudgedLaws
 pub mod LaneWords
+pub mod NestingLaws
 pub mod NumberLaws
 pub mod PlacedPrograms
 pub mod PlacedStmts
@@ -24,3 +25,4 @@ pub mod TypingLaws
 pub mod UniformLaws
 pub mod UniformValues
 pub mod VariableLaws
+pub mod WalkedLists

@@ -18,12 +18,7 @@ use Rattle.gang_model.specs.Types.Typing.{Scope, declared}
 use Rattle.gang_model.specs.Types.Calls.{Context}
 use Rattle.gang_model.specs.Types.TypeFaults.{signature_faults, global_faults}
 use Rattle.gang_model.specs.Types.Statements.{Made, statements}
-use Rattle.gang_model.specs.Types.Resolved.{global_entry, global_entries, global_of, judged_globals, param_variables, param_entries, judged_function, judged_functions, judged_program, program_of}
-
--- the file-scope variables, by their numbers
-abbrev pub file_variables : ℕ → List ParsedGlobal → List Variable
-file_variables k [] = []
-file_variables k (g ∷ globals) = (global_entry k g).variable ∷ file_variables (suc k) globals
+use Rattle.gang_model.specs.Types.Resolved.{global_entry, global_entries, global_of, file_variables, judged_globals, param_variables, param_entries, judged_function, judged_functions, judged_program, program_of}
 
 -- the table of a function with these variables of its own
 abbrev pub table_of : ParsedSource → List Variable → Table
@@ -38,7 +33,7 @@ abbrev pub FunctionScoped : ParsedSource → ParsedFunction → Function → Typ
 FunctionScoped source f g = (own : List Variable) × (variable_bindings own ≡ function_bindings f) × StmtScoped (table_of source own) g.body
 
 -- variables with the numbers from k on stand in the table
-own_found : (table : Table) (k : ℕ) (later : List Variable) → Consecutive k (variable_bindings later)
+pub own_found : (table : Table) (k : ℕ) (later : List Variable) → Consecutive k (variable_bindings later)
     → ((i : ℕ) (v : Variable) → slice_get later i ≡ Some v → slice_get table.own (k + i) ≡ Some v) → Each (Own table) later
 own_found table k [] c at = tt
 own_found table k (v ∷ later) c at = (
@@ -47,7 +42,7 @@ own_found table k (v ∷ later) c at = (
 )
 
 -- so do the variables of the file
-file_found : (table : Table) (k : ℕ) (globals : List ParsedGlobal)
+pub file_found : (table : Table) (k : ℕ) (globals : List ParsedGlobal)
     → ((i : ℕ) (v : Variable) → slice_get (file_variables k globals) i ≡ Some v → slice_get table.file (k + i) ≡ Some v) → ScopeScoped table (global_entries k globals)
 file_found table k [] at = tt
 file_found table k (g ∷ globals) at = (
@@ -55,7 +50,8 @@ file_found table k (g ∷ globals) at = (
   file_found table (suc k) globals (λ i w h. subst (λ n. slice_get table.file n ≡ Some w) (omega arith) (at (suc i) w h)),
 )
 
-params_found : (table : Table) (k : ℕ) (params : List ParsedParam) (scope : Scope) → ScopeScoped table scope → Each (Own table) (param_variables k params)
+-- so are the parameters, in front of what is in scope
+pub params_found : (table : Table) (k : ℕ) (params : List ParsedParam) (scope : Scope) → ScopeScoped table scope → Each (Own table) (param_variables k params)
     → ScopeScoped table (param_entries k params scope)
 params_found table k [] scope h own = h
 params_found table k (p ∷ params) scope h own = params_found table (suc k) params (declared p.name (Local k) p.spec p.is_array true ∷ scope) (own.0, h) own.1

@@ -27,11 +27,11 @@ pub each_right : {A : Type 0} (P : A → Type 0) (xs ys : List A) → Each P (xs
 each_right P [] ys p = p
 each_right P (x ∷ xs) ys p = each_right P xs ys p.1
 
-each_kept : {A : Type 0} (P : A → Type 0) (b : Bool) (x : A) (xs : List A) → P x → Each P xs → Each P (cond b (x ∷ xs) xs)
+pub each_kept : {A : Type 0} (P : A → Type 0) (b : Bool) (x : A) (xs : List A) → P x → Each P xs → Each P (cond b (x ∷ xs) xs)
 each_kept P true x xs p q = (p, q)
 each_kept P false x xs p q = q
 
-each_filter : {A : Type 0} (P : A → Type 0) (test : A → Bool) (xs : List A) → Each P xs → Each P (filter test xs)
+pub each_filter : {A : Type 0} (P : A → Type 0) (test : A → Bool) (xs : List A) → Each P xs → Each P (filter test xs)
 each_filter P test [] p = tt
 each_filter P test (x ∷ xs) p = each_kept P (test x) x (filter test xs) p.0 (each_filter P test xs p.1)
 

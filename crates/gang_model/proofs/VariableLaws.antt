@@ -180,6 +180,10 @@ pub params_bound : (k : ℕ) (params : List ParsedParam) → variable_bindings (
 params_bound k [] = refl
 params_bound k (p ∷ params) = ap (λ bs. bound p.name (Local k) ∷ bs) (params_bound (suc k) params)
 
+pub params_count : (k : ℕ) (params : List ParsedParam) → length (param_variables k params) ≡ length params
+params_count k [] = refl
+params_count k (p ∷ params) = ap suc (params_count (suc k) params)
+
 -- the variable with a number is the one that is declared with it
 variable_found : (variables : List Variable) (k : ℕ) (b : Binding) (d : Variable) → slice_get (variable_bindings variables) k ≡ Some b
     → bound (slice_index_or variables k d).name (slice_index_or variables k d).id ≡ b

@@ -114,6 +114,11 @@ abbrev pub view_of : State → VarId → View
 view_of state (File n) = record { array = File n; first = 0; len = length (words_of state.memory (File n)) }
 view_of state (Local n) = local_view state.frames (Local n)
 
+-- how many words a scalar has: a uniform one has one, a varying one has one for each lane
+abbrev pub words_for : (width : ℕ) → Rate → ℕ
+words_for width Uniform = 1
+words_for width Varying = width
+
 -- a variable's words as values of the lanes that read it
 abbrev pub seen : Rate → Lanes → List ℕ → List ℕ
 seen Uniform lanes words = each lanes (λ k. at words 0)

@@ -56,6 +56,11 @@ global_entries k (g ∷ globals) = global_entry k g ∷ global_entries (suc k) g
 abbrev pub global_of : ℕ → ParsedGlobal → Global
 global_of k g = record { variable = (global_entry k g).variable; word = first_word (declared_type g.spec.value_type) g.form; len = length_of g.form }
 
+-- the file-scope variables in the typed tree, by their numbers from k on
+abbrev pub file_variables : ℕ → List ParsedGlobal → List Variable
+file_variables k [] = []
+file_variables k (g ∷ globals) = (global_of k g).variable ∷ file_variables (suc k) globals
+
 -- the file-scope variables, each judged by itself
 abbrev pub judged_globals : ℕ → List ParsedGlobal → Judged (List Global)
 judged_globals k [] = Sound []
