@@ -27,7 +27,7 @@ use Rattle.type_check_scopes.specs.Entries.{declared_view}
 use Rattle.source_answers.proofs.Answered.{answers-both, answers-refusal}
 use Rattle.source_answers.specs.Apart.{apart, seen}
 use Rattle.type_check_parts.specs.Typed.{IsTyped}
-use Rattle.type_check_parts.specs.Sequences.{second_part}
+use Rattle.type_check_parts.specs.Beside.{second_part}
 use Rattle.type_check_parts.proofs.Named.{declared-named}
 
 -- a statement beside what it declares

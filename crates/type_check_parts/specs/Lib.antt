@@ -3,4 +3,4 @@ pub mod Typed
 pub mod Changes
 pub mod Indices
 pub mod Rows
-pub mod Sequences
+pub mod Beside

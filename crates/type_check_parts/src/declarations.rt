@@ -1,11 +1,10 @@
 //! Declarations.
-ghost use Rattle.std.specs.Prelude.{◌≡◌, ◌+◌, ◌++◌, ◌∷◌, [], IfErr, IfOk, OnOk, false, length};
+ghost use Rattle.std.specs.Prelude.{◌≡◌, ◌+◌, ◌++◌, ◌∷◌, [], IfOk, OnOk, false, length};
 ghost use Rattle.gang_types.specs.declared.places.Place.{Place};
 ghost use Rattle.gang_types.specs.declared.places.VarId.TheVariants.{Local};
 ghost use Rattle.ispc_parser_expressions.specs.Tree.{expr_view};
 ghost use Rattle.gang_model.specs.Source.Parsed.{ParsedDeclare};
 ghost use Rattle.gang_model.specs.Types.Typing as typing;
-ghost use Rattle.source_answers.specs.declared.fault.SourceFault.TheVariants.{Memory};
 ghost use Rattle.gang_model.specs.Types.Calls as calls;
 ghost use Rattle.gang_model.specs.Types.Statements as model;
 ghost use Rattle.ispc_parser.specs.Tree as parsed;
@@ -13,7 +12,7 @@ ghost use Rattle.typed_tree.specs.Views.{stmt_view, var_view};
 ghost use Rattle.source_answers.specs.Answers.{Answers, both_answers};
 ghost use Rattle.type_check_scopes.specs.Entries.{declared_view};
 ghost use Rattle.type_check_calls.specs.Calls.{context_view};
-ghost use Rattle.type_check_parts.specs.Sequences.{second_part};
+ghost use Rattle.type_check_parts.specs.Beside.{second_part};
 ghost use Rattle.type_check_parts.specs.Typed.{IsTyped};
 
 use crate::numbering::one_step;
@@ -22,7 +21,7 @@ use gang_model::{RefusalNumber, Spec};
 use gang_types::{Place, VarId};
 use ispc_parser_expressions::Expr;
 use source_answers::{Answer, SourceFault, both, fault_if, refuse};
-use std::alloc::Global;
+use std::alloc::{AllocError, Global};
 use type_check_calls::{Context, Receiver, right_call, whole_call};
 use type_check_expressions::{first_of, given_value};
 use type_check_scopes::{Declared, TypeScope, declared_with};
@@ -102,11 +101,10 @@ fn then_declare<A: Drop>(
     declared: Declared,
     scope: &mut TypeScope,
     made: A,
-) -> Result<A, SourceFault>
+) -> Result<A, AllocError>
     requires next { declared.id ≡ Local (length scope.old.locals) }
     ensures made { IfOk result (λ kept. (kept ≡ made) × (scope.new.locals ≡ scope.old.locals ++ (declared_view name.now declared).variable ∷ [])) }
     ensures entries { OnOk result (scope.new.entries ≡ declared_view name.now declared ∷ scope.old.entries) }
-    ensures memory { IfErr result (λ fault. fault ≡ Memory) }
 {
     scope.declare(alloc, name, declared)?;
     Ok(made)
@@ -122,12 +120,11 @@ pub fn declare(
     context: &Context,
     scope: &mut TypeScope,
     step: &mut usize,
-) -> Result<Answer<Stmt>, SourceFault>
+) -> Result<Answer<Stmt>, AllocError>
     ensures typed { IfOk result (λ answer. (p : Place) → IsTyped stmt_view answer (model.statement (ParsedDeclare p spec place name.now (parsed.option_view expr_view value.now)) (context_view context.now) scope.old.entries (length scope.old.locals) step.old)
         scope.old.locals scope.new.locals 1) }
     ensures after { OnOk result (scope.new.entries ≡ typing.declared name.now (Local (length scope.old.locals)) spec false false ∷ scope.old.entries) }
     ensures steps { OnOk result (step.new ≡ step.old + 1) }
-    ensures memory { IfErr result (λ fault. fault ≡ Memory) }
 {
     let declared = declared_with(VarId::Local(scope.next()), spec, false, false);
     let in_name = refuse(fault_if(spec.value_type.is_none(), RefusalNumber::S8, place));

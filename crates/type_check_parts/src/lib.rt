@@ -2,21 +2,18 @@
 #![tactic(auto)]
 
 mod assignments;
+mod calls;
 mod conditions;
 mod declarations;
-mod forms;
 mod numbering;
 mod results;
 mod rounds;
 mod targets;
 
 pub use assignments::{assignment, change, increment};
+pub use calls::called;
 pub use conditions::{some_test, test_of};
 pub use declarations::declare;
-pub use forms::{
-    block, body_first, called, choice, conditional, more_statements, over_lanes, over_rows,
-    over_values, repeated, started, type_of,
-};
 pub use numbering::{advanced, one_step, steps_in};
 pub use results::returning;
 pub use rounds::{declare_indices, dimensions};

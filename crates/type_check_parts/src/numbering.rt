@@ -1,41 +1,35 @@
 //! The numbers of steps.
-ghost use Rattle.std.specs.Prelude.{◌≡◌, ◌+◌, IfErr, IfOk, OnOk};
+ghost use Rattle.std.specs.Prelude.{◌≡◌, ◌+◌, IfOk, OnOk};
 ghost use Rattle.gang_model.specs.Running.Numbering as model;
-ghost use Rattle.source_answers.specs.declared.fault.SourceFault.TheVariants.{Memory};
 ghost use Rattle.ispc_parser.specs.Tree.{stmt_view};
 ghost use Rattle.source_answers.specs.Apart.{apart};
 
 use ispc_parser::Stmt;
 use source_answers::{Answer, SourceFault, set_apart};
+use std::alloc::AllocError;
 
 /// The number that comes so many steps later; one that is too large counts as out of memory.
-pub fn advanced(step: usize, steps: usize) -> Result<usize, SourceFault>
+pub fn advanced(step: usize, steps: usize) -> Result<usize, AllocError>
     ensures number { IfOk result (λ number. number ≡ step + steps) }
-    ensures memory { IfErr result (λ fault. fault ≡ Memory) }
 {
-    match step.checked_add(steps) {
-        Some(number) => Ok(number),
-        None => Err(SourceFault::Memory),
-    }
+    step.checked_add(steps).ok_or(AllocError)
 }
 
 /// The answer for what has one step, after which the next one is numbered.
 pub fn one_step<A: Drop>(
     made: Result<A, SourceFault>,
     step: &mut usize,
-) -> Result<Answer<A>, SourceFault>
+) -> Result<Answer<A>, AllocError>
     ensures answer { OnOk result (result ≡ apart made) }
     ensures steps { OnOk result (step.new ≡ step.old + 1) }
-    ensures memory { IfErr result (λ fault. fault ≡ Memory) }
 {
     *step = advanced(*step, 1)?;
     set_apart(made)
 }
 
 /// How many steps a statement has.
-pub fn steps_in(stmt: &Stmt) -> Result<usize, SourceFault>
+pub fn steps_in(stmt: &Stmt) -> Result<usize, AllocError>
     ensures steps { IfOk result (λ steps. steps ≡ model.steps_in (stmt_view stmt.now)) }
-    ensures memory { IfErr result (λ fault. fault ≡ Memory) }
 {
     match stmt {
         Stmt::Empty => Ok(0),

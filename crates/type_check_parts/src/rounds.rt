@@ -1,5 +1,5 @@
 //! The rounds of `foreach`: its bounds and its index variables.
-ghost use Rattle.std.specs.Prelude.{◌≡◌, ◌++◌, IfErr, IfOk, OnErr, OnOk, length, map};
+ghost use Rattle.std.specs.Prelude.{◌≡◌, ◌++◌, IfOk, OnErr, OnOk, length, map};
 ghost use Rattle.gang_types.specs.declared.types.IntType.TheVariants as int_type;
 ghost use Rattle.gang_types.specs.declared.types.Rate.TheVariants.{Uniform};
 ghost use Rattle.ispc_parser_expressions.specs.Tree.{expr_view};
@@ -7,7 +7,6 @@ ghost use Rattle.gang_model.specs.Source.Judged as judged;
 ghost use Rattle.gang_model.specs.Source.Judged.{answer_of};
 ghost use Rattle.gang_model.specs.Types.Statements as model;
 ghost use Rattle.gang_model.specs.Types.Typing as typing;
-ghost use Rattle.source_answers.specs.declared.fault.SourceFault.TheVariants.{Memory};
 ghost use Rattle.ispc_parser.specs.Tree.{dim_view};
 ghost use Rattle.typed_tree.specs.Views.{dimension_view};
 ghost use Rattle.source_answers.specs.Answers.{Answers};
@@ -70,9 +69,8 @@ pub fn dimensions(
     alloc: Global,
     scope: &TypeScope,
     dims: &[Dim],
-) -> Result<Answer<Vec<Dimension>>, SourceFault>
+) -> Result<Answer<Vec<Dimension>>, AllocError>
     ensures dimensions { IfOk result (λ answer. answer_of (model.dimensions scope.now.entries (length scope.now.locals) (map dim_view dims.now)) ≡ seen (λ ds. map dimension_view ds.items) answer) }
-    ensures memory { IfErr result (λ fault. fault ≡ Memory) }
 {
     let mut typed: Answer<Vec<Dimension>> = Ok(Vec::new(alloc));
     let mut number = scope.next();

@@ -1,6 +1,7 @@
 -- Statements of one step that declare nothing, and statements in the forms in which they lie in memory.
 use Rattle.std.proofs.Common.{◌≡◌, ℕ, ◌+◌, List, [], length, refl, sym, ap, subst, ◌∙◌, append-nil}
 use Rattle.std.specs.Prelude.{Result, Ok, Err, IfOk, OnOk}
+use Rattle.std.specs.declared.alloc.AllocError.{AllocError}
 use Rattle.std.proofs.lemmas.Result.{IfOk-weaker, on_ok_weaker}
 use Rattle.gang_model.specs.declared.refusals.SourceRefusal.{SourceRefusal}
 use Rattle.gang_model.specs.Types.Tree as tree
@@ -32,7 +33,7 @@ pub typed-as : (answer : Result Stmt SourceRefusal) (s t : ParsedStmt) (context 
     → IsTyped stmt_view answer (statement t context entries k step) before after (locals_in t) → IsTyped stmt_view answer (statement s context entries k step) before after (locals_in s)
 typed-as answer s t context entries k step before after e h = subst (λ x. IsTyped stmt_view answer (statement x context entries k step) before after (locals_in x)) (sym e) h
 
-pub typed-form : (result : Result (Result Stmt SourceRefusal) SourceFault) (s t : ParsedStmt) (context : Context) (entries : Scope) (k step : ℕ) (before after : List Variable) → s ≡ t
+pub typed-form : {E : Type 0} (result : Result (Result Stmt SourceRefusal) E) (s t : ParsedStmt) (context : Context) (entries : Scope) (k step : ℕ) (before after : List Variable) → s ≡ t
     → IfOk result (λ answer. IsTyped stmt_view answer (statement t context entries k step) before after (locals_in t))
     → IfOk result (λ answer. IsTyped stmt_view answer (statement s context entries k step) before after (locals_in s))
 typed-form result s t context entries k step before after e h = IfOk-weaker result _ _ (λ answer x. typed-as answer s t context entries k step before after e x) h
@@ -74,7 +75,7 @@ unless-memory (Err Memory) p = tt
 unless-memory (Err (Refused fault)) p = p
 
 -- a statement of one step
-pub single-step : (result : Result (Result Stmt SourceRefusal) SourceFault) (part : Result Stmt SourceFault) (j : Judged tree.Stmt) (s t : ParsedStmt) (context : Context) (entries : Scope)
+pub single-step : (result : Result (Result Stmt SourceRefusal) AllocError) (part : Result Stmt SourceFault) (j : Judged tree.Stmt) (s t : ParsedStmt) (context : Context) (entries : Scope)
     (before : List Variable) (step : ℕ)
     → s ≡ t → (j >>= (λ x. alone x)) ≡ statement t context entries (length before) step → locals_in t ≡ 0 → Answers stmt_view part j → OnOk result (result ≡ apart part)
     → IfOk result (λ answer. IsTyped stmt_view answer (statement s context entries (length before) step) before before (locals_in s))

@@ -11,7 +11,7 @@ use ispc_parser::Stmt as ParsedStmt;
 use source_answers::{SourceFault, joined};
 use std::alloc::Global;
 use type_check_calls::Context;
-use type_check_parts::more_statements;
+use type_check_forms::more_statements;
 use type_check_scopes::TypeScope;
 use typed_tree::Stmt;
 

@@ -1,5 +1,5 @@
 //! Statements.
-ghost use Rattle.std.specs.Prelude.{◌≡◌, ◌+◌, ◌∷◌, IfErr, IfOk, OnOk, length, map, suc};
+ghost use Rattle.std.specs.Prelude.{◌≡◌, ◌+◌, ◌∷◌, IfOk, OnOk, length, map, suc};
 ghost use Rattle.gang_types.specs.declared.places.Place.{Place};
 ghost use Rattle.gang_types.specs.declared.places.VarId.TheVariants.{Local};
 ghost use Rattle.ispc_parser_expressions.specs.Tree.{expr_view};
@@ -7,7 +7,6 @@ ghost use Rattle.gang_model.specs.Running.Numbering.{steps_in};
 ghost use Rattle.gang_model.specs.Source.Parsed.{ParsedFor, ParsedForEach, ParsedForEachActive, ParsedForEachUnique, ParsedIf, ParsedIfElse, ParsedWhile, ParsedDo};
 ghost use Rattle.gang_model.specs.Names.Scope.{locals_in};
 ghost use Rattle.gang_model.specs.Types.Statements as model;
-ghost use Rattle.source_answers.specs.declared.fault.SourceFault.TheVariants.{Memory};
 ghost use Rattle.ispc_parser.specs.Tree as parsed;
 ghost use Rattle.typed_tree.specs.Views.{stmt_view};
 ghost use Rattle.type_check_calls.specs.Calls.{context_view};
@@ -17,14 +16,17 @@ ghost use Rattle.type_check_parts.specs.Typed.{IsTyped, with_index};
 use gang_types::{IntType, Rate, VarId};
 use ispc_parser::{Dim, Stmt as ParsedStmt};
 use ispc_parser_expressions::Expr;
-use source_answers::{Answer, SourceFault, both_answers, set_apart};
-use std::alloc::Global;
+use source_answers::{Answer, both_answers, set_apart};
+use std::alloc::{AllocError, Global};
 use type_check_calls::{Context, WholeCall};
 use type_check_expressions::expression;
+use type_check_forms::{
+    block, body_first, choice, conditional, more_statements, over_lanes, over_rows, over_values,
+    repeated, started, type_of,
+};
 use type_check_parts::{
-    advanced, assignment, block, body_first, called, change, choice, conditional, declare,
-    declare_indices, dimensions, increment, more_statements, one_step, over_lanes, over_rows,
-    over_values, repeated, returning, some_test, started, steps_in, test_of, type_of, variable_of,
+    advanced, assignment, called, change, declare, declare_indices, dimensions, increment, one_step,
+    returning, some_test, steps_in, test_of, variable_of,
 };
 use type_check_scopes::{Declared, TypeScope, index_variable};
 use typed_tree::Stmt;
@@ -38,12 +40,11 @@ pub(crate) fn statement(
     context: &Context,
     scope: &mut TypeScope,
     step: &mut usize,
-) -> Result<Answer<Stmt>, SourceFault>
+) -> Result<Answer<Stmt>, AllocError>
     ensures typed { IfOk result (λ answer. IsTyped stmt_view answer (model.statement (parsed.stmt_view stmt.now) (context_view context.now) scope.old.entries (length scope.old.locals) step.old)
         scope.old.locals scope.new.locals (locals_in (parsed.stmt_view stmt.now))) }
     ensures after { OnOk result (scope.new.entries ≡ model.scope_after (parsed.stmt_view stmt.now) scope.old.entries (length scope.old.locals)) }
     ensures steps { OnOk result (step.new ≡ step.old + steps_in (parsed.stmt_view stmt.now)) }
-    ensures memory { IfErr result (λ fault. fault ≡ Memory) }
 {
     match stmt {
         ParsedStmt::Empty => Ok(Ok(Stmt::Empty)),
@@ -139,12 +140,11 @@ fn inner(
     context: &Context,
     scope: &mut TypeScope,
     step: &mut usize,
-) -> Result<Answer<Stmt>, SourceFault>
+) -> Result<Answer<Stmt>, AllocError>
     ensures typed { IfOk result (λ answer. IsTyped stmt_view answer (model.statement (parsed.stmt_view stmt.now) (context_view context.now) scope.old.entries (length scope.old.locals) step.old)
         scope.old.locals scope.new.locals (locals_in (parsed.stmt_view stmt.now))) }
     ensures after { OnOk result (scope.new.entries ≡ scope.old.entries) }
     ensures steps { OnOk result (step.new ≡ step.old + steps_in (parsed.stmt_view stmt.now)) }
-    ensures memory { IfErr result (λ fault. fault ≡ Memory) }
 {
     let mark = scope.mark();
     let answer = statement(alloc, stmt, context, scope, step)?;
@@ -161,12 +161,11 @@ fn if_only(
     context: &Context,
     scope: &mut TypeScope,
     step: &mut usize,
-) -> Result<Answer<Stmt>, SourceFault>
+) -> Result<Answer<Stmt>, AllocError>
     ensures typed { IfOk result (λ answer. (p : Place) → IsTyped stmt_view answer (model.statement (ParsedIf p (expr_view test.now) (parsed.stmt_view first.now)) (context_view context.now) scope.old.entries (length scope.old.locals) step.old)
         scope.old.locals scope.new.locals (locals_in (parsed.stmt_view first.now))) }
     ensures after { OnOk result (scope.new.entries ≡ scope.old.entries) }
     ensures steps { OnOk result (step.new ≡ step.old + (1 + steps_in (parsed.stmt_view first.now))) }
-    ensures memory { IfErr result (λ fault. fault ≡ Memory) }
 {
     let at = *step;
     *step = advanced(at, 1)?;
@@ -185,12 +184,11 @@ fn if_else(
     context: &Context,
     scope: &mut TypeScope,
     step: &mut usize,
-) -> Result<Answer<Stmt>, SourceFault>
+) -> Result<Answer<Stmt>, AllocError>
     ensures typed { IfOk result (λ answer. (p : Place) → IsTyped stmt_view answer (model.statement (ParsedIfElse p (expr_view test.now) (parsed.stmt_view first.now) (parsed.stmt_view other.now)) (context_view context.now) scope.old.entries (length scope.old.locals) step.old)
         scope.old.locals scope.new.locals (locals_in (parsed.stmt_view first.now) + locals_in (parsed.stmt_view other.now))) }
     ensures after { OnOk result (scope.new.entries ≡ scope.old.entries) }
     ensures steps { OnOk result (step.new ≡ step.old + (1 + steps_in (parsed.stmt_view first.now) + steps_in (parsed.stmt_view other.now))) }
-    ensures memory { IfErr result (λ fault. fault ≡ Memory) }
 {
     let at = *step;
     *step = advanced(at, 1)?;
@@ -209,12 +207,11 @@ fn while_loop(
     context: &Context,
     scope: &mut TypeScope,
     step: &mut usize,
-) -> Result<Answer<Stmt>, SourceFault>
+) -> Result<Answer<Stmt>, AllocError>
     ensures typed { IfOk result (λ answer. (p : Place) → IsTyped stmt_view answer (model.statement (ParsedWhile p (expr_view test.now) (parsed.stmt_view body.now)) (context_view context.now) scope.old.entries (length scope.old.locals) step.old)
         scope.old.locals scope.new.locals (locals_in (parsed.stmt_view body.now))) }
     ensures after { OnOk result (scope.new.entries ≡ scope.old.entries) }
     ensures steps { OnOk result (step.new ≡ step.old + (steps_in (parsed.stmt_view body.now) + 1)) }
-    ensures memory { IfErr result (λ fault. fault ≡ Memory) }
 {
     let test = set_apart(test_of(alloc, scope, test))?;
     let body = inner(alloc, body, context, scope, step)?;
@@ -232,12 +229,11 @@ fn do_loop(
     context: &Context,
     scope: &mut TypeScope,
     step: &mut usize,
-) -> Result<Answer<Stmt>, SourceFault>
+) -> Result<Answer<Stmt>, AllocError>
     ensures typed { IfOk result (λ answer. (p : Place) → IsTyped stmt_view answer (model.statement (ParsedDo (parsed.stmt_view body.now) p (expr_view test.now)) (context_view context.now) scope.old.entries (length scope.old.locals) step.old)
         scope.old.locals scope.new.locals (locals_in (parsed.stmt_view body.now))) }
     ensures after { OnOk result (scope.new.entries ≡ scope.old.entries) }
     ensures steps { OnOk result (step.new ≡ step.old + (steps_in (parsed.stmt_view body.now) + 1)) }
-    ensures memory { IfErr result (λ fault. fault ≡ Memory) }
 {
     let body = inner(alloc, body, context, scope, step)?;
     let test = set_apart(test_of(alloc, scope, test))?;
@@ -257,12 +253,11 @@ fn for_loop(
     context: &Context,
     scope: &mut TypeScope,
     step: &mut usize,
-) -> Result<Answer<Stmt>, SourceFault>
+) -> Result<Answer<Stmt>, AllocError>
     ensures typed { IfOk result (λ answer. (p : Place) → IsTyped stmt_view answer (model.statement (ParsedFor p (parsed.stmt_view start.now) (parsed.option_view expr_view test.now) (parsed.stmt_view update.now) (parsed.stmt_view body.now)) (context_view context.now) scope.old.entries (length scope.old.locals) step.old)
         scope.old.locals scope.new.locals (locals_in (parsed.stmt_view start.now) + locals_in (parsed.stmt_view update.now) + locals_in (parsed.stmt_view body.now))) }
     ensures after { OnOk result (scope.new.entries ≡ scope.old.entries) }
     ensures steps { OnOk result (step.new ≡ step.old + (steps_in (parsed.stmt_view start.now) + steps_in (parsed.stmt_view body.now) + steps_in (parsed.stmt_view update.now) + 1)) }
-    ensures memory { IfErr result (λ fault. fault ≡ Memory) }
 {
     let mark = scope.mark();
     let start = statement(alloc, start, context, scope, step)?;
@@ -286,12 +281,11 @@ fn for_each(
     context: &Context,
     scope: &mut TypeScope,
     step: &mut usize,
-) -> Result<Answer<Stmt>, SourceFault>
+) -> Result<Answer<Stmt>, AllocError>
     ensures typed { IfOk result (λ answer. (p : Place) → IsTyped stmt_view answer (model.statement (ParsedForEach p is_tiled (map parsed.dim_view dims.now) (parsed.stmt_view body.now)) (context_view context.now) scope.old.entries (length scope.old.locals) step.old)
         scope.old.locals scope.new.locals (length dims.now + locals_in (parsed.stmt_view body.now))) }
     ensures after { OnOk result (scope.new.entries ≡ scope.old.entries) }
     ensures steps { OnOk result (step.new ≡ step.old + (steps_in (parsed.stmt_view body.now) + 2)) }
-    ensures memory { IfErr result (λ fault. fault ≡ Memory) }
 {
     let at = *step;
     *step = advanced(at, 1)?;
@@ -314,13 +308,12 @@ fn rounds(
     context: &Context,
     scope: &mut TypeScope,
     step: &mut usize,
-) -> Result<Answer<Stmt>, SourceFault>
+) -> Result<Answer<Stmt>, AllocError>
     requires next { index.id ≡ Local (length scope.old.locals) }
     ensures typed { IfOk result (λ answer. IsTyped stmt_view answer (with_index (declared_view name.now index) (model.statement (parsed.stmt_view body.now) (context_view context.now) (declared_view name.now index ∷ scope.old.entries) (suc (length scope.old.locals)) (step.old + 1)))
         scope.old.locals scope.new.locals (1 + locals_in (parsed.stmt_view body.now))) }
     ensures after { OnOk result (scope.new.entries ≡ scope.old.entries) }
     ensures steps { OnOk result (step.new ≡ step.old + (steps_in (parsed.stmt_view body.now) + 2)) }
-    ensures memory { IfErr result (λ fault. fault ≡ Memory) }
 {
     *step = advanced(*step, 1)?;
     let mark = scope.mark();
@@ -340,12 +333,11 @@ fn for_each_active(
     context: &Context,
     scope: &mut TypeScope,
     step: &mut usize,
-) -> Result<Answer<Stmt>, SourceFault>
+) -> Result<Answer<Stmt>, AllocError>
     ensures typed { IfOk result (λ answer. (p at : Place) → IsTyped stmt_view answer (model.statement (ParsedForEachActive p at name.now (parsed.stmt_view body.now)) (context_view context.now) scope.old.entries (length scope.old.locals) step.old)
         scope.old.locals scope.new.locals (1 + locals_in (parsed.stmt_view body.now))) }
     ensures after { OnOk result (scope.new.entries ≡ scope.old.entries) }
     ensures steps { OnOk result (step.new ≡ step.old + (steps_in (parsed.stmt_view body.now) + 2)) }
-    ensures memory { IfErr result (λ fault. fault ≡ Memory) }
 {
     let at = *step;
     let index = index_variable(VarId::Local(scope.next()), IntType::Int64, Rate::Uniform);
@@ -364,12 +356,11 @@ fn for_each_unique(
     context: &Context,
     scope: &mut TypeScope,
     step: &mut usize,
-) -> Result<Answer<Stmt>, SourceFault>
+) -> Result<Answer<Stmt>, AllocError>
     ensures typed { IfOk result (λ answer. (p at : Place) → IsTyped stmt_view answer (model.statement (ParsedForEachUnique p at name.now (expr_view value.now) (parsed.stmt_view body.now)) (context_view context.now) scope.old.entries (length scope.old.locals) step.old)
         scope.old.locals scope.new.locals (1 + locals_in (parsed.stmt_view body.now))) }
     ensures after { OnOk result (scope.new.entries ≡ scope.old.entries) }
     ensures steps { OnOk result (step.new ≡ step.old + (steps_in (parsed.stmt_view body.now) + 2)) }
-    ensures memory { IfErr result (λ fault. fault ≡ Memory) }
 {
     let at = *step;
     let value = set_apart(expression(alloc, value, scope))?;

@@ -27,8 +27,8 @@ loop-dim-preserved c =
     (answers-apart dimension_view c.dimension.result c.in_ok-next.next (dimension_of scope.entries c.loop-dim.number (dim_view d)) c.dimension.ensures c.in_ok-next.ensures)
     c.in_ok-typed.ensures.more c.in_ok-number.ensures.number
 
-pub returns-clause-dimensions : goal.returns-clause-dimensions
-returns-clause-dimensions c =
+pub returns : goal.returns
+returns c =
     let scope = c.args.scope.now in
     let dims = c.args.dims.now in
     let i = c.loop-dim.dim-index in

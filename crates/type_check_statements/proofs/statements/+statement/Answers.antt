@@ -25,7 +25,8 @@ use Rattle.source_answers.specs.Answers.{Answers}
 use Rattle.type_check_scopes.specs.Entries.{declared_view}
 use Rattle.type_check_calls.specs.Calls.{context_view, whole_call_view}
 use Rattle.type_check_parts.specs.Changes.{change_of, increment_of}
-use Rattle.type_check_parts.specs.Sequences.{call_statement, type_or_int32}
+use Rattle.type_check_parts.specs.Beside.{call_statement}
+use Rattle.type_check_forms.specs.Sequences.{type_or_int32}
 use Rattle.source_answers.specs.Apart.{seen}
 use Rattle.type_check_parts.proofs.Judging.{answers-apart}
 use Rattle.type_check_parts.proofs.Counted.{next_item}

@@ -8,7 +8,7 @@ use Rattle.typed_tree.specs.Views.{expr_view, stmt_view}
 use Rattle.type_check_values.specs.declared.typed.Typed.{Typed}
 use Rattle.type_check_values.specs.Views.{typed_view}
 use Rattle.source_answers.specs.Apart.{in_order}
-use Rattle.type_check_parts.specs.Sequences.{value_rounds}
+use Rattle.type_check_forms.specs.Sequences.{value_rounds}
 use Rattle.source_answers.specs.Apart.{seen}
 
 abbrev value_or : {A : Type 0} → A → Result A SourceRefusal → A

@@ -1,43 +1,23 @@
 //! Statements of their parts.
-ghost use Rattle.std.specs.Prelude.{◌≡◌, IfErr, IfOk, Ok, if◌then◌else◌, map};
+ghost use Rattle.std.specs.Prelude.{◌≡◌, IfOk, Ok, if◌then◌else◌, map};
 ghost use Rattle.gang_model.specs.Types.Tree as tree;
-ghost use Rattle.source_answers.specs.declared.fault.SourceFault.TheVariants.{Memory};
 ghost use Rattle.typed_tree.specs.Views.{dimension_view, expr_view, rounds_view, stmt_view, stmts_view, var_view};
 ghost use Rattle.type_check_values.specs.Views.{typed_view};
-ghost use Rattle.source_answers.specs.Answers.{Answers};
-ghost use Rattle.type_check_calls.specs.Calls.{context_view, whole_call_view};
 ghost use Rattle.source_answers.specs.Apart.{seen};
-ghost use Rattle.type_check_parts.specs.Sequences.{call_statement, one_more, type_or_int32, value_rounds};
+ghost use Rattle.type_check_forms.specs.Sequences.{one_more, type_or_int32, value_rounds};
 
 use gang_types::IntType;
-use source_answers::{Answer, SourceFault, both_answers, both_boxed, boxed, in_order};
-use std::alloc::Global;
-use type_check_calls::{Context, WholeCall, call_of};
-use type_check_scopes::TypeScope;
+use source_answers::{Answer, both_answers, both_boxed, boxed, in_order};
+use std::alloc::{AllocError, Global};
 use type_check_values::Typed;
-use typed_tree::{Dimension, Expr, ResultFor, Rounds, Stmt, Var};
-
-/// A call that stands as a statement.
-pub fn called(
-    alloc: Global,
-    context: &Context,
-    scope: &TypeScope,
-    call: &WholeCall,
-    step: usize,
-) -> Result<Stmt, SourceFault>
-    ensures { Answers stmt_view result (call_statement (context_view context.now) scope.now.entries (whole_call_view call.now) step) }
-{
-    let called = call_of(alloc, context, scope, call, ResultFor::Nothing, step)?;
-    Ok(called.stmt)
-}
+use typed_tree::{Dimension, Expr, Rounds, Stmt, Var};
 
 /// The statements with one more after them.
 pub fn more_statements(
     first: Answer<Vec<Stmt>>,
     next: Answer<Stmt>,
-) -> Result<Answer<Vec<Stmt>>, SourceFault>
+) -> Result<Answer<Vec<Stmt>>, AllocError>
     ensures more { IfOk result (λ answer. seen (λ stmts. stmts.items) answer ≡ one_more (seen (λ stmts. stmts.items) first) next) }
-    ensures memory { IfErr result (λ fault. fault ≡ Memory) }
 {
     match both_answers(first, next) {
         Ok((mut stmts, next)) => {
@@ -65,9 +45,8 @@ fn if_of(
     test: Expr,
     first: Stmt,
     other: Stmt,
-) -> Result<Answer<Stmt>, SourceFault>
+) -> Result<Answer<Stmt>, AllocError>
     ensures form { IfOk result (λ answer. seen stmt_view answer ≡ Ok (tree.If step (expr_view test) (stmt_view first) (stmt_view other))) }
-    ensures memory { IfErr result (λ fault. fault ≡ Memory) }
 {
     both_boxed(alloc, first, other).map(|(first, other)| {
         Ok(Stmt::If {
@@ -84,9 +63,8 @@ pub fn conditional(
     alloc: Global,
     step: usize,
     parts: Answer<(Expr, Stmt)>,
-) -> Result<Answer<Stmt>, SourceFault>
+) -> Result<Answer<Stmt>, AllocError>
     ensures form { IfOk result (λ answer. seen stmt_view answer ≡ seen (λ parts. tree.If step (expr_view parts.0) (stmt_view parts.1) tree.Empty) parts) }
-    ensures memory { IfErr result (λ fault. fault ≡ Memory) }
 {
     match parts {
         Ok((test, first)) => if_of(alloc, step, test, first, Stmt::Empty),
@@ -99,9 +77,8 @@ pub fn choice(
     alloc: Global,
     step: usize,
     parts: Answer<(Expr, (Stmt, Stmt))>,
-) -> Result<Answer<Stmt>, SourceFault>
+) -> Result<Answer<Stmt>, AllocError>
     ensures form { IfOk result (λ answer. seen stmt_view answer ≡ seen (λ parts. tree.If step (expr_view parts.0) (stmt_view parts.1.0) (stmt_view parts.1.1)) parts) }
-    ensures memory { IfErr result (λ fault. fault ≡ Memory) }
 {
     match parts {
         Ok((test, (first, other))) => if_of(alloc, step, test, first, other),
@@ -116,9 +93,8 @@ fn loop_of(
     test: Expr,
     update: Stmt,
     body: Stmt,
-) -> Result<Stmt, SourceFault>
+) -> Result<Stmt, AllocError>
     ensures form { IfOk result (λ stmt. stmt_view stmt ≡ tree.Loop step (expr_view test) (stmt_view update) (stmt_view body)) }
-    ensures memory { IfErr result (λ fault. fault ≡ Memory) }
 {
     both_boxed(alloc, update, body).map(|(update, body)| Stmt::Loop {
         step,
@@ -133,9 +109,8 @@ pub fn repeated(
     alloc: Global,
     step: usize,
     parts: Answer<(Expr, Stmt)>,
-) -> Result<Answer<Stmt>, SourceFault>
+) -> Result<Answer<Stmt>, AllocError>
     ensures form { IfOk result (λ answer. seen stmt_view answer ≡ seen (λ parts. tree.Loop step (expr_view parts.0) tree.Empty (stmt_view parts.1)) parts) }
-    ensures memory { IfErr result (λ fault. fault ≡ Memory) }
 {
     match parts {
         Ok((test, body)) => loop_of(alloc, step, test, Stmt::Empty, body).map(|stmt| Ok(stmt)),
@@ -148,9 +123,8 @@ pub fn body_first(
     alloc: Global,
     step: usize,
     parts: Answer<(Stmt, Expr)>,
-) -> Result<Answer<Stmt>, SourceFault>
+) -> Result<Answer<Stmt>, AllocError>
     ensures form { IfOk result (λ answer. seen stmt_view answer ≡ seen (λ parts. tree.BodyFirst step (expr_view parts.1) (stmt_view parts.0)) parts) }
-    ensures memory { IfErr result (λ fault. fault ≡ Memory) }
 {
     match parts {
         Ok((body, test)) => boxed(alloc, body).map(|body| Ok(Stmt::BodyFirst { step, test, body })),
@@ -159,9 +133,8 @@ pub fn body_first(
 }
 
 /// A statement, and the rest of what it begins.
-fn then_of(alloc: Global, first: Stmt, rest: Stmt) -> Result<Answer<Stmt>, SourceFault>
+fn then_of(alloc: Global, first: Stmt, rest: Stmt) -> Result<Answer<Stmt>, AllocError>
     ensures form { IfOk result (λ answer. seen stmt_view answer ≡ Ok (tree.Then (stmt_view first) (stmt_view rest))) }
-    ensures memory { IfErr result (λ fault. fault ≡ Memory) }
 {
     both_boxed(alloc, first, rest).map(|(first, rest)| Ok(Stmt::Then { first, rest }))
 }
@@ -171,9 +144,8 @@ pub fn started(
     alloc: Global,
     step: usize,
     parts: Answer<((Stmt, Expr), (Stmt, Stmt))>,
-) -> Result<Answer<Stmt>, SourceFault>
+) -> Result<Answer<Stmt>, AllocError>
     ensures form { IfOk result (λ answer. seen stmt_view answer ≡ seen (λ parts. tree.Then (stmt_view parts.0.0) (tree.Loop step (expr_view parts.0.1) (stmt_view parts.1.0) (stmt_view parts.1.1))) parts) }
-    ensures memory { IfErr result (λ fault. fault ≡ Memory) }
 {
     match parts {
         Ok(((start, test), (update, body))) => {
@@ -201,9 +173,8 @@ fn rounds_of(
     step: usize,
     rounds: Rounds,
     body: Stmt,
-) -> Result<Answer<Stmt>, SourceFault>
+) -> Result<Answer<Stmt>, AllocError>
     ensures form { IfOk result (λ answer. seen stmt_view answer ≡ Ok (tree.ForEach step (rounds_view rounds) (stmt_view body))) }
-    ensures memory { IfErr result (λ fault. fault ≡ Memory) }
 {
     boxed(alloc, body).map(|body| Ok(Stmt::ForEach { step, rounds, body }))
 }
@@ -214,9 +185,8 @@ pub fn over_rows(
     step: usize,
     is_tiled: bool,
     parts: Answer<(Vec<Dimension>, Stmt)>,
-) -> Result<Answer<Stmt>, SourceFault>
+) -> Result<Answer<Stmt>, AllocError>
     ensures form { IfOk result (λ answer. seen stmt_view answer ≡ seen (λ parts. tree.ForEach step (if is_tiled then tree.Tiles (map dimension_view parts.0.items) else tree.Rows (map dimension_view parts.0.items)) (stmt_view parts.1)) parts) }
-    ensures memory { IfErr result (λ fault. fault ≡ Memory) }
 {
     match parts {
         Ok((dimensions, body)) => {
@@ -232,9 +202,8 @@ pub fn over_lanes(
     step: usize,
     index: Var,
     body: Answer<Stmt>,
-) -> Result<Answer<Stmt>, SourceFault>
+) -> Result<Answer<Stmt>, AllocError>
     ensures form { IfOk result (λ answer. seen stmt_view answer ≡ seen (λ body. tree.ForEach step (tree.EachLane (var_view index)) (stmt_view body)) body) }
-    ensures memory { IfErr result (λ fault. fault ≡ Memory) }
 {
     match body {
         Ok(body) => rounds_of(alloc, step, Rounds::EachLane(index), body),
@@ -260,9 +229,8 @@ pub fn over_values(
     index: Var,
     value: Answer<Typed>,
     body: Answer<Stmt>,
-) -> Result<Answer<Stmt>, SourceFault>
+) -> Result<Answer<Stmt>, AllocError>
     ensures form { IfOk result (λ answer. seen stmt_view answer ≡ value_rounds step (var_view index) (seen typed_view value) (seen stmt_view body)) }
-    ensures memory { IfErr result (λ fault. fault ≡ Memory) }
 {
     match in_order(value, body) {
         Ok((value, body)) => {
