@@ -11,26 +11,18 @@ ghost use Rattle.expression_code.specs.Correct.{Computes};
 ghost use Rattle.expression_code.specs.Evaluated.{IsValue};
 
 use crate::code::Instruction;
-use crate::machine::{RunEnd, run};
-use crate::stacks::{ActiveLanes, push_mask, take_vector};
+use crate::machine::run;
+use crate::stacks::{ActiveLanes, push_mask, take};
+use crate::stop::Stop;
 use crate::words::Words;
 use arrayvec::ArrayVec;
-use gang_types::{FaultName, Mask};
+use gang_types::Mask;
 
 /// The most vectors that the code of one expression may keep at one time.
 pub const ROOM: usize = 513;
 
 /// The most masks that it may keep at one time, the first one counted.
 pub const NESTING: usize = 257;
-
-/// Why an expression has no value.
-#[derive(Clone, Copy, PartialEq, Eq, Debug, Drop)]
-pub enum Refusal {
-    /// A fault, with its lane.
-    Fault((usize, FaultName)),
-    /// The code keeps more vectors or masks than there is room for, or is not that of an expression.
-    NoRoom,
-}
 
 /// The stacks that an evaluation works on: made once, and lent to each.
 #[derive(Drop)]
@@ -60,19 +52,13 @@ pub fn evaluate<const W: usize, S: Words<W>>(
     words: &S,
     mask: Mask,
     stacks: &mut Stacks<W>,
-) -> Result<[u64; W], Refusal>
+) -> Result<[u64; W], Stop>
     requires { IsGangWidth W }
     ensures { (e : Expr) (state : State) → Computes e code.now → HasRoom (expr_view e) → S.shows words.now state → (reads_arrays e ≡ true → S.shows_arrays words.now state) → IsValue result (value (expr_view e) (lanes_of W mask) state) }
 {
     stacks.vectors.clear();
     stacks.masks.clear();
     push_mask(&mut stacks.masks, mask);
-    match run(code, words, &mut stacks.vectors, &mut stacks.masks) {
-        RunEnd::Finished => match take_vector(&mut stacks.vectors) {
-            Some(vector) => Ok(vector),
-            None => Err(Refusal::NoRoom),
-        },
-        RunEnd::Refused(found) => Err(Refusal::Fault(found)),
-        RunEnd::Jammed => Err(Refusal::NoRoom),
-    }
+    run(code, words, &mut stacks.vectors, &mut stacks.masks)?;
+    take(&mut stacks.vectors)
 }

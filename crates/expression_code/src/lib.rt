@@ -9,10 +9,11 @@ mod machine;
 mod operands;
 mod operations;
 mod stacks;
+mod stop;
 mod words;
 
 pub use code::{Gate, Instruction, Joining, Leaf, Move, OneOperand, ThreeOperands, TwoOperands};
 pub use emission::compile;
-pub use evaluation::{NESTING, ROOM, Refusal, Stacks, evaluate};
-pub use machine::{RunEnd, Then};
+pub use evaluation::{NESTING, ROOM, Stacks, evaluate};
+pub use stop::Stop;
 pub use words::Words;

@@ -152,23 +152,9 @@ pub(crate) fn moved<const W: usize>(
     requires lane { no_lane (lanes_of W mask) ≡ false }
     ensures { result ≡ each (lanes_of W mask) (λ k. moved_word how (lanes_of W mask) (values_in (lanes_of W mask) values.entry) (at amounts.entry k) k) }
 {
-    match one_word(mask, amounts) {
-        Some(amount) => moved_by(how, mask, values, amount),
-        None => moved_by_lane(how, mask, values, amounts),
+    if let Some(amount) = one_word(mask, amounts) {
+        return moved_by(how, mask, values, amount);
     }
-}
-
-// The same where amounts differ.
-fn moved_by_lane<const W: usize>(
-    how: Move,
-    mask: Mask,
-    values: [u64; W],
-    amounts: [u64; W],
-) -> [u64; W]
-    requires width { IsGangWidth W }
-    requires lane { no_lane (lanes_of W mask) ≡ false }
-    ensures { result ≡ each (lanes_of W mask) (λ k. moved_word how (lanes_of W mask) (values_in (lanes_of W mask) values.entry) (at amounts.entry k) k) }
-{
     let mut moved = [0; W];
     for lane in 0..W {
         if mask.has::<W>(lane) {

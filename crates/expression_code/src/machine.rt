@@ -4,69 +4,32 @@ ghost use Rattle.arrayvec.specs.ArrayVec.{array_vec_len};
 ghost use Rattle.gang_types.specs.Lanes.{Lanes};
 ghost use Rattle.gang_types.specs.Masks.{IsGangWidth, lanes_of};
 ghost use Rattle.gang_model.specs.Running.State.{State};
-ghost use Rattle.cross_lane.specs.Calls.{answer_of};
-ghost use Rattle.expression_code.specs.declared.code.Joining.TheVariants.{Both, Either, Choice};
 ghost use Rattle.expression_code.specs.Code.{has_element, is_element};
-ghost use Rattle.expression_code.specs.Machine.{act, apply_one, apply_three, apply_two, deeper, enter, exec, give, join, open_gate, open_otherwise, open_where, push, push_leaf, read_elements};
-ghost use Rattle.expression_code.specs.Bridge.{masks_view, next_of, outcome_of};
+ghost use Rattle.expression_code.specs.Machine.{act, apply_one, apply_three, apply_two, deeper, enter, exec, join, open_gate, open_otherwise, open_where, push, push_leaf, read_elements};
+ghost use Rattle.expression_code.specs.Bridge.{masks_view, next_after, next_of, outcome_of};
 ghost use Rattle.expression_code.specs.Values.{where_lanes};
 
 use crate::code::{Gate, Instruction, Joining, Leaf, OneOperand, ThreeOperands, TwoOperands};
 use crate::operations::{apply_one, apply_three, apply_two, leaf_words};
-use crate::stacks::{
-    ActiveLanes, push_mask, second_vector, take_mask, take_vector, top_mask, top_vector,
-};
+use crate::stacks::{ActiveLanes, below_top, push_mask, take, top};
+use crate::stop::Stop;
 use crate::words::Words;
 use arrayvec::ArrayVec;
-use gang_types::{FaultName, Mask, VarId};
-use masked_operations::{both_hold, either_holds, splat, where_false, where_true};
-
-/// What follows an instruction: how many instructions are passed, a fault with its lane, or no operand or room.
-#[derive(Clone, Copy, PartialEq, Eq, Debug, Drop)]
-pub enum Then {
-    GoOn(usize),
-    Refuse((usize, FaultName)),
-    Jam,
-}
-
-/// How a run ends.
-#[derive(Clone, Copy, PartialEq, Eq, Debug, Drop)]
-pub enum RunEnd {
-    Finished,
-    Refused((usize, FaultName)),
-    Jammed,
-}
+use gang_types::{Mask, VarId};
+use masked_operations::{both_hold, chosen, either_holds, splat, where_false, where_true};
 
 // One more vector, where there is room.
 fn push_vector<const W: usize, const R: usize>(
     stack: &mut ArrayVec<[u64; W], R>,
-    pass: usize,
     vector: [u64; W],
-) -> Then
-    ensures { (masks : List Lanes) → next_of result (reverse stack.new.items) masks ≡ push R pass vector.entry (reverse stack.old.items) masks }
+) -> Result<(), Stop>
+    ensures { (pass : ℕ) (masks : List Lanes) → next_after pass result (reverse stack.new.items) masks ≡ push R pass vector.entry (reverse stack.old.items) masks }
 {
     if stack.is_full() {
-        return Then::Jam;
+        return Err(Stop::NoRoom);
     }
     stack.push(vector);
-    Then::GoOn(pass)
-}
-
-// A vector in place of the operands that were taken.
-fn give<const W: usize, const R: usize>(
-    stack: &mut ArrayVec<[u64; W], R>,
-    answer: Result<[u64; W], (usize, FaultName)>,
-) -> Then
-    requires { array_vec_len stack.old < R }
-    ensures { (masks : List Lanes) → next_of result (reverse stack.new.items) masks ≡ give (reverse stack.old.items) masks (answer_of answer.entry) }
-{
-    match answer {
-        Ok(vector) => {
-            stack.push(vector);
-            Then::GoOn(0)
-        }
-        Err(found) => Then::Refuse(found),
-    }
+    Ok(())
 }
 
 fn push_leaf<const W: usize, const R: usize, const M: usize, S: Words<W>>(
@@ -74,74 +37,57 @@ fn push_leaf<const W: usize, const R: usize, const M: usize, S: Words<W>>(
     words: &S,
     stack: &mut ArrayVec<[u64; W], R>,
     masks: &ArrayVec<ActiveLanes, M>,
-) -> Then
+) -> Result<(), Stop>
     requires { IsGangWidth W }
-    ensures { (state : State) → S.shows words.now state → next_of result (reverse stack.new.items) (masks_view W masks.now.items) ≡ push_leaf R state leaf (reverse stack.old.items) (masks_view W masks.now.items) }
+    ensures { (state : State) → S.shows words.now state → next_after 0 result (reverse stack.new.items) (masks_view W masks.now.items) ≡ push_leaf R state leaf (reverse stack.old.items) (masks_view W masks.now.items) }
 {
-    let Some(mask) = top_mask(masks) else {
-        return Then::Jam;
-    };
-    push_vector(stack, 0, leaf_words(leaf, words, mask))
+    let mask = top(masks)?.mask;
+    push_vector(stack, leaf_words(leaf, words, mask))
 }
 
 fn one<const W: usize, const R: usize, const M: usize>(
     operation: OneOperand,
     stack: &mut ArrayVec<[u64; W], R>,
     masks: &ArrayVec<ActiveLanes, M>,
-) -> Then
+) -> Result<(), Stop>
     requires { IsGangWidth W }
-    ensures { next_of result (reverse stack.new.items) (masks_view W masks.now.items) ≡ apply_one operation (reverse stack.old.items) (masks_view W masks.now.items) }
+    ensures { next_after 0 result (reverse stack.new.items) (masks_view W masks.now.items) ≡ apply_one operation (reverse stack.old.items) (masks_view W masks.now.items) }
 {
-    let Some(operand) = take_vector(stack) else {
-        return Then::Jam;
-    };
-    let Some(mask) = top_mask(masks) else {
-        return Then::Jam;
-    };
-    give(stack, Ok(apply_one(operation, mask, operand)))
+    let mask = top(masks)?.mask;
+    let operand = take(stack)?;
+    stack.push(apply_one(operation, mask, operand));
+    Ok(())
 }
 
 fn two<const W: usize, const R: usize, const M: usize>(
     operation: TwoOperands,
     stack: &mut ArrayVec<[u64; W], R>,
     masks: &ArrayVec<ActiveLanes, M>,
-) -> Then
+) -> Result<(), Stop>
     requires { IsGangWidth W }
-    ensures { next_of result (reverse stack.new.items) (masks_view W masks.now.items) ≡ apply_two operation (reverse stack.old.items) (masks_view W masks.now.items) }
+    ensures { next_after 0 result (reverse stack.new.items) (masks_view W masks.now.items) ≡ apply_two operation (reverse stack.old.items) (masks_view W masks.now.items) }
 {
-    let Some(right) = take_vector(stack) else {
-        return Then::Jam;
-    };
-    let Some(left) = take_vector(stack) else {
-        return Then::Jam;
-    };
-    let Some(mask) = top_mask(masks) else {
-        return Then::Jam;
-    };
-    give(stack, apply_two(operation, mask, left, right))
+    let mask = top(masks)?.mask;
+    let right = take(stack)?;
+    let left = take(stack)?;
+    stack.push(apply_two(operation, mask, left, right)?);
+    Ok(())
 }
 
 fn three<const W: usize, const R: usize, const M: usize>(
     operation: ThreeOperands,
     stack: &mut ArrayVec<[u64; W], R>,
     masks: &ArrayVec<ActiveLanes, M>,
-) -> Then
+) -> Result<(), Stop>
     requires { IsGangWidth W }
-    ensures { next_of result (reverse stack.new.items) (masks_view W masks.now.items) ≡ apply_three operation (reverse stack.old.items) (masks_view W masks.now.items) }
+    ensures { next_after 0 result (reverse stack.new.items) (masks_view W masks.now.items) ≡ apply_three operation (reverse stack.old.items) (masks_view W masks.now.items) }
 {
-    let Some(third) = take_vector(stack) else {
-        return Then::Jam;
-    };
-    let Some(second) = take_vector(stack) else {
-        return Then::Jam;
-    };
-    let Some(first) = take_vector(stack) else {
-        return Then::Jam;
-    };
-    let Some(mask) = top_mask(masks) else {
-        return Then::Jam;
-    };
-    give(stack, apply_three(operation, mask, first, second, third))
+    let mask = top(masks)?.mask;
+    let third = take(stack)?;
+    let second = take(stack)?;
+    let first = take(stack)?;
+    stack.push(apply_three(operation, mask, first, second, third)?);
+    Ok(())
 }
 
 // The elements of an array at the indices on top.
@@ -150,17 +96,14 @@ fn read_elements<const W: usize, const R: usize, const M: usize, S: Words<W>>(
     words: &S,
     stack: &mut ArrayVec<[u64; W], R>,
     masks: &ArrayVec<ActiveLanes, M>,
-) -> Then
+) -> Result<(), Stop>
     requires { IsGangWidth W }
-    ensures { (state : State) → S.shows_arrays words.now state → next_of result (reverse stack.new.items) (masks_view W masks.now.items) ≡ read_elements state array (reverse stack.old.items) (masks_view W masks.now.items) }
+    ensures { (state : State) → S.shows_arrays words.now state → next_after 0 result (reverse stack.new.items) (masks_view W masks.now.items) ≡ read_elements state array (reverse stack.old.items) (masks_view W masks.now.items) }
 {
-    let Some(indices) = take_vector(stack) else {
-        return Then::Jam;
-    };
-    let Some(mask) = top_mask(masks) else {
-        return Then::Jam;
-    };
-    give(stack, words.elements(array, mask, &indices))
+    let mask = top(masks)?.mask;
+    let indices = take(stack)?;
+    stack.push(words.elements(array, mask, &indices)?);
+    Ok(())
 }
 
 // A part for some lanes, or zeros for its value where there are none.
@@ -169,16 +112,17 @@ fn enter<const W: usize, const R: usize, const M: usize>(
     part: Mask,
     stack: &mut ArrayVec<[u64; W], R>,
     masks: &mut ArrayVec<ActiveLanes, M>,
-) -> Then
+) -> Result<usize, Stop>
     requires width { IsGangWidth W }
     requires room { array_vec_len masks.old < M }
     ensures { next_of result (reverse stack.new.items) (masks_view W masks.new.items) ≡ enter R pass (lanes_of W part) (reverse stack.old.items) (masks_view W masks.old.items) }
 {
     push_mask(masks, part);
     if part.is_empty::<W>() {
-        push_vector(stack, pass, splat(part, 0))
+        push_vector(stack, splat(part, 0))?;
+        Ok(pass)
     } else {
-        Then::GoOn(0)
+        Ok(0)
     }
 }
 
@@ -199,122 +143,88 @@ fn open_where<const W: usize, const R: usize, const M: usize>(
     pass: usize,
     stack: &mut ArrayVec<[u64; W], R>,
     masks: &mut ArrayVec<ActiveLanes, M>,
-) -> Then
+) -> Result<usize, Stop>
     requires { IsGangWidth W }
     ensures { next_of result (reverse stack.new.items) (masks_view W masks.new.items) ≡ open_where R M wanted pass (reverse stack.old.items) (masks_view W masks.old.items) }
 {
-    let Some(test) = top_vector(stack) else {
-        return Then::Jam;
-    };
-    let Some(mask) = top_mask(masks) else {
-        return Then::Jam;
-    };
+    let part = part_of(wanted, top(masks)?.mask, *top(stack)?);
     if masks.is_full() {
-        return Then::Jam;
+        return Err(Stop::NoRoom);
     }
-    enter(pass, part_of(wanted, mask, test), stack, masks)
+    enter(pass, part, stack, masks)
 }
 
 fn open_otherwise<const W: usize, const R: usize, const M: usize>(
     pass: usize,
     stack: &mut ArrayVec<[u64; W], R>,
     masks: &mut ArrayVec<ActiveLanes, M>,
-) -> Then
+) -> Result<usize, Stop>
     requires { IsGangWidth W }
     ensures { next_of result (reverse stack.new.items) (masks_view W masks.new.items) ≡ open_otherwise R pass (reverse stack.old.items) (masks_view W masks.old.items) }
 {
-    let Some(test) = second_vector(stack) else {
-        return Then::Jam;
-    };
-    let Some(_) = take_mask(masks) else {
-        return Then::Jam;
-    };
-    let Some(mask) = top_mask(masks) else {
-        return Then::Jam;
-    };
-    enter(pass, part_of(false, mask, test), stack, masks)
+    take(masks)?;
+    let part = part_of(false, top(masks)?.mask, *below_top(stack)?);
+    enter(pass, part, stack, masks)
 }
 
-fn join_both<const W: usize, const R: usize, const M: usize>(
+fn open_gate<const W: usize, const R: usize, const M: usize>(
+    gate: Gate,
+    pass: usize,
     stack: &mut ArrayVec<[u64; W], R>,
     masks: &mut ArrayVec<ActiveLanes, M>,
-) -> Then
+) -> Result<usize, Stop>
     requires { IsGangWidth W }
-    ensures { next_of result (reverse stack.new.items) (masks_view W masks.new.items) ≡ join Both (reverse stack.old.items) (masks_view W masks.old.items) }
+    ensures { next_of result (reverse stack.new.items) (masks_view W masks.new.items) ≡ open_gate R M gate pass (reverse stack.old.items) (masks_view W masks.old.items) }
 {
-    let Some(right) = take_vector(stack) else {
-        return Then::Jam;
-    };
-    let Some(left) = take_vector(stack) else {
-        return Then::Jam;
-    };
-    let Some(_) = take_mask(masks) else {
-        return Then::Jam;
-    };
-    let Some(mask) = top_mask(masks) else {
-        return Then::Jam;
-    };
-    give(stack, Ok(both_hold(mask, left, right)))
+    match gate {
+        Gate::WhereTrue => open_where(true, pass, stack, masks),
+        Gate::WhereFalse => open_where(false, pass, stack, masks),
+        Gate::Otherwise => open_otherwise(pass, stack, masks),
+    }
 }
 
-fn join_either<const W: usize, const R: usize, const M: usize>(
+// A part's vector joined to those below it, for the lanes of the mask below the part's.
+fn join<const W: usize, const R: usize, const M: usize>(
+    joining: Joining,
     stack: &mut ArrayVec<[u64; W], R>,
     masks: &mut ArrayVec<ActiveLanes, M>,
-) -> Then
+) -> Result<(), Stop>
     requires { IsGangWidth W }
-    ensures { next_of result (reverse stack.new.items) (masks_view W masks.new.items) ≡ join Either (reverse stack.old.items) (masks_view W masks.old.items) }
+    ensures { next_after 0 result (reverse stack.new.items) (masks_view W masks.new.items) ≡ join joining (reverse stack.old.items) (masks_view W masks.old.items) }
 {
-    let Some(right) = take_vector(stack) else {
-        return Then::Jam;
+    take(masks)?;
+    let mask = top(masks)?.mask;
+    let right = take(stack)?;
+    let left = take(stack)?;
+    let joined = match joining {
+        Joining::Both => both_hold(mask, left, right),
+        Joining::Either => either_holds(mask, left, right),
+        Joining::Choice => chosen(mask, take(stack)?, left, right),
     };
-    let Some(left) = take_vector(stack) else {
-        return Then::Jam;
-    };
-    let Some(_) = take_mask(masks) else {
-        return Then::Jam;
-    };
-    let Some(mask) = top_mask(masks) else {
-        return Then::Jam;
-    };
-    give(stack, Ok(either_holds(mask, left, right)))
+    stack.push(joined);
+    Ok(())
 }
 
-fn join_choice<const W: usize, const R: usize, const M: usize>(
-    stack: &mut ArrayVec<[u64; W], R>,
-    masks: &mut ArrayVec<ActiveLanes, M>,
-) -> Then
-    requires { IsGangWidth W }
-    ensures { next_of result (reverse stack.new.items) (masks_view W masks.new.items) ≡ join Choice (reverse stack.old.items) (masks_view W masks.old.items) }
-{
-    let Some(_) = take_mask(masks) else {
-        return Then::Jam;
-    };
-    three(ThreeOperands::Select, stack, masks)
-}
-
-// One instruction.
+// One instruction: how many of those behind it are passed.
 fn act<const W: usize, const R: usize, const M: usize, S: Words<W>>(
     instruction: Instruction,
     words: &S,
     stack: &mut ArrayVec<[u64; W], R>,
     masks: &mut ArrayVec<ActiveLanes, M>,
-) -> Then
+) -> Result<usize, Stop>
     requires { IsGangWidth W }
     ensures { (state : State) → S.shows words.now state → (is_element instruction ≡ true → S.shows_arrays words.now state) → next_of result (reverse stack.new.items) (masks_view W masks.new.items) ≡ act R M state instruction (reverse stack.old.items) (masks_view W masks.old.items) }
 {
     match instruction {
-        Instruction::Push(leaf) => push_leaf(leaf, words, stack, masks),
-        Instruction::Element(array) => read_elements(array, words, stack, masks),
-        Instruction::One(operation) => one(operation, stack, masks),
-        Instruction::Two(operation) => two(operation, stack, masks),
-        Instruction::Three(operation) => three(operation, stack, masks),
-        Instruction::Enter(Gate::WhereTrue, pass) => open_where(true, pass, stack, masks),
-        Instruction::Enter(Gate::WhereFalse, pass) => open_where(false, pass, stack, masks),
-        Instruction::Enter(Gate::Otherwise, pass) => open_otherwise(pass, stack, masks),
-        Instruction::Join(Joining::Both) => join_both(stack, masks),
-        Instruction::Join(Joining::Either) => join_either(stack, masks),
-        Instruction::Join(Joining::Choice) => join_choice(stack, masks),
+        Instruction::Enter(gate, pass) => return open_gate(gate, pass, stack, masks),
+        Instruction::Push(leaf) => push_leaf(leaf, words, stack, masks)?,
+        Instruction::Element(array) => read_elements(array, words, stack, masks)?,
+        Instruction::One(operation) => one(operation, stack, masks)?,
+        Instruction::Two(operation) => two(operation, stack, masks)?,
+        Instruction::Three(operation) => three(operation, stack, masks)?,
+        Instruction::Join(joining) => join(joining, stack, masks)?,
     }
+    Ok(0)
 }
 
 // The instructions that are left after some are passed.
@@ -334,17 +244,14 @@ pub(crate) fn run<const W: usize, const R: usize, const M: usize, S: Words<W>>(
     words: &S,
     stack: &mut ArrayVec<[u64; W], R>,
     masks: &mut ArrayVec<ActiveLanes, M>,
-) -> RunEnd
+) -> Result<(), Stop>
     requires { IsGangWidth W }
     ensures { (state : State) → S.shows words.now state → (has_element code.now ≡ true → S.shows_arrays words.now state) → outcome_of result (reverse stack.new.items) (masks_view W masks.new.items) ≡ exec R M state code.now 0 (reverse stack.old.items) (masks_view W masks.old.items) }
 {
     let mut rest = code;
     while let Some((first, others)) = rest.split_first() {
-        match act(*first, words, stack, masks) {
-            Then::GoOn(pass) => rest = after(others, pass),
-            Then::Refuse(found) => return RunEnd::Refused(found),
-            Then::Jam => return RunEnd::Jammed,
-        }
+        let pass = act(*first, words, stack, masks)?;
+        rest = after(others, pass);
     }
-    RunEnd::Finished
+    Ok(())
 }

@@ -11,7 +11,7 @@ use crate::active::Active;
 use crate::compiled::CompiledProgram;
 use crate::reading::TopVariables;
 use debug_machine::Fault;
-use expression_code::{Instruction, Refusal, Stacks, evaluate};
+use expression_code::{Instruction, Stacks, Stop, evaluate};
 use machine_words::MachineWords;
 use undo_log::Timeline;
 
@@ -39,7 +39,7 @@ pub(crate) fn value_of<const W: usize, T: Timeline + Drop>(
     };
     match evaluate(code, &variables, active.lanes, stacks) {
         Ok(values) => Ok(values),
-        Err(Refusal::Fault((lane, name))) => Err(Fault { name, lane }),
-        Err(Refusal::NoRoom) => unreachable!(),
+        Err(Stop::Fault((lane, name))) => Err(Fault { name, lane }),
+        Err(Stop::NoRoom) => unreachable!(),
     }
 }

@@ -1,6 +1,6 @@
 //! Elements of arrays, with values worked out by hand.
 use crate::trees::{Memory, binary, choice, element, read, value_of};
-use expression_code::Refusal;
+use expression_code::Stop;
 use gang_types::{BinaryOp, FaultName, IntType, VarId, wrap};
 use std::alloc::{AllocError, Global};
 use typed_tree::Expr;
@@ -34,7 +34,7 @@ fn a_parameter_has_its_own_elements(rt: HostRuntime) -> Result<(), AllocError> {
     assert!(&rt; value_of(rt.alloc(), own, &MEMORY, 0b1111)? == Ok([5; 4]));
     let past = element(rt.alloc(), PARAMETER, Expr::Number(1))?;
     let answer = value_of(rt.alloc(), past, &MEMORY, 0b1100)?;
-    assert!(&rt; answer == Err(Refusal::Fault((2, FaultName::Index))));
+    assert!(&rt; answer == Err(Stop::Fault((2, FaultName::Index))));
     Ok(())
 }
 
@@ -52,7 +52,7 @@ fn the_other_arm_reads_for_the_other_lanes(rt: HostRuntime) -> Result<(), AllocE
     let elements = element(rt.alloc(), ARRAY, read(0))?;
     let expression = choice(rt.alloc(), within(rt.alloc())?, Expr::Number(7), elements)?;
     let answer = value_of(rt.alloc(), expression, &MEMORY, 0b1111)?;
-    assert!(&rt; answer == Err(Refusal::Fault((1, FaultName::Index))));
+    assert!(&rt; answer == Err(Stop::Fault((1, FaultName::Index))));
     Ok(())
 }
 
@@ -80,7 +80,7 @@ fn the_ends_of_the_index_types_name_no_element(rt: HostRuntime) -> Result<(), Al
     for end in ends {
         let past = element(rt.alloc(), ARRAY, Expr::Number(end))?;
         let answer = value_of(rt.alloc(), past, &MEMORY, 0b1000)?;
-        assert!(&rt; answer == Err(Refusal::Fault((3, FaultName::Index))));
+        assert!(&rt; answer == Err(Stop::Fault((3, FaultName::Index))));
     }
     Ok(())
 }
@@ -96,7 +96,7 @@ fn the_first_operation_that_faults_is_named(rt: HostRuntime) -> Result<(), Alloc
         element(rt.alloc(), ARRAY, read(0))?,
     )?;
     let answer = value_of(rt.alloc(), sum, &MEMORY, 0b1111)?;
-    assert!(&rt; answer == Err(Refusal::Fault((3, FaultName::DivideByZero))));
+    assert!(&rt; answer == Err(Stop::Fault((3, FaultName::DivideByZero))));
     let quotient = binary(rt.alloc(), BinaryOp::Div, Expr::Number(1), read(1))?;
     let sum = binary(
         rt.alloc(),
@@ -105,6 +105,6 @@ fn the_first_operation_that_faults_is_named(rt: HostRuntime) -> Result<(), Alloc
         quotient,
     )?;
     let answer = value_of(rt.alloc(), sum, &MEMORY, 0b1111)?;
-    assert!(&rt; answer == Err(Refusal::Fault((1, FaultName::Index))));
+    assert!(&rt; answer == Err(Stop::Fault((1, FaultName::Index))));
     Ok(())
 }

@@ -1,6 +1,6 @@
 //! Scalar expressions, with values worked out by hand.
 use crate::trees::{Memory, binary, choice, read, value_of};
-use expression_code::Refusal;
+use expression_code::Stop;
 use gang_types::{BinaryOp, FaultName};
 use std::alloc::{AllocError, Global};
 use typed_tree::Expr;
@@ -18,7 +18,7 @@ fn quotient(alloc: Global) -> Result<Expr, AllocError> {
 fn the_lowest_lane_faults(rt: HostRuntime) -> Result<(), AllocError> {
     let expression = quotient(rt.alloc())?;
     let answer = value_of(rt.alloc(), expression, &DIVISORS, 0b1111)?;
-    assert!(&rt; answer == Err(Refusal::Fault((1, FaultName::DivideByZero))));
+    assert!(&rt; answer == Err(Stop::Fault((1, FaultName::DivideByZero))));
     Ok(())
 }
 

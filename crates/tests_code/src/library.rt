@@ -1,6 +1,6 @@
 //! The library's calls with lanes 1 and 3 active, with values worked out by hand.
 use crate::trees::{Memory, binary, read, reduce, scan, value_of};
-use expression_code::Refusal;
+use expression_code::Stop;
 use gang_types::{BinaryOp, FaultName, IntType, wrap};
 use std::alloc::{AllocError, Global};
 use typed_tree::{Expr, OneCall, Reduction, Scan, TwoCall};
@@ -33,7 +33,7 @@ const MEMORY: Memory<'static> = Memory {
 };
 
 // The words of lanes 1 and 3; the other lanes have 0.
-fn in_lanes(first: u64, second: u64) -> Result<[u64; 4], Refusal> {
+fn in_lanes(first: u64, second: u64) -> Result<[u64; 4], Stop> {
     Ok([0, first, 0, second])
 }
 
@@ -151,7 +151,7 @@ fn the_value_of_a_lane(rt: HostRuntime) -> Result<(), AllocError> {
     for index in [4, MINUS_ONE] {
         let expression = extract(rt.alloc(), index)?;
         let answer = value_of(rt.alloc(), expression, &MEMORY, LANES)?;
-        assert!(&rt; answer == Err(Refusal::Fault((1, FaultName::LaneIndex))));
+        assert!(&rt; answer == Err(Stop::Fault((1, FaultName::LaneIndex))));
     }
     Ok(())
 }
@@ -217,6 +217,6 @@ fn shuffled_values(rt: HostRuntime) -> Result<(), AllocError> {
         places: Box::new(rt.alloc(), read(PLACES_OF_TWO))?,
     };
     let answer = value_of(rt.alloc(), missing, &MEMORY, LANES)?;
-    assert!(&rt; answer == Err(Refusal::Fault((1, FaultName::LaneIndex))));
+    assert!(&rt; answer == Err(Stop::Fault((1, FaultName::LaneIndex))));
     Ok(())
 }

@@ -1,5 +1,5 @@
 //! Expressions and a store in memory, for gangs of 4 lanes.
-use expression_code::{Refusal, Stacks, Words, compile, evaluate};
+use expression_code::{Stacks, Stop, Words, compile, evaluate};
 use gang_types::{BinaryOp, FaultName, IntType, Mask, Rate, VarId};
 use std::alloc::{AllocError, Global};
 use typed_tree::{Expr, Reduction, Scan, Var};
@@ -73,7 +73,7 @@ pub(crate) fn value_of(
     expression: Expr,
     memory: &Memory,
     lanes: u64,
-) -> Result<Result<[u64; 4], Refusal>, AllocError> {
+) -> Result<Result<[u64; 4], Stop>, AllocError> {
     let code = compile(alloc, &expression)?;
     let mask = Mask::from_word::<4>(lanes);
     Ok(evaluate(&code, memory, mask, &mut Stacks::new()))

@@ -1,6 +1,6 @@
 use Rattle.std.proofs.Common.{length, arith, ap}
 use Rattle.expression_code.proofs.Tops.{second_top}
-use Rattle.expression_code.proofs.stacks.second_vector.Goals as goal
+use Rattle.expression_code.proofs.stacks.below_top.Goals as goal
 
 pub returns-else-all-lt2 : goal.returns-else-all-lt2
 returns-else-all-lt2 g c =

@@ -3,7 +3,7 @@ use Rattle.gang_types.specs.Lanes.{has}
 use Rattle.gang_types.specs.Masks.{lanes_of}
 use Rattle.cross_lane.specs.Calls.{values_in}
 use Rattle.expression_code.specs.Values.{moved_word}
-use Rattle.expression_code.proofs.library.moved_by_lane.Given as goal
+use Rattle.expression_code.proofs.library.moved.Given as goal
 
 -- the lanes so far have their words, and the others 0
 abbrev pub invariant-loop-lane : goal.invariant-loop-lane
