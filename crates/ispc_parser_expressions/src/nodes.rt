@@ -1,17 +1,16 @@
 //! Nodes of the tree, with their children in boxes.
-ghost use Rattle.std.specs.Prelude.{◌≡◌, IfOk, IfErr};
+ghost use Rattle.std.specs.Prelude.{◌≡◌, IfOk};
 ghost use Rattle.gang_model.specs.Source.Parsed.{ParsedName, ParsedIndex, ParsedCall, ParsedParen, ParsedUnary, ParsedCast, ParsedBinary, ParsedChoice};
 ghost use Rattle.ispc_parser_expressions.specs.Tree.{expr_view, arg_view, args_view, OfPart, OfPartFrom};
 
 use crate::tree::{Arg, Expr};
 use gang_model::Infix;
 use gang_types::{IntType, Place, Rate, UnaryOp};
-use source_answers::{SourceFault, boxed};
-use std::alloc::Global;
+use source_answers::boxed;
+use std::alloc::{AllocError, Global};
 
-pub(crate) fn name(alloc: Global, place: Place, name: &[u8]) -> Result<Expr, SourceFault>
-    ensures value { IfOk result (λ e. expr_view e ≡ ParsedName place name.now) }
-    ensures memory { IfErr result (λ e. e ≡ SourceFault.Memory) }
+pub(crate) fn name(alloc: Global, place: Place, name: &[u8]) -> Result<Expr, AllocError>
+    ensures { IfOk result (λ e. expr_view e ≡ ParsedName place name.now) }
 {
     let name = name.to_vec(alloc)?;
     Ok(Expr::Name { place, name })
@@ -22,9 +21,8 @@ pub(crate) fn index(
     place: Place,
     name: &[u8],
     index: Expr,
-) -> Result<Expr, SourceFault>
-    ensures value { IfOk result (λ e. expr_view e ≡ ParsedIndex place name.now (expr_view index)) }
-    ensures memory { IfErr result (λ e. e ≡ SourceFault.Memory) }
+) -> Result<Expr, AllocError>
+    ensures { IfOk result (λ e. expr_view e ≡ ParsedIndex place name.now (expr_view index)) }
 {
     let name = name.to_vec(alloc)?;
     let index = boxed(alloc, index)?;
@@ -36,9 +34,8 @@ pub(crate) fn call(
     place: Place,
     name: &[u8],
     args: Vec<Arg>,
-) -> Result<Expr, SourceFault>
-    ensures value { IfOk result (λ e. expr_view e ≡ ParsedCall place name.now (args_view args.items)) }
-    ensures memory { IfErr result (λ e. e ≡ SourceFault.Memory) }
+) -> Result<Expr, AllocError>
+    ensures { IfOk result (λ e. expr_view e ≡ ParsedCall place name.now (args_view args.items)) }
 {
     let name = name.to_vec(alloc)?;
     Ok(call_of(place, name, args))
@@ -50,9 +47,8 @@ fn call_of(place: Place, name: Vec<u8>, args: Vec<Arg>) -> Expr
     Expr::Call { place, name, args }
 }
 
-pub(crate) fn paren(alloc: Global, place: Place, inner: Expr) -> Result<Expr, SourceFault>
-    ensures value { IfOk result (λ e. expr_view e ≡ ParsedParen place (expr_view inner)) }
-    ensures memory { IfErr result (λ e. e ≡ SourceFault.Memory) }
+pub(crate) fn paren(alloc: Global, place: Place, inner: Expr) -> Result<Expr, AllocError>
+    ensures { IfOk result (λ e. expr_view e ≡ ParsedParen place (expr_view inner)) }
 {
     let inner = boxed(alloc, inner)?;
     Ok(Expr::Paren { place, inner })
@@ -63,9 +59,8 @@ pub(crate) fn unary(
     place: Place,
     operator: UnaryOp,
     operand: Expr,
-) -> Result<Expr, SourceFault>
-    ensures value { IfOk result (λ e. expr_view e ≡ ParsedUnary place operator (expr_view operand)) }
-    ensures memory { IfErr result (λ e. e ≡ SourceFault.Memory) }
+) -> Result<Expr, AllocError>
+    ensures { IfOk result (λ e. expr_view e ≡ ParsedUnary place operator (expr_view operand)) }
 {
     let operand = boxed(alloc, operand)?;
     Ok(Expr::Unary {
@@ -81,9 +76,8 @@ pub(crate) fn cast(
     rate: Option<Rate>,
     value_type: Option<IntType>,
     operand: Expr,
-) -> Result<Expr, SourceFault>
-    ensures value { IfOk result (λ e. expr_view e ≡ ParsedCast place rate value_type (expr_view operand)) }
-    ensures memory { IfErr result (λ e. e ≡ SourceFault.Memory) }
+) -> Result<Expr, AllocError>
+    ensures { IfOk result (λ e. expr_view e ≡ ParsedCast place rate value_type (expr_view operand)) }
 {
     let operand = boxed(alloc, operand)?;
     Ok(Expr::Cast {
@@ -99,9 +93,8 @@ pub(crate) fn binary(
     operator: Infix,
     left: Expr,
     right: Expr,
-) -> Result<Expr, SourceFault>
-    ensures value { IfOk result (λ e. expr_view e ≡ ParsedBinary operator (expr_view left) (expr_view right)) }
-    ensures memory { IfErr result (λ e. e ≡ SourceFault.Memory) }
+) -> Result<Expr, AllocError>
+    ensures { IfOk result (λ e. expr_view e ≡ ParsedBinary operator (expr_view left) (expr_view right)) }
 {
     let left = boxed(alloc, left)?;
     let right = boxed(alloc, right)?;
@@ -117,9 +110,8 @@ pub(crate) fn choice(
     test: Expr,
     first: Expr,
     second: Expr,
-) -> Result<Expr, SourceFault>
-    ensures value { IfOk result (λ e. expr_view e ≡ ParsedChoice (expr_view test) (expr_view first) (expr_view second)) }
-    ensures memory { IfErr result (λ e. e ≡ SourceFault.Memory) }
+) -> Result<Expr, AllocError>
+    ensures { IfOk result (λ e. expr_view e ≡ ParsedChoice (expr_view test) (expr_view first) (expr_view second)) }
 {
     let test = boxed(alloc, test)?;
     let first = boxed(alloc, first)?;
@@ -131,9 +123,8 @@ pub(crate) fn choice(
     })
 }
 
-pub(crate) fn part(alloc: Global, place: Place, name: &[u8]) -> Result<Arg, SourceFault>
-    ensures value { IfOk result (λ a. arg_view a ≡ OfPart place name.now) }
-    ensures memory { IfErr result (λ e. e ≡ SourceFault.Memory) }
+pub(crate) fn part(alloc: Global, place: Place, name: &[u8]) -> Result<Arg, AllocError>
+    ensures { IfOk result (λ a. arg_view a ≡ OfPart place name.now) }
 {
     let name = name.to_vec(alloc)?;
     Ok(Arg::Part { place, name })
@@ -144,9 +135,8 @@ pub(crate) fn part_from(
     place: Place,
     name: &[u8],
     index: Expr,
-) -> Result<Arg, SourceFault>
-    ensures value { IfOk result (λ a. arg_view a ≡ OfPartFrom place name.now (expr_view index)) }
-    ensures memory { IfErr result (λ e. e ≡ SourceFault.Memory) }
+) -> Result<Arg, AllocError>
+    ensures { IfOk result (λ a. arg_view a ≡ OfPartFrom place name.now (expr_view index)) }
 {
     let name = name.to_vec(alloc)?;
     Ok(Arg::PartFrom { place, name, index })

@@ -12,10 +12,10 @@ use crate::values::refusal;
 use gang_model::{RefusalNumber, SourceRefusal};
 use gang_types::{IntType, Place, is_bool};
 use ispc_parser_expressions::Expr;
-use source_answers::{SourceFault, fault_if, least, refuse};
+use source_answers::{SourceFault, boxed, fault_if, least, refuse};
 use std::alloc::{AllocError, Global};
 use type_check_scopes::{Declared, TypeScope};
-use type_check_values::{Typed, boxed};
+use type_check_values::Typed;
 use typed_tree::Expr as TypedExpr;
 
 /// Whether it is no array, or has elements of no value.

@@ -8,8 +8,9 @@ ghost use Rattle.type_check_library.specs.Calls.{call_of_one_view};
 use crate::calls::CallOfOne;
 use crate::types::{reduced_type, truths_type};
 use gang_types::{IntType, Rate, is_bool};
+use source_answers::boxed;
 use std::alloc::{AllocError, Global};
-use type_check_values::{Typed, boxed, boxed_as_type, promoted};
+use type_check_values::{Typed, boxed_as_type, promoted};
 use typed_tree::{Expr, OneCall, Reduction, Scan};
 
 fn truths_reduced(alloc: Global, function: Reduction, value: Typed) -> Result<Typed, AllocError>

@@ -8,8 +8,9 @@ use crate::calls::CallOfThree;
 use crate::two_values::{as_index, both_as_type, one_of_two, with_index};
 use crate::types::number_type;
 use gang_types::{IntType, Rate};
+use source_answers::boxed;
 use std::alloc::{AllocError, Global};
-use type_check_values::{Typed, boxed, boxed_as_type, joined, joined_rate, promoted};
+use type_check_values::{Typed, boxed_as_type, joined, joined_rate, promoted};
 use typed_tree::{Expr, TwoCall};
 
 fn inserted(

@@ -11,8 +11,9 @@ ghost use Rattle.type_check_library.specs.Calls.{call_of_two_view};
 use crate::calls::CallOfTwo;
 use crate::types::number_type;
 use gang_types::{IntType, Rate};
+use source_answers::boxed;
 use std::alloc::{AllocError, Global};
-use type_check_values::{Typed, boxed, boxed_as_type, joined_rate};
+use type_check_values::{Typed, boxed_as_type, joined_rate};
 use typed_tree::{Expr, TwoCall};
 
 /// Two values, converted to a type, in boxes.

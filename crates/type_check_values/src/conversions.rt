@@ -4,9 +4,9 @@ ghost use Rattle.gang_model.specs.Types.Conversions as model;
 ghost use Rattle.typed_tree.specs.Views.{expr_view};
 ghost use Rattle.type_check_values.specs.Views.{typed_view};
 
-use crate::boxes::boxed;
 use crate::typed::Typed;
 use gang_types::{BinaryOp, IntType};
+use source_answers::boxed;
 use std::alloc::{AllocError, Global};
 use typed_tree::Expr;
 

@@ -3,13 +3,13 @@ ghost use Rattle.std.specs.Prelude.{◌≡◌, IfOk};
 ghost use Rattle.gang_model.specs.Types.Conversions as model;
 ghost use Rattle.type_check_values.specs.Views.{typed_view};
 
-use crate::boxes::boxed;
 use crate::conversions::{boxed_as_type, right_operand};
 use crate::rates::joined_rate;
 use crate::typed::Typed;
 use crate::types::{given_type, joined, operation_type, promoted};
 use gang_model::Infix;
 use gang_types::{BinaryOp, IntType, UnaryOp};
+use source_answers::boxed;
 use std::alloc::{AllocError, Global};
 use typed_tree::Expr;
 

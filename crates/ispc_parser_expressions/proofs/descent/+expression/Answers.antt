@@ -47,7 +47,7 @@ binary-loop-operator-smaller t c =
 pub binary-loop-operator-preserved : goal.binary-loop-operator-preserved
 binary-loop-operator-preserved t c =
     let shorter = binary_shorter c.args.reader.depth (c.args.levels - 1) c.in_ok-less.less (lexemes_of c.in-Some.after.now) (expr_view c.in_ok-right.right) c.in_ok-right.less (lexemes_of c.in_ok-right.after.now) c.in_ok-right.ensures in
-    rw c.in_ok-left-2.ensures.value
+    rw c.in_ok-left-2.ensures
     (chains_on _ _ _ _ _ _ c.loop-operator.invariant c.in-Some.operator (lexemes_of c.in-Some.after.now) (sym c.in-Some.ensures) c.in_ok-less.less (expr_view c.in_ok-right.right) c.in_ok-right.less (lexemes_of c.in_ok-right.after.now)
     c.in_ok-less.ensures c.in_ok-right.ensures shorter)
 
