@@ -1,7 +1,7 @@
 //! Where commands come from, and where answers go.
 ghost use Rattle.std.specs.Prelude.{◌≡◌, ℕ, ◌+◌, ◌<◌, ◌≤◌, Bool, true, false, List, Option, length, MatchResult, IfOk};
 ghost use Rattle.std.specs.Io.KnownBytes.{ReadConsumes, WriteAppends};
-ghost use Rattle.debug_machine.specs.Devices.{pieces_in, tells_of_write};
+ghost use Rattle.debug_machine.specs.Devices.{Writes, pieces_in, tells_of_write};
 
 use thiserror::Error;
 
@@ -55,4 +55,19 @@ pub trait AnswerWriter {
         ensures bound { IfOk result (λ n. n ≤ length bytes.now) }
         ensures taken { WriteAppends (written self.old) (written self.new) result bytes.now }
         ensures failed { has_failed self.new ≡ tells_of_write result bytes.now };
+
+    /// Writes these bytes and no others, or the front of them where the writer fails.
+    final fn write_all(&mut self, bytes: &[u8]) -> Result<(), WriteFault>
+        requires { has_failed self.old ≡ false }
+        ensures { Writes bytes.now (written self.old) (written self.new) (has_failed self.new) result }
+    {
+        let mut rest = bytes;
+        while !rest.is_empty() {
+            match self.write(rest)? {
+                0 => return Err(WriteFault),
+                n => rest = &rest[n..],
+            }
+        }
+        Ok(())
+    }
 }

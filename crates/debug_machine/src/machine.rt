@@ -8,10 +8,12 @@ ghost use Rattle.gang_model.specs.Texts.Text.{where_text};
 ghost use Rattle.debug_machine.specs.Machines.{Finds, FindsInFile, IsPart, IsShown, Pokes, PokesWords, ShowsNamed, Steps, StepsWords, Undoes, UndoesWords, call_text, depth_of, file_variables, line_of_position, listed, position_line, position_text};
 
 use gang_types::{FaultName, IntType, Mask, Place, Rate, VarId};
+use thiserror::Error;
 use undo_log::{NoHistory, Undone};
 
 /// A fault, at its lane.
-#[derive(Clone, Copy, Debug, PartialEq, Eq)]
+#[derive(Clone, Copy, Debug, PartialEq, Eq, Error)]
+#[error("{name:?} in lane {lane}")]
 pub struct Fault {
     pub name: FaultName,
     pub lane: usize,

@@ -7,7 +7,7 @@ ghost use Rattle.ispc_cli.specs.Refusals.{refusal_view};
 use debug_machine::{AnswerWriter, WriteFault};
 use gang_model::{RefusalNumber, SourceRefusal};
 use itoa::Buffer;
-use transcript::{write_all, write_pieces};
+use transcript::write_pieces;
 
 /// Why a run is refused before its first command.
 #[derive(Clone, Copy, Debug, PartialEq, Eq, Drop)]
@@ -27,9 +27,9 @@ pub fn write_refusal<O: AnswerWriter>(refusal: &Refusal, out: &mut O) -> Result<
 {
     match refusal {
         Refusal::Source(refused) => write_source_refusal(*refused, out),
-        Refusal::NoScript => write_all(out, b"script: E2 NoScript\n"),
-        Refusal::NoEntry => write_all(out, b"entry: E1 NoEntry\n"),
-        Refusal::Memory => write_all(out, b"memory\n"),
+        Refusal::NoScript => out.write_all(b"script: E2 NoScript\n"),
+        Refusal::NoEntry => out.write_all(b"entry: E1 NoEntry\n"),
+        Refusal::Memory => out.write_all(b"memory\n"),
     }
 }
 

@@ -13,7 +13,6 @@ use crate::frame_texts::write_frames;
 use crate::local_texts::write_locals;
 use crate::place_texts::write_place_line;
 use crate::stop_texts::write_stops;
-use crate::texts::write_all;
 use crate::value_texts::write_shown;
 use debug_answers::{Answer, NumberedStop};
 use debug_machine::{AnswerWriter, Fault, RecordedMachine, WriteFault};
@@ -49,7 +48,7 @@ pub fn write_answer<M: RecordedMachine, O: AnswerWriter>(
         Answer::ListsLocals => write_locals(machine, writer),
         Answer::ListsFrames => write_frames(machine, writer),
         Answer::Silent => Ok(()),
-        Answer::Refused(refusal) => write_all(writer, refusal_line(*refusal)),
+        Answer::Refused(refusal) => writer.write_all(refusal_line(*refusal)),
     }
 }
 

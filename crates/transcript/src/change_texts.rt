@@ -7,7 +7,7 @@ ghost use Rattle.debug_commands.specs.Views.{target_view};
 ghost use Rattle.debug_machine.specs.Devices.{Writes};
 
 use crate::target_texts::write_target_line;
-use crate::texts::{write_all, write_pieces};
+use crate::texts::write_pieces;
 use debug_commands::Target;
 use debug_machine::{AnswerWriter, WriteFault};
 use itoa::Buffer;
@@ -63,7 +63,7 @@ pub(crate) fn write_deleted<O: AnswerWriter>(
 {
     let mut digits = Buffer::new();
     match number {
-        None => write_all(writer, b"deleted all\n"),
+        None => writer.write_all(b"deleted all\n"),
         Some(number) => write_pieces(
             writer,
             &[b"deleted ", digits.format(number).as_bytes(), b"\n"],

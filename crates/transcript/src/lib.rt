@@ -20,4 +20,4 @@ mod value_texts;
 pub use answer_texts::write_answer;
 pub use answering::{Ending, answer_lines};
 pub use debugger::{LineDebugger, Turn};
-pub use texts::{write_all, write_pieces};
+pub use texts::write_pieces;

@@ -7,7 +7,6 @@ ghost use Rattle.gang_model.specs.Texts.Text.{locals_lines, or_none, shown_line,
 ghost use Rattle.debug_machine.specs.Devices.{Writes};
 ghost use Rattle.debug_machine.specs.Machines.{IsShown, listed};
 
-use crate::texts::write_all;
 use crate::value_texts::write_shown;
 use debug_commands::Target;
 use debug_machine::{AnswerWriter, NamedVariable, RecordedMachine, WriteFault};
@@ -24,7 +23,7 @@ pub(crate) fn write_locals<M: RecordedMachine, O: AnswerWriter>(
     ensures failed { O.has_failed writer.new ≡ is_err result }
 {
     match machine.local_count() {
-        0 => write_all(writer, b"none\n"),
+        0 => writer.write_all(b"none\n"),
         count => write_local_lines(count, machine, writer),
     }
 }

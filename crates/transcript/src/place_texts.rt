@@ -7,7 +7,7 @@ ghost use Rattle.debug_machine.specs.Devices.{Writes};
 ghost use Rattle.debug_machine.specs.Machines.{position_text};
 ghost use Rattle.transcript.specs.Wording.{place_front};
 
-use crate::texts::{write_all, write_pieces};
+use crate::texts::write_pieces;
 use debug_machine::{AnswerWriter, Position, WriteFault};
 use gang_types::Mask;
 use itoa::Buffer;
@@ -28,7 +28,7 @@ pub(crate) fn write_place_line<O: AnswerWriter>(
 {
     write_pieces(writer, why)?;
     write_position(position, writer)?;
-    write_all(writer, b"\n")
+    writer.write_all(b"\n")
 }
 
 /// Writes where the program stands.
@@ -41,7 +41,7 @@ fn write_position<O: AnswerWriter>(
     ensures { Writes (position_text position.entry) (O.written writer.old) (O.written writer.new) (O.has_failed writer.new) result }
 {
     match position {
-        None => write_all(writer, b"ended"),
+        None => writer.write_all(b"ended"),
         Some(position) => {
             write_front(&position, writer)?;
             write_lanes(position.width, position.lanes, writer)
@@ -78,7 +78,7 @@ fn write_lanes<O: AnswerWriter>(width: usize, lanes: Mask, writer: &mut O) -> Re
     ensures { Writes (bits (lanes_of width lanes)) (O.written writer.old) (O.written writer.new) (O.has_failed writer.new) result }
 {
     for lane in 0..width {
-        write_all(writer, lane_digit(lanes.has::<WIDEST>(lane)))?;
+        writer.write_all(lane_digit(lanes.has::<WIDEST>(lane)))?;
     }
     Ok(())
 }

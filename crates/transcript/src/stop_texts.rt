@@ -9,7 +9,7 @@ ghost use Rattle.debug_machine.specs.Machines.{file_variables};
 ghost use Rattle.debug_answers.specs.Meanings.{AreStops, IsStop};
 
 use crate::target_texts::write_target_line;
-use crate::texts::{write_all, write_pieces};
+use crate::texts::write_pieces;
 use debug_answers::{NumberedStop, Stop};
 use debug_commands::Target;
 use debug_machine::{AnswerWriter, RecordedMachine, WriteFault};
@@ -27,7 +27,7 @@ pub(crate) fn write_stops<M: RecordedMachine, O: AnswerWriter>(
     ensures failed { O.has_failed writer.new ≡ is_err result }
 {
     if stops.is_empty() {
-        return write_all(writer, b"none\n");
+        return writer.write_all(b"none\n");
     }
     write_stop_lines(stops, machine, writer)
 }

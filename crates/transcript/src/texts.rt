@@ -5,28 +5,13 @@ ghost use Rattle.debug_machine.specs.Devices.{Writes};
 
 use debug_machine::{AnswerWriter, WriteFault};
 
-/// Writes these bytes and no others, or the front of them where the writer fails.
-pub fn write_all<O: AnswerWriter>(writer: &mut O, bytes: &[u8]) -> Result<(), WriteFault>
-    requires { O.has_failed writer.old ≡ false }
-    ensures { Writes bytes.now (O.written writer.old) (O.written writer.new) (O.has_failed writer.new) result }
-{
-    let mut rest = bytes;
-    while !rest.is_empty() {
-        match writer.write(rest)? {
-            0 => return Err(WriteFault),
-            n => rest = &rest[n..],
-        }
-    }
-    Ok(())
-}
-
 /// Writes these pieces in order, or the front of them where the writer fails.
 pub fn write_pieces<O: AnswerWriter>(writer: &mut O, pieces: &[&[u8]]) -> Result<(), WriteFault>
     requires { O.has_failed writer.old ≡ false }
     ensures { Writes (concat (map (λ p. p.now) pieces.now)) (O.written writer.old) (O.written writer.new) (O.has_failed writer.new) result }
 {
     for piece in pieces {
-        write_all(writer, piece)?;
+        writer.write_all(piece)?;
     }
     Ok(())
 }

@@ -10,7 +10,7 @@ ghost use Rattle.debug_answers.specs.Meanings.{IsInside};
 ghost use Rattle.transcript.specs.Wording.{value_text, values_text};
 
 use crate::target_texts::write_target;
-use crate::texts::{write_all, write_pieces};
+use crate::texts::write_pieces;
 use debug_commands::Target;
 use debug_machine::{AnswerWriter, RecordedMachine, Shown, WriteFault};
 use gang_types::{IntType, value};
@@ -30,7 +30,7 @@ pub(crate) fn write_shown<M: RecordedMachine, O: AnswerWriter>(
 {
     write_target(target, b" =", writer)?;
     write_part(target.at, shown, machine, writer)?;
-    write_all(writer, b"\n")
+    writer.write_all(b"\n")
 }
 
 /// Writes a blank and a value for each word of a variable, or for one of them.
@@ -84,7 +84,7 @@ fn write_value<O: AnswerWriter>(
     ensures { Writes (value_text value_type word) (O.written writer.old) (O.written writer.new) (O.has_failed writer.new) result }
 {
     if value_type == IntType::Bool {
-        return write_all(writer, if word == 0 { b" false" } else { b" true" });
+        return writer.write_all(if word == 0 { b" false" } else { b" true" });
     }
     let mut digits = Buffer::new();
     let number = value(value_type, word);

@@ -10,7 +10,7 @@ use gang_types::{IntType, is_bool, is_signed, width};
 use ispc_parser::Param;
 use std::alloc::{AllocError, Global};
 use type_check_scopes::{Entry, Passing};
-use type_check_values::{Typed, declared_rate, declared_type, may_become, same_rate, same_type};
+use type_check_values::{Typed, declared_rate, declared_type, may_become};
 
 /// Whether a type is wider than another of the same sign; bool has no sign.
 fn is_wider(from: IntType, to: IntType) -> bool
@@ -43,9 +43,9 @@ fn value_cost(value: &Typed, param: &Param, value_type: IntType) -> Option<u8>
         return None;
     }
     Some(cost_by(
-        same_type(value.value_type, value_type),
+        value.value_type == value_type,
         is_wider(value.value_type, value_type),
-        !same_rate(value.rate, rate),
+        value.rate != rate,
     ))
 }
 
@@ -54,10 +54,7 @@ fn same_elements(entry: Entry, param: &Param) -> bool
     ensures { result ≡ overloads.same_elements (entry_view entry.entry) (param_view param.now) }
 {
     entry.declared.is_void == param.spec.value_type.is_none()
-        && same_type(
-            entry.declared.value_type,
-            declared_type(param.spec.value_type),
-        )
+        && entry.declared.value_type == declared_type(param.spec.value_type)
 }
 
 /// The cost of an array, which goes to an array of the same element type, a constant one only to a constant parameter.

@@ -18,7 +18,7 @@ use ispc_names_scopes::StatementCall;
 use source_answers::{SourceFault, fault_if, refuse};
 use std::alloc::Global;
 use type_check_scopes::{Declared, Entry, Passing};
-use type_check_values::{as_bool, as_type, is_varying, same_type};
+use type_check_values::{as_bool, as_type, is_varying};
 use typed_tree::{ResultFor, Stmt, Var};
 
 /// A packed call gives how many elements were stored or loaded.
@@ -96,7 +96,7 @@ fn takes_elements(variable: Entry, array: Entry) -> bool
 {
     let into = variable.declared;
     !(into.is_array || into.is_void)
-        && same_type(into.value_type, array.declared.value_type)
+        && into.value_type == array.declared.value_type
         && is_varying(into.rate)
 }
 

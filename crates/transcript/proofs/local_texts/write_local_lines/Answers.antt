@@ -9,7 +9,8 @@ use Rattle.gang_model.specs.Texts.Text.{shown_line, whole}
 use Rattle.debug_machine.specs.Machines.{listed}
 use Rattle.transcript.proofs.Locals.{lines_of_all, named_some}
 use Rattle.transcript.proofs.Pieces.{flat_at, flat_more}
-use Rattle.transcript.proofs.Writing.{Broke, breaks_second, broke_early}
+use Rattle.debug_machine.proofs.Writing.{Broke}
+use Rattle.transcript.proofs.Writing.{breaks_second, broke_early}
 use Rattle.transcript.proofs.local_texts.write_local_lines.Goals as goal
 
 pub returns-in_err-write_whole-in-Some-clause-said : goal.returns-in_err-write_whole-in-Some-clause-said

@@ -4,7 +4,8 @@ use Rattle.std.specs.List.{concat}
 use Rattle.debug_machine.specs.Devices.{Writes}
 use Rattle.debug_machine.specs.Machines.{position_text}
 use Rattle.transcript.proofs.Pieces.{line_parts}
-use Rattle.transcript.proofs.Writing.{Broke, broke_early, broke_late, writes_rest, writes_err}
+use Rattle.debug_machine.proofs.Writing.{Broke, writes_err}
+use Rattle.transcript.proofs.Writing.{broke_early, broke_late, writes_rest}
 use Rattle.transcript.proofs.place_texts.write_place_line.Goals as goal
 
 pub returns-in_err-write_position : goal.returns-in_err-write_position
@@ -23,4 +24,4 @@ returns g c =
     let front = concat (map (λ p. p.now) c.args.why.now) in
     let place = position_text c.args.position in
     let whole = writes_rest front _ _ _ _ _ c.write_all.result c.in_ok-write_pieces.ensures.0 (writes_rest place _ _ _ _ _ c.write_all.result c.in_ok-write_position.ensures.0 c.write_all.ensures) in
-    subst (λ t. Writes t (written c.args.writer.now) (written c.write_all.new.writer) (g.O.AnswerWriter.has_failed c.write_all.new.writer) c.write_all.result) (sym (line_parts front place)) whole
+    subst (λ t. Writes t (written c.args.writer.now) (written c.write_all.new.self) (g.O.AnswerWriter.has_failed c.write_all.new.self) c.write_all.result) (sym (line_parts front place)) whole

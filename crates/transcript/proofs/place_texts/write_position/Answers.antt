@@ -6,7 +6,8 @@ use Rattle.debug_machine.specs.Devices.{Writes}
 use Rattle.debug_machine.specs.Machines.{position_text}
 use Rattle.transcript.specs.Wording.{place_front}
 use Rattle.transcript.proofs.Pieces.{place_parts}
-use Rattle.transcript.proofs.Writing.{Broke, broke_early, writes_rest, writes_err}
+use Rattle.debug_machine.proofs.Writing.{Broke, writes_err}
+use Rattle.transcript.proofs.Writing.{broke_early, writes_rest}
 use Rattle.transcript.proofs.place_texts.write_position.Goals as goal
 
 pub returns-in_err-write_front-in-Some : goal.returns-in_err-write_front-in-Some

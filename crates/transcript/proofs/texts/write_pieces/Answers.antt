@@ -4,7 +4,8 @@ use Rattle.std.proofs.KnownBytes.{Appends-trans}
 use Rattle.std.specs.Io.KnownBytes.{Appends}
 use Rattle.std.specs.List.{concat}
 use Rattle.std.specs.Borrow.{Bor}
-use Rattle.transcript.proofs.Writing.{Broke, broke_early, broke_late, writes_err}
+use Rattle.debug_machine.proofs.Writing.{Broke, writes_err}
+use Rattle.transcript.proofs.Writing.{broke_early, broke_late}
 use Rattle.transcript.proofs.Pieces.{pieces_more, pieces_at}
 use Rattle.transcript.proofs.texts.write_pieces.Goals as goal
 
@@ -17,7 +18,7 @@ returns-in_err-write_all g c =
     let early = broke_early _ (concat (map (λ p. p.now) (drop (c.loop-piece.piece-index + 1) c.args.pieces.now))) _ _ _ c.in_err-write_all.ensures in
     let late = broke_late _ _ _ _ _ _ wrote early in
     writes_err _ _ _ _ c.from_residual.result y is
-    (subst (λ t. Broke t (written c.args.writer.now) (written c.write_all.new.writer) (g.O.AnswerWriter.has_failed c.write_all.new.writer)) (sym (pieces_at (λ (p : Bor (List ℕ)). p.now) c.args.pieces.now c.loop-piece.piece-index _ inside)) late)
+    (subst (λ t. Broke t (written c.args.writer.now) (written c.write_all.new.self) (g.O.AnswerWriter.has_failed c.write_all.new.self)) (sym (pieces_at (λ (p : Bor (List ℕ)). p.now) c.args.pieces.now c.loop-piece.piece-index _ inside)) late)
 
 pub loop-piece-preserved : goal.loop-piece-preserved
 loop-piece-preserved g c =
@@ -25,6 +26,6 @@ loop-piece-preserved g c =
     let inside : c.loop-piece.piece-index < length c.args.pieces.now = search rules in
     let written = g.O.AnswerWriter.written in
     let both = Appends-trans _ _ _ _ _ wrote c.in_ok-write_all.ensures.0 in (
-      subst (Appends (written c.args.writer.now) (written c.write_all.new.writer)) (sym (pieces_more (λ (p : Bor (List ℕ)). p.now) c.args.pieces.now c.loop-piece.piece-index _ inside)) both,
+      subst (Appends (written c.args.writer.now) (written c.write_all.new.self)) (sym (pieces_more (λ (p : Bor (List ℕ)). p.now) c.args.pieces.now c.loop-piece.piece-index _ inside)) both,
       c.in_ok-write_all.ensures.1,
     )

@@ -6,7 +6,8 @@ use Rattle.std.specs.Io.KnownBytes.{Appends}
 use Rattle.gang_model.specs.Debugger.Debugger.{now, shown_words}
 use Rattle.transcript.specs.Wording.{value_text, values_text}
 use Rattle.transcript.proofs.Pieces.{flat_at, flat_more}
-use Rattle.transcript.proofs.Writing.{Broke, breaks_second, broke_early}
+use Rattle.debug_machine.proofs.Writing.{Broke}
+use Rattle.transcript.proofs.Writing.{breaks_second, broke_early}
 use Rattle.transcript.proofs.value_texts.write_words.Goals as goal
 
 pub returns-in_err-write_value-clause-said : goal.returns-in_err-write_value-clause-said

@@ -3,8 +3,8 @@ use Rattle.std.proofs.lemmas.List.{take_rest}
 use Rattle.std.proofs.lemmas.Result.{err_from_is_err_and}
 use Rattle.std.specs.Io.KnownBytes.{Appends}
 use Rattle.std.proofs.KnownBytes.{Appends-trans, Appends-kept}
-use Rattle.transcript.proofs.Writing.{broke_at, writes_err, took_none, took_some}
-use Rattle.transcript.proofs.texts.write_all.Goals as goal
+use Rattle.debug_machine.proofs.Writing.{broke_at, writes_err, took_none, took_some}
+use Rattle.debug_machine.proofs.devices.AnswerWriter.write_all.Goals as goal
 
 moves_front : (all done rest : List ℕ) (n : ℕ) → all ≡ done ++ rest → all ≡ (done ++ take n rest) ++ take (length rest - n) (drop n rest)
 moves_front all done rest n e =
@@ -22,7 +22,7 @@ pub returns-in-0 : goal.returns-in-0
 returns-in-0 g c =
     let (done, split, wrote, works) = c.loop-rest.invariant in
     let more : 0 < length c.loop-rest.rest.now = search rules in
-    let none : Appends (g.O.AnswerWriter.written c.loop-rest.writer) (g.O.AnswerWriter.written c.write.new.self) [] = subst (λ n. Appends (g.O.AnswerWriter.written c.loop-rest.writer) (g.O.AnswerWriter.written c.write.new.self) (take n c.loop-rest.rest.now)) c.in-0.is c.in_ok-n.ensures.taken in
+    let none : Appends (g.Self.AnswerWriter.written c.loop-rest.self) (g.Self.AnswerWriter.written c.write.new.self) [] = subst (λ n. Appends (g.Self.AnswerWriter.written c.loop-rest.self) (g.Self.AnswerWriter.written c.write.new.self) (take n c.loop-rest.rest.now)) c.in-0.is c.in_ok-n.ensures.taken in
     broke_at _ done c.loop-rest.rest.now _ _ _ split more (subst (Appends _ _) (append-nil done) (Appends-trans _ _ _ done [] wrote none)) (took_none _ _ _ c.in_ok-n.ensures.failed c.in-0.is more)
 
 pub loop-rest-preserved : goal.loop-rest-preserved
