@@ -2,12 +2,16 @@
 use Rattle.std.specs.Prelude.{◌≡◌, ℕ, ◌∷◌, ◌++◌, List, length, Result}
 use Rattle.gang_model.specs.declared.refusals.SourceRefusal.{SourceRefusal}
 use Rattle.gang_model.specs.Types.Tree.{Stmt, Variable}
-use Rattle.gang_model.specs.Types.Typing.{Entry}
+use Rattle.gang_model.specs.Types.Typing.{Entry, Scope}
+use Rattle.gang_model.specs.Types.Calls.{Context}
+use Rattle.gang_model.specs.Source.Parsed.{ParsedStmt}
+use Rattle.gang_model.specs.Names.Scope.{locals_in}
 use Rattle.gang_model.specs.Source.Judged.{Judged, Sound, ◌>>=◌, answer_of}
 use Rattle.gang_model.specs.Types.Statements as model
 use Rattle.gang_model.specs.Types.Statements.{Made, made}
 use Rattle.source_answers.specs.Apart.{seen}
-use Rattle.typed_tree.specs.Views.{target_view}
+use Rattle.typed_tree.specs.declared.statements.Stmt as typed
+use Rattle.typed_tree.specs.Views.{stmt_view, target_view}
 use Rattle.type_check_parts.specs.declared.targets.Aimed.{Aimed}
 
 -- The answer is that for what is judged, and the function has so many more variables then: those that the statement declares.
@@ -16,6 +20,10 @@ pub record IsTyped {A : Type 0} (view : A → Stmt) (answer : Result A SourceRef
   pub variables : after ≡ before ++ declared
   pub counted : length declared ≡ count
   pub answered : answer_of judged ≡ seen (λ s. made (view s) declared) answer
+
+-- the same of a statement of the language, with as many variables as stand in it
+abbrev pub IsTypedStatement : Result typed.Stmt SourceRefusal → ParsedStmt → Context → Scope → (before after : List Variable) → ℕ → Type 0
+IsTypedStatement answer s context scope before after step = IsTyped stmt_view answer (model.statement s context scope (length before) step) before after (locals_in s)
 
 -- what is judged in the scope of an index variable, with it among what is declared
 abbrev pub with_index : Entry → Judged Made → Judged Made

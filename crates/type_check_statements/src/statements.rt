@@ -11,7 +11,7 @@ ghost use Rattle.ispc_parser.specs.Tree as parsed;
 ghost use Rattle.typed_tree.specs.Views.{stmt_view};
 ghost use Rattle.type_check_calls.specs.Calls.{context_view};
 ghost use Rattle.type_check_scopes.specs.Entries.{declared_view};
-ghost use Rattle.type_check_parts.specs.Typed.{IsTyped, with_index};
+ghost use Rattle.type_check_parts.specs.Typed.{IsTyped, IsTypedStatement, with_index};
 
 use gang_types::{IntType, Rate, VarId};
 use ispc_parser::{Dim, Stmt as ParsedStmt};
@@ -41,8 +41,7 @@ pub(crate) fn statement(
     scope: &mut TypeScope,
     step: &mut usize,
 ) -> Result<Answer<Stmt>, AllocError>
-    ensures typed { IfOk result (λ answer. IsTyped stmt_view answer (model.statement (parsed.stmt_view stmt.now) (context_view context.now) scope.old.entries (length scope.old.locals) step.old)
-        scope.old.locals scope.new.locals (locals_in (parsed.stmt_view stmt.now))) }
+    ensures typed { IfOk result (λ answer. IsTypedStatement answer (parsed.stmt_view stmt.now) (context_view context.now) scope.old.entries scope.old.locals scope.new.locals step.old) }
     ensures after { OnOk result (scope.new.entries ≡ model.scope_after (parsed.stmt_view stmt.now) scope.old.entries (length scope.old.locals)) }
     ensures steps { OnOk result (step.new ≡ step.old + steps_in (parsed.stmt_view stmt.now)) }
 {
@@ -141,8 +140,7 @@ fn inner(
     scope: &mut TypeScope,
     step: &mut usize,
 ) -> Result<Answer<Stmt>, AllocError>
-    ensures typed { IfOk result (λ answer. IsTyped stmt_view answer (model.statement (parsed.stmt_view stmt.now) (context_view context.now) scope.old.entries (length scope.old.locals) step.old)
-        scope.old.locals scope.new.locals (locals_in (parsed.stmt_view stmt.now))) }
+    ensures typed { IfOk result (λ answer. IsTypedStatement answer (parsed.stmt_view stmt.now) (context_view context.now) scope.old.entries scope.old.locals scope.new.locals step.old) }
     ensures after { OnOk result (scope.new.entries ≡ scope.old.entries) }
     ensures steps { OnOk result (step.new ≡ step.old + steps_in (parsed.stmt_view stmt.now)) }
 {
