@@ -15,7 +15,7 @@ WRITERS = {
 BY_HAND = {
     "tests_transcripts": {"Forms.antt", "HistoryChange.antt", "LanePurity.antt"},
     "tests_masks": {"MaskedRuns.antt", "Recursion.antt"},
-    "tests_refusals": {"Trees.antt", "LimitRows.antt"},
+    "tests_refusals": {"Wanted.antt", "LimitRows.antt"},
 }
 
 

@@ -1,14 +1,15 @@
 -- Rows of sources that have forms over scalars in straight lines alone, and of others.
 use Rattle.std.specs.Prelude.{◌≡◌, refl, true, false, [], ◌∷◌, Some, None, codes}
 use Rattle.gang_types.specs.declared.types.Rate.TheVariants.{Uniform}
-use Rattle.gang_types.specs.declared.operators.UnaryOp.TheVariants.{Negate}
+use Rattle.gang_types.specs.declared.types.IntType.TheVariants as t
+use Rattle.gang_types.specs.declared.operators.UnaryOp.TheVariants as unary
+use Rattle.gang_types.specs.declared.operators.BinaryOp.TheVariants as op
 use Rattle.gang_model.specs.declared.forms.Infix.TheVariants.{Op}
 use Rattle.gang_model.specs.declared.forms.GlobalForm.TheVariants.{Plain, Array}
 use Rattle.gang_model.specs.Source.Parsed.{ParsedNumber, ParsedBool, ParsedName, ParsedIndex, ParsedCall, ParsedParen, ParsedUnary, ParsedBinary, ParsedEnd, ParsedValue, ParsedEmpty, ParsedBlock, ParsedDeclare, ParsedAssign, ParsedChange, ParsedDoCall, ParsedBreak, ParsedReturn, ParsedIf, ParsedWhile, ParsedForEach, ParsedLast, ParsedNext, ParsedSource}
+use Rattle.tests_transcripts.proofs.Forms.{at, spec, target, dimension, parameter, function, file_variable}
 use Rattle.gang_model.specs.Source.Known.{is_known}
-use Rattle.tests_refusals.proofs.Trees.{straight_lines, at, spec, exported, target, dim, param, function, global}
-use Rattle.gang_types.specs.declared.types.IntType.TheVariants as t
-use Rattle.gang_types.specs.declared.operators.BinaryOp.TheVariants as op
+use Rattle.tests_refusals.proofs.Wanted.{straight_lines}
 
 -- export void go() {
 --     int x = programIndex * 3;
@@ -16,9 +17,10 @@ use Rattle.gang_types.specs.declared.operators.BinaryOp.TheVariants as op
 -- }
 abbrev tree_0 : ParsedSource
 tree_0 =
-    function (at 1 13) (codes "go") (exported (spec None None)) []
-    (ParsedNext (ParsedDeclare (at 2 5) (spec None (Some t.Int32)) (at 2 9) (codes "x") (Some (ParsedBinary (Op op.Mul) (ParsedName (at 2 13) (codes "programIndex")) (ParsedNumber (at 2 28) 3 false false)))) (ParsedNext (ParsedChange (at 3 5) (target (at 3 5) (codes "x") None) op.Add (ParsedNumber (at 3 10) 1 false false)) ParsedLast)) (at 4 1)
-    ∷ []
+    (function (at 1 13) (codes "go") (spec true false false false None None) ([])
+    (ParsedNext (ParsedDeclare (at 2 5) (spec false false false false None (Some t.Int32)) (at 2 9) (codes "x") (Some (ParsedBinary (Op op.Mul) (ParsedName (at 2 13) (codes "programIndex")) (ParsedNumber (at 2 28) 3 false false))))
+    (ParsedNext (ParsedChange (at 3 5) (target (at 3 5) (codes "x") None) op.Add (ParsedNumber (at 3 10) 1 false false))
+    ParsedLast)) (at 4 1)) ∷ []
 
 row_0 : is_known straight_lines tree_0 ≡ true
 row_0 = refl
@@ -26,9 +28,8 @@ row_0 = refl
 -- export void go() { }
 abbrev tree_1 : ParsedSource
 tree_1 =
-    function (at 1 13) (codes "go") (exported (spec None None)) []
-    ParsedLast (at 1 20)
-    ∷ []
+    (function (at 1 13) (codes "go") (spec true false false false None None) ([])
+    ParsedLast (at 1 20)) ∷ []
 
 row_1 : is_known straight_lines tree_1 ≡ true
 row_1 = refl
@@ -36,9 +37,10 @@ row_1 = refl
 -- export void go() { int x = (1 + programIndex) * 0x10; x = x; }
 abbrev tree_2 : ParsedSource
 tree_2 =
-    function (at 1 13) (codes "go") (exported (spec None None)) []
-    (ParsedNext (ParsedDeclare (at 1 20) (spec None (Some t.Int32)) (at 1 24) (codes "x") (Some (ParsedBinary (Op op.Mul) (ParsedParen (at 1 28) (ParsedBinary (Op op.Add) (ParsedNumber (at 1 29) 1 false false) (ParsedName (at 1 33) (codes "programIndex")))) (ParsedNumber (at 1 49) 16 false false)))) (ParsedNext (ParsedAssign (at 1 55) (target (at 1 55) (codes "x") None) (ParsedName (at 1 59) (codes "x"))) ParsedLast)) (at 1 62)
-    ∷ []
+    (function (at 1 13) (codes "go") (spec true false false false None None) ([])
+    (ParsedNext (ParsedDeclare (at 1 20) (spec false false false false None (Some t.Int32)) (at 1 24) (codes "x") (Some (ParsedBinary (Op op.Mul) (ParsedParen (at 1 28) (ParsedBinary (Op op.Add) (ParsedNumber (at 1 29) 1 false false) (ParsedName (at 1 33) (codes "programIndex")))) (ParsedNumber (at 1 49) 16 false false))))
+    (ParsedNext (ParsedAssign (at 1 55) (target (at 1 55) (codes "x") None) (ParsedName (at 1 59) (codes "x")))
+    ParsedLast)) (at 1 62)) ∷ []
 
 row_2 : is_known straight_lines tree_2 ≡ true
 row_2 = refl
@@ -46,9 +48,9 @@ row_2 = refl
 -- export void go() { int x; }
 abbrev tree_3 : ParsedSource
 tree_3 =
-    function (at 1 13) (codes "go") (exported (spec None None)) []
-    (ParsedNext (ParsedDeclare (at 1 20) (spec None (Some t.Int32)) (at 1 24) (codes "x") None) ParsedLast) (at 1 27)
-    ∷ []
+    (function (at 1 13) (codes "go") (spec true false false false None None) ([])
+    (ParsedNext (ParsedDeclare (at 1 20) (spec false false false false None (Some t.Int32)) (at 1 24) (codes "x") None)
+    ParsedLast) (at 1 27)) ∷ []
 
 row_3 : is_known straight_lines tree_3 ≡ true
 row_3 = refl
@@ -56,9 +58,9 @@ row_3 = refl
 -- export void go() { int x = 2147483648; }
 abbrev tree_4 : ParsedSource
 tree_4 =
-    function (at 1 13) (codes "go") (exported (spec None None)) []
-    (ParsedNext (ParsedDeclare (at 1 20) (spec None (Some t.Int32)) (at 1 24) (codes "x") (Some (ParsedNumber (at 1 28) 2147483648 false false))) ParsedLast) (at 1 40)
-    ∷ []
+    (function (at 1 13) (codes "go") (spec true false false false None None) ([])
+    (ParsedNext (ParsedDeclare (at 1 20) (spec false false false false None (Some t.Int32)) (at 1 24) (codes "x") (Some (ParsedNumber (at 1 28) 2147483648 false false)))
+    ParsedLast) (at 1 40)) ∷ []
 
 row_4 : is_known straight_lines tree_4 ≡ true
 row_4 = refl
@@ -66,9 +68,9 @@ row_4 = refl
 -- export void go() { int x = 1u; }
 abbrev tree_5 : ParsedSource
 tree_5 =
-    function (at 1 13) (codes "go") (exported (spec None None)) []
-    (ParsedNext (ParsedDeclare (at 1 20) (spec None (Some t.Int32)) (at 1 24) (codes "x") (Some (ParsedNumber (at 1 28) 1 true false))) ParsedLast) (at 1 32)
-    ∷ []
+    (function (at 1 13) (codes "go") (spec true false false false None None) ([])
+    (ParsedNext (ParsedDeclare (at 1 20) (spec false false false false None (Some t.Int32)) (at 1 24) (codes "x") (Some (ParsedNumber (at 1 28) 1 true false)))
+    ParsedLast) (at 1 32)) ∷ []
 
 row_5 : is_known straight_lines tree_5 ≡ true
 row_5 = refl
@@ -76,9 +78,9 @@ row_5 = refl
 -- export void go() { int x = 1 - 1; }
 abbrev tree_6 : ParsedSource
 tree_6 =
-    function (at 1 13) (codes "go") (exported (spec None None)) []
-    (ParsedNext (ParsedDeclare (at 1 20) (spec None (Some t.Int32)) (at 1 24) (codes "x") (Some (ParsedBinary (Op op.Sub) (ParsedNumber (at 1 28) 1 false false) (ParsedNumber (at 1 32) 1 false false)))) ParsedLast) (at 1 35)
-    ∷ []
+    (function (at 1 13) (codes "go") (spec true false false false None None) ([])
+    (ParsedNext (ParsedDeclare (at 1 20) (spec false false false false None (Some t.Int32)) (at 1 24) (codes "x") (Some (ParsedBinary (Op op.Sub) (ParsedNumber (at 1 28) 1 false false) (ParsedNumber (at 1 32) 1 false false))))
+    ParsedLast) (at 1 35)) ∷ []
 
 row_6 : is_known straight_lines tree_6 ≡ true
 row_6 = refl
@@ -86,9 +88,9 @@ row_6 = refl
 -- export void go() { int8 x = 1; }
 abbrev tree_7 : ParsedSource
 tree_7 =
-    function (at 1 13) (codes "go") (exported (spec None None)) []
-    (ParsedNext (ParsedDeclare (at 1 20) (spec None (Some t.Int8)) (at 1 25) (codes "x") (Some (ParsedNumber (at 1 29) 1 false false))) ParsedLast) (at 1 32)
-    ∷ []
+    (function (at 1 13) (codes "go") (spec true false false false None None) ([])
+    (ParsedNext (ParsedDeclare (at 1 20) (spec false false false false None (Some t.Int8)) (at 1 25) (codes "x") (Some (ParsedNumber (at 1 29) 1 false false)))
+    ParsedLast) (at 1 32)) ∷ []
 
 row_7 : is_known straight_lines tree_7 ≡ true
 row_7 = refl
@@ -96,9 +98,9 @@ row_7 = refl
 -- export void go() { uniform int x = 1; }
 abbrev tree_8 : ParsedSource
 tree_8 =
-    function (at 1 13) (codes "go") (exported (spec None None)) []
-    (ParsedNext (ParsedDeclare (at 1 20) (spec (Some Uniform) (Some t.Int32)) (at 1 32) (codes "x") (Some (ParsedNumber (at 1 36) 1 false false))) ParsedLast) (at 1 39)
-    ∷ []
+    (function (at 1 13) (codes "go") (spec true false false false None None) ([])
+    (ParsedNext (ParsedDeclare (at 1 20) (spec false false false false (Some Uniform) (Some t.Int32)) (at 1 32) (codes "x") (Some (ParsedNumber (at 1 36) 1 false false)))
+    ParsedLast) (at 1 39)) ∷ []
 
 row_8 : is_known straight_lines tree_8 ≡ true
 row_8 = refl
@@ -106,9 +108,9 @@ row_8 = refl
 -- export void go() { int x = programCount; }
 abbrev tree_9 : ParsedSource
 tree_9 =
-    function (at 1 13) (codes "go") (exported (spec None None)) []
-    (ParsedNext (ParsedDeclare (at 1 20) (spec None (Some t.Int32)) (at 1 24) (codes "x") (Some (ParsedName (at 1 28) (codes "programCount")))) ParsedLast) (at 1 42)
-    ∷ []
+    (function (at 1 13) (codes "go") (spec true false false false None None) ([])
+    (ParsedNext (ParsedDeclare (at 1 20) (spec false false false false None (Some t.Int32)) (at 1 24) (codes "x") (Some (ParsedName (at 1 28) (codes "programCount"))))
+    ParsedLast) (at 1 42)) ∷ []
 
 row_9 : is_known straight_lines tree_9 ≡ true
 row_9 = refl
@@ -116,9 +118,10 @@ row_9 = refl
 -- export void go() { int x = 1; x -= 1; }
 abbrev tree_10 : ParsedSource
 tree_10 =
-    function (at 1 13) (codes "go") (exported (spec None None)) []
-    (ParsedNext (ParsedDeclare (at 1 20) (spec None (Some t.Int32)) (at 1 24) (codes "x") (Some (ParsedNumber (at 1 28) 1 false false))) (ParsedNext (ParsedChange (at 1 31) (target (at 1 31) (codes "x") None) op.Sub (ParsedNumber (at 1 36) 1 false false)) ParsedLast)) (at 1 39)
-    ∷ []
+    (function (at 1 13) (codes "go") (spec true false false false None None) ([])
+    (ParsedNext (ParsedDeclare (at 1 20) (spec false false false false None (Some t.Int32)) (at 1 24) (codes "x") (Some (ParsedNumber (at 1 28) 1 false false)))
+    (ParsedNext (ParsedChange (at 1 31) (target (at 1 31) (codes "x") None) op.Sub (ParsedNumber (at 1 36) 1 false false))
+    ParsedLast)) (at 1 39)) ∷ []
 
 row_10 : is_known straight_lines tree_10 ≡ true
 row_10 = refl
@@ -126,9 +129,9 @@ row_10 = refl
 -- export void go() { { } }
 abbrev tree_11 : ParsedSource
 tree_11 =
-    function (at 1 13) (codes "go") (exported (spec None None)) []
-    (ParsedNext (ParsedBlock ParsedLast) ParsedLast) (at 1 24)
-    ∷ []
+    (function (at 1 13) (codes "go") (spec true false false false None None) ([])
+    (ParsedNext (ParsedBlock ParsedLast)
+    ParsedLast) (at 1 24)) ∷ []
 
 row_11 : is_known straight_lines tree_11 ≡ true
 row_11 = refl
@@ -136,9 +139,9 @@ row_11 = refl
 -- export void go() { if (1) ; }
 abbrev tree_12 : ParsedSource
 tree_12 =
-    function (at 1 13) (codes "go") (exported (spec None None)) []
-    (ParsedNext (ParsedIf (at 1 20) (ParsedNumber (at 1 24) 1 false false) ParsedEmpty) ParsedLast) (at 1 29)
-    ∷ []
+    (function (at 1 13) (codes "go") (spec true false false false None None) ([])
+    (ParsedNext (ParsedIf (at 1 20) (ParsedNumber (at 1 24) 1 false false) ParsedEmpty)
+    ParsedLast) (at 1 29)) ∷ []
 
 row_12 : is_known straight_lines tree_12 ≡ false
 row_12 = refl
@@ -146,9 +149,8 @@ row_12 = refl
 -- void go() { }
 abbrev tree_13 : ParsedSource
 tree_13 =
-    function (at 1 6) (codes "go") (spec None None) []
-    ParsedLast (at 1 13)
-    ∷ []
+    (function (at 1 6) (codes "go") (spec false false false false None None) ([])
+    ParsedLast (at 1 13)) ∷ []
 
 row_13 : is_known straight_lines tree_13 ≡ true
 row_13 = refl
@@ -157,11 +159,10 @@ row_13 = refl
 -- export void go() { }
 abbrev tree_14 : ParsedSource
 tree_14 =
-    function (at 1 13) (codes "go") (exported (spec None None)) []
-    ParsedLast (at 1 20)
-    ∷ function (at 2 13) (codes "go") (exported (spec None None)) []
-    ParsedLast (at 2 20)
-    ∷ []
+    (function (at 1 13) (codes "go") (spec true false false false None None) ([])
+    ParsedLast (at 1 20)) ∷
+    (function (at 2 13) (codes "go") (spec true false false false None None) ([])
+    ParsedLast (at 2 20)) ∷ []
 
 row_14 : is_known straight_lines tree_14 ≡ true
 row_14 = refl
@@ -169,8 +170,7 @@ row_14 = refl
 -- uniform int a;
 abbrev tree_15 : ParsedSource
 tree_15 =
-    global (at 1 13) (codes "a") (spec (Some Uniform) (Some t.Int32)) Plain
-    ∷ []
+    (file_variable (at 1 13) (codes "a") (spec false false false false (Some Uniform) (Some t.Int32)) Plain) ∷ []
 
 row_15 : is_known straight_lines tree_15 ≡ true
 row_15 = refl
@@ -178,9 +178,9 @@ row_15 = refl
 -- export void go() { int x = any(1); }
 abbrev tree_16 : ParsedSource
 tree_16 =
-    function (at 1 13) (codes "go") (exported (spec None None)) []
-    (ParsedNext (ParsedDeclare (at 1 20) (spec None (Some t.Int32)) (at 1 24) (codes "x") (Some (ParsedCall (at 1 28) (codes "any") (ParsedValue (ParsedNumber (at 1 32) 1 false false) ParsedEnd)))) ParsedLast) (at 1 36)
-    ∷ []
+    (function (at 1 13) (codes "go") (spec true false false false None None) ([])
+    (ParsedNext (ParsedDeclare (at 1 20) (spec false false false false None (Some t.Int32)) (at 1 24) (codes "x") (Some (ParsedCall (at 1 28) (codes "any") (ParsedValue (ParsedNumber (at 1 32) 1 false false) ParsedEnd))))
+    ParsedLast) (at 1 36)) ∷ []
 
 row_16 : is_known straight_lines tree_16 ≡ false
 row_16 = refl
@@ -188,8 +188,7 @@ row_16 = refl
 -- uniform int a[3];
 abbrev tree_17 : ParsedSource
 tree_17 =
-    global (at 1 13) (codes "a") (spec (Some Uniform) (Some t.Int32)) (Array 3)
-    ∷ []
+    (file_variable (at 1 13) (codes "a") (spec false false false false (Some Uniform) (Some t.Int32)) (Array 3)) ∷ []
 
 row_17 : is_known straight_lines tree_17 ≡ false
 row_17 = refl
@@ -197,9 +196,9 @@ row_17 = refl
 -- export void go() { int x = a[0]; }
 abbrev tree_18 : ParsedSource
 tree_18 =
-    function (at 1 13) (codes "go") (exported (spec None None)) []
-    (ParsedNext (ParsedDeclare (at 1 20) (spec None (Some t.Int32)) (at 1 24) (codes "x") (Some (ParsedIndex (at 1 28) (codes "a") (ParsedNumber (at 1 30) 0 false false)))) ParsedLast) (at 1 34)
-    ∷ []
+    (function (at 1 13) (codes "go") (spec true false false false None None) ([])
+    (ParsedNext (ParsedDeclare (at 1 20) (spec false false false false None (Some t.Int32)) (at 1 24) (codes "x") (Some (ParsedIndex (at 1 28) (codes "a") (ParsedNumber (at 1 30) 0 false false))))
+    ParsedLast) (at 1 34)) ∷ []
 
 row_18 : is_known straight_lines tree_18 ≡ false
 row_18 = refl
@@ -207,9 +206,9 @@ row_18 = refl
 -- export void go() { a[0] = 1; }
 abbrev tree_19 : ParsedSource
 tree_19 =
-    function (at 1 13) (codes "go") (exported (spec None None)) []
-    (ParsedNext (ParsedAssign (at 1 20) (target (at 1 20) (codes "a") (Some (ParsedNumber (at 1 22) 0 false false))) (ParsedNumber (at 1 27) 1 false false)) ParsedLast) (at 1 30)
-    ∷ []
+    (function (at 1 13) (codes "go") (spec true false false false None None) ([])
+    (ParsedNext (ParsedAssign (at 1 20) (target (at 1 20) (codes "a") (Some (ParsedNumber (at 1 22) 0 false false))) (ParsedNumber (at 1 27) 1 false false))
+    ParsedLast) (at 1 30)) ∷ []
 
 row_19 : is_known straight_lines tree_19 ≡ false
 row_19 = refl
@@ -217,9 +216,8 @@ row_19 = refl
 -- void f(int n) { }
 abbrev tree_20 : ParsedSource
 tree_20 =
-    function (at 1 6) (codes "f") (spec None None) (param (at 1 12) (codes "n") (spec None (Some t.Int32)) false ∷ [])
-    ParsedLast (at 1 17)
-    ∷ []
+    (function (at 1 6) (codes "f") (spec false false false false None None) (parameter (at 1 12) (codes "n") (spec false false false false None (Some t.Int32)) false ∷ [])
+    ParsedLast (at 1 17)) ∷ []
 
 row_20 : is_known straight_lines tree_20 ≡ false
 row_20 = refl
@@ -227,9 +225,9 @@ row_20 = refl
 -- export void go() { f(); }
 abbrev tree_21 : ParsedSource
 tree_21 =
-    function (at 1 13) (codes "go") (exported (spec None None)) []
-    (ParsedNext (ParsedDoCall (at 1 20) (codes "f") ParsedEnd) ParsedLast) (at 1 25)
-    ∷ []
+    (function (at 1 13) (codes "go") (spec true false false false None None) ([])
+    (ParsedNext (ParsedDoCall (at 1 20) (codes "f") ParsedEnd)
+    ParsedLast) (at 1 25)) ∷ []
 
 row_21 : is_known straight_lines tree_21 ≡ false
 row_21 = refl
@@ -237,9 +235,9 @@ row_21 = refl
 -- export void go() { int x = -f(); }
 abbrev tree_22 : ParsedSource
 tree_22 =
-    function (at 1 13) (codes "go") (exported (spec None None)) []
-    (ParsedNext (ParsedDeclare (at 1 20) (spec None (Some t.Int32)) (at 1 24) (codes "x") (Some (ParsedUnary (at 1 28) Negate (ParsedCall (at 1 29) (codes "f") ParsedEnd)))) ParsedLast) (at 1 34)
-    ∷ []
+    (function (at 1 13) (codes "go") (spec true false false false None None) ([])
+    (ParsedNext (ParsedDeclare (at 1 20) (spec false false false false None (Some t.Int32)) (at 1 24) (codes "x") (Some (ParsedUnary (at 1 28) unary.Negate (ParsedCall (at 1 29) (codes "f") ParsedEnd))))
+    ParsedLast) (at 1 34)) ∷ []
 
 row_22 : is_known straight_lines tree_22 ≡ false
 row_22 = refl
@@ -247,9 +245,10 @@ row_22 = refl
 -- export void go() { { while (true) ; } }
 abbrev tree_23 : ParsedSource
 tree_23 =
-    function (at 1 13) (codes "go") (exported (spec None None)) []
-    (ParsedNext (ParsedBlock (ParsedNext (ParsedWhile (at 1 22) (ParsedBool (at 1 29) true) ParsedEmpty) ParsedLast)) ParsedLast) (at 1 39)
-    ∷ []
+    (function (at 1 13) (codes "go") (spec true false false false None None) ([])
+    (ParsedNext (ParsedBlock (ParsedNext (ParsedWhile (at 1 22) (ParsedBool (at 1 29) true) ParsedEmpty)
+    ParsedLast))
+    ParsedLast) (at 1 39)) ∷ []
 
 row_23 : is_known straight_lines tree_23 ≡ false
 row_23 = refl
@@ -257,9 +256,9 @@ row_23 = refl
 -- export void go() { break; }
 abbrev tree_24 : ParsedSource
 tree_24 =
-    function (at 1 13) (codes "go") (exported (spec None None)) []
-    (ParsedNext (ParsedBreak (at 1 20)) ParsedLast) (at 1 27)
-    ∷ []
+    (function (at 1 13) (codes "go") (spec true false false false None None) ([])
+    (ParsedNext (ParsedBreak (at 1 20))
+    ParsedLast) (at 1 27)) ∷ []
 
 row_24 : is_known straight_lines tree_24 ≡ false
 row_24 = refl
@@ -267,9 +266,9 @@ row_24 = refl
 -- export void go() { return; }
 abbrev tree_25 : ParsedSource
 tree_25 =
-    function (at 1 13) (codes "go") (exported (spec None None)) []
-    (ParsedNext (ParsedReturn (at 1 20) None) ParsedLast) (at 1 28)
-    ∷ []
+    (function (at 1 13) (codes "go") (spec true false false false None None) ([])
+    (ParsedNext (ParsedReturn (at 1 20) None)
+    ParsedLast) (at 1 28)) ∷ []
 
 row_25 : is_known straight_lines tree_25 ≡ false
 row_25 = refl
@@ -277,9 +276,9 @@ row_25 = refl
 -- export void go() { foreach (i = 0 ... 4) ; }
 abbrev tree_26 : ParsedSource
 tree_26 =
-    function (at 1 13) (codes "go") (exported (spec None None)) []
-    (ParsedNext (ParsedForEach (at 1 20) false (dim (at 1 29) (codes "i") (ParsedNumber (at 1 33) 0 false false) (ParsedNumber (at 1 39) 4 false false) ∷ []) ParsedEmpty) ParsedLast) (at 1 44)
-    ∷ []
+    (function (at 1 13) (codes "go") (spec true false false false None None) ([])
+    (ParsedNext (ParsedForEach (at 1 20) false (dimension (at 1 29) (codes "i") (ParsedNumber (at 1 33) 0 false false) (ParsedNumber (at 1 39) 4 false false) ∷ []) ParsedEmpty)
+    ParsedLast) (at 1 44)) ∷ []
 
 row_26 : is_known straight_lines tree_26 ≡ false
 row_26 = refl

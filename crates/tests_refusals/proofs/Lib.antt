@@ -1,4 +1,4 @@
-pub mod Trees
+pub mod Wanted
 mod WorkedRows
 mod NameRows
 mod ControlRows

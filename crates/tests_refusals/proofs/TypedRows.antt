@@ -1,12 +1,13 @@
 -- Rows of the types and rates of expressions.
 use Rattle.std.specs.Prelude.{◌≡◌, refl, true, false, Some, None, codes}
 use Rattle.gang_types.specs.declared.types.Rate.TheVariants.{Uniform, Varying}
-use Rattle.gang_types.specs.declared.operators.UnaryOp.TheVariants.{Negate, Plus, Not, Complement}
+use Rattle.gang_types.specs.declared.types.IntType.TheVariants as t
+use Rattle.gang_types.specs.declared.operators.UnaryOp.TheVariants as unary
+use Rattle.gang_types.specs.declared.operators.BinaryOp.TheVariants as op
 use Rattle.gang_model.specs.declared.forms.Infix.TheVariants.{Op, AndAlso, OrElse}
 use Rattle.gang_model.specs.Source.Parsed.{ParsedNumber, ParsedBool, ParsedName, ParsedCall, ParsedUnary, ParsedCast, ParsedBinary, ParsedChoice, ParsedEnd, ParsedValue}
-use Rattle.tests_refusals.proofs.Trees.{at, type_of, has_type}
-use Rattle.gang_types.specs.declared.types.IntType.TheVariants as t
-use Rattle.gang_types.specs.declared.operators.BinaryOp.TheVariants as op
+use Rattle.tests_transcripts.proofs.Forms.{at}
+use Rattle.tests_refusals.proofs.Wanted.{type_of, has_type}
 
 -- 1
 row_0 : type_of (ParsedNumber (at 1 1) 1 false false) ≡ has_type t.Int32 Uniform
@@ -61,7 +62,7 @@ row_12 : type_of (ParsedName (at 1 1) (codes "programCount")) ≡ has_type t.Int
 row_12 = refl
 
 -- -2147483648
-row_13 : type_of (ParsedUnary (at 1 1) Negate (ParsedNumber (at 1 2) 2147483648 false false)) ≡ has_type t.Int64 Uniform
+row_13 : type_of (ParsedUnary (at 1 1) unary.Negate (ParsedNumber (at 1 2) 2147483648 false false)) ≡ has_type t.Int64 Uniform
 row_13 = refl
 
 -- true & false
@@ -101,27 +102,27 @@ row_22 : type_of (ParsedChoice (ParsedBool (at 1 1) true) (ParsedCast (at 1 8) N
 row_22 = refl
 
 -- -true
-row_23 : type_of (ParsedUnary (at 1 1) Negate (ParsedBool (at 1 2) true)) ≡ has_type t.Int32 Uniform
+row_23 : type_of (ParsedUnary (at 1 1) unary.Negate (ParsedBool (at 1 2) true)) ≡ has_type t.Int32 Uniform
 row_23 = refl
 
 -- +true
-row_24 : type_of (ParsedUnary (at 1 1) Plus (ParsedBool (at 1 2) true)) ≡ has_type t.Int32 Uniform
+row_24 : type_of (ParsedUnary (at 1 1) unary.Plus (ParsedBool (at 1 2) true)) ≡ has_type t.Int32 Uniform
 row_24 = refl
 
 -- ~true
-row_25 : type_of (ParsedUnary (at 1 1) Complement (ParsedBool (at 1 2) true)) ≡ has_type t.Int32 Uniform
+row_25 : type_of (ParsedUnary (at 1 1) unary.Complement (ParsedBool (at 1 2) true)) ≡ has_type t.Int32 Uniform
 row_25 = refl
 
 -- -(int8) 1
-row_26 : type_of (ParsedUnary (at 1 1) Negate (ParsedCast (at 1 2) None (Some t.Int8) (ParsedNumber (at 1 9) 1 false false))) ≡ has_type t.Int8 Uniform
+row_26 : type_of (ParsedUnary (at 1 1) unary.Negate (ParsedCast (at 1 2) None (Some t.Int8) (ParsedNumber (at 1 9) 1 false false))) ≡ has_type t.Int8 Uniform
 row_26 = refl
 
 -- !3
-row_27 : type_of (ParsedUnary (at 1 1) Not (ParsedNumber (at 1 2) 3 false false)) ≡ has_type t.Bool Uniform
+row_27 : type_of (ParsedUnary (at 1 1) unary.Not (ParsedNumber (at 1 2) 3 false false)) ≡ has_type t.Bool Uniform
 row_27 = refl
 
 -- !programIndex
-row_28 : type_of (ParsedUnary (at 1 1) Not (ParsedName (at 1 2) (codes "programIndex"))) ≡ has_type t.Bool Varying
+row_28 : type_of (ParsedUnary (at 1 1) unary.Not (ParsedName (at 1 2) (codes "programIndex"))) ≡ has_type t.Bool Varying
 row_28 = refl
 
 -- (int8) 1 + (uint8) 2
