@@ -3,7 +3,7 @@ ghost use Rattle.std.specs.Prelude.{◌≡◌};
 ghost use Rattle.source_answers.specs.Answers.{both_answers, refusal_of};
 
 use crate::fault::SourceFault;
-use crate::least_faults::least;
+use crate::least_faults::lesser;
 use gang_model::SourceRefusal;
 
 /// What both parts stand for.
@@ -21,8 +21,7 @@ pub fn both<A: Drop, B: Drop>(
         (Ok(left), Ok(right)) => Ok((left, right)),
         (Ok(_), Err(fault)) | (Err(fault), Ok(_)) => Err(fault),
         (Err(SourceFault::Refused(first)), Err(SourceFault::Refused(second))) => {
-            refuse(least(Some(first), Some(second)))?;
-            Err(SourceFault::Memory)
+            Err(SourceFault::Refused(lesser(first, second)))
         }
         (Err(_), Err(_)) => Err(SourceFault::Memory),
     }

@@ -19,6 +19,13 @@ fn is_less(left: SourceRefusal, right: SourceRefusal) -> bool
     order(left) < order(right)
 }
 
+/// The first of two faults, or the second where it comes before.
+pub(crate) fn lesser(fault: SourceRefusal, later: SourceRefusal) -> SourceRefusal
+    ensures { result ≡ judged.lesser fault later }
+{
+    if is_less(later, fault) { later } else { fault }
+}
+
 /// The least of the least faults of two parts.
 pub fn least(left: Option<SourceRefusal>, right: Option<SourceRefusal>) -> Option<SourceRefusal>
     ensures { result ≡ merged left right }
@@ -26,13 +33,7 @@ pub fn least(left: Option<SourceRefusal>, right: Option<SourceRefusal>) -> Optio
     match (left, right) {
         (None, later) => later,
         (Some(fault), None) => Some(fault),
-        (Some(fault), Some(later)) => {
-            if is_less(later, fault) {
-                Some(later)
-            } else {
-                Some(fault)
-            }
-        }
+        (Some(fault), Some(later)) => Some(lesser(fault, later)),
     }
 }
 
