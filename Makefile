@@ -25,7 +25,9 @@ build:
 	cd crates/ispc_cli && rt run -- $$(cat args) < stdin
 	@echo "The proved program is crates/ispc_cli/out/ispc_cli"
 
-# Times of the lane kernels beside their plain loops, as ratios; and of the built program: steps, prints and moves a second.
+# Times of the lane kernels and of an expression's code beside their plain loops, as ratios; and of the built program: steps, prints
+# and moves a second.
 bench:
 	cd crates/kernel_bench && rt run -- signed && rt run -- unsigned
+	cd crates/expression_bench && rt run -- 1000000
 	tools/bench_program
