@@ -1,5 +1,5 @@
 //! What stands at the front of the tokens, and refusals there.
-ghost use Rattle.std.specs.Prelude.{◌≡◌, IfOk, IfErr};
+ghost use Rattle.std.specs.Prelude.{◌≡◌, IfOk};
 ghost use Rattle.ispc_lexer.specs.Views.{lexemes_of};
 ghost use Rattle.ispc_parser_expressions.specs.Parse.{Gives};
 ghost use Rattle.ispc_parser.specs.Parts as spec;
@@ -10,7 +10,7 @@ use gang_types::Place;
 use ispc_lexer::{Kind, Token};
 use ispc_parser_expressions::{begins, take, unexpected};
 use source_answers::SourceFault;
-use std::alloc::Global;
+use std::alloc::{AllocError, Global};
 
 /// What was read, and the tokens after it.
 pub(crate) type Read<'a, T> = Result<(T, &'a [Token]), SourceFault>;
@@ -85,9 +85,8 @@ pub(crate) fn copied_name(
     alloc: Global,
     place: Place,
     text: &[u8],
-) -> Result<Identifier, SourceFault>
-    ensures value { IfOk result (λ n. name_view n ≡ (place, text.now)) }
-    ensures memory { IfErr result (λ e. e ≡ SourceFault.Memory) }
+) -> Result<Identifier, AllocError>
+    ensures { IfOk result (λ n. name_view n ≡ (place, text.now)) }
 {
     let text = text.to_vec(alloc)?;
     Ok(Identifier { place, text })

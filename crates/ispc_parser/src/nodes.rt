@@ -1,5 +1,5 @@
 //! Statements with their parts in boxes.
-ghost use Rattle.std.specs.Prelude.{◌≡◌, IfOk, IfErr};
+ghost use Rattle.std.specs.Prelude.{◌≡◌, IfOk};
 ghost use Rattle.gang_model.specs.Source.Parsed.{ParsedBlock, ParsedIf, ParsedIfElse, ParsedDo};
 ghost use Rattle.ispc_parser_expressions.specs.Tree.{expr_view};
 ghost use Rattle.ispc_parser.specs.Tree.{stmt_view, stmts_view};
@@ -9,8 +9,8 @@ use crate::heads::Head;
 use crate::tree::Stmt;
 use gang_types::Place;
 use ispc_parser_expressions::Expr;
-use source_answers::{SourceFault, both_boxed, boxed};
-use std::alloc::Global;
+use source_answers::{both_boxed, boxed};
+use std::alloc::{AllocError, Global};
 
 pub(crate) fn block(stmts: Vec<Stmt>) -> Stmt
     ensures { stmt_view result ≡ ParsedBlock (stmts_view stmts.items) }
@@ -23,9 +23,8 @@ pub(crate) fn if_then(
     place: Place,
     test: Expr,
     first: Stmt,
-) -> Result<Stmt, SourceFault>
-    ensures value { IfOk result (λ s. stmt_view s ≡ ParsedIf place (expr_view test) (stmt_view first)) }
-    ensures memory { IfErr result (λ e. e ≡ SourceFault.Memory) }
+) -> Result<Stmt, AllocError>
+    ensures { IfOk result (λ s. stmt_view s ≡ ParsedIf place (expr_view test) (stmt_view first)) }
 {
     boxed(alloc, first).map(|first| Stmt::If {
         place,
@@ -41,9 +40,8 @@ pub(crate) fn if_else(
     test: Expr,
     first: Stmt,
     other: Stmt,
-) -> Result<Stmt, SourceFault>
-    ensures value { IfOk result (λ s. stmt_view s ≡ ParsedIfElse place (expr_view test) (stmt_view first) (stmt_view other)) }
-    ensures memory { IfErr result (λ e. e ≡ SourceFault.Memory) }
+) -> Result<Stmt, AllocError>
+    ensures { IfOk result (λ s. stmt_view s ≡ ParsedIfElse place (expr_view test) (stmt_view first) (stmt_view other)) }
 {
     both_boxed(alloc, first, other).map(|(first, other)| Stmt::If {
         place,
@@ -53,22 +51,16 @@ pub(crate) fn if_else(
     })
 }
 
-pub(crate) fn do_while(
-    alloc: Global,
-    body: Stmt,
-    tested: (Place, Expr),
-) -> Result<Stmt, SourceFault>
-    ensures value { IfOk result (λ s. stmt_view s ≡ ParsedDo (stmt_view body) tested.0 (expr_view tested.1)) }
-    ensures memory { IfErr result (λ e. e ≡ SourceFault.Memory) }
+pub(crate) fn do_while(alloc: Global, body: Stmt, tested: (Place, Expr)) -> Result<Stmt, AllocError>
+    ensures { IfOk result (λ s. stmt_view s ≡ ParsedDo (stmt_view body) tested.0 (expr_view tested.1)) }
 {
     let (place, test) = tested;
     boxed(alloc, body).map(|body| Stmt::Do { body, place, test })
 }
 
 /// A loop or a foreach form with its body.
-pub(crate) fn with_body(alloc: Global, head: Head, body: Stmt) -> Result<Stmt, SourceFault>
-    ensures value { IfOk result (λ s. stmt_view s ≡ completed (head_view head) (stmt_view body)) }
-    ensures memory { IfErr result (λ e. e ≡ SourceFault.Memory) }
+pub(crate) fn with_body(alloc: Global, head: Head, body: Stmt) -> Result<Stmt, AllocError>
+    ensures { IfOk result (λ s. stmt_view s ≡ completed (head_view head) (stmt_view body)) }
 {
     let body = boxed(alloc, body)?;
     match head {

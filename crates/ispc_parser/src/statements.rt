@@ -177,10 +177,13 @@ fn if_stmt(context: Context, depth: u32, place: Place, tokens: &[Token]) -> Read
     let (test, rest) = test(context, depth, tokens)?;
     let (first, rest) = body(context, depth, rest)?;
     if !begins(Mark::Else, rest) {
-        return nodes::if_then(context.alloc, place, test, first).map(|node| (node, rest));
+        return Ok((nodes::if_then(context.alloc, place, test, first)?, rest));
     }
     else_body(context, depth, rest).and_then(|(other, rest)| {
-        nodes::if_else(context.alloc, place, test, first, other).map(|node| (node, rest))
+        Ok((
+            nodes::if_else(context.alloc, place, test, first, other)?,
+            rest,
+        ))
     })
 }
 
@@ -204,7 +207,7 @@ fn do_stmt(context: Context, depth: u32, tokens: &[Token]) -> Read<'_, Stmt>
 {
     let (body, rest) = body(context, depth, tokens)?;
     do_test(context, depth, rest).and_then(|(tested, rest)| {
-        nodes::do_while(context.alloc, body, tested).map(|node| (node, rest))
+        Ok((nodes::do_while(context.alloc, body, tested)?, rest))
     })
 }
 
@@ -223,7 +226,7 @@ fn loop_stmt(
 {
     let (head, rest) = head_of(context, depth, word, place, tokens)?;
     body(context, depth, rest).and_then(|(body, rest)| {
-        nodes::with_body(context.alloc, head, body).map(|node| (node, rest))
+        Ok((nodes::with_body(context.alloc, head, body)?, rest))
     })
 }
 
