@@ -98,7 +98,7 @@ impl Scopes {
             return Err(AllocError);
         };
         let id = VarId::Local(self.next);
-        self.bindings.push(alloc, name, id)?;
+        self.bind(alloc, name, id)?;
         self.next = next;
         Ok(id)
     }
