@@ -10,8 +10,8 @@ use Rattle.gang_model.specs.declared.marks.Mark.TheVariants as mark
 use Rattle.gang_model.specs.Source.Tokens.{Sort, named, numbered, marked}
 use Rattle.gang_model.specs.Source.Spelling.{text_of, is_blank, is_digit, is_word}
 use Rattle.gang_model.specs.Source.Lexes.{Piece, blank, line_comment, block_comment, word, mark as mark_at, begins_word, ends_line, IsWordOf, NoComment, spelling, Fits}
-use Rattle.ispc_lexer.specs.Numbers.{◌>>=◌}
-use Rattle.ispc_lexer.specs.Pieces.{if_some, closed_at, word_of, reserved_of, is_not_line_end, run_of, line_of, mark_of, mark_piece, comment_or_mark, piece_of, shape}
+use Rattle.ispc_lexer.specs.Options.{◌>>=◌, if_some}
+use Rattle.ispc_lexer.specs.Pieces.{closed_at, word_of, reserved_of, is_not_line_end, run_of, line_of, mark_of, mark_piece, comment_or_mark, piece_of, shape}
 use Rattle.ispc_lexer.proofs.Runs.{bind_some, which, both_true, Ends, run_all, run_ends, run_again, starts_sound, starts_again, starts_not}
 use Rattle.ispc_lexer.proofs.Comments.{closes, closes_again}
 use Rattle.ispc_lexer.proofs.MarkTables.{mark_sound, mark_complete, reserved_again, reserved_sound}

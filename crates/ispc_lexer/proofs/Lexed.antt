@@ -1,5 +1,5 @@
 -- All pieces of a source.
-use Rattle.std.proofs.Common.{◌≡◌, ◌⊎◌, inl, inr, ℕ, zero, suc, ◌+◌, ◌<◌, ◌≤◌, List, [], ◌∷◌, ◌++◌, length, take, drop, Option, Some, None, Result, Ok, Err, Bool, true, false, refl, sym, ap, ◌∙◌, arith}
+use Rattle.std.proofs.Common.{◌≡◌, ℕ, zero, suc, ◌+◌, ◌<◌, ◌≤◌, List, [], ◌∷◌, ◌++◌, length, take, drop, Option, Some, None, Result, Ok, Err, Bool, true, false, refl, sym, ap, ◌∙◌, arith}
 use Rattle.std.proofs.lemmas.List.{length-append}
 use Rattle.std.proofs.Math.Seq.{take-append_seam, drop-append_seam}
 use Rattle.gang_types.specs.declared.places.Place.{Place}
@@ -10,17 +10,13 @@ use Rattle.gang_model.specs.Source.Tokens.{Lexeme}
 use Rattle.gang_model.specs.Source.Spelling.{text_of}
 use Rattle.gang_model.specs.Source.Lexes.{Piece, blank, line_comment, block_comment, word, mark as mark_at, spelling, Fits, Reads, with_lexeme, lexemes, place_after, place_of_end, IsStuck, fault_at}
 use Rattle.ispc_lexer.specs.Numbers.{is_nil}
-use Rattle.ispc_lexer.specs.Pieces.{if_some, shape, piece_of}
+use Rattle.ispc_lexer.specs.Pieces.{shape, piece_of}
 use Rattle.ispc_lexer.specs.Source.{◌>>>◌, lexeme_at, lexed}
 use Rattle.ispc_lexer.proofs.FirstPiece.{piece_stands, piece_finds}
 
 nil_is : (bs : List ℕ) → is_nil bs ≡ true → bs ≡ []
 nil_is [] e = refl
 nil_is (b ∷ bs) e = absurd cc
-
-chosen : {A B : Type 0} (o : Option A) (f : A → B) (d z : B) → if_some o f d ≡ z → ((x : A) × (o ≡ Some x) × (f x ≡ z)) ⊎ ((o ≡ None) × (d ≡ z))
-chosen None f d z e = inr (refl, e)
-chosen (Some x) f d z e = inl (x, refl, e)
 
 then_ok : {A B : Type 0} (r : Result A SourceRefusal) (f : A → Result B SourceRefusal) (y : B) → (r >>> f) ≡ Ok y → (x : A) × (r ≡ Ok x) × (f x ≡ Ok y)
 then_ok (Ok x) f y e = (x, refl, e)

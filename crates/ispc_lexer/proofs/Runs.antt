@@ -5,11 +5,15 @@ use Rattle.std.specs.List.{list_all, prefix_len, starts_with}
 use Rattle.std.proofs.lemmas.Bool.Decides.{Decides-eqb}
 use Rattle.std.proofs.lemmas.Slice.Eq.{starts_is}
 use Rattle.std.proofs.lemmas.Grind.{common_steps}
-use Rattle.ispc_lexer.specs.Numbers.{◌>>=◌}
+use Rattle.ispc_lexer.specs.Options.{◌>>=◌, if_some}
 
 pub bind_some : {A B : Type 0} (r : Option A) (f : A → Option B) (y : B) → (r >>= f) ≡ Some y → (x : A) × (r ≡ Some x) × (f x ≡ Some y)
 bind_some None f y e = absurd cc
 bind_some (Some x) f y e = (x, refl, e)
+
+pub chosen : {A B : Type 0} (o : Option A) (f : A → B) (d z : B) → if_some o f d ≡ z → ((x : A) × (o ≡ Some x) × (f x ≡ z)) ⊎ ((o ≡ None) × (d ≡ z))
+chosen None f d z e = inr (refl, e)
+chosen (Some x) f d z e = inl (x, refl, e)
 
 pub which : {A : Type 0} (c : Bool) (x y z : A) → cond c x y ≡ z → ((c ≡ true) × (x ≡ z)) ⊎ ((c ≡ false) × (y ≡ z))
 which true x y z e = inl (refl, e)

@@ -1,3 +1,4 @@
+pub mod Options
 pub mod Views
 pub mod Numbers
 pub mod Pieces

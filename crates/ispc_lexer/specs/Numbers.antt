@@ -3,18 +3,10 @@ use Rattle.std.specs.Prelude.{ℕ, ◌^◌, Bool, true, false, not, ◌&&◌, �
 use Rattle.std.specs.List.{list_all, list_any, count_by, prefix_len, starts_with}
 use Rattle.gang_model.specs.Source.Tokens.{Sort, numbered}
 use Rattle.gang_model.specs.Source.Spelling.{Radix, decimal, hexadecimal, binary, is_digit_in, value_in, is_u, is_l}
+use Rattle.ispc_lexer.specs.Options.{◌>>=◌}
 use Rattle.ispc_lexer.specs.declared.numbers.Radix.{Radix as CodeRadix}
 use Rattle.ispc_lexer.specs.declared.numbers.Radix.TheVariants as radix
 use Rattle.ispc_lexer.specs.declared.token.Number.{Number}
-
-infixl 10 ◌>>=◌
-abbrev pub ◌>>=◌ : {A B : Type 0} → Option A → (A → Option B) → Option B
-None >>= f = None
-(Some x) >>= f = f x
-
-abbrev pub shown : {A B : Type 0} → (A → B) → Option A → Option B
-shown f None = None
-shown f (Some x) = Some (f x)
 
 abbrev pub radix_view : CodeRadix → Radix
 radix_view radix.Decimal = decimal

@@ -7,7 +7,8 @@ use Rattle.gang_model.specs.Source.Tokens.{Sort, named, marked}
 use Rattle.gang_model.specs.Source.Spelling.{text_of, is_blank, is_digit, is_word}
 use Rattle.gang_model.specs.Source.Lexes.{Piece, blank, line_comment, block_comment, word, mark}
 use Rattle.ispc_lexer.specs.declared.marks.TheConstants.{RESERVED, PUNCTUATION}
-use Rattle.ispc_lexer.specs.Numbers.{◌>>=◌, number_of}
+use Rattle.ispc_lexer.specs.Options.{if_some, ◌>>=◌}
+use Rattle.ispc_lexer.specs.Numbers.{number_of}
 
 unfoldable pub begins_close : List ℕ → Bool
 begins_close bs = starts_with nat_eq bs (codes "*/")
@@ -20,10 +21,6 @@ one_more (Some n) = Some (n + 1)
 unfoldable pub closed_at : List ℕ → Option ℕ
 closed_at [] = None
 closed_at (b ∷ bs) = if begins_close (b ∷ bs) then Some 2 else one_more (closed_at bs)
-
-abbrev pub if_some : {A B : Type 0} → Option A → (A → B) → B → B
-if_some None f d = d
-if_some (Some x) f d = f x
 
 abbrev pub reserved_in : List Mark → List ℕ → Option Mark
 reserved_in marks text = find (λ m. pointwise nat_eq text (text_of m)) marks

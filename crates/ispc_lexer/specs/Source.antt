@@ -7,7 +7,8 @@ use Rattle.gang_model.specs.Source.Lexes.{place_after, fault_at}
 use Rattle.source_answers.specs.declared.fault.SourceFault.{SourceFault}
 use Rattle.source_answers.specs.declared.fault.SourceFault.TheVariants as fault
 use Rattle.ispc_lexer.specs.Numbers.{is_nil}
-use Rattle.ispc_lexer.specs.Pieces.{if_some, piece_of, Shape, shape}
+use Rattle.ispc_lexer.specs.Options.{if_some}
+use Rattle.ispc_lexer.specs.Pieces.{piece_of, Shape, shape}
 
 abbrev pub Fails : {Y : Type 0} → SourceFault → Result Y SourceRefusal → Type 0
 Fails fault.Memory read = Unit {0}

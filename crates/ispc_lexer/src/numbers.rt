@@ -1,5 +1,5 @@
 //! Decimal, hexadecimal and binary numbers with their suffixes.
-ghost use Rattle.std.specs.Prelude.{◌≡◌, ◌≤◌, ◌||◌, length};
+ghost use Rattle.std.specs.Prelude.{◌≡◌, ◌≤◌, ◌||◌, length, option_map};
 ghost use Rattle.std.specs.List.{prefix_len, count_by, list_all, list_any};
 ghost use Rattle.gang_model.specs.Source.Spelling as spelling;
 ghost use Rattle.ispc_lexer.specs.Numbers as spec;
@@ -165,7 +165,7 @@ fn is_suffix(text: &[u8]) -> bool
 
 #[tactic(auto, unfolding(crate::specs::Numbers::number_in))]
 fn number_in(radix: Radix, digits: &[u8], suffix: &[u8]) -> Option<Number>
-    ensures { spec.shown spec.number_view result ≡ spec.number_in (spec.radix_view radix) digits.now suffix.now }
+    ensures { option_map spec.number_view result ≡ spec.number_in (spec.radix_view radix) digits.now suffix.now }
 {
     if digits.is_empty() || has_leading_zero(radix, digits) || !is_suffix(suffix) {
         return None;
@@ -181,7 +181,7 @@ fn number_in(radix: Radix, digits: &[u8], suffix: &[u8]) -> Option<Number>
 /// The number that the whole text is, if it is one.
 #[tactic(auto, unfolding(crate::specs::Numbers::number_of))]
 pub fn number_of(text: &[u8]) -> Option<Number>
-    ensures { spec.shown spec.number_view result ≡ spec.number_of text.now }
+    ensures { option_map spec.number_view result ≡ spec.number_of text.now }
 {
     let radix = radix_of(text);
     let body = &text[prefix_size(radix)..];

@@ -1,6 +1,5 @@
 //! The piece of a source that begins here: a blank, a comment, a word or a mark.
-ghost use Rattle.std.specs.Prelude.{◌≡◌, ◌≤◌, length, IfOk, IfSome, IsTrue};
-ghost use Rattle.ispc_lexer.specs.Numbers.{shown};
+ghost use Rattle.std.specs.Prelude.{◌≡◌, ◌≤◌, length, IfOk, IfSome, IsTrue, option_map};
 ghost use Rattle.ispc_lexer.specs.Pieces as spec;
 ghost use Rattle.ispc_lexer.specs.Steps.{step_view};
 ghost use Rattle.ispc_lexer.specs.Views.{sort_of};
@@ -41,7 +40,7 @@ fn comment_len(bytes: &[u8]) -> Option<usize>
 
 #[tactic(auto, unfolding(crate::specs::Pieces::word_of))]
 fn word(alloc: Global, text: &[u8]) -> Result<Option<Kind>, AllocError>
-    ensures value { IfOk result (λ o. shown sort_of o ≡ spec.word_of text.now) }
+    ensures value { IfOk result (λ o. option_map sort_of o ≡ spec.word_of text.now) }
 {
     match text {
         [] => Ok(None),
@@ -60,7 +59,7 @@ fn word(alloc: Global, text: &[u8]) -> Result<Option<Kind>, AllocError>
 
 #[tactic(auto, unfolding(crate::specs::Pieces::mark_piece))]
 fn mark_step(bytes: &[u8]) -> Option<Step>
-    ensures { shown step_view result ≡ shown spec.shape (spec.mark_piece bytes.now) }
+    ensures { option_map step_view result ≡ option_map spec.shape (spec.mark_piece bytes.now) }
 {
     let mark = longest_mark(bytes)?;
     Some(Step {
@@ -71,7 +70,7 @@ fn mark_step(bytes: &[u8]) -> Option<Step>
 
 #[tactic(auto, unfolding(crate::specs::Pieces::comment_or_mark))]
 fn comment_or_mark(bytes: &[u8]) -> Option<Step>
-    ensures { shown step_view result ≡ shown spec.shape (spec.comment_or_mark bytes.now) }
+    ensures { option_map step_view result ≡ option_map spec.shape (spec.comment_or_mark bytes.now) }
 {
     if bytes.starts_with(b"//") {
         let len = line_len(&bytes[2..]);
@@ -93,7 +92,7 @@ fn comment_or_mark(bytes: &[u8]) -> Option<Step>
 /// The piece at the front, if one can be taken there.
 #[tactic(auto, unfolding(crate::specs::Pieces::piece_of))]
 pub fn first_step(alloc: Global, bytes: &[u8]) -> Result<Option<Step>, AllocError>
-    ensures value { IfOk result (λ o. shown step_view o ≡ shown spec.shape (spec.piece_of bytes.now)) }
+    ensures value { IfOk result (λ o. option_map step_view o ≡ option_map spec.shape (spec.piece_of bytes.now)) }
 {
     match bytes {
         [] => Ok(None),

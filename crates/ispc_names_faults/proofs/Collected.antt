@@ -1,6 +1,7 @@
 -- The lists of functions and of file-scope variables of a tree, and names that stand twice in them.
 use Rattle.std.proofs.Common.{◌≡◌, List, [], ◌∷◌, ◌++◌, Bool, ◌||◌, refl, sym, ap, ◌∙◌}
 use Rattle.std.specs.List.{list_any}
+use Rattle.std.proofs.Math.Bool.{or_comm, or_assoc}
 use Rattle.gang_model.specs.declared.refusals.RefusalNumber.TheVariants.{S6}
 use Rattle.gang_model.specs.declared.refusals.SourceRefusal.{SourceRefusal}
 use Rattle.gang_model.specs.Source.Judged.{fault_if, least_fault, merged}
@@ -10,7 +11,6 @@ use Rattle.gang_model.specs.Source.Names.{same_text}
 use Rattle.gang_model.specs.Source.Parsed.{Name, ParsedGlobal, ParsedFunction}
 use Rattle.gang_model.specs.Names.Scope.{is_built_in}
 use Rattle.gang_model.specs.Types.Signatures.{same_signature}
-use Rattle.ispc_names_scopes.proofs.NameIndex.{or-assoc, or-last}
 use Rattle.ispc_names_faults.specs.SignatureKeys.{signature_key}
 use Rattle.gang_model.proofs.JudgedLaws.{least_fault-append}
 use Rattle.ispc_names_faults.proofs.Merging.{Fault, one_more}
@@ -22,8 +22,8 @@ among-last : (q : Name) (names : List Name) (name : Name) → is_among q (names 
 among-last q [] name = refl
 among-last q (n ∷ names) name =
     ap (λ b. same_text q n || b) (among-last q names name)
-    ∙ (or-assoc (same_text q n) (same_text q name) (is_among q names)
-    ∙ (ap (λ b. b || is_among q names) (or-last (same_text q n) (same_text q name)) ∙ sym (or-assoc (same_text q name) (same_text q n) (is_among q names))))
+    ∙ (sym (or_assoc (same_text q n) (same_text q name) (is_among q names))
+    ∙ (ap (λ b. b || is_among q names) (or_comm (same_text q n) (same_text q name)) ∙ or_assoc (same_text q name) (same_text q n) (is_among q names)))
 
 -- ---- file-scope variables
 

@@ -2,7 +2,6 @@
 use Rattle.std.proofs.Common.{◌≡◌, ℕ, ◌+◌, ◌<◌, length, drop, Bool, true, false, List, ◌∷◌, ◌++◌, refl, sym, ap, ◌∙◌, arith, Option, Some, None}
 use Rattle.std.specs.Prelude.{◌==◌, get_or, if◌then◌else◌}
 use Rattle.std.proofs.lemmas.Bool.Decides.{nat_tests}
-use Rattle.std.proofs.lemmas.List.{drop_more}
 use Rattle.gang_types.specs.declared.places.Place.{Place}
 use Rattle.gang_model.specs.declared.refusals.RefusalNumber.{RefusalNumber}
 use Rattle.gang_model.specs.declared.refusals.RefusalNumber.TheVariants.{S1, S2, S3, S4, S5, S6, S7, S8, S9, S10, S11, S12, S13}
@@ -100,7 +99,3 @@ one_more total found fault more here rest later t r f m =
 -- nothing is left
 pub all_found : (total found rest : Fault) → total ≡ merged found rest → rest ≡ None → found ≡ total
 all_found total found rest t r = sym (t ∙ (ap (merged found) r ∙ merged-none found))
-
--- the next item of a list
-pub next_item : {A : Type 0} (items : List A) (i : ℕ) (item : A) → i < length items → item ≡ get_or items i item → drop i items ≡ item ∷ drop (i + 1) items
-next_item items i item h e = drop_more items i item h ∙ ap (λ x. x ∷ drop (i + 1) items) (sym e)

@@ -1,5 +1,5 @@
 //! The faults of names in statements that hold no other one.
-ghost use Rattle.std.specs.Prelude.{◌≡◌, ◌++◌, IfOk, OnOk, false, not};
+ghost use Rattle.std.specs.Prelude.{◌≡◌, ◌++◌, IfOk, OnOk, false, not, option_map};
 ghost use Rattle.gang_model.specs.Source.Judged as judged;
 ghost use Rattle.gang_model.specs.Source.Judged.{least_fault};
 ghost use Rattle.gang_model.specs.declared.refusals.RefusalNumber.TheVariants as number;
@@ -7,7 +7,7 @@ ghost use Rattle.gang_model.specs.Names.NameFaults as names;
 ghost use Rattle.gang_model.specs.Names.Scope as scope;
 ghost use Rattle.ispc_parser_expressions.specs.Tree.{expr_view};
 ghost use Rattle.ispc_names_scopes.specs.Scopes.{site};
-ghost use Rattle.ispc_parser.specs.Tree.{option_view, stmt_view, target_view};
+ghost use Rattle.ispc_parser.specs.Tree.{stmt_view, target_view};
 ghost use Rattle.ispc_names_faults.specs.MayStand.{allowed_view};
 ghost use Rattle.ispc_names_faults.specs.HeldStatements.{holds_others};
 
@@ -45,7 +45,7 @@ fn assigned_fault(
     functions: &FunctionNames,
     scopes: &Scopes,
 ) -> Option<SourceRefusal>
-    ensures { result ≡ least_fault (names.assigned_names (option_view expr_view index.now) (expr_view value.now) functions.now scopes.now.environment) }
+    ensures { result ≡ least_fault (names.assigned_names (option_map expr_view index.now) (expr_view value.now) functions.now scopes.now.environment) }
 {
     match index {
         Some(_) => expression_fault(value, functions, scopes),
@@ -93,7 +93,7 @@ pub(crate) fn return_fault(
     scopes: &Scopes,
 ) -> Option<SourceRefusal>
     ensures { result ≡ least_fault (judged.fault_if (not is_allowed) number.S11 place
-        ++ names.right_names_of (option_view expr_view value.now) functions.now scopes.now.environment) }
+        ++ names.right_names_of (option_map expr_view value.now) functions.now scopes.now.environment) }
 {
     let own = fault_if(!is_allowed, RefusalNumber::S11, place);
     least(own, some_right_fault(value, functions, scopes))

@@ -1,5 +1,5 @@
 //! The faults of names in right sides and in calls that are statements.
-ghost use Rattle.std.specs.Prelude.{◌≡◌, if◌then◌else◌, not, true};
+ghost use Rattle.std.specs.Prelude.{◌≡◌, if◌then◌else◌, not, true, option_map};
 ghost use Rattle.gang_model.specs.Source.Judged as judged;
 ghost use Rattle.gang_model.specs.Source.Judged.{least_fault};
 ghost use Rattle.gang_model.specs.Types.LibraryTable.{is_library_name};
@@ -7,7 +7,6 @@ ghost use Rattle.gang_model.specs.declared.refusals.RefusalNumber.TheVariants as
 ghost use Rattle.gang_model.specs.Names.NameFaults as names;
 ghost use Rattle.ispc_parser_expressions.specs.Tree.{expr_view, args_view};
 ghost use Rattle.ispc_names_scopes.specs.Names.{statement_call_view};
-ghost use Rattle.ispc_parser.specs.Tree.{option_view};
 
 use crate::expressions::{arguments_fault, expression_fault, stands_whole};
 use gang_model::{RefusalNumber, SourceRefusal};
@@ -64,7 +63,7 @@ pub(crate) fn some_right_fault(
     functions: &FunctionNames,
     scopes: &Scopes,
 ) -> Option<SourceRefusal>
-    ensures { result ≡ least_fault (names.right_names_of (option_view expr_view expr.now) functions.now scopes.now.environment) }
+    ensures { result ≡ least_fault (names.right_names_of (option_map expr_view expr.now) functions.now scopes.now.environment) }
 {
     match expr {
         Some(expr) => right_fault(expr, functions, scopes),
@@ -78,7 +77,7 @@ pub(crate) fn some_expression_fault(
     functions: &FunctionNames,
     scopes: &Scopes,
 ) -> Option<SourceRefusal>
-    ensures { result ≡ least_fault (names.names_in_some (option_view expr_view expr.now) functions.now scopes.now.environment) }
+    ensures { result ≡ least_fault (names.names_in_some (option_map expr_view expr.now) functions.now scopes.now.environment) }
 {
     match expr {
         Some(expr) => expression_fault(expr, functions, scopes),

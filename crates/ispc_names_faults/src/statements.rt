@@ -1,5 +1,5 @@
 //! The faults of names in statements.
-ghost use Rattle.std.specs.Prelude.{◌≡◌, ◌++◌, ◌+◌, Bool, IfOk, OnOk, length, map};
+ghost use Rattle.std.specs.Prelude.{◌≡◌, ◌++◌, ◌+◌, Bool, IfOk, OnOk, length, map, option_map};
 ghost use Rattle.gang_types.specs.declared.places.Place.{Place};
 ghost use Rattle.gang_model.specs.Source.Judged.{least_fault};
 ghost use Rattle.gang_model.specs.Names.NameFaults as names;
@@ -7,7 +7,7 @@ ghost use Rattle.gang_model.specs.Source.Parsed.{ParsedFor, ParsedForEach, Parse
 ghost use Rattle.gang_model.specs.Names.Scope as scope;
 ghost use Rattle.ispc_parser_expressions.specs.Tree.{expr_view};
 ghost use Rattle.ispc_names_scopes.specs.Scopes.{site};
-ghost use Rattle.ispc_parser.specs.Tree.{dim_view, option_view, stmt_view, stmts_view};
+ghost use Rattle.ispc_parser.specs.Tree.{dim_view, stmt_view, stmts_view};
 ghost use Rattle.ispc_names_faults.specs.MayStand.{allowed_view};
 ghost use Rattle.ispc_names_faults.specs.Moved.{moved};
 
@@ -198,7 +198,7 @@ fn for_fault(
     functions: &FunctionNames,
     scopes: &mut Scopes,
 ) -> Found
-    ensures fault { IfOk result (λ fault. (place : Place) → fault ≡ least_fault (names.stmt_names (ParsedFor place (stmt_view start.now) (option_view expr_view test.now) (stmt_view update.now) (stmt_view body.now))
+    ensures fault { IfOk result (λ fault. (place : Place) → fault ≡ least_fault (names.stmt_names (ParsedFor place (stmt_view start.now) (option_map expr_view test.now) (stmt_view update.now) (stmt_view body.now))
         (allowed_view functions.now may) (site scopes.old))) }
     ensures after { OnOk result (scopes.new ≡ moved (scope.locals_in (stmt_view start.now) + scope.locals_in (stmt_view update.now) + scope.locals_in (stmt_view body.now)) scopes.old) }
 {

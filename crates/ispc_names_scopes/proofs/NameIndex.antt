@@ -2,6 +2,7 @@
 use Rattle.std.proofs.Common.{◌≡◌, ℕ, List, [], ◌∷◌, ◌++◌, Bool, true, false, ◌||◌, refl, sym, ap, ◌∙◌, Vec, Global}
 use Rattle.std.specs.Prelude.{nat_eq, if◌then◌else◌}
 use Rattle.std.specs.List.{list_any}
+use Rattle.std.proofs.Math.Bool.{or_comm, or_assoc}
 use lib.Pointwise.{pointwise}
 use Rattle.gang_model.specs.Source.Names.{same_text}
 use Rattle.gang_model.specs.Source.Parsed.{Name}
@@ -15,19 +16,9 @@ pub among-keys : (q : Name) (ks : List (Vec ℕ Global)) → list_any (λ k. poi
 among-keys q [] = refl
 among-keys q (k ∷ ks) = ap (λ b. b || list_any (λ x. pointwise nat_eq q x.items) ks) (pointwise-same_text q k.items) ∙ ap (λ b. same_text q k.items || b) (among-keys q ks)
 
-pub or-last : (a b : Bool) → (a || b) ≡ (b || a)
-or-last true true = refl
-or-last true false = refl
-or-last false true = refl
-or-last false false = refl
-
-pub or-assoc : (a b c : Bool) → (a || (b || c)) ≡ ((a || b) || c)
-or-assoc true b c = refl
-or-assoc false b c = refl
-
 among-push : (q : Name) (xs : List (Vec ℕ Global)) (x : Vec ℕ Global) → is_among q (names_of (xs ++ x ∷ [])) ≡ (is_among q (names_of xs) || same_text q x.items)
-among-push q [] x = or-last (same_text q x.items) false
-among-push q (y ∷ xs) x = ap (λ b. same_text q y.items || b) (among-push q xs x) ∙ or-assoc (same_text q y.items) (is_among q (names_of xs)) (same_text q x.items)
+among-push q [] x = or_comm (same_text q x.items) false
+among-push q (y ∷ xs) x = ap (λ b. same_text q y.items || b) (among-push q xs x) ∙ sym (or_assoc (same_text q y.items) (is_among q (names_of xs)) (same_text q x.items))
 
 among-insert : (q : Name) (ks : List (Vec ℕ Global)) (k : Vec ℕ Global) → is_among q (names_of (insert_key same_key ks k)) ≡ (is_among q (names_of ks) || same_text q k.items)
 among-insert q ks k = by (list_any (same_key k) ks) refl
@@ -36,7 +27,7 @@ among-insert q ks k = by (list_any (same_key k) ks) refl
     there h true e =
         let found : is_among q (names_of ks) ≡ true = ap (λ n. is_among n (names_of ks)) (same_text-equal q k.items e) ∙ (sym (among-keys k.items ks) ∙ h) in
         found ∙ ap (λ b. b || true) (sym found)
-    there h false e = or-last false (is_among q (names_of ks))
+    there h false e = or_comm false (is_among q (names_of ks))
 
     by : (t : Bool) → list_any (same_key k) ks ≡ t → is_among q (names_of (if t then ks else ks ++ k ∷ [])) ≡ (is_among q (names_of ks) || same_text q k.items)
     by true h = there h (same_text q k.items) refl

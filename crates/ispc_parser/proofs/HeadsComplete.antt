@@ -7,7 +7,8 @@ use Rattle.gang_model.specs.Source.Tokens.{Sort, named, marked, Lexeme}
 use Rattle.gang_model.specs.Source.Parsed.{Name, ParsedExpr, ParsedDim, ParsedStmt, ParsedEmpty, ParsedDeclare}
 use Rattle.gang_model.specs.Source.Spells.{Takes, TakesAt, Stops, any_level, WholeExpr}
 use Rattle.gang_model.specs.Source.SpellsStatements.{BeginsAt, Maybe, InParens, SpellsList, SpellsDeclaration, SpellsStart, SpellsUpdate, SpellsRounds, SpellsDim, max_dims, SpellsDims, SpellsDistinct}
-use Rattle.ispc_parser_expressions.specs.Parse.{if_some, begins, begins_word, is_mark, spec_word, whole_expr}
+use Rattle.ispc_lexer.specs.Options.{if_some}
+use Rattle.ispc_parser_expressions.specs.Parse.{begins, begins_word, is_mark, spec_word, whole_expr}
 use Rattle.ispc_parser_expressions.proofs.Tools.{mark_is, take_again, begins_again}
 use Rattle.ispc_parser_expressions.proofs.Starts.{starts}
 use Rattle.ispc_parser_expressions.proofs.SpecWords.{words_begin}

@@ -6,14 +6,14 @@ use Rattle.gang_model.specs.Source.Parsed.{ParsedExpr, ParsedDim, ParsedStmt, Pa
 use Rattle.gang_model.specs.Source.Spells.{Takes, WholeExpr}
 use Rattle.gang_model.specs.Source.SpellsStatements.{Maybe, SpellsList, SpellsDeclaration, SpellsSimple, SpellsStart, SpellsUpdate, SpellsRounds, SpellsDim, max_dims, SpellsDims, SpellsDistinct}
 use Rattle.ispc_parser_expressions.specs.Parse.{begins, begins_word, take, is_mark, whole_expr}
-use Rattle.ispc_parser_expressions.proofs.Tools.{bind_some, chosen, take_takes}
+use Rattle.ispc_parser_expressions.proofs.Tools.{take_takes}
 use Rattle.ispc_parser_expressions.proofs.Whole.{whole_sound}
 use Rattle.ispc_parser.specs.Parts.{Reader, name_of, list_of}
 use Rattle.ispc_parser.specs.Heads.{optional_of, start_of, update_of, ParsedRounds, rounds_of, dim_of, dims_of, ParsedDistinct, distinct_of}
 use Rattle.ispc_parser.proofs.Tokens.{name_sound}
 use Rattle.ispc_parser.proofs.PartsSound.{declaration_sound, simple_sound}
 use Rattle.std.proofs.lemmas.Option.{same_Some}
-use Rattle.ispc_lexer.proofs.Runs.{which}
+use Rattle.ispc_lexer.proofs.Runs.{which, bind_some, chosen}
 
 -- ---- what commas separate
 

@@ -8,7 +8,8 @@ use Rattle.gang_model.specs.Source.Parsed.{ParsedItem, ParsedSource}
 use Rattle.source_answers.specs.declared.fault.SourceFault.{SourceFault}
 use Rattle.ispc_lexer.specs.declared.token.Token.{Token}
 use Rattle.ispc_lexer.specs.Views.{lexemes_of}
-use Rattle.ispc_parser_expressions.specs.Parse.{◌>>=◌, Fails}
+use Rattle.ispc_lexer.specs.Options.{◌>>=◌}
+use Rattle.ispc_parser_expressions.specs.Parse.{Fails}
 use Rattle.ispc_parser.specs.Source.{is_empty, item_of, items_of}
 use Rattle.ispc_parser.proofs.Fails.{fails_when}
 

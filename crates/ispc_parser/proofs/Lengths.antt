@@ -8,7 +8,7 @@ use Rattle.gang_model.specs.Source.Tokens.{named, marked, Lexeme}
 use Rattle.gang_model.specs.Source.Parsed.{Name, ParsedExpr, ParsedDim, ParsedTarget, ParsedStmt, ParsedEmpty, ParsedBlock, ParsedDeclare, ParsedAssign, ParsedChange, ParsedIncrement, ParsedDoCall, ParsedBreak, ParsedContinue, ParsedReturn, ParsedIf, ParsedIfElse, ParsedWhile, ParsedDo, ParsedFor, ParsedSwitch, ParsedForEach, ParsedForEachActive, ParsedForEachUnique, ParsedStmts, ParsedLast, ParsedNext}
 use Rattle.gang_model.specs.Source.Spells.{TakesAt, any_level, WholeExpr, WholeArgs}
 use Rattle.gang_model.specs.Source.SpellsStatements.{TakesEither, Maybe, InParens, InBrackets, SpellsList, SpellsSpec, SpellsValue, SpellsDeclaration, SpellsTarget, SpellsSimple, SpellsStart, SpellsUpdate, SpellsRounds, SpellsDim, SpellsDims, foreach_word, SpellsDistinct, OpensBody, SpellsStmt, SpellsStmts}
-use Rattle.ispc_parser_expressions.proofs.Tools.{opened}
+use Rattle.gang_model.proofs.NestingLaws.{opened}
 use Rattle.ispc_parser_expressions.proofs.Starts.{words_shorter, takes_shorter, at_shorter, spelled_shorter, items_shorter}
 
 -- ---- tokens

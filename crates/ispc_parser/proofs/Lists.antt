@@ -3,7 +3,8 @@ use Rattle.std.proofs.Common.{◌≡◌, ℕ, zero, suc, List, [], ◌∷◌, �
 use Rattle.gang_model.specs.declared.marks.Mark.TheVariants as mark
 use Rattle.gang_model.specs.Source.Tokens.{Lexeme}
 use Rattle.source_answers.specs.declared.fault.SourceFault.{SourceFault}
-use Rattle.ispc_parser_expressions.specs.Parse.{◌>>=◌, Fails, take}
+use Rattle.ispc_lexer.specs.Options.{◌>>=◌}
+use Rattle.ispc_parser_expressions.specs.Parse.{Fails, take}
 use Rattle.ispc_parser.specs.Parts.{Reader, list_of}
 use Rattle.ispc_parser.proofs.Fails.{fails_when}
 

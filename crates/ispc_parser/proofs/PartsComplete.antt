@@ -12,7 +12,8 @@ use Rattle.gang_model.specs.Source.Parsed.{Name, ParsedExpr, ParsedTarget, Parse
 use Rattle.gang_model.specs.Source.Spells.{Takes, TakesAt, Stops, any_level, WholeExpr, WholeArgs}
 use Rattle.gang_model.specs.Source.SpellsStatements.{BeginsAt, Maybe, InBrackets, SpellsValue, SpellsDeclaration, SpellsTarget, change_of, increment_of, SpellsSimple}
 use Rattle.ispc_parser_expressions.specs.Parse.{begins, is_mark, whole_args}
-use Rattle.ispc_parser_expressions.proofs.Tools.{opened, take_again, begins_again}
+use Rattle.gang_model.proofs.NestingLaws.{opened}
+use Rattle.ispc_parser_expressions.proofs.Tools.{take_again, begins_again}
 use Rattle.ispc_parser_expressions.proofs.Starts.{takes_at}
 use Rattle.ispc_parser_expressions.proofs.Follows.{stops_at, not_begins}
 use Rattle.ispc_parser_expressions.proofs.Whole.{whole_complete, args_complete}

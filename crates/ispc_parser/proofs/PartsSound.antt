@@ -10,14 +10,14 @@ use Rattle.gang_model.specs.Source.Parsed.{Name, ParsedExpr, ParsedTarget, Parse
 use Rattle.gang_model.specs.Source.Spells.{Takes, TakesAt, WholeExpr, WholeArgs}
 use Rattle.gang_model.specs.Source.SpellsStatements.{BeginsAt, Maybe, InBrackets, SpellsValue, SpellsDeclaration, SpellsTarget, change_of, increment_of, SpellsSimple}
 use Rattle.ispc_parser_expressions.specs.Parse.{begins, take, mark_of, whole_expr, whole_args}
-use Rattle.ispc_parser_expressions.proofs.Tools.{bind_some, chosen, take_takes}
+use Rattle.ispc_parser_expressions.proofs.Tools.{take_takes}
 use Rattle.ispc_parser_expressions.proofs.Starts.{takes_at}
 use Rattle.ispc_parser_expressions.proofs.Whole.{whole_sound, args_sound}
 use Rattle.ispc_parser.specs.Parts.{enter, name_of, in_parens, local_spec_of, value_of, declaration_of, index_of, target_of, changed_of, assigned_of, call_of, named_of, incremented_of, simple_at, simple_of}
 use Rattle.ispc_parser.proofs.Tokens.{opens_here, begins_at, first_at, enter_sound, in_parens_sound, name_sound, local_spec_sound}
 use Rattle.ispc_parser_expressions.proofs.Tools.{mark_of_is}
 use Rattle.std.proofs.lemmas.Option.{same_Some}
-use Rattle.ispc_lexer.proofs.Runs.{which}
+use Rattle.ispc_lexer.proofs.Runs.{which, bind_some, chosen}
 
 module _ (d : ℕ) where
   pub value_sound : (o : Option ParsedExpr) (ts rest : List Lexeme) → value_of d ts ≡ Some (o, rest) → Maybe (SpellsValue d) o ts rest

@@ -12,7 +12,8 @@ use Rattle.gang_model.specs.Source.Parsed.{Name, ParsedParam, ParsedFunction, Pa
 use Rattle.gang_model.specs.Source.Spells.{Takes, TakesAt, Stops, any_level, truth_mark}
 use Rattle.gang_model.specs.Source.SpellsStatements.{SpellsList, SpellsStmts}
 use Rattle.gang_model.specs.Source.SpellsSource.{max_params, SpellsEmptyBrackets, SpellsParam, SpellsParams, SpellsFunction, SpellsLiteral, SpellsForm, SpellsGlobal, SpellsItem, IsTree}
-use Rattle.ispc_parser_expressions.specs.Parse.{◌>>=◌, begins, begins_word, take, after_words}
+use Rattle.ispc_lexer.specs.Options.{◌>>=◌}
+use Rattle.ispc_parser_expressions.specs.Parse.{begins, begins_word, take, after_words}
 use Rattle.ispc_parser_expressions.proofs.Tools.{mark_is, take_takes, take_again, begins_again}
 use Rattle.ispc_parser_expressions.proofs.Starts.{takes_at, takes_shorter, at_shorter}
 use Rattle.ispc_parser_expressions.proofs.SpecWords.{words_again, words_begin}

@@ -13,7 +13,7 @@ use Rattle.gang_model.specs.Source.Spells.{Takes, TakesAt, Opens}
 use Rattle.gang_model.specs.Source.SpellsStatements.{SpellsSpec, SpellsList, SpellsStmts}
 use Rattle.gang_model.specs.Source.SpellsSource.{max_nesting, max_params, SpellsEmptyBrackets, SpellsParam, SpellsParams, SpellsLiteral, SpellsForm, SpellsItem, IsTree}
 use Rattle.ispc_parser_expressions.specs.Parse.{begins, take, spec_at}
-use Rattle.ispc_parser_expressions.proofs.Tools.{bind_some, chosen, take_takes}
+use Rattle.ispc_parser_expressions.proofs.Tools.{take_takes}
 use Rattle.ispc_parser.specs.Parts.{take_at, name_of, local_spec_of}
 use Rattle.ispc_parser.specs.Statements.{within, parsers}
 use Rattle.ispc_parser.specs.Source.{brackets_of, param_of, some_params_of, lone_void, params_of, Body, function_body_of, function_of, Digits, digits_in, number_of, signed, literal_of, form_of, global_of, declared_of, is_outer, outer_spec_of, item_of, is_empty, items_of, tree_of}
@@ -21,7 +21,7 @@ use Rattle.ispc_parser.proofs.Tokens.{take_at_sound, name_sound, spec_sound, loc
 use Rattle.ispc_parser.proofs.HeadsSound.{list_sound}
 use Rattle.ispc_parser.proofs.StatementsSound.{within_sound, parsers_sound}
 use Rattle.std.proofs.lemmas.Option.{same_Some}
-use Rattle.ispc_lexer.proofs.Runs.{which}
+use Rattle.ispc_lexer.proofs.Runs.{which, bind_some, chosen}
 
 -- ---- functions
 

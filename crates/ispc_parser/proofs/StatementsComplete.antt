@@ -8,7 +8,8 @@ use Rattle.gang_model.specs.Source.Parsed.{ParsedStmt, ParsedEmpty, ParsedBlock,
 use Rattle.gang_model.specs.Source.Spells.{Takes, TakesAt, Opens, any_level}
 use Rattle.gang_model.specs.Source.SpellsStatements.{TakesEither, BeginsAt, SpellsSimple, foreach_word, OpensBody, SpellsStmt, SpellsStmts}
 use Rattle.ispc_parser_expressions.specs.Parse.{begins, begins_word, is_mark, spec_word}
-use Rattle.ispc_parser_expressions.proofs.Tools.{opened, take_again, begins_again}
+use Rattle.gang_model.proofs.NestingLaws.{opened}
+use Rattle.ispc_parser_expressions.proofs.Tools.{take_again, begins_again}
 use Rattle.ispc_parser_expressions.proofs.Starts.{takes_at}
 use Rattle.ispc_parser_expressions.proofs.Follows.{stops_at}
 use Rattle.ispc_parser.specs.declared.words.Loop.{Loop}

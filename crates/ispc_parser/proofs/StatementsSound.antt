@@ -8,7 +8,7 @@ use Rattle.gang_model.specs.Source.Parsed.{ParsedExpr, ParsedStmt, ParsedEmpty, 
 use Rattle.gang_model.specs.Source.Spells.{Takes, TakesAt, WholeExpr}
 use Rattle.gang_model.specs.Source.SpellsStatements.{TakesEither, SpellsDeclaration, SpellsSimple, SpellsRounds, SpellsDims, SpellsDistinct, foreach_word, OpensBody, SpellsStmt, SpellsStmts}
 use Rattle.ispc_parser_expressions.specs.Parse.{begins, begins_word, take, whole_expr}
-use Rattle.ispc_parser_expressions.proofs.Tools.{bind_some, take_takes, begins_again}
+use Rattle.ispc_parser_expressions.proofs.Tools.{take_takes, begins_again}
 use Rattle.ispc_parser_expressions.proofs.Starts.{takes_at}
 use Rattle.ispc_parser_expressions.proofs.Whole.{whole_sound}
 use Rattle.ispc_parser.specs.declared.words.Loop.{Loop}
@@ -24,7 +24,7 @@ use Rattle.ispc_parser.proofs.Tokens.{opens_here, not_next, first_at, take_at_so
 use Rattle.ispc_parser.proofs.PartsSound.{declaration_sound, simple_sound}
 use Rattle.ispc_parser.proofs.HeadsSound.{optional_sound, rounds_sound, dims_sound, distinct_sound}
 use Rattle.std.proofs.lemmas.Option.{same_Some}
-use Rattle.ispc_lexer.proofs.Runs.{which}
+use Rattle.ispc_lexer.proofs.Runs.{which, bind_some}
 
 -- ---- first words
 

@@ -10,11 +10,12 @@ use Rattle.gang_model.specs.Source.Specs.{spec_of}
 use Rattle.gang_model.specs.Source.Spells.{Takes, TakesAt, Opens}
 use Rattle.gang_model.specs.Source.SpellsStatements.{NotNext, BeginsAt, InParens, SpellsSpec, IsLocal}
 use Rattle.ispc_parser_expressions.specs.Parse.{begins, begins_word, take, is_mark, words_of, after_words, spec_at}
-use Rattle.ispc_parser_expressions.proofs.Tools.{bind_some, opened, mark_is, is_mark-same, take_takes, take_again, begins_again}
+use Rattle.gang_model.proofs.NestingLaws.{opened}
+use Rattle.ispc_parser_expressions.proofs.Tools.{mark_is, is_mark-same, take_takes, take_again, begins_again}
 use Rattle.ispc_parser_expressions.proofs.SpecWords.{words_taken, words_again}
 use Rattle.ispc_parser.specs.Parts.{Reader, deeper, enter, take_at, name_in, name_of, in_parens, is_local, local_spec_of}
 use Rattle.std.proofs.lemmas.Option.{same_Some}
-use Rattle.ispc_lexer.proofs.Runs.{which}
+use Rattle.ispc_lexer.proofs.Runs.{which, bind_some}
 
 -- ---- marks
 

@@ -1,10 +1,11 @@
 -- What stands between the word of a loop or a foreach form and its body, by descent.
-use Rattle.std.specs.Prelude.{ℕ, Bool, List, [], ◌∷◌, Option, Some, None, if◌then◌else◌, map}
+use Rattle.std.specs.Prelude.{ℕ, Bool, List, [], ◌∷◌, Option, Some, None, if◌then◌else◌, map, option_map}
 use Rattle.gang_types.specs.declared.places.Place.{Place}
 use Rattle.gang_model.specs.declared.marks.Mark.TheVariants as mark
 use Rattle.gang_model.specs.Source.Parsed.{Name, ParsedExpr, ParsedDim, ParsedStmt, ParsedEmpty, ParsedWhile, ParsedFor, ParsedForEach, ParsedForEachActive, ParsedForEachUnique}
 use Rattle.gang_model.specs.Source.SpellsStatements.{max_dims}
-use Rattle.ispc_parser_expressions.specs.Parse.{◌>>=◌, begins, begins_word, take, is_mark, whole_expr}
+use Rattle.ispc_lexer.specs.Options.{◌>>=◌}
+use Rattle.ispc_parser_expressions.specs.Parse.{begins, begins_word, take, is_mark, whole_expr}
 use Rattle.ispc_parser_expressions.specs.Tree.{expr_view}
 use Rattle.ispc_parser.specs.declared.words.Loop.{Loop}
 use Rattle.ispc_parser.specs.declared.words.Loop.TheVariants as loop
@@ -12,7 +13,7 @@ use Rattle.ispc_parser.specs.declared.heads.Rounds.{Rounds}
 use Rattle.ispc_parser.specs.declared.heads.Distinct.{Distinct}
 use Rattle.ispc_parser.specs.declared.heads.Head.{Head}
 use Rattle.ispc_parser.specs.declared.heads.Head.TheVariants as head
-use Rattle.ispc_parser.specs.Tree.{option_view, dim_view, stmt_view}
+use Rattle.ispc_parser.specs.Tree.{dim_view, stmt_view}
 use Rattle.ispc_parser.specs.Parts.{Reader, name_of, in_parens, list_of, declaration_of, simple_of}
 
 -- an expression, which may be missing, before a `;`
@@ -80,7 +81,7 @@ head_of loop.ForEachUnique d at ts = in_parens distinct_of d ts >>= λ v. Some (
 -- ---- views
 
 abbrev pub rounds_view : Rounds → ParsedRounds
-rounds_view r = record { start = stmt_view r.start; test = option_view expr_view r.test; update = stmt_view r.update }
+rounds_view r = record { start = stmt_view r.start; test = option_map expr_view r.test; update = stmt_view r.update }
 
 abbrev pub distinct_view : Distinct → ParsedDistinct
 distinct_view v = record { at = v.name.place; name = v.name.text.items; value = expr_view v.value }

@@ -9,7 +9,8 @@ use Rattle.gang_model.specs.declared.forms.Spec.{Spec}
 use Rattle.gang_model.specs.Source.Tokens.{Sort, named, numbered, marked, Lexeme}
 use Rattle.gang_model.specs.Source.Parsed.{Name, ParsedExpr, ParsedTarget, ParsedStmt, ParsedDeclare, ParsedAssign, ParsedChange, ParsedIncrement, ParsedDoCall}
 use Rattle.gang_model.specs.Source.SpellsStatements.{change_of, increment_of}
-use Rattle.ispc_parser_expressions.specs.Parse.{◌>>=◌, if_some, begins, take, mark_of, is_mark, spec_at, whole_expr, whole_args}
+use Rattle.ispc_lexer.specs.Options.{◌>>=◌, if_some}
+use Rattle.ispc_parser_expressions.specs.Parse.{begins, take, mark_of, is_mark, spec_at, whole_expr, whole_args}
 use Rattle.ispc_parser.specs.declared.front.Identifier.{Identifier}
 
 abbrev pub Reader : Type 0 → Type 0
@@ -41,10 +42,6 @@ name_of (t ∷ ts) = name_in t.sort >>= λ n. Some ((t.place, n), ts)
 
 abbrev pub name_view : Identifier → Place × Name
 name_view n = (n.place, n.text.items)
-
-abbrev pub first_place : List Lexeme → Place → Place
-first_place [] end = end
-first_place (t ∷ ts) end = t.place
 
 -- ( .. )
 unfoldable pub in_parens : {A : Type 0} → (ℕ → Reader A) → ℕ → Reader A

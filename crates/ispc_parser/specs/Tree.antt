@@ -1,5 +1,5 @@
 -- Trees, without where they lie in memory.
-use Rattle.std.specs.Prelude.{List, [], ◌∷◌, Option, Some, None, map}
+use Rattle.std.specs.Prelude.{List, [], ◌∷◌, Option, Some, None, map, option_map}
 use Rattle.gang_types.specs.declared.places.Place.{Place}
 use Rattle.gang_model.specs.Source.Parsed.{ParsedExpr, ParsedDim, ParsedTarget, ParsedStmt, ParsedEmpty, ParsedBlock, ParsedDeclare, ParsedAssign, ParsedChange, ParsedIncrement, ParsedDoCall, ParsedBreak, ParsedContinue, ParsedReturn, ParsedIf, ParsedIfElse, ParsedWhile, ParsedDo, ParsedFor, ParsedForEach, ParsedForEachActive, ParsedForEachUnique, ParsedStmts, ParsedLast, ParsedNext, ParsedParam, ParsedFunction, ParsedGlobal, ParsedItem, ParsedFunctionItem, ParsedGlobalItem, ParsedSource}
 use Rattle.ispc_parser_expressions.specs.Tree.{expr_view, args_view}
@@ -13,12 +13,8 @@ use Rattle.ispc_parser.specs.declared.tree.Target.{Target}
 use Rattle.ispc_parser.specs.declared.tree.Dim.{Dim}
 use Rattle.ispc_parser.specs.declared.tree.Stmt.{Stmt, Empty, Block', Declare, Assign, Change, Increment, Call, Break, Continue, Return, If', While', Do', For', ForEach', ForEachActive', ForEachUnique', Held-Stmt-If-3, None', Some', Row_of-Stmt, end_of-Stmt, more_of-Stmt}
 
-abbrev pub option_view : {A B : Type 0} → (A → B) → Option A → Option B
-option_view f None = None
-option_view f (Some x) = Some (f x)
-
 abbrev pub target_view : Target → ParsedTarget
-target_view t = record { at = t.place; name = t.name.items; index = option_view expr_view t.index }
+target_view t = record { at = t.place; name = t.name.items; index = option_map expr_view t.index }
 
 abbrev pub dim_view : Dim → ParsedDim
 dim_view d = record { at = d.place; name = d.name.items; low = expr_view d.low; high = expr_view d.high }
@@ -27,18 +23,18 @@ abbrev mutual
   pub stmt_view : Stmt → ParsedStmt
   stmt_view Empty = ParsedEmpty
   stmt_view (Block' shape ss) = ParsedBlock (row_view ss)
-  stmt_view (Declare at spec name_at name value) = ParsedDeclare at spec name_at name.items (option_view expr_view value)
+  stmt_view (Declare at spec name_at name value) = ParsedDeclare at spec name_at name.items (option_map expr_view value)
   stmt_view (Assign at target e) = ParsedAssign at (target_view target) (expr_view e)
   stmt_view (Change at target op e) = ParsedChange at (target_view target) op (expr_view e)
   stmt_view (Increment at target op) = ParsedIncrement at (target_view target) op
   stmt_view (Call at name es) = ParsedDoCall at name.items (args_view es.items)
   stmt_view (Break at) = ParsedBreak at
   stmt_view (Continue at) = ParsedContinue at
-  stmt_view (Return at e) = ParsedReturn at (option_view expr_view e)
+  stmt_view (Return at e) = ParsedReturn at (option_map expr_view e)
   stmt_view (If' at e p x other) = if_view at (expr_view e) (stmt_view x) other
   stmt_view (While' at e p x) = ParsedWhile at (expr_view e) (stmt_view x)
   stmt_view (Do' p x at e) = ParsedDo (stmt_view x) at (expr_view e)
-  stmt_view (For' at p start test q update r x) = ParsedFor at (stmt_view start) (option_view expr_view test) (stmt_view update) (stmt_view x)
+  stmt_view (For' at p start test q update r x) = ParsedFor at (stmt_view start) (option_map expr_view test) (stmt_view update) (stmt_view x)
   stmt_view (ForEach' at is_tiled dims p x) = ParsedForEach at is_tiled (map dim_view dims.items) (stmt_view x)
   stmt_view (ForEachActive' at name_at name p x) = ParsedForEachActive at name_at name.items (stmt_view x)
   stmt_view (ForEachUnique' at name_at name e p x) = ParsedForEachUnique at name_at name.items (expr_view e) (stmt_view x)

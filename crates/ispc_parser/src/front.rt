@@ -1,7 +1,7 @@
 //! What stands at the front of the tokens, and refusals there.
 ghost use Rattle.std.specs.Prelude.{◌≡◌, IfOk};
 ghost use Rattle.ispc_lexer.specs.Views.{lexemes_of};
-ghost use Rattle.ispc_parser_expressions.specs.Parse.{Gives};
+ghost use Rattle.ispc_parser_expressions.specs.Parse.{Gives, first_place};
 ghost use Rattle.ispc_parser.specs.Parts as spec;
 ghost use Rattle.ispc_parser.specs.Parts.{name_view};
 
@@ -31,7 +31,7 @@ pub(crate) struct Identifier {
 
 /// A refusal at the first of the tokens, or at the end of the source where there is none.
 pub(crate) fn refused_at(number: RefusalNumber, tokens: &[Token], end: Place) -> SourceFault
-    ensures { result ≡ SourceFault.Refused (record { number = number; place = spec.first_place (lexemes_of tokens.now) end }) }
+    ensures { result ≡ SourceFault.Refused (record { number = number; place = first_place (lexemes_of tokens.now) end }) }
 {
     let place = match tokens {
         [] => end,

@@ -1,9 +1,9 @@
 //! What stands between the word of a loop or a foreach form and its body.
-ghost use Rattle.std.specs.Prelude.{map};
+ghost use Rattle.std.specs.Prelude.{map, option_map};
 ghost use Rattle.ispc_lexer.specs.Views.{lexemes_of};
 ghost use Rattle.ispc_parser_expressions.specs.Tree.{expr_view};
 ghost use Rattle.ispc_parser_expressions.specs.Parse.{Gives, whole_expr};
-ghost use Rattle.ispc_parser.specs.Tree.{option_view, dim_view, stmt_view};
+ghost use Rattle.ispc_parser.specs.Tree.{dim_view, stmt_view};
 ghost use Rattle.ispc_parser.specs.Parts.{name_view, name_of, in_parens};
 ghost use Rattle.ispc_parser.specs.Refusals.{IsRefusal};
 ghost use Rattle.ispc_parser.specs.Heads as spec;
@@ -77,7 +77,7 @@ pub(crate) fn test(context: Context, depth: u32, tokens: &[Token]) -> Read<'_, E
 /// An expression before a `;`, which may be missing.
 #[tactic(auto, unfolding(crate::specs::Heads::optional_of))]
 pub(crate) fn optional(context: Context, depth: u32, tokens: &[Token]) -> Read<'_, Option<Expr>>
-    ensures { Gives (λ x. (option_view expr_view x.0, lexemes_of x.1.now)) result
+    ensures { Gives (λ x. (option_map expr_view x.0, lexemes_of x.1.now)) result
         (spec.optional_of depth (lexemes_of tokens.now)) }
 {
     if begins(Mark::Semicolon, tokens) {

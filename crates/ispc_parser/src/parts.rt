@@ -1,10 +1,10 @@
 //! Declarations, assignments and calls, without the `;` that ends them.
-ghost use Rattle.std.specs.Prelude.{◌≡◌};
+ghost use Rattle.std.specs.Prelude.{◌≡◌, option_map};
 ghost use Rattle.ispc_lexer.specs.Views.{sort_of, lexemes_of};
 ghost use Rattle.gang_model.specs.Source.SpellsStatements as grammar;
 ghost use Rattle.ispc_parser_expressions.specs.Tree.{expr_view};
 ghost use Rattle.ispc_parser_expressions.specs.Parse.{Gives};
-ghost use Rattle.ispc_parser.specs.Tree.{option_view, target_view, stmt_view};
+ghost use Rattle.ispc_parser.specs.Tree.{target_view, stmt_view};
 ghost use Rattle.ispc_parser.specs.Parts as spec;
 ghost use Rattle.ispc_parser.specs.Parts.{name_view};
 
@@ -50,7 +50,7 @@ fn increment_of(mark: Mark) -> Option<BinaryOp>
 /// `= e`, which may be missing.
 #[tactic(auto, unfolding(crate::specs::Parts::value_of))]
 fn value(context: Context, depth: u32, tokens: &[Token]) -> Read<'_, Option<Expr>>
-    ensures { Gives (λ x. (option_view expr_view x.0, lexemes_of x.1.now)) result
+    ensures { Gives (λ x. (option_map expr_view x.0, lexemes_of x.1.now)) result
         (spec.value_of depth (lexemes_of tokens.now)) }
 {
     if !begins(Mark::Assign, tokens) {
@@ -88,7 +88,7 @@ pub(crate) fn declaration(
 /// `[ e ]`, which may be missing.
 #[tactic(auto, unfolding(crate::specs::Parts::index_of))]
 fn index(context: Context, depth: u32, tokens: &[Token]) -> Read<'_, Option<Expr>>
-    ensures { Gives (λ x. (option_view expr_view x.0, lexemes_of x.1.now)) result
+    ensures { Gives (λ x. (option_map expr_view x.0, lexemes_of x.1.now)) result
         (spec.index_of depth (lexemes_of tokens.now)) }
 {
     if !begins(Mark::LeftBracket, tokens) {

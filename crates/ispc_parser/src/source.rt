@@ -1,7 +1,7 @@
 //! Functions, file-scope variables and whole sources.
-ghost use Rattle.std.specs.Prelude.{◌≡◌, map};
+ghost use Rattle.std.specs.Prelude.{◌≡◌, map, option_map};
 ghost use Rattle.ispc_lexer.specs.Views.{sort_of, lexemes_of};
-ghost use Rattle.ispc_parser_expressions.specs.Parse.{Gives, shown};
+ghost use Rattle.ispc_parser_expressions.specs.Parse.{Gives};
 ghost use Rattle.ispc_parser.specs.Tree.{param_view, item_view};
 ghost use Rattle.ispc_parser.specs.Parts.{name_view};
 ghost use Rattle.ispc_parser.specs.Source as spec;
@@ -89,7 +89,7 @@ fn some_params(context: Context, tokens: &[Token]) -> Read<'_, Vec<Param>>
 /// The tokens after `void`, where it stands alone before a `)`.
 #[tactic(auto, unfolding(crate::specs::Source::lone_void))]
 fn lone_void(tokens: &[Token]) -> Option<&[Token]>
-    ensures { shown (λ rest. lexemes_of rest.now) result ≡ spec.lone_void (lexemes_of tokens.now) }
+    ensures { option_map (λ rest. lexemes_of rest.now) result ≡ spec.lone_void (lexemes_of tokens.now) }
 {
     let rest = after(Mark::Void, tokens)?;
     if begins(Mark::RightParen, rest) {

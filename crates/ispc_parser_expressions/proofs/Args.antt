@@ -7,7 +7,7 @@ use Rattle.gang_model.specs.Source.Spells.{Takes, TakesAt, Opens, Separates, any
 use Rattle.ispc_parser_expressions.specs.declared.budget.Budget.{Budget}
 use Rattle.ispc_parser_expressions.specs.declared.budget.Budget.TheVariants as budget
 use Rattle.ispc_parser_expressions.specs.Tree.{ParsedArg, OfValue, OfPart, OfPartFrom, with_arg}
-use Rattle.ispc_parser_expressions.proofs.Tools.{opened}
+use Rattle.gang_model.proofs.NestingLaws.{opened}
 use Rattle.ispc_parser_expressions.proofs.Starts.{takes_shorter, at_shorter, spelled_shorter}
 
 -- the tokens are the argument's, and then the rest

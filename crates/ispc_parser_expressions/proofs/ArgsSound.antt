@@ -8,11 +8,11 @@ use Rattle.ispc_parser_expressions.specs.declared.budget.Budget.{Budget}
 use Rattle.ispc_parser_expressions.specs.declared.budget.Budget.TheVariants as budget
 use Rattle.ispc_parser_expressions.specs.Tree.{ParsedArg, OfValue, OfPart, OfPartFrom, with_arg}
 use Rattle.ispc_parser_expressions.specs.Parse.{begins, take, spend, Below, bracket_of, expr_of, part_at, part_of, arg_of, own_arg, counted, more_of, args_of, within, parsers}
-use Rattle.ispc_parser_expressions.proofs.Tools.{bind_some, chosen, spend_is, take_takes}
+use Rattle.ispc_parser_expressions.proofs.Tools.{spend_is, take_takes}
 use Rattle.ispc_parser_expressions.proofs.Args.{SpellsArg, arg_weight, items_spelled, Counts, CountsAll, counts_none, counts_more}
 use Rattle.ispc_parser_expressions.proofs.Sound.{IsSound, bracket_sound, operand_sound, expr_sound}
 use Rattle.std.proofs.lemmas.Option.{same_Some}
-use Rattle.ispc_lexer.proofs.Runs.{which}
+use Rattle.ispc_lexer.proofs.Runs.{which, bind_some, chosen}
 
 abbrev pub ReadArg : Type 0
 ReadArg = ParsedArg × ℕ × List Lexeme

@@ -14,7 +14,8 @@ use Rattle.gang_model.specs.Source.Specs.{spec_of, cast_part, cast_spec_of}
 use Rattle.gang_model.specs.Source.Parsed.{Name, ParsedExpr, ParsedNumber, ParsedBool, ParsedName, ParsedIndex, ParsedCall, ParsedParen, ParsedUnary, ParsedCast, ParsedBinary, ParsedChoice, ParsedArgs}
 use Rattle.gang_model.specs.Source.Spells.{Takes, TakesAt, TakesWords, Opens, truth_mark, unary_mark, infix_mark, level, binary_levels, any_level, SpellsExpr, SpellsArgs, weight, args_weight, Stops}
 use Rattle.ispc_parser_expressions.specs.Parse.{take, operator_at, begins_word, cast_spec_at, spend, Below, bracket_of, index_of, call_of, name_of, cast_of, paren_of, group_of, unary_of, marked_of, operand_of, chain_of, binary_of, choice_of, expr_of}
-use Rattle.ispc_parser_expressions.proofs.Tools.{opened, take_again, unary_op_again}
+use Rattle.gang_model.proofs.NestingLaws.{opened}
+use Rattle.ispc_parser_expressions.proofs.Tools.{take_again, unary_op_again}
 use Rattle.ispc_parser_expressions.proofs.SpecWords.{words_again, words_begin}
 use Rattle.ispc_parser_expressions.proofs.Starts.{starts, takes_shorter, spelled_shorter}
 use Rattle.ispc_parser_expressions.proofs.Follows.{stops_less, stops_at, stops_infix, level_below, not_begins, take_none, no_operator, operator_again, tight_or}

@@ -8,7 +8,8 @@ use Rattle.gang_model.specs.declared.forms.Infix.{Infix}
 use Rattle.gang_model.specs.declared.forms.Infix.TheVariants.{Op, AndAlso, OrElse}
 use Rattle.gang_model.specs.Source.Tokens.{Sort, named, numbered, marked, Lexeme}
 use Rattle.gang_model.specs.Source.Spells.{Takes, infix_mark, level, binary_levels, stops, Stops}
-use Rattle.ispc_parser_expressions.specs.Parse.{◌>>=◌, is_mark, begins, take, infix_of, mark_of, operator_at}
+use Rattle.ispc_lexer.specs.Options.{◌>>=◌}
+use Rattle.ispc_parser_expressions.specs.Parse.{is_mark, begins, take, infix_of, mark_of, operator_at}
 use Rattle.ispc_parser_expressions.proofs.Tools.{mark_is, infix_of_is, infix_of_again}
 
 pub stops_less : (j k : ℕ) (ts : List Lexeme) → j ≤ k → Stops k ts → Stops j ts

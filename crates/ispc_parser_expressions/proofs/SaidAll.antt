@@ -14,7 +14,8 @@ use Rattle.gang_model.specs.Source.Specs.{has, is_spec_word, are_spec_words, rat
 use Rattle.source_answers.specs.declared.fault.SourceFault.{SourceFault}
 use Rattle.source_answers.specs.declared.fault.SourceFault.TheVariants as faults
 use Rattle.ispc_parser_expressions.specs.declared.words.Words.{Words}
-use Rattle.ispc_parser_expressions.specs.Parse.{◌>>=◌, if_some, Fails, spec_word, words_of, after_words, spec_at, cast_spec_at}
+use Rattle.ispc_lexer.specs.Options.{◌>>=◌, if_some}
+use Rattle.ispc_parser_expressions.specs.Parse.{Fails, spec_word, words_of, after_words, spec_at, cast_spec_at}
 use Rattle.ispc_parser_expressions.specs.Words.{no_words, is_some, with_unsigned, with_type, with_word, words_from, said, said_at}
 use Rattle.ispc_parser_expressions.proofs.SpecWords.{spec_word_is}
 use Rattle.ispc_parser_expressions.proofs.SpecOrder.{same_mark, names_type, spec_of-middle}

@@ -8,7 +8,8 @@ use Rattle.gang_model.specs.Source.Specs.{has, is_spec_word, are_spec_words, spe
 use Rattle.gang_model.specs.Source.Spells.{TakesWords}
 use Rattle.ispc_lexer.specs.declared.token.Token.{Token}
 use Rattle.ispc_lexer.specs.Views.{lexemes_of}
-use Rattle.ispc_parser_expressions.specs.Parse.{◌>>=◌, if_some, spec_word, words_of, after_words, begins_word, next_word}
+use Rattle.ispc_lexer.specs.Options.{◌>>=◌, if_some}
+use Rattle.ispc_parser_expressions.specs.Parse.{spec_word, words_of, after_words, begins_word, next_word}
 use Rattle.std.proofs.lemmas.Option.{same_Some}
 use Rattle.ispc_lexer.proofs.Runs.{which}
 

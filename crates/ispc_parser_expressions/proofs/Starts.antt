@@ -9,7 +9,7 @@ use Rattle.gang_model.specs.Source.Tokens.{Sort, named, numbered, marked, Lexeme
 use Rattle.gang_model.specs.Source.Parsed.{ParsedExpr, ParsedNumber, ParsedBool, ParsedName, ParsedIndex, ParsedCall, ParsedParen, ParsedUnary, ParsedCast, ParsedBinary, ParsedChoice, ParsedArgs, ParsedEnd, ParsedValue, ParsedPart, ParsedPartFrom}
 use Rattle.gang_model.specs.Source.Spells.{Takes, TakesAt, TakesWords, Separates, truth_mark, unary_mark, infix_mark, level, binary_levels, any_level, SpellsExpr, SpellsItems}
 use Rattle.ispc_parser_expressions.specs.Parse.{is_mark, begins, spec_word, begins_word}
-use Rattle.ispc_parser_expressions.proofs.Tools.{opened}
+use Rattle.gang_model.proofs.NestingLaws.{opened}
 
 pub takes_at : (s : Sort) (at : Place) (ts rest : List Lexeme) → TakesAt s at ts rest → Takes s ts rest
 takes_at s at ts rest h = record { token = h.token; is = h.is; sort_is = h.sort_is }

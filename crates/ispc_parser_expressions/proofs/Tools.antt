@@ -12,34 +12,17 @@ use Rattle.gang_model.specs.contracts.marks.Mark.{the_type}
 use Rattle.gang_model.specs.declared.forms.Infix.{Infix}
 use Rattle.gang_model.specs.declared.forms.Infix.TheVariants.{Op, AndAlso, OrElse}
 use Rattle.gang_model.specs.Source.Tokens.{Sort, named, numbered, marked, Lexeme}
-use Rattle.gang_model.specs.Source.Spells.{Takes, Opens, truth_mark, unary_mark, infix_mark, level}
-use Rattle.ispc_parser_expressions.specs.Parse.{◌>>=◌, if_some, is_mark, begins, take, unary_op, truth_of, infix_of, mark_of, operator_at, spend}
-use Rattle.ispc_lexer.proofs.Runs.{which}
+use Rattle.gang_model.specs.Source.Spells.{Takes, truth_mark, unary_mark, infix_mark, level}
+use Rattle.ispc_lexer.specs.Options.{◌>>=◌}
+use Rattle.ispc_parser_expressions.specs.Parse.{is_mark, begins, take, unary_op, truth_of, infix_of, mark_of, operator_at, spend}
+use Rattle.ispc_lexer.proofs.Runs.{bind_some, which}
 use Rattle.std.proofs.lemmas.Option.{same_Some}
 
 -- ---- results
 
-pub bind_some : {A B : Type 0} (r : Option A) (f : A → Option B) (y : B) → (r >>= f) ≡ Some y → (x : A) × (r ≡ Some x) × (f x ≡ Some y)
-bind_some None f y e = absurd cc
-bind_some (Some x) f y e = (x, refl, e)
-
-pub chosen : {A B : Type 0} (o : Option A) (f : A → B) (d z : B) → if_some o f d ≡ z → ((x : A) × (o ≡ Some x) × (f x ≡ z)) ⊎ ((o ≡ None) × (d ≡ z))
-chosen None f d z e = inr (refl, e)
-chosen (Some x) f d z e = inl (x, refl, e)
-
 pub spend_is : (room left : ℕ) → spend room ≡ Some left → room ≡ suc left
 spend_is zero left e = absurd cc
 spend_is (suc room) left e = ap (λ (n : ℕ). suc n) (same_Some room left e)
-
--- ---- nestings
-
-pub opened : (d : ℕ) (F : ℕ → Type 0) → Opens d F → (n : ℕ) × (d ≡ suc n) × F n
-opened zero F h = absurd h
-opened (suc d) F h = (d, refl, h)
-
-pub opens_as : (d : ℕ) (F G : ℕ → Type 0) → ((n : ℕ) → F n → G n) → Opens d F → Opens d G
-opens_as zero F G f h = h
-opens_as (suc d) F G f h = f d h
 
 -- ---- marks
 

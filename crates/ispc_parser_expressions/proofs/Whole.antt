@@ -6,7 +6,7 @@ use Rattle.gang_model.specs.Source.Parsed.{ParsedExpr, ParsedArgs}
 use Rattle.gang_model.specs.Source.Spells.{Takes, Stops, any_level, weight, max_weight, WholeExpr, WholeArgs}
 use Rattle.ispc_parser_expressions.specs.declared.budget.Budget.TheVariants as budget
 use Rattle.ispc_parser_expressions.specs.Parse.{expr_of, counted, args_of, parsers, whole_expr, whole_args}
-use Rattle.ispc_parser_expressions.proofs.Tools.{bind_some}
+use Rattle.ispc_lexer.proofs.Runs.{bind_some}
 use Rattle.ispc_parser_expressions.proofs.Sound.{expr_sound}
 use Rattle.ispc_parser_expressions.proofs.ArgsSound.{args_sound as all_sound, parsers_sound}
 use Rattle.ispc_parser_expressions.proofs.Starts.{spelled_shorter, items_shorter}

@@ -3,7 +3,8 @@ use Rattle.std.proofs.Common.{◌≡◌, List, [], ◌∷◌, Option, Some, None
 use Rattle.gang_model.specs.declared.marks.Mark.{Mark}
 use Rattle.gang_model.specs.Source.Tokens.{Lexeme}
 use Rattle.ispc_parser_expressions.specs.declared.words.Words.{Words}
-use Rattle.ispc_parser_expressions.specs.Parse.{◌>>=◌, if_some, spec_word, next_word}
+use Rattle.ispc_lexer.specs.Options.{◌>>=◌, if_some}
+use Rattle.ispc_parser_expressions.specs.Parse.{spec_word, next_word}
 use Rattle.ispc_parser_expressions.specs.Words.{no_words, with_word, words_from, said, said_at}
 use Rattle.std.proofs.lemmas.Option.{same_Some}
 

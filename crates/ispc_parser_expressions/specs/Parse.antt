@@ -21,23 +21,10 @@ use Rattle.source_answers.specs.declared.fault.SourceFault.{SourceFault}
 use Rattle.source_answers.specs.declared.fault.SourceFault.TheVariants as faults
 use Rattle.gang_model.specs.declared.refusals.RefusalNumber.{RefusalNumber}
 use Rattle.gang_model.specs.declared.refusals.RefusalNumber.TheVariants as numbers
+use Rattle.ispc_lexer.specs.Options.{◌>>=◌, if_some}
 use Rattle.ispc_parser_expressions.specs.declared.budget.Budget.{Budget}
 use Rattle.ispc_parser_expressions.specs.declared.budget.Budget.TheVariants as budget
 use Rattle.ispc_parser_expressions.specs.Tree.{ParsedArg, OfValue, OfPart, OfPartFrom, with_arg}
-
-infixl 10 ◌>>=◌
-abbrev pub ◌>>=◌ : {A B : Type 0} → Option A → (A → Option B) → Option B
-None >>= f = None
-(Some x) >>= f = f x
-
--- what follows where there is a value, and where there is none
-abbrev pub if_some : {A B : Type 0} → Option A → (A → B) → B → B
-if_some None f d = d
-if_some (Some x) f d = f x
-
-abbrev pub shown : {A B : Type 0} → (A → B) → Option A → Option B
-shown f None = None
-shown f (Some x) = Some (f x)
 
 -- the numbers of a parser's refusals
 abbrev pub IsParserNumber : RefusalNumber → Type 0

@@ -1,8 +1,8 @@
 //! What stands at the front of the tokens, and refusals there.
-ghost use Rattle.std.specs.Prelude.{◌≡◌, suc, IfOk};
+ghost use Rattle.std.specs.Prelude.{◌≡◌, suc, IfOk, option_map};
 ghost use Rattle.ispc_lexer.specs.Views.{sort_of, lexemes_of};
 ghost use Rattle.ispc_parser_expressions.specs.Parse as spec;
-ghost use Rattle.ispc_parser_expressions.specs.Parse.{Gives, shown, within, parsers};
+ghost use Rattle.ispc_parser_expressions.specs.Parse.{Gives, within, parsers};
 
 use gang_model::{Mark, RefusalNumber, SourceRefusal};
 use gang_types::Place;
@@ -35,7 +35,7 @@ pub fn begins(mark: Mark, tokens: &[Token]) -> bool
 /// The tokens after this mark, where it stands first.
 #[tactic(auto, unfolding(crate::specs::Parse::take))]
 pub fn after(mark: Mark, tokens: &[Token]) -> Option<&[Token]>
-    ensures { shown (λ rest. lexemes_of rest.now) result ≡ spec.take mark (lexemes_of tokens.now) }
+    ensures { option_map (λ rest. lexemes_of rest.now) result ≡ spec.take mark (lexemes_of tokens.now) }
 {
     match tokens {
         [] => None,

@@ -1,9 +1,8 @@
 //! Marks that are operators, and how loosely they bind.
-ghost use Rattle.std.specs.Prelude.{◌≡◌};
+ghost use Rattle.std.specs.Prelude.{◌≡◌, option_map};
 ghost use Rattle.ispc_lexer.specs.Views.{sort_of, lexemes_of};
 ghost use Rattle.gang_model.specs.Source.Spells.{level as level_of};
 ghost use Rattle.ispc_parser_expressions.specs.Parse as spec;
-ghost use Rattle.ispc_parser_expressions.specs.Parse.{shown};
 
 use gang_model::{Infix, Mark};
 use gang_types::{BinaryOp, Place, UnaryOp};
@@ -79,7 +78,7 @@ fn level(operator: Infix) -> u8
 /// An operator of this level that stands first, its place, and the tokens after it.
 #[tactic(auto, unfolding(crate::specs::Parse::operator_at))]
 pub(crate) fn operator_at(wanted: u8, tokens: &[Token]) -> Option<(Infix, Place, &[Token])>
-    ensures { shown (λ x. (x.0, lexemes_of x.2.now)) result ≡ spec.operator_at wanted (lexemes_of tokens.now) }
+    ensures { option_map (λ x. (x.0, lexemes_of x.2.now)) result ≡ spec.operator_at wanted (lexemes_of tokens.now) }
 {
     match tokens {
         [] => None,

@@ -1,9 +1,9 @@
 //! The words of a spec.
-ghost use Rattle.std.specs.Prelude.{◌≡◌, Bool, true, false, Some, length};
+ghost use Rattle.std.specs.Prelude.{◌≡◌, Bool, true, false, Some, length, option_map};
 ghost use Rattle.ispc_lexer.specs.Views.{sort_of, lexemes_of};
 ghost use Rattle.gang_model.specs.Source.Specs as model;
 ghost use Rattle.ispc_parser_expressions.specs.Parse as spec;
-ghost use Rattle.ispc_parser_expressions.specs.Parse.{Gives, shown};
+ghost use Rattle.ispc_parser_expressions.specs.Parse.{Gives};
 ghost use Rattle.ispc_parser_expressions.specs.Words as said_words;
 ghost use Rattle.ispc_parser_expressions.specs.Words.{said_at};
 
@@ -78,7 +78,7 @@ pub fn begins_word(tokens: &[Token]) -> bool
 
 /// The first token, where it is a word of a spec, and the tokens after it.
 fn next_word(tokens: &[Token]) -> Option<(Mark, &[Token])>
-    ensures { shown (λ x. (x.0, lexemes_of x.1.now)) result ≡ spec.next_word (lexemes_of tokens.now) }
+    ensures { option_map (λ x. (x.0, lexemes_of x.1.now)) result ≡ spec.next_word (lexemes_of tokens.now) }
 {
     match tokens {
         [] => None,

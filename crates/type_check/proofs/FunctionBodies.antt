@@ -10,15 +10,12 @@ use Rattle.gang_model.specs.Types.Signatures.{result_of}
 use Rattle.gang_model.specs.Types.Typing.{Scope}
 use Rattle.gang_model.specs.Types.Statements.{Made, statements}
 use Rattle.gang_model.specs.Types.Resolved.{global_entries, param_entries, param_variables}
+use Rattle.gang_model.proofs.VariableLaws.{params_count}
 use Rattle.source_answers.specs.declared.fault.SourceFault.TheVariants.{Refused}
 use Rattle.source_answers.specs.Answers.{Answers}
 use Rattle.source_answers.proofs.Answered.{answers-refused}
 use Rattle.type_check_parts.specs.Makes.{Makes}
 use Rattle.type_check.specs.Bodies.{WithVariables, declared_variables, judged_body, variables_made}
-
-count-params : (k : ℕ) (params : List ParsedParam) → length (param_variables k params) ≡ length params
-count-params k [] = refl
-count-params k (p ∷ params) = ap suc (count-params (suc k) params)
 
 -- what the statements of a function's body are judged to be
 abbrev pub judged_statements : (functions : List ParsedFunction) → ParsedFunction → (file : Scope) → Judged Made
@@ -32,7 +29,7 @@ statements-of_body functions f file body context entries locals b c e l =
     ap (λ x. statements x context entries (length locals) 0) b
     ∙ (ap (λ x. statements f.body x entries (length locals) 0) c
     ∙ (ap (λ x. statements f.body (record { functions = functions; result = result_of f.spec }) x (length locals) 0) e
-    ∙ ap (λ n. statements f.body (record { functions = functions; result = result_of f.spec }) (param_entries 0 f.params file) n 0) (ap length l ∙ count-params 0 f.params)))
+    ∙ ap (λ n. statements f.body (record { functions = functions; result = result_of f.spec }) (param_entries 0 f.params file) n 0) (ap length l ∙ params_count 0 f.params)))
 
 -- the statements are made
 pub body-made : {A : Type 0} (view : A → tree.Stmt) (functions : List ParsedFunction) (f : ParsedFunction) (file : Scope) (body : A) (locals after variables : List tree.Variable) (j : Judged Made)

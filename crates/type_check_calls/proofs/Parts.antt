@@ -12,7 +12,7 @@ use Rattle.gang_model.specs.Types.Tree.{Arg}
 use Rattle.gang_model.specs.Types.Typing as typing
 use Rattle.gang_model.specs.Types.Typing.{Scalar, View, Reference}
 use Rattle.gang_model.specs.Types.Overloads.{passed_args}
-use Rattle.type_check_calls.proofs.Prices.{next_item}
+use Rattle.gang_model.proofs.WalkedLists.{next_item}
 use Rattle.type_check_calls.specs.Parts.{passed_arg, with_arg}
 
 -- arguments with their numbers and parameters

@@ -1,6 +1,5 @@
 -- The costs of arguments, one by one.
 use Rattle.std.proofs.Common.{ℕ, ◌≡◌, ◌∙◌, ◌+◌, ◌<◌, refl, sym, ap, suc, List, [], ◌∷◌, ◌++◌, length, get_or, drop, append_assoc, append-nil, Option, Some, None, map}
-use Rattle.std.proofs.lemmas.List.{drop_more}
 use Rattle.std.specs.Prelude.{option_map}
 use Rattle.gang_model.specs.Source.Parsed.{ParsedParam}
 use Rattle.gang_model.specs.Types.Typing.{Passing}
@@ -49,7 +48,3 @@ costs_end all given params prices e f h =
 pub costs_init : (all : Option (List ℕ)) (prices : List ℕ) → prices ≡ [] → before prices all ≡ all
 costs_init None prices e = refl
 costs_init (Some more) prices e = ap (λ ps. Some (ps ++ more)) e
-
--- the next one of what is left
-pub next_item : {A : Type 0} (xs : List A) (i : ℕ) (x : A) → i < length xs → x ≡ get_or xs i x → drop i xs ≡ x ∷ drop (i + 1) xs
-next_item xs i x lt is = drop_more xs i x lt ∙ ap (λ y. y ∷ drop (i + 1) xs) (sym is)

@@ -1,9 +1,9 @@
 //! What calls pass.
-ghost use Rattle.std.specs.Prelude.{◌≡◌, ◌++◌, [], IfOk, OnOk, map};
+ghost use Rattle.std.specs.Prelude.{◌≡◌, ◌++◌, [], IfOk, OnOk, map, option_map};
 ghost use Rattle.gang_model.specs.Types.Overloads as overloads;
 ghost use Rattle.ispc_parser.specs.Tree.{param_view};
 ghost use Rattle.type_check_scopes.specs.Passings.{passing_view};
-ghost use Rattle.typed_tree.specs.Views.{arg_view, option_view};
+ghost use Rattle.typed_tree.specs.Views.{arg_view};
 ghost use Rattle.type_check_calls.specs.Parts as parts;
 
 use gang_types::VarId;
@@ -20,7 +20,7 @@ fn passed_arg(
     argument: Passing,
     param: &Param,
 ) -> Result<Option<Arg>, AllocError>
-    ensures passed { IfOk result (λ arg. option_view arg_view arg ≡ parts.passed_arg number (passing_view argument.entry) (param_view param.now)) }
+    ensures passed { IfOk result (λ arg. option_map arg_view arg ≡ parts.passed_arg number (passing_view argument.entry) (param_view param.now)) }
 {
     match argument {
         Passing::Scalar { value, .. } => {
@@ -45,7 +45,7 @@ fn passed_arg(
 
 /// Adds what is passed, if anything is.
 fn add_arg(args: &mut Vec<Arg>, arg: Option<Arg>) -> Result<(), AllocError>
-    ensures added { OnOk result (map arg_view args.new.items ≡ map arg_view args.old.items ++ parts.with_arg (option_view arg_view arg) []) }
+    ensures added { OnOk result (map arg_view args.new.items ≡ map arg_view args.old.items ++ parts.with_arg (option_map arg_view arg) []) }
 {
     match arg {
         Some(arg) => {

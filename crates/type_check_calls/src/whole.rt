@@ -1,11 +1,10 @@
 //! Calls that stand whole.
-ghost use Rattle.std.specs.Prelude.{◌≡◌, map};
+ghost use Rattle.std.specs.Prelude.{◌≡◌, map, option_map};
 ghost use Rattle.ispc_parser_expressions.specs.Tree.{expr_view};
 ghost use Rattle.std.specs.List.{list_any};
 ghost use Rattle.gang_model.specs.Types.Calls as calls;
 ghost use Rattle.gang_model.specs.Source.Names.{same_text};
 ghost use Rattle.ispc_parser.specs.Tree.{function_view};
-ghost use Rattle.typed_tree.specs.Views.{option_view};
 ghost use Rattle.type_check_calls.specs.Calls.{whole_call_view};
 
 use gang_types::Place;
@@ -38,7 +37,7 @@ fn gives_value(functions: &[&Function], name: &[u8]) -> bool
 
 /// The call that an expression is, parentheses left out, if it may not stand inside an expression.
 pub fn whole_call<'a>(functions: &[&Function], expr: &'a Expr) -> Option<WholeCall<'a>>
-    ensures { option_view whole_call_view result ≡ calls.whole_call (map (λ f. function_view f.now) functions.now) (expr_view expr.now) }
+    ensures { option_map whole_call_view result ≡ calls.whole_call (map (λ f. function_view f.now) functions.now) (expr_view expr.now) }
 {
     match expr {
         Expr::Paren { inner, .. } => whole_call(functions, inner),

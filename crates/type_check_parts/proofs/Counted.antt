@@ -1,14 +1,11 @@
 -- The steps of statements, counted one statement after another.
 use Rattle.std.proofs.Common.{◌≡◌, ℕ, ◌+◌, ◌<◌, ◌≤◌, List, ◌∷◌, length, drop, get_or, sym, ap, ◌∙◌, arith, Vec, Global}
-use Rattle.std.proofs.lemmas.List.{drop_more, drop_all}
+use Rattle.std.proofs.lemmas.List.{drop_all}
 use Rattle.gang_model.specs.Running.Numbering.{steps_in, steps_in_all}
+use Rattle.gang_model.proofs.WalkedLists.{next_item}
 use Rattle.ispc_parser.specs.declared.tree.Stmt.{Stmt, Block}
 use Rattle.ispc_parser.specs.Tree.{stmt_view, stmts_view}
 use Rattle.ispc_parser.proofs.Rows.{view_block}
-
--- the next item of a list
-pub next_item : {A : Type 0} (items : List A) (i : ℕ) (item : A) → i < length items → item ≡ get_or items i item → drop i items ≡ item ∷ drop (i + 1) items
-next_item items i item h e = drop_more items i item h ∙ ap (λ x. x ∷ drop (i + 1) items) (sym e)
 
 pub counted-next : (items : List Stmt) (i total steps n steps' : ℕ) (x : Stmt) → i < length items → x ≡ get_or items i x
     → steps + steps_in_all (stmts_view (drop i items)) ≡ total → n ≡ steps_in (stmt_view x) → steps' ≡ steps + n

@@ -1,5 +1,5 @@
 //! Tests.
-ghost use Rattle.std.specs.Prelude.{Some};
+ghost use Rattle.std.specs.Prelude.{Some, option_map};
 ghost use Rattle.ispc_parser_expressions.specs.Tree.{expr_view};
 ghost use Rattle.gang_model.specs.Types.Statements as model;
 ghost use Rattle.ispc_parser.specs.Tree as parsed;
@@ -36,7 +36,7 @@ pub fn some_test(
     scope: &TypeScope,
     test: &Option<Expr>,
 ) -> Result<TypedExpr, SourceFault>
-    ensures { Answers typed.expr_view result (model.test_of scope.now.entries (parsed.option_view expr_view test.now)) }
+    ensures { Answers typed.expr_view result (model.test_of scope.now.entries (option_map expr_view test.now)) }
 {
     match test {
         Some(test) => test_of(alloc, scope, test),

@@ -1,5 +1,5 @@
 //! Declarations.
-ghost use Rattle.std.specs.Prelude.{◌≡◌, ◌+◌, ◌++◌, ◌∷◌, [], IfOk, OnOk, false, length};
+ghost use Rattle.std.specs.Prelude.{◌≡◌, ◌+◌, ◌++◌, ◌∷◌, [], IfOk, OnOk, false, length, option_map};
 ghost use Rattle.gang_types.specs.declared.places.Place.{Place};
 ghost use Rattle.gang_types.specs.declared.places.VarId.TheVariants.{Local};
 ghost use Rattle.ispc_parser_expressions.specs.Tree.{expr_view};
@@ -71,7 +71,7 @@ fn declaration(
     value: &Option<Expr>,
     step: usize,
 ) -> Result<Stmt, SourceFault>
-    ensures { Answers stmt_view result (model.declaration (context_view context.now) scope.now.entries (var_view variable) (parsed.option_view expr_view value.now) step) }
+    ensures { Answers stmt_view result (model.declaration (context_view context.now) scope.now.entries (var_view variable) (option_map expr_view value.now) step) }
 {
     match value {
         Some(value) => first_value(alloc, context, scope, variable, value, step),
@@ -121,7 +121,7 @@ pub fn declare(
     scope: &mut TypeScope,
     step: &mut usize,
 ) -> Result<Answer<Stmt>, AllocError>
-    ensures typed { IfOk result (λ answer. (p : Place) → IsTyped stmt_view answer (model.statement (ParsedDeclare p spec place name.now (parsed.option_view expr_view value.now)) (context_view context.now) scope.old.entries (length scope.old.locals) step.old)
+    ensures typed { IfOk result (λ answer. (p : Place) → IsTyped stmt_view answer (model.statement (ParsedDeclare p spec place name.now (option_map expr_view value.now)) (context_view context.now) scope.old.entries (length scope.old.locals) step.old)
         scope.old.locals scope.new.locals 1) }
     ensures after { OnOk result (scope.new.entries ≡ typing.declared name.now (Local (length scope.old.locals)) spec false false ∷ scope.old.entries) }
     ensures steps { OnOk result (step.new ≡ step.old + 1) }

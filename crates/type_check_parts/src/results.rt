@@ -1,5 +1,5 @@
 //! What a function gives back.
-ghost use Rattle.std.specs.Prelude.{Some};
+ghost use Rattle.std.specs.Prelude.{Some, option_map};
 ghost use Rattle.ispc_parser_expressions.specs.Tree.{expr_view};
 ghost use Rattle.gang_model.specs.Types.Statements as model;
 ghost use Rattle.ispc_parser.specs.Tree as parsed;
@@ -98,7 +98,7 @@ pub fn returning(
     value: &Option<Expr>,
     step: usize,
 ) -> Result<Stmt, SourceFault>
-    ensures { Answers stmt_view result (model.returning (context_view context.now) scope.now.entries place (parsed.option_view expr_view value.now) step) }
+    ensures { Answers stmt_view result (model.returning (context_view context.now) scope.now.entries place (option_map expr_view value.now) step) }
 {
     match value {
         Some(value) => value_return(alloc, context, scope, value, step),

@@ -1,5 +1,5 @@
 //! Statements.
-ghost use Rattle.std.specs.Prelude.{◌≡◌, ◌+◌, ◌∷◌, IfOk, OnOk, length, map, suc};
+ghost use Rattle.std.specs.Prelude.{◌≡◌, ◌+◌, ◌∷◌, IfOk, OnOk, length, map, suc, option_map};
 ghost use Rattle.gang_types.specs.declared.places.Place.{Place};
 ghost use Rattle.gang_types.specs.declared.places.VarId.TheVariants.{Local};
 ghost use Rattle.ispc_parser_expressions.specs.Tree.{expr_view};
@@ -252,7 +252,7 @@ fn for_loop(
     scope: &mut TypeScope,
     step: &mut usize,
 ) -> Result<Answer<Stmt>, AllocError>
-    ensures typed { IfOk result (λ answer. (p : Place) → IsTyped stmt_view answer (model.statement (ParsedFor p (parsed.stmt_view start.now) (parsed.option_view expr_view test.now) (parsed.stmt_view update.now) (parsed.stmt_view body.now)) (context_view context.now) scope.old.entries (length scope.old.locals) step.old)
+    ensures typed { IfOk result (λ answer. (p : Place) → IsTyped stmt_view answer (model.statement (ParsedFor p (parsed.stmt_view start.now) (option_map expr_view test.now) (parsed.stmt_view update.now) (parsed.stmt_view body.now)) (context_view context.now) scope.old.entries (length scope.old.locals) step.old)
         scope.old.locals scope.new.locals (locals_in (parsed.stmt_view start.now) + locals_in (parsed.stmt_view update.now) + locals_in (parsed.stmt_view body.now))) }
     ensures after { OnOk result (scope.new.entries ≡ scope.old.entries) }
     ensures steps { OnOk result (step.new ≡ step.old + (steps_in (parsed.stmt_view start.now) + steps_in (parsed.stmt_view body.now) + steps_in (parsed.stmt_view update.now) + 1)) }

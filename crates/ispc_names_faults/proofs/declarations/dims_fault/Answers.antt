@@ -1,6 +1,6 @@
 use Rattle.std.proofs.Common.{◌∙◌, ◌+◌, drop, map, ap}
+use Rattle.gang_model.proofs.WalkedLists.{next_item}
 use Rattle.ispc_parser.specs.Tree.{dim_view}
-use Rattle.ispc_names_faults.proofs.Merging.{next_item}
 use Rattle.ispc_names_faults.proofs.Found.{dims_step, dims_declared}
 use Rattle.ispc_names_faults.proofs.declarations.dims_fault.Goals as goal
 

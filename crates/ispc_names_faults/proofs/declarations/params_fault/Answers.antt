@@ -1,6 +1,6 @@
 use Rattle.std.proofs.Common.{◌∙◌, ◌+◌, drop, map, ap}
+use Rattle.gang_model.proofs.WalkedLists.{next_item}
 use Rattle.ispc_parser.specs.Tree.{param_view}
-use Rattle.ispc_names_faults.proofs.Merging.{next_item}
 use Rattle.ispc_names_faults.proofs.Found.{params_step, params_declared}
 use Rattle.ispc_names_faults.proofs.declarations.params_fault.Goals as goal
 

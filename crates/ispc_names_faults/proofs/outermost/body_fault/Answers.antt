@@ -1,6 +1,6 @@
 use Rattle.std.proofs.Common.{◌∙◌, ◌+◌, drop}
+use Rattle.gang_model.proofs.WalkedLists.{next_item}
 use Rattle.ispc_names_faults.specs.MayStand.{allowed_view}
-use Rattle.ispc_names_faults.proofs.Merging.{next_item}
 use Rattle.ispc_names_faults.proofs.Found.{stmts_step, stmts_passed}
 use Rattle.ispc_names_faults.proofs.outermost.body_fault.Goals as goal
 

@@ -1,9 +1,10 @@
+use Rattle.std.specs.Prelude.{option_map}
 use Rattle.std.proofs.Common.{◌∙◌, sym, ap}
 use Rattle.gang_model.specs.Source.Judged.{least_fault}
 use Rattle.gang_model.specs.Names.NameFaults.{right_names_of, stmt_names, twice}
 use Rattle.ispc_parser_expressions.specs.Tree.{expr_view}
 use Rattle.ispc_names_scopes.specs.Scopes.{site}
-use Rattle.ispc_parser.specs.Tree.{option_view, stmt_view}
+use Rattle.ispc_parser.specs.Tree.{stmt_view}
 use Rattle.ispc_names_faults.specs.MayStand.{allowed_view}
 use Rattle.ispc_names_faults.proofs.Merging.{pair_fault}
 use Rattle.ispc_names_faults.proofs.parts.simple_fault.Goals as goal
@@ -12,7 +13,7 @@ pub returns-in_ok-in_name-in-Declare-clause-fault : goal.returns-in_ok-in_name-i
 returns-in_ok-in_name-in-Declare-clause-fault c =
     let may = allowed_view c.args.functions.now c.args.may in
     let s = c.args.scopes.now in
-    pair_fault (twice (site s) c.in-Declare.name_place c.in-Declare.name.items) (right_names_of (option_view expr_view c.in-Declare.value) may.functions s.environment) _ _ _
+    pair_fault (twice (site s) c.in-Declare.name_place c.in-Declare.name.items) (right_names_of (option_map expr_view c.in-Declare.value) may.functions s.environment) _ _ _
     (c.in_ok-in_name-in-Declare.ensures.fault ∙ ap (λ n. least_fault (twice (site s) c.in-Declare.name_place n)) c.deref.ensures.value)
     c.some_right_fault-in_value.ensures c.least.ensures
     ∙ sym (ap (λ x. least_fault (stmt_names (stmt_view x) may (site s))) c.in-Declare.is)

@@ -1,8 +1,9 @@
 use Rattle.std.proofs.Common.{◌∙◌, ◌+◌, ◌++◌, ◌∷◌, [], drop, map, ap, refl}
 use Rattle.std.proofs.lemmas.List.{drop_all}
 use Rattle.gang_model.specs.Source.Judged.{least_fault}
+use Rattle.gang_model.proofs.WalkedLists.{next_item}
 use Rattle.ispc_parser.specs.Tree.{function_view}
-use Rattle.ispc_names_faults.proofs.Merging.{next_item, all_found}
+use Rattle.ispc_names_faults.proofs.Merging.{all_found}
 use Rattle.ispc_names_faults.proofs.Collected.{later_functions, later_functions-twice, functions_step}
 use Rattle.ispc_names_faults.proofs.signatures.functions_twice_fault.Goals as goal
 

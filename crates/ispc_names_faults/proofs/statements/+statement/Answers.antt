@@ -1,16 +1,18 @@
+use Rattle.std.specs.Prelude.{option_map}
 use Rattle.std.proofs.Common.{◌≡◌, ◌∙◌, ◌+◌, drop, map, ap, sym, refl, length, arith, inl, inr}
 use Rattle.std.proofs.lemmas.List.{drop_all, length-map}
 use Rattle.gang_model.specs.Source.Judged.{least_fault}
 use Rattle.gang_model.specs.Names.NameFaults.{names_in, stmt_names}
 use Rattle.gang_model.specs.Source.Parsed.{ParsedBlock, ParsedIf, ParsedIfElse, ParsedWhile, ParsedDo, ParsedFor, ParsedForEach, ParsedForEachUnique}
 use Rattle.gang_model.specs.Names.Scope.{after_all, enclosed, locals_in, locals_in_all}
+use Rattle.gang_model.proofs.WalkedLists.{next_item}
 use Rattle.ispc_names_scopes.specs.Scopes.{site}
 use Rattle.ispc_parser_expressions.specs.Tree.{expr_view}
 use Rattle.ispc_parser.specs.declared.tree.Stmt.{If}
-use Rattle.ispc_parser.specs.Tree.{dim_view, option_view, stmt_view, stmts_view}
+use Rattle.ispc_parser.specs.Tree.{dim_view, stmt_view, stmts_view}
 use Rattle.ispc_parser.proofs.Rows.{view_block}
 use Rattle.ispc_names_faults.specs.MayStand.{allowed_view}
-use Rattle.ispc_names_faults.proofs.Merging.{pair_fault, next_item}
+use Rattle.ispc_names_faults.proofs.Merging.{pair_fault}
 use Rattle.ispc_names_faults.proofs.ScopeSteps.{marked_within, left_for, reach_entered, reach_after, reach_moved, reach_dims, reach_block, reach_same}
 use Rattle.ispc_names_faults.proofs.Found.{domain_found, rounds_found, stmts_step, stmts_passed, stmts_found, if_else_found, for_found, for_each_unique_found, found_as, found_at, after_as, while_found, do_found}
 use Rattle.ispc_names_faults.proofs.statements.+statement.Goals as goal
@@ -105,7 +107,7 @@ choice_fault-returns-clause-fault t c = λ place.
 pub for_fault-returns-clause-fault : goal.for_fault-returns-clause-fault
 for_fault-returns-clause-fault t c = λ place.
     for_found c.args.scopes.now c.enter-mark.new.self c.statement_fault.new.scopes c.update_fault.new.scopes place
-    (stmt_view c.args.start.now) (option_view expr_view c.args.test.now) (stmt_view c.args.update.now) (stmt_view c.args.body.now)
+    (stmt_view c.args.start.now) (option_map expr_view c.args.test.now) (stmt_view c.args.update.now) (stmt_view c.args.body.now)
     (allowed_view c.args.functions.now c.args.may) (allowed_view c.args.functions.now c.in_loop.result) _ _ _ _ _ _ _
     c.enter-mark.ensures.inside c.in_ok-in_start.ensures.fault c.in_ok-in_start.ensures.after
     c.some_expression_fault-in_test.ensures c.in_ok-in_update.ensures.fault c.in_ok-in_update.ensures.after
@@ -187,7 +189,7 @@ statement_fault-returns-in-While-clause-fault t c =
 pub statement_fault-returns-in-For-clause-fault : goal.statement_fault-returns-in-For-clause-fault
 statement_fault-returns-in-For-clause-fault t c =
     let p = c.in-For.place in
-    let test = option_view expr_view c.in-For.test in
+    let test = option_map expr_view c.in-For.test in
     let start = stmt_view c.deref-in-For.result.now in
     let update = stmt_view c.deref-in-For-2.result.now in
     let body = stmt_view c.deref-in-For-3.result.now in

@@ -1,3 +1,4 @@
+use Rattle.std.specs.Prelude.{option_map}
 use Rattle.std.proofs.Common.{◌≡◌, suc, ◌+◌, [], ◌∷◌, ◌++◌, refl, sym, ap, ◌∙◌, subst, arith, append_assoc, length, take, map, inl, inr, Bool}
 use Rattle.gang_types.specs.declared.places.Place.{Place}
 use Rattle.gang_types.specs.declared.places.VarId.TheVariants.{Local}
@@ -7,7 +8,7 @@ use Rattle.gang_model.specs.Names.Scope.{bound, after_all, enclosed, past, at_te
 use Rattle.gang_model.proofs.ScopeLaws.{after-next, after_all-next}
 use Rattle.ispc_parser_expressions.specs.Tree.{expr_view}
 use Rattle.ispc_parser.specs.declared.tree.Stmt.{If}
-use Rattle.ispc_parser.specs.Tree.{stmt_view, stmts_view, dim_view, option_view}
+use Rattle.ispc_parser.specs.Tree.{stmt_view, stmts_view, dim_view}
 use Rattle.ispc_parser.proofs.Rows.{view_block}
 use Rattle.ispc_names_steps.specs.Sites.{Declares, Lists, Passes, Stands}
 use Rattle.ispc_names_steps.proofs.DeclaredLists.{dims-length}
@@ -43,7 +44,7 @@ pub statement_steps-returns-in_ok-step-in-Declare-clause-stands : goal.statement
 statement_steps-returns-in_ok-step-in-Declare-clause-stands t c =
     let p = c.in-Declare.place in
     let name = c.deref-in-Declare.result.now in
-    let value = option_view expr_view c.in-Declare.value in
+    let value = option_map expr_view c.in-Declare.value in
     let e : stmt_view c.args.stmt.now ≡ ParsedDeclare p c.in-Declare.spec c.in-Declare.name_place name value =
     ap stmt_view c.in-Declare.is ∙ ap (λ x. ParsedDeclare p c.in-Declare.spec c.in-Declare.name_place x value) (sym c.deref-in-Declare.ensures.value) in
     on_ok _ _ (Passes (stmt_view c.args.stmt.now) c.args.declared.now c.declare.new.declared c.args.standings.now.items c.step.new.standings.items) c.declare.ensures.stands (λ f. λ site steps h.
@@ -256,7 +257,7 @@ statement_steps-returns-in-Some-clause-stands t c =
 pub statement_steps-returns-in-For-clause-declares : goal.statement_steps-returns-in-For-clause-declares
 statement_steps-returns-in-For-clause-declares t c =
     let p = c.in-For.place in
-    let test = option_view expr_view c.in-For.test in
+    let test = option_map expr_view c.in-For.test in
     let start = stmt_view c.deref-in-For.result.now in
     let update = stmt_view c.deref-in-For-2.result.now in
     let body = stmt_view c.deref-in-For-3.result.now in
@@ -270,7 +271,7 @@ statement_steps-returns-in-For-clause-declares t c =
 pub statement_steps-returns-in-For-clause-stands : goal.statement_steps-returns-in-For-clause-stands
 statement_steps-returns-in-For-clause-stands t c =
     let p = c.in-For.place in
-    let test = option_view expr_view c.in-For.test in
+    let test = option_map expr_view c.in-For.test in
     let start = stmt_view c.deref-in-For.result.now in
     let update = stmt_view c.deref-in-For-2.result.now in
     let body = stmt_view c.deref-in-For-3.result.now in

@@ -1,10 +1,11 @@
+use Rattle.std.specs.Prelude.{option_map}
 use Rattle.std.proofs.Common.{◌∙◌, ◌++◌, drop, length, map, sym, ap}
 use Rattle.std.proofs.lemmas.List.{length_push}
 use Rattle.std.proofs.lemmas.Iterator.{YieldsList-from_slice, YieldsList-from_zip}
 use Rattle.std.proofs.lemmas.Iterator.Adapters.{YieldsList-from_vec}
 use Rattle.std.proofs.lemmas.Iterator.Consumers.{YieldsList-from_enumerate, YieldsList-turn, YieldsList-end}
 use Rattle.std.specs.List.{enumerate_from, zip}
-use Rattle.typed_tree.specs.Views.{arg_view, option_view}
+use Rattle.typed_tree.specs.Views.{arg_view}
 use Rattle.type_check_calls.proofs.Parts.{passed_all, args_step, args_end, paired}
 use Rattle.type_check_calls.proofs.passed.passed_args.Goals as goal
 
@@ -18,7 +19,7 @@ loop-number-preserved c =
     YieldsList-from_enumerate {s = c.into_iter-number-iterator.result}
     (YieldsList-from_zip (YieldsList-from_vec c.args.given.items (cc) (cc)) (YieldsList-from_slice c.args.params.now (cc))) (cc) in
     ap (λ n. map arg_view c.add_arg.new.args.items ++ passed_all (drop n items)) (length_push c.loop-number.yielded (c.in-Some.number, (c.in-Some.argument, c.in-Some.param)))
-    ∙ args_step _ (map arg_view c.loop-number.args.items) _ items (length c.loop-number.yielded) (c.in-Some.number, (c.in-Some.argument, c.in-Some.param.now)) (option_view arg_view c.in_ok-arg.arg)
+    ∙ args_step _ (map arg_view c.loop-number.args.items) _ items (length c.loop-number.yielded) (c.in-Some.number, (c.in-Some.argument, c.in-Some.param.now)) (option_map arg_view c.in_ok-arg.arg)
     (YieldsList-turn road c.loop-number.yielded c.loop-number.number-iterator c.loop-number.yielded_by c.next.result c.next.new.self
     (c.in-Some.number, (c.in-Some.argument, c.in-Some.param)) c.in-Some.is c.next.ensures.steps)
     c.in_ok-arg.ensures.passed c.in_ok-add_arg.ensures.added c.loop-number.invariant

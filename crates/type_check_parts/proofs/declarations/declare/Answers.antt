@@ -1,8 +1,8 @@
+use Rattle.std.specs.Prelude.{option_map}
 use Rattle.std.proofs.Common.{◌∙◌, ◌∷◌, ap, false}
 use Rattle.std.proofs.lemmas.Result.{IfOk-weaker, on_ok_weaker}
 use Rattle.gang_types.specs.declared.places.VarId.TheVariants.{Local}
 use Rattle.ispc_parser_expressions.specs.Tree.{expr_view}
-use Rattle.ispc_parser.specs.Tree.{option_view}
 use Rattle.type_check_calls.specs.Calls.{context_view}
 use Rattle.type_check_parts.proofs.Declaring.{declared-next_variable, declared-typed}
 use Rattle.type_check_parts.proofs.Named.{declared-id}
@@ -15,7 +15,7 @@ pub returns-clause-typed : goal.returns-clause-typed
 returns-clause-typed c =
     let before = c.args.scope.now in
     IfOk-weaker c.then_declare.result _ _ (λ kept facts p. rw facts.0
-    (declared-typed c.args.name.now p c.args.place c.args.spec (option_view expr_view c.args.value.now) (context_view c.args.context.now) before.entries before.locals c.then_declare.new.scope.locals c.args.step.now
+    (declared-typed c.args.name.now p c.args.place c.args.spec (option_map expr_view c.args.value.now) (context_view c.args.context.now) before.entries before.locals c.then_declare.new.scope.locals c.args.step.now
     c.declared_with-declared.result c.next.result c.variable_of.result c.is_none.result c.fault_if.result c.refuse-in_name.result c.declaration-stmt.result c.beside.result c.in_ok-answer.answer
     c.declared_with-declared.ensures c.next.ensures c.is_none.ensures c.fault_if.ensures c.refuse-in_name.ensures c.variable_of.ensures c.declaration-stmt.ensures
     c.beside.ensures c.in_ok-answer.ensures.answer facts.1))

@@ -2,12 +2,12 @@ use Rattle.std.proofs.Common.{◌+◌, ap, drop, length, subst, sym}
 use Rattle.std.proofs.lemmas.List.{drop_all}
 use Rattle.std.specs.Prelude.{Ok}
 use Rattle.gang_model.specs.Types.Statements.{statements}
+use Rattle.gang_model.proofs.WalkedLists.{next_item}
 use Rattle.typed_tree.specs.Views as typed
 use Rattle.type_check_parts.specs.Makes.{Makes}
 use Rattle.ispc_parser.specs.Tree.{stmt_view, stmts_view}
 use Rattle.type_check_calls.specs.Calls.{context_view}
 use Rattle.source_answers.specs.Apart.{seen}
-use Rattle.type_check_parts.proofs.Counted.{next_item}
 use Rattle.type_check_statements.proofs.InSequence.{begun-none, begun-next, begun-all, whole-body}
 use Rattle.type_check_statements.proofs.SingleSteps.{unless-memory}
 use Rattle.type_check_statements.proofs.ScopeSteps.{extends-marked, extends-left}

@@ -1,7 +1,7 @@
 use Rattle.std.proofs.Common.{◌≡◌, ◌∙◌, ◌+◌, ap, drop, length, map, refl, subst, sym}
 use Rattle.std.proofs.lemmas.List.{drop_all, length-map}
 use Rattle.std.proofs.lemmas.Result.{IfOk-weaker}
-use Rattle.std.specs.Prelude.{Some, Ok}
+use Rattle.std.specs.Prelude.{Some, Ok, option_map}
 use Rattle.gang_types.specs.declared.places.VarId.TheVariants.{Local}
 use Rattle.gang_types.specs.declared.types.IntType.TheVariants as int_type
 use Rattle.gang_types.specs.declared.types.Rate.TheVariants.{Uniform}
@@ -15,6 +15,7 @@ use Rattle.gang_model.specs.Source.Parsed.{ParsedBlock, ParsedDeclare, ParsedAss
 use Rattle.gang_model.specs.Types.Statements as model
 use Rattle.gang_model.specs.Types.Statements.{test_of}
 use Rattle.gang_model.specs.Types.Typing.{expression, index_entry}
+use Rattle.gang_model.proofs.WalkedLists.{next_item}
 use Rattle.ispc_parser.specs.declared.tree.Stmt.{If}
 use Rattle.ispc_parser.specs.Tree as parsed
 use Rattle.ispc_parser.proofs.Rows.{view_block}
@@ -29,7 +30,6 @@ use Rattle.type_check_parts.specs.Beside.{call_statement}
 use Rattle.type_check_forms.specs.Sequences.{type_or_int32}
 use Rattle.source_answers.specs.Apart.{seen}
 use Rattle.type_check_parts.proofs.Judging.{answers-apart}
-use Rattle.type_check_parts.proofs.Counted.{next_item}
 use Rattle.type_check_parts.proofs.Named.{index-named}
 use Rattle.type_check_statements.proofs.SingleSteps.{then-alone, typed-form, single-step, typed-as, counted-as, ends-at, empty-statement, in-any-case}
 use Rattle.type_check_statements.proofs.InSequence.{begun-none, begun-next, begun-all, whole-block}
@@ -113,7 +113,7 @@ pub for_loop-returns-clause-typed : goal.for_loop-returns-clause-typed
 for_loop-returns-clause-typed t c =
     let scope = c.args.scope.now in
     let entries = c.statement.new.scope.entries in
-    let e = parsed.option_view expr_view c.args.test.now in
+    let e = option_map expr_view c.args.test.now in
     IfOk-weaker c.started.result _ _ (λ answer form p.
     ends-at answer _ scope.locals c.inner-2.new.scope.locals c.leave.new.self.locals _ c.leave.ensures.locals
     (for-loop p (parsed.stmt_view c.args.start.now) (parsed.stmt_view c.args.update.now) (parsed.stmt_view c.args.body.now) e (context_view c.args.context.now)
@@ -321,16 +321,16 @@ statement-returns-in-Return-clause-typed t c =
     let scope = c.args.scope.now in
     let context = context_view c.args.context.now in
     let s = parsed.stmt_view c.args.stmt.now in
-    single-step c.one_step-in-Return.result c.returning.result (model.returning context scope.entries c.in-Return.place (parsed.option_view expr_view c.in-Return.value) c.args.step.now) s (ParsedReturn c.in-Return.place (parsed.option_view expr_view c.in-Return.value))
+    single-step c.one_step-in-Return.result c.returning.result (model.returning context scope.entries c.in-Return.place (option_map expr_view c.in-Return.value) c.args.step.now) s (ParsedReturn c.in-Return.place (option_map expr_view c.in-Return.value))
     context scope.entries scope.locals c.args.step.now (ap parsed.stmt_view c.in-Return.is) (refl) refl c.returning.ensures c.one_step-in-Return.ensures.answer
 
 pub statement-returns-in-Declare-clause-typed : goal.statement-returns-in-Declare-clause-typed
 statement-returns-in-Declare-clause-typed t c =
     let scope = c.args.scope.now in
     let s = parsed.stmt_view c.args.stmt.now in
-    let form = ParsedDeclare c.in-Declare.place c.in-Declare.spec c.in-Declare.name_place c.deref.result.now (parsed.option_view expr_view c.in-Declare.value) in
+    let form = ParsedDeclare c.in-Declare.place c.in-Declare.spec c.in-Declare.name_place c.deref.result.now (option_map expr_view c.in-Declare.value) in
     let e : s ≡ form =
-    ap parsed.stmt_view c.in-Declare.is ∙ ap (λ x. ParsedDeclare c.in-Declare.place c.in-Declare.spec c.in-Declare.name_place x (parsed.option_view expr_view c.in-Declare.value)) (sym c.deref.ensures.value) in
+    ap parsed.stmt_view c.in-Declare.is ∙ ap (λ x. ParsedDeclare c.in-Declare.place c.in-Declare.spec c.in-Declare.name_place x (option_map expr_view c.in-Declare.value)) (sym c.deref.ensures.value) in
     typed-form c.declare.result s form (context_view c.args.context.now) scope.entries (length scope.locals) c.args.step.now scope.locals c.declare.new.scope.locals e
     (IfOk-weaker c.declare.result _ _ (λ answer h. h c.in-Declare.place) c.declare.ensures.typed)
 
@@ -381,12 +381,12 @@ pub statement-returns-in-For-clause-typed : goal.statement-returns-in-For-clause
 statement-returns-in-For-clause-typed t c =
     let scope = c.args.scope.now in
     let s = parsed.stmt_view c.args.stmt.now in
-    let form = ParsedFor c.in-For.place (parsed.stmt_view c.deref-in-For.result.now) (parsed.option_view expr_view c.in-For.test) (parsed.stmt_view c.deref-in-For-2.result.now) (parsed.stmt_view c.deref-in-For-3.result.now) in
+    let form = ParsedFor c.in-For.place (parsed.stmt_view c.deref-in-For.result.now) (option_map expr_view c.in-For.test) (parsed.stmt_view c.deref-in-For-2.result.now) (parsed.stmt_view c.deref-in-For-3.result.now) in
     let e : s ≡ form =
     ap parsed.stmt_view c.in-For.is
-    ∙ (ap (λ x. ParsedFor c.in-For.place (parsed.stmt_view x) (parsed.option_view expr_view c.in-For.test) (parsed.stmt_view c.in-For.update.value) (parsed.stmt_view c.in-For.body.value)) (sym c.deref-in-For.ensures)
-    ∙ (ap (λ x. ParsedFor c.in-For.place (parsed.stmt_view c.deref-in-For.result.now) (parsed.option_view expr_view c.in-For.test) (parsed.stmt_view x) (parsed.stmt_view c.in-For.body.value)) (sym c.deref-in-For-2.ensures)
-    ∙ ap (λ x. ParsedFor c.in-For.place (parsed.stmt_view c.deref-in-For.result.now) (parsed.option_view expr_view c.in-For.test) (parsed.stmt_view c.deref-in-For-2.result.now) (parsed.stmt_view x)) (sym c.deref-in-For-3.ensures))) in
+    ∙ (ap (λ x. ParsedFor c.in-For.place (parsed.stmt_view x) (option_map expr_view c.in-For.test) (parsed.stmt_view c.in-For.update.value) (parsed.stmt_view c.in-For.body.value)) (sym c.deref-in-For.ensures)
+    ∙ (ap (λ x. ParsedFor c.in-For.place (parsed.stmt_view c.deref-in-For.result.now) (option_map expr_view c.in-For.test) (parsed.stmt_view x) (parsed.stmt_view c.in-For.body.value)) (sym c.deref-in-For-2.ensures)
+    ∙ ap (λ x. ParsedFor c.in-For.place (parsed.stmt_view c.deref-in-For.result.now) (option_map expr_view c.in-For.test) (parsed.stmt_view c.deref-in-For-2.result.now) (parsed.stmt_view x)) (sym c.deref-in-For-3.ensures))) in
     typed-form c.for_loop.result s form (context_view c.args.context.now) scope.entries (length scope.locals) c.args.step.now scope.locals c.for_loop.new.scope.locals e
     (IfOk-weaker c.for_loop.result _ _ (λ answer h. h c.in-For.place) c.for_loop.ensures.typed)
 
