@@ -4,7 +4,7 @@ use Rattle.std.specs.Prelude.{All}
 use Rattle.std.proofs.lemmas.List.{take_more, map-append}
 use Rattle.codegen.specs.Codes.{Fit}
 
-fit_more : {A B : Type 0} (P : A → B → Type 0) (xs : List A) (ys : List B) (x : A) (y : B) → Fit P xs ys → P x y → Fit P (xs ++ x ∷ []) (ys ++ y ∷ [])
+pub fit_more : {A B : Type 0} (P : A → B → Type 0) (xs : List A) (ys : List B) (x : A) (y : B) → Fit P xs ys → P x y → Fit P (xs ++ x ∷ []) (ys ++ y ∷ [])
 fit_more P [] [] x y h k = (k, tt)
 fit_more P [] (b ∷ ys) x y h k = absurd h
 fit_more P (a ∷ xs) [] x y h k = absurd h

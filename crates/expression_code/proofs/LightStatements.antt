@@ -8,6 +8,7 @@ use Rattle.gang_model.specs.Source.Spells.{Opens, WholeExpr, WholeArgs, AreLight
 use Rattle.gang_model.specs.Source.SpellsStatements.{Maybe, InParens, InBrackets, SpellsList, SpellsValue, SpellsDeclaration, SpellsTarget, TargetThen, ThenTarget, SpellsSimple, SpellsStart, SpellsUpdate, SpellsRounds, SpellsDim, SpellsDims, SpellsDistinct, OpensBody, SpellsStmt, SpellsStmts}
 use Rattle.gang_model.specs.Source.SpellsSource.{SpellsFunction, IsTree, max_nesting}
 use Rattle.gang_model.proofs.StandingLaws.{Each}
+use Rattle.gang_model.proofs.NestingLaws.{opened}
 
 -- an expression of at most 256 operators, calls and indexings
 abbrev pub IsLight : ParsedExpr → Type 0
@@ -55,22 +56,18 @@ abbrev mutual
 
 -- ---- what is opened
 
-opened : (d : ℕ) (inside : ℕ → Type 0) → Opens d inside → (inner : ℕ) × inside inner
-opened zero inside h = absurd h
-opened (suc d) inside h = (d, h)
-
 -- a spelled statement is light
 abbrev SpelledLight : ParsedStmt → Type 0
 SpelledLight s = (d : ℕ) (ts rest : List Lexeme) → SpellsStmt s d ts rest → IsLightStmt s
 
 light_body : (s : ParsedStmt) → SpelledLight s → (d : ℕ) (ts rest : List Lexeme) → OpensBody s d (λ inner. SpellsStmt s inner ts rest) → IsLightStmt s
 light_body (ParsedBlock ss) light d ts rest h = light d ts rest h
-light_body s light d ts rest h = let within = opened d (λ inner. SpellsStmt s inner ts rest) h in light within.0 ts rest within.1
+light_body s light d ts rest h = let within = opened d (λ inner. SpellsStmt s inner ts rest) h in light within.0 ts rest within.2
 
 -- ( .. ) with what is shown of its inside
 in_parens : (d : ℕ) (inside : ℕ → List Lexeme → List Lexeme → Type 0) (P : Type 0) (ts rest : List Lexeme) → InParens d inside ts rest
     → ((inner : ℕ) (a b : List Lexeme) → inside inner a b → P) → P
-in_parens d inside P ts rest h shown = let within = opened d (λ inner. inside inner h.0 h.1) h.3 in shown within.0 h.0 h.1 within.1
+in_parens d inside P ts rest h shown = let within = opened d (λ inner. inside inner h.0 h.1) h.3 in shown within.0 h.0 h.1 within.2
 
 light_in_parens : (d : ℕ) (e : ParsedExpr) (ts rest : List Lexeme) → InParens d (λ inner. WholeExpr inner e) ts rest → IsLight e
 light_in_parens d e ts rest h = in_parens d (λ inner. WholeExpr inner e) (IsLight e) ts rest h (λ inner a b whole. whole.1)
@@ -87,7 +84,7 @@ light_value d (Some e) ts rest h = h.2.1
 
 light_index : (d : ℕ) (e : Option ParsedExpr) (ts rest : List Lexeme) → Maybe (λ i. InBrackets d (λ inner. WholeExpr inner i)) e ts rest → IsLightIfAny e
 light_index d None ts rest h = tt
-light_index d (Some e) ts rest h = (opened d (λ inner. WholeExpr inner e h.0 h.1) h.3).1.1
+light_index d (Some e) ts rest h = (opened d (λ inner. WholeExpr inner e h.0 h.1) h.3).2.1
 
 light_target : (d : ℕ) (target : ParsedTarget) (ts rest : List Lexeme) → SpellsTarget d target ts rest → IsLightIfAny target.index
 light_target d target ts rest h = light_index d target.index h.0 rest h.2
@@ -128,7 +125,7 @@ mutual
   light_stmt : (s : ParsedStmt) → SpelledLight s
   light_stmt ParsedEmpty d ts rest h = tt
   light_stmt (ParsedBlock ss) d ts rest h =
-      let inside = opened d (λ inner. SpellsStmts ss inner h.0 h.1) h.3 in light_stmts ss inside.0 h.0 h.1 inside.1
+      let inside = opened d (λ inner. SpellsStmts ss inner h.0 h.1) h.3 in light_stmts ss inside.0 h.0 h.1 inside.2
   light_stmt (ParsedDeclare at spec name_at name value) d ts rest h = light_declaration d (ParsedDeclare at spec name_at name value) ts h.0 h.1
   light_stmt (ParsedBreak at) d ts rest h = tt
   light_stmt (ParsedContinue at) d ts rest h = tt
@@ -165,7 +162,7 @@ IsLightFunction f = AreLightStmts f.body
 light_function : (f : ParsedFunction) (ts rest : List Lexeme) → SpellsFunction f ts rest → IsLightFunction f
 light_function f ts rest h =
     let inside = opened max_nesting (λ inner. SpellsStmts f.body inner h.5 h.6) h.15 in
-    light_stmts f.body inside.0 h.5 h.6 inside.1
+    light_stmts f.body inside.0 h.5 h.6 inside.2
 
 -- each function of a spelled source is light
 pub light_functions : (source : ParsedSource) (ts : List Lexeme) → IsTree source ts → Each IsLightFunction (functions_in source)

@@ -54,7 +54,3 @@ pub scope_names : (vs : List Variable) (ss : List NameStanding) (i : ℕ) → sc
 scope_names vs [] i = refl
 scope_names vs (s ∷ ss) zero = refl
 scope_names vs (s ∷ ss) (suc i) = scope_names vs ss i
-
--- what a slice of a list holds
-pub read_at : {A : Type 0} (items xs : List A) (i : ℕ) (x : A) → xs ≡ items → i < length xs → x ≡ get_or xs i x → slice_get items i ≡ Some x
-read_at items xs i x same below is = ap (λ ys. slice_get ys i) (sym same) ∙ slice_get_read xs (length xs) i x refl below is

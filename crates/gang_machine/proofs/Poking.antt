@@ -10,7 +10,7 @@ use Rattle.undo_log.specs.declared.timeline.Undone.TheVariants as undone
 use Rattle.undo_log.specs.History.{History}
 use Rattle.gang_model.specs.Types.Tree as t
 use Rattle.gang_model.specs.Types.Tree.{Variable}
-use Rattle.gang_model.specs.Running.State.{Frame, State, with_first, with_var, with_words_in}
+use Rattle.gang_model.specs.Running.State.{Frame, State, with_first, with_var, with_words_in, words_for}
 use Rattle.gang_model.specs.Debugger.Debugger.{Debugger, OutOfRange, Setting, bad_part, moved, now, poked_by, shown_words}
 use Rattle.gang_model.specs.Debugger.Events.{ElementAt, LaneOf, Poke, Poked, WholeOf, poked}
 use Rattle.gang_model.specs.Debugger.Positions.{scope_now, scope_of, spot_now, standing_of, top_spot}
@@ -19,7 +19,6 @@ use Rattle.debug_machine.specs.declared.machine.Shown.{Shown}
 use Rattle.mask_states.specs.Masked.{Masked}
 use Rattle.typed_tree.specs.Views.{program_view}
 use Rattle.gang_memory.specs.declared.layout.Layout.{Layout}
-use Rattle.machine_states.specs.Shows.{words_for}
 use Rattle.machine_words.specs.declared.words.MachineWords.{MachineWords}
 use Rattle.machine_steps.specs.declared.compiled.CompiledProgram.{CompiledProgram}
 use Rattle.machine_steps.specs.Seen.{IsPartOf, IsSeen}

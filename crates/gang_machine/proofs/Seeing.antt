@@ -9,21 +9,20 @@ use Rattle.gang_types.specs.declared.types.Rate.{Rate}
 use Rattle.gang_types.specs.declared.types.Rate.TheVariants.{Uniform, Varying}
 use Rattle.gang_model.specs.Types.Tree as t
 use Rattle.gang_model.specs.Types.Tree.{Function, Standing, StepNumber, Variable}
-use Rattle.gang_model.specs.Running.State.{Frame, view_of as array_of, words_in}
+use Rattle.gang_model.specs.Running.State.{Frame, view_of as array_of, words_in, words_for}
 use Rattle.gang_model.specs.Debugger.Debugger.{Debugger, Setting, elements, now, shown_words}
 use Rattle.gang_model.specs.Debugger.Positions.{scope_now, scope_of, spot_in, standing_in}
 use Rattle.debug_machine.specs.Machines.{IsOneOf, file_variables as variables_of_file}
 use Rattle.typed_tree.specs.declared.program.Function.{Function as TypedFunction}
 use Rattle.typed_tree.specs.declared.program.Global.{Global}
 use Rattle.typed_tree.specs.Views.{function_view, variable_view}
-use Rattle.gang_memory.specs.ScalarWords.{rate_words}
 use Rattle.mask_states.specs.Points.{closing_number, points_in}
 use Rattle.mask_states.specs.Masked.{Level, Masked, least, masked_spot, top_spot}
 use Rattle.codegen.specs.Programs.{IsRunnable}
 use Rattle.machine_states.specs.Declared.{AreDeclared}
 use Rattle.machine_states.specs.Plain.{IsPlainName}
 use Rattle.machine_states.specs.Regions.{Depth, NumbersOf, OfHead, Regions}
-use Rattle.machine_states.specs.Shows.{AreSized, Shows, ShowsFrames, words_for}
+use Rattle.machine_states.specs.Shows.{AreSized, Shows, ShowsFrames}
 use Rattle.machine_states.specs.Steps.{IsNext as IsNextStep}
 use Rattle.machine_states.specs.Variables.{Variables, own_of}
 use Rattle.machine_states.proofs.AlwaysDeclared.{HasOwn, scope_has, top_declared}
@@ -120,10 +119,6 @@ module _ (w : ℕ) (compiled : CompiledProgram) (runnable : IsRunnable compiled.
     seen_long v (inl scope) = scope_long v scope (next_or_ended (program_of compiled) (variables_of compiled) w regions masked shows)
     seen_long v (inr (k, is)) = ap (λ i. length (words_in masked.state i)) (runnable.plain.file k v is).0 ∙ ap length (shows.file k) ∙ sizes.file k v is
 
-rate_same : (w : ℕ) (rate : Rate) → words_for w rate ≡ rate_words w rate
-rate_same w Uniform = refl
-rate_same w Varying = refl
-
 -- the variables of the file are those of the globals
 file_same : (globals : List Global) → file_variables globals ≡ map (λ g. variable_view g.variable) globals
 file_same [] = refl
@@ -188,7 +183,7 @@ module _ {T : Type 0} (history : T → History) (w entry : ℕ) (compiled : Comp
   sees scope is = record {
     scope_is = is;
     file_is = file_here;
-    long = λ v there. shown_long v (is_seen v (found there)) ∙ rate_same w v.rate;
+    long = λ v there. shown_long v (is_seen v (found there));
   }
     where
       found : {v : Variable} → IsOneOf scope v ⊎ IsOneOf (file_variables compiled.program.globals.items) v → IsOneOf (scope_now s.program (now s d)) v ⊎ IsOneOf (variables_of_file s) v

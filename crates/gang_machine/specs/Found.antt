@@ -4,7 +4,7 @@ use Rattle.debug_machine.specs.declared.machine.NamedVariable.{NamedVariable}
 use Rattle.debug_machine.specs.declared.machine.Shown.{Shown}
 use Rattle.gang_model.specs.Source.Names.{named}
 use Rattle.gang_model.specs.Types.Tree.{Variable}
-use Rattle.gang_memory.specs.ScalarWords.{rate_words}
+use Rattle.gang_model.specs.Running.State.{words_for}
 
 -- what is shown is the variable, with its type and as many words as it has
 pub record IsSeen (width : ℕ) (v : Variable) (shown : Shown) : Type 0 where
@@ -13,7 +13,7 @@ pub record IsSeen (width : ℕ) (v : Variable) (shown : Shown) : Type 0 where
   pub rate : v.rate ≡ shown.rate
   pub is_array : v.is_array ≡ shown.is_array
   pub is_constant : v.is_constant ≡ shown.is_constant
-  pub count : rate_words width v.rate ≡ shown.count
+  pub count : words_for width v.rate ≡ shown.count
 
 -- a variable by its name
 pub record IsNamed (width : ℕ) (v : Variable) (given : NamedVariable) : Type 0 where

@@ -6,14 +6,14 @@ use Rattle.gang_model.specs.Debugger.Positions.{scope_now, scope_of, spot_in, sp
 use Rattle.gang_model.specs.Types.Tree.{Variable}
 use Rattle.typed_tree.specs.declared.program.Function.{Function}
 use Rattle.typed_tree.specs.Views.{function_view}
-use Rattle.gang_memory.specs.ScalarWords.{rate_words}
+use Rattle.gang_model.specs.Running.State.{words_for}
 use Rattle.gang_machine.specs.Standings.{View, file_variables}
 
 -- what a debugger sees: these variables in scope, these of the file, and of each as many words as its rate says
 pub record Sees (w : ℕ) (scope file : List Variable) (s : Setting) (d : Debugger) : Type 0 where
   pub scope_is : scope_now s.program (now s d) ≡ scope
   pub file_is : variables_of_file s ≡ file
-  pub long : (v : Variable) → IsOneOf scope v ⊎ IsOneOf file v → length (shown_words (now s d) v) ≡ rate_words w v.rate
+  pub long : (v : Variable) → IsOneOf scope v ⊎ IsOneOf file v → length (shown_words (now s d) v) ≡ words_for w v.rate
 
 -- the debugger stands at this step of a function of the program
 pub record IsNext (w : ℕ) (m : View) (s : Setting) (d : Debugger) (function : Function) (step : ℕ) : Type 0 where

@@ -8,11 +8,11 @@ use Rattle.gang_memory.specs.declared.parts.Part.{Part}
 use Rattle.gang_memory.specs.declared.frames.Frames.{Frames}
 use Rattle.gang_memory.specs.declared.layout.Layout.{Layout}
 use Rattle.gang_memory.specs.Ranges.{AreInOrder, ranges_from, sizes_of}
-use Rattle.gang_memory.specs.ScalarWords.{rate_words}
+use Rattle.gang_model.specs.Running.State.{words_for}
 
 -- how many words a file-scope variable has: an array has one for each element
 abbrev pub global_words : (width : ℕ) → Global → ℕ
-global_words width g = if g.variable.is_array then g.length else rate_words width g.variable.rate
+global_words width g = if g.variable.is_array then g.length else words_for width g.variable.rate
 
 -- the most variables that a function has
 abbrev pub most_variables : List Function → ℕ

@@ -1,19 +1,13 @@
 -- The words of a scalar.
 use Rattle.std.specs.Prelude.{◌≡◌, ℕ, ◌+◌, ◌^◌, ◌<◌, ◌≤◌, false, List, length}
 use Rattle.gang_types.specs.declared.types.Rate.{Rate}
-use Rattle.gang_types.specs.declared.types.Rate.TheVariants.{Uniform, Varying}
 use Rattle.gang_types.specs.Lanes.{Lanes, no_lane}
-use Rattle.gang_model.specs.Running.State.{assigned_words, declared_words, seen}
+use Rattle.gang_model.specs.Running.State.{assigned_words, declared_words, seen, words_for}
 use Rattle.gang_memory.specs.Elements.{StandsAt}
-
--- how many words a scalar has: a uniform one has one, a varying one has one for each lane
-abbrev pub rate_words : (width : ℕ) → Rate → ℕ
-rate_words width Uniform = 1
-rate_words width Varying = width
 
 -- the scalar's words stand among words from `first` on
 pub record IsScalarAt (width : ℕ) (rate : Rate) (first : ℕ) (scalar words : List ℕ) : Type 0 where
-  pub long : length scalar ≡ rate_words width rate
+  pub long : length scalar ≡ words_for width rate
   pub stands : StandsAt first scalar words
 
 -- the answer is what lanes see of the scalar that stands at `first`
@@ -27,7 +21,7 @@ pub record IsWritable (width : ℕ) (rate : Rate) (first : ℕ) (lanes : Lanes) 
     : Type 0 where
   pub lane : no_lane lanes ≡ false
   pub small : first + width < 2 ^ 64
-  pub inside : first + rate_words width rate ≤ length words
+  pub inside : first + words_for width rate ≤ length words
   pub enough : width ≤ left
 
 -- the scalar that stood at `first` stands there with the lanes' values assigned to it

@@ -2,7 +2,8 @@
 ghost use Rattle.std.specs.Prelude.{◌≡◌, ℕ, ◌+◌, ◌^◌, ◌<◌, ◌≤◌, length, slice_index};
 ghost use Rattle.gang_types.specs.declared.types.Rate.TheVariants.{Varying};
 ghost use Rattle.gang_types.specs.Masks.{IsGangWidth, lanes_of};
-ghost use Rattle.gang_memory.specs.ScalarWords.{IsAssigned, IsDeclared, IsSeenAt, IsWritable, rate_words};
+ghost use Rattle.gang_model.specs.Running.State.{words_for};
+ghost use Rattle.gang_memory.specs.ScalarWords.{IsAssigned, IsDeclared, IsSeenAt, IsWritable};
 ghost use Rattle.gang_memory.specs.Writes.{WritesOnly};
 
 use crate::reading::words_at;
@@ -13,7 +14,7 @@ use masked_operations::only;
 
 /// How many words a scalar has: a uniform one has one, a varying one has one for each lane.
 pub fn word_count<const W: usize>(rate: Rate) -> usize
-    ensures { result ≡ rate_words W rate }
+    ensures { result ≡ words_for W rate }
 {
     match rate {
         Rate::Uniform => 1,
@@ -30,7 +31,7 @@ pub fn read_scalar<const W: usize, S: WordStore>(
 ) -> [u64; W]
     requires width { IsGangWidth W }
     requires small { first + W < 2 ^ 64 }
-    requires inside { first + rate_words W rate ≤ length (S.words store.now) }
+    requires inside { first + words_for W rate ≤ length (S.words store.now) }
     ensures { IsSeenAt W rate first (lanes_of W mask) (S.words store.now) result }
 {
     match rate {
@@ -52,7 +53,7 @@ pub fn assign_scalar<const W: usize, S: WordStore>(
         (S.words store.old) (S.left store.old) }
     ensures scalar { IsAssigned W rate first (lanes_of W mask) values.entry
         (S.words store.old) (S.words store.new) }
-    ensures only { WritesOnly S.words S.left S.rest first (rate_words W rate) W
+    ensures only { WritesOnly S.words S.left S.rest first (words_for W rate) W
         store.old store.new }
 {
     match rate {
@@ -74,7 +75,7 @@ pub fn declare_scalar<const W: usize, S: WordStore>(
     requires writable { IsWritable W rate first (lanes_of W mask)
         (S.words store.old) (S.left store.old) }
     ensures scalar { IsDeclared W rate first (lanes_of W mask) values.entry (S.words store.new) }
-    ensures only { WritesOnly S.words S.left S.rest first (rate_words W rate) W
+    ensures only { WritesOnly S.words S.left S.rest first (words_for W rate) W
         store.old store.new }
 {
     match rate {

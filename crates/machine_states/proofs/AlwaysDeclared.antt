@@ -92,7 +92,7 @@ pub record TopDeclared (variables : Variables) (w : ℕ) (regions : Regions) (ma
   pub locals : (k : ℕ) → ShowsLocal variables w regions index frame k
   pub has_all : HasAll (declared_before variables n f number) frame.vars
 
-same_head : (m n : ℕ) → m ∷ [] ≡ n ∷ [] → m ≡ n
+pub same_head : (m n : ℕ) → m ∷ [] ≡ n ∷ [] → m ≡ n
 same_head m n e = cc
 
 module _ (variables : Variables) (p : Program) (w : ℕ) (regions : Regions) (index n : ℕ) (f : Function) (number : StepNumber) (point : Option Point) (next : IsNext p regions index n f number point) where

@@ -12,7 +12,7 @@ use Rattle.gang_model.specs.Running.State.{Store, Frame, State, with_words, with
 use Rattle.gang_model.specs.Running.Value.{value}
 use Rattle.gang_model.specs.Running.RunningOrder.{IsNumberedProgram}
 use Rattle.gang_model.specs.Running.Step.{Passed, passed, initial, new_frame, entered, returned_on, deliver, left, leave, run}
-use Rattle.gang_model.proofs.LaneWords.{if_ok_bind, if_ok_after}
+use Rattle.gang_model.proofs.LaneWords.{if_ok_bind, if_ok_after, if_or_ok}
 use Rattle.mask_states.specs.Points.{Point, Put, Go, Branch, Choose, Begin, Turn, Enter, entry_of, closing_number, function_ways, points_in}
 use Rattle.mask_states.specs.Placed.{HasPoint}
 use Rattle.mask_states.specs.Masked.{Level, Masked, next_in, next_waiting, sent_in, entered_body}
@@ -112,10 +112,6 @@ one_level before vars level h (suc k) d within = absurd (omega (arith, within))
 
 pub first_level : (before : StepNumber → List ℕ) (vars : Store) (level : Level) (levels : List Level) → All (LevelDeclared before vars) (level ∷ levels) → LevelDeclared before vars level
 first_level before vars level levels h = h 0 level (omega arith)
-
-if_or_ok : {A : Type 0} (P : A → Type 0) (b : Bool) (fault : Fault) (x : A) → P x → IfOk (if b then Err fault else Ok x) P
-if_or_ok P true fault x h = tt
-if_or_ok P false fault x h = h
 
 -- ---- steps
 

@@ -7,12 +7,12 @@ use Rattle.gang_types.specs.declared.types.Rate.TheVariants.{Uniform, Varying}
 use Rattle.gang_types.specs.declared.places.VarId.{VarId}
 use Rattle.gang_types.specs.declared.places.VarId.TheVariants.{File, Local}
 use Rattle.gang_model.specs.Types.Tree.{Variable, Program}
-use Rattle.gang_model.specs.Running.State.{State, words_in, with_words_in}
+use Rattle.gang_model.specs.Running.State.{State, words_in, with_words_in, words_for}
 use Rattle.gang_model.specs.Debugger.Events.{Poked, WholeOf, LaneOf, poked}
 use Rattle.mask_states.specs.Masked.{Masked}
 use Rattle.machine_states.specs.Variables.{Variables, variable_of, rate_of}
 use Rattle.machine_states.specs.Regions.{FunctionOf, OfFile, Depth, OfHead, OfLocal, Regions, with_region}
-use Rattle.machine_states.specs.Shows.{IsScalarIn, words_for, AreSized, Shows}
+use Rattle.machine_states.specs.Shows.{IsScalarIn, AreSized, Shows}
 use Rattle.machine_states.specs.Effects.{region_of}
 use Rattle.machine_states.specs.Steps.{poked_region}
 use Rattle.machine_states.proofs.WrittenVariables.{StandsIn, HasVariable, file_shows, written_shows, variable_in}

@@ -6,10 +6,10 @@ use Rattle.gang_types.specs.declared.types.Rate.{Rate}
 use Rattle.gang_types.specs.declared.types.Rate.TheVariants.{Uniform, Varying}
 use Rattle.gang_types.specs.Lanes.{Lanes, lowest}
 use Rattle.gang_model.specs.Running.Lanes.{at, each, merged}
-use Rattle.gang_model.specs.Running.State.{seen, declared_words, assigned_words}
+use Rattle.gang_model.specs.Running.State.{seen, declared_words, assigned_words, words_for}
 use Rattle.gang_model.proofs.LaneWords.{length-each}
 use Rattle.gang_model.proofs.LaneWords.{length-merged}
-use Rattle.machine_states.specs.Shows.{IsScalarIn, words_for}
+use Rattle.machine_states.specs.Shows.{IsScalarIn}
 use Rattle.machine_states.specs.Effects.{declared_region, assigned_region}
 use Rattle.machine_states.proofs.EachLane.{each_same}
 

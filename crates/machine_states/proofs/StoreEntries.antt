@@ -2,6 +2,7 @@
 use Rattle.std.proofs.Common.{◌≡◌, refl, sym, ap, ◌∙◌, subst, ℕ, zero, suc, ◌+◌, ◌<◌, ◌≤◌, Bool, true, false, ◌||◌, List, [], ◌∷◌, ◌++◌, length, inl, inr, nat_eq, arith}
 use Rattle.std.proofs.lemmas.Bool.Decides.{nat_tests}
 use Rattle.std.specs.Prelude.{Result, Ok, Err, IfOk, if◌then◌else◌}
+use Rattle.std.proofs.lemmas.Result.{IfOk-weaker}
 use Rattle.gang_types.specs.declared.places.VarId.{VarId}
 use Rattle.gang_types.specs.declared.places.VarId.TheVariants.{File, Local}
 use Rattle.gang_types.specs.Lanes.{Lanes}
@@ -98,10 +99,6 @@ among_first (suc n) k (inr among) = omega (arith, among_first n k among)
 abbrev HasFrom : ℕ → List Arg → Store → Type 0
 HasFrom k args store = (j : ℕ) → k ≤ j → j < k + length args → has_entry store (Local j) ≡ true
 
-if_ok_map : {A : Type 0} (P Q : A → Type 0) (r : Result A Fault) → ((x : A) → P x → Q x) → IfOk r P → IfOk r Q
-if_ok_map P Q (Ok x) go h = go x h
-if_ok_map P Q (Err fault) go h = tt
-
 module _ (variables : Variables) (n called : ℕ) (lanes : Lanes) (state : State) where
   value_passed : (k : ℕ) (args : List Arg) (v : VarId) (words : List ℕ) (store : Store) → v ≡ Local k → HasFrom (suc k) args store
       → (j : ℕ) → k ≤ j → j < suc k + length args → (same_id v (Local j) || has_entry store (Local j)) ≡ true
@@ -121,6 +118,6 @@ module _ (variables : Variables) (n called : ℕ) (lanes : Lanes) (state : State
   -- so a call begins with its parameters
   pub passed_has : (args : List Arg) → CallPlain variables n called args → IfOk (passed args lanes state) (λ a. HasAll (first_numbers (parameters_of variables called)) a.vars)
   passed_has args plain =
-      if_ok_map (λ a. HasFrom 0 args a.vars) (λ a. HasAll (first_numbers (parameters_of variables called)) a.vars) (passed args lanes state)
+      IfOk-weaker (passed args lanes state) (λ a. HasFrom 0 args a.vars) (λ a. HasAll (first_numbers (parameters_of variables called)) a.vars)
       (λ a has k among. has k (omega arith) (omega (arith, plain.all, among_first (parameters_of variables called) k among)))
       (passed_has_from 0 args plain.args_plain)

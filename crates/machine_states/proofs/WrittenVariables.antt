@@ -7,12 +7,12 @@ use Rattle.gang_types.specs.declared.places.VarId.{VarId}
 use Rattle.gang_types.specs.declared.places.VarId.TheVariants.{File, Local}
 use Rattle.gang_types.specs.Lanes.{Lanes}
 use Rattle.gang_model.specs.Types.Tree.{Var, Variable, Program}
-use Rattle.gang_model.specs.Running.State.{Store, Frame, words_of, with_words, words_in, with_var, with_words_in, declared_words, assigned_words}
+use Rattle.gang_model.specs.Running.State.{Store, Frame, words_of, with_words, words_in, with_var, with_words_in, declared_words, assigned_words, words_for}
 use Rattle.mask_states.specs.Masked.{Level, Masked}
 use Rattle.machine_states.specs.Variables.{Variables, IsScalar, IsOwn, own_of, variable_of, rate_of}
 use Rattle.machine_states.specs.Declared.{has_entry}
 use Rattle.machine_states.specs.Regions.{FunctionOf, OfFile, Depth, OfHead, OfLocal, Regions, with_region}
-use Rattle.machine_states.specs.Shows.{IsScalarIn, words_for, AreSized, ShowsLocal, ShowsFrame, ShowsCall, Shows}
+use Rattle.machine_states.specs.Shows.{IsScalarIn, AreSized, ShowsLocal, ShowsFrame, ShowsCall, Shows}
 use Rattle.machine_states.specs.Effects.{region_of, declared_region, assigned_region, declared_in, assigned_in}
 use Rattle.machine_states.proofs.ChangedRegions.{region_here, file_away, local_away, frames_kept}
 use Rattle.machine_states.proofs.FramesBelow.{frames_below}

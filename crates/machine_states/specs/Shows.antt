@@ -6,7 +6,7 @@ use Rattle.gang_types.specs.declared.types.Rate.TheVariants.{Uniform, Varying}
 use Rattle.gang_types.specs.declared.places.VarId.TheVariants.{File, Local}
 use Rattle.gang_types.specs.Lanes.{Lanes, no_lane}
 use Rattle.gang_model.specs.Running.Lanes.{at, each}
-use Rattle.gang_model.specs.Running.State.{Frame, words_of}
+use Rattle.gang_model.specs.Running.State.{Frame, words_of, words_for}
 use Rattle.gang_model.specs.Running.Step.{result_rate}
 use Rattle.gang_model.specs.Types.Tree.{StepNumber, Arg, Nothing, Variable, Function, Program}
 use Rattle.mask_states.specs.Points.{Enter, closing_number}
@@ -16,11 +16,6 @@ use Rattle.mask_states.specs.MaskedStep.{points_for}
 use Rattle.machine_states.specs.Variables.{Variables, own_of, rate_of}
 use Rattle.machine_states.specs.Declared.{has_entry}
 use Rattle.machine_states.specs.Regions.{FunctionOf, LanesOf, ReturnedOf, NumbersOf, ResultOf, OfFile, Depth, OfHead, OfLocal, Regions, lanes_in}
-
--- how many words a scalar has
-abbrev pub words_for : (width : ℕ) → Rate → ℕ
-words_for width Uniform = 1
-words_for width Varying = width
 
 -- a scalar's words are the first ones of its region
 pub record IsScalarIn (width : ℕ) (rate : Rate) (words region : List ℕ) : Type 0 where

@@ -15,7 +15,7 @@ use Rattle.gang_model.specs.Running.State.{Frame, State, Store, with_words_in}
 use Rattle.gang_model.specs.Running.Step.{Passed, deliver, entered, initial, left, passed, returned_on, run}
 use Rattle.gang_model.specs.Running.Value.{value}
 use Rattle.gang_model.specs.Debugger.Events.{ElementAt, Given, LaneOf, Poked, WholeOf, initial_memory, poked, started}
-use Rattle.gang_model.proofs.LaneWords.{if_ok_after, if_ok_bind}
+use Rattle.gang_model.proofs.LaneWords.{if_ok_after, if_ok_bind, if_or_ok}
 use Rattle.mask_states.specs.Points.{Begin, Branch, Choose, Enter, Go, Point, Put, Turn, closing_number, function_ways, points_in}
 use Rattle.mask_states.specs.Masked.{Level, Masked, next_in, next_waiting}
 use Rattle.mask_states.specs.MaskedStep.{Acted, Goes, act, acted, masked_start, masked_step, points_at, step_levels, step_point, untasked, untasked_frame}
@@ -75,10 +75,6 @@ left_called p None above memory frames h = h
 left_called p (Some f) above memory frames h = delivered_called p f.result_type above.lanes _ memory above.result_for frames h
 
 -- ---- a step
-
-if_or_ok : {A : Type 0} (P : A → Type 0) (b : Bool) (fault : Fault) (x : A) → P x → IfOk (if b then Err fault else Ok x) P
-if_or_ok P true fault x h = tt
-if_or_ok P false fault x h = h
 
 abbrev After : State → Type 0
 After state = HaveLanes state.frames

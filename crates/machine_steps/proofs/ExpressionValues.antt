@@ -20,7 +20,7 @@ use Rattle.machine_states.specs.Declared.{IsThere, declared_before}
 use Rattle.machine_states.specs.Effects.{region_of}
 use Rattle.machine_states.specs.Regions.{Regions}
 use Rattle.machine_states.specs.Variables.{IsScalar, Variables}
-use Rattle.machine_states.proofs.AlwaysDeclared.{read_alike, top_declared}
+use Rattle.machine_states.proofs.AlwaysDeclared.{read_alike, top_declared, same_head}
 use Rattle.machine_states.proofs.ReadValues.{AreReadAlike, value_agrees}
 use Rattle.machine_words.specs.declared.words.MachineWords.{MachineWords}
 use Rattle.machine_words.specs.Words.{regions_in}
@@ -29,9 +29,6 @@ use Rattle.machine_steps.specs.declared.compiled.CompiledProgram.{CompiledProgra
 use Rattle.machine_steps.specs.Compiled.{program_of, variables_of}
 use Rattle.machine_steps.specs.Standing.{IsShown, IsValueAt}
 use Rattle.machine_steps.proofs.RegionStates.{region_state, region_state_has}
-
-same_head : (m n : ℕ) → m ∷ [] ≡ n ∷ [] → m ≡ n
-same_head m n e = cc
 
 below_most : (index frames : ℕ) → suc index ≡ frames → frames ≤ 64 → index < 64
 below_most index frames e h = omega arith

@@ -12,7 +12,7 @@ use Rattle.gang_types.specs.MaskLaws.{gang_width-le}
 use Rattle.gang_model.specs.Types.Tree.{Function}
 use Rattle.gang_model.specs.Types.Tree as model
 use Rattle.gang_model.specs.Running.Lanes.{at}
-use Rattle.gang_model.specs.Running.State.{same_id, words_of}
+use Rattle.gang_model.specs.Running.State.{same_id, words_of, words_for}
 use Rattle.gang_model.specs.Debugger.Events.{global_words, initial_memory, scalar_words}
 use Rattle.undo_log.specs.History.{History}
 use Rattle.typed_tree.specs.declared.program.Global.{Global}
@@ -22,7 +22,6 @@ use Rattle.gang_memory.specs.Recorded.{left_in, without_words}
 use Rattle.mask_states.specs.MaskedStep.{masked_start}
 use Rattle.machine_states.specs.Effects.{assigned_region}
 use Rattle.machine_states.specs.Regions.{OfFile}
-use Rattle.machine_states.specs.Shows.{words_for}
 use Rattle.machine_states.specs.Steps.{IsBegun}
 use Rattle.machine_states.specs.Variables.{parameters_of}
 use Rattle.machine_states.proofs.AlwaysDeclared.{start_declared}

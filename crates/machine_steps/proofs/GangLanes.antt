@@ -8,12 +8,15 @@ use Rattle.gang_types.specs.declared.types.Rate.TheVariants.{Uniform, Varying}
 use Rattle.gang_types.specs.Lanes.{no_lane}
 use Rattle.gang_types.specs.LaneLaws.{some_lane}
 use Rattle.gang_types.specs.Masks.{IsGangWidth}
-use Rattle.machine_states.specs.Shows.{words_for}
+use Rattle.gang_model.specs.Running.State.{words_for}
 
 pub gang_wide : (w : ℕ) → IsGangWidth w → 4 ≤ w
 gang_wide w (inl e) = omega (arith, e)
 gang_wide w (inr (inl e)) = omega (arith, e)
 gang_wide w (inr (inr e)) = omega (arith, e)
+
+pub gang_some : (w : ℕ) → IsGangWidth w → 0 < w
+gang_some w gang = let wide : 4 ≤ w = gang_wide w gang in omega (arith, wide)
 
 pub some_of_all : (w : ℕ) → IsGangWidth w → no_lane (replicate w true) ≡ false
 some_of_all w gang = some_lane (replicate w true) 0 (get_or-replicate w 0 true false (let wide : 4 ≤ w = gang_wide w gang in omega (arith, wide)))

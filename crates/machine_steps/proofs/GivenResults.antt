@@ -10,14 +10,16 @@ use Rattle.gang_types.specs.Masks.{IsGangWidth, lanes_of}
 use Rattle.gang_model.specs.Types.Tree.{Declares, Assigns, Function, Nothing, Returns as ForReturn, Var, Variable}
 use Rattle.machine_states.specs.Effects.{assigned_in, assigned_region, declared_in, declared_region, region_of, returned_in}
 use Rattle.machine_states.specs.Regions.{OfHead, Region, Regions, ReturnedOf, lanes_in, with_region}
-use Rattle.machine_states.specs.Shows.{AreSized, words_for}
+use Rattle.gang_model.specs.Running.State.{words_for}
+use Rattle.machine_states.specs.Shows.{AreSized}
 use Rattle.machine_states.specs.Steps.{KeepsBoth, converted_values}
 use Rattle.machine_states.specs.Variables.{IsScalar, Variables, variable_of}
 use Rattle.machine_words.specs.declared.words.MachineWords.{MachineWords}
 use Rattle.machine_words.specs.Words.{AreLaid, Writes, regions_in}
 use Rattle.machine_steps.specs.Leaving.{GivesResult}
 use Rattle.machine_steps.specs.Results.{Returns}
-use Rattle.machine_steps.proofs.Heads.{rate_room, regions_after}
+use Rattle.machine_steps.proofs.Heads.{regions_after}
+use Rattle.machine_steps.proofs.GangLanes.{words_few}
 
 -- ---- room
 
@@ -28,10 +30,10 @@ module _ (variables : Variables) (w : ℕ) (gang : IsGangWidth w) (regions : Reg
   by_id : (id : VarId) (v : Variable) → variable_of variables n id ≡ Some v → x.rate ≡ v.rate → HasRoomFor w x (regions (region_of i id))
   by_id (File k) v is same =
       let long = sized.file k v is ∙ ap (words_for w) (sym same) in
-      (omega (arith, long), omega (arith, long, rate_room w gang x.rate))
+      (omega (arith, long), omega (arith, long, words_few w gang x.rate))
   by_id (Local k) v is same =
       let long = sized.own i n k v below is in
-      (omega (arith, long, rate_room w gang x.rate), omega (arith, long))
+      (omega (arith, long, words_few w gang x.rate), omega (arith, long))
 
   -- the region of a scalar has room for it
   pub scalar_room : IsScalar variables n x → (region : Region) → region ≡ region_of i x.id → HasRoomFor w x (regions region)

@@ -1,6 +1,7 @@
 -- The words of frames' heads, and the regions after a write.
 use Rattle.std.proofs.Common.{ℕ, suc, ◌<◌, ◌≤◌, ◌≡◌, refl, sym, ◌∙◌, ap, subst, arith, Bool, true, false, List, [], ◌∷◌, length, inl, inr}
 use Rattle.std.specs.Prelude.{◌||◌, if◌then◌else◌, replicate, slice_index, slice_set}
+use Rattle.std.proofs.Math.Bool.{or_comm}
 use Rattle.undo_log.specs.History.{History}
 use Rattle.gang_types.specs.declared.types.Rate.{Rate}
 use Rattle.gang_types.specs.declared.types.Rate.TheVariants.{Uniform, Varying}
@@ -11,23 +12,11 @@ use Rattle.gang_types.specs.MaskLaws.{lanes_of_word_of_lanes, length-lanes_of_wo
 use Rattle.gang_model.specs.Running.Lanes.{merged, words_from}
 use Rattle.mask_states.specs.Masked.{sent}
 use Rattle.machine_states.specs.Regions.{Head, OfHead, Region, Regions, same_region, with_region}
-use Rattle.machine_states.specs.Shows.{words_for}
 use Rattle.machine_states.specs.Steps.{KeepsBoth}
 use Rattle.machine_words.specs.declared.words.MachineWords.{MachineWords}
 use Rattle.machine_words.specs.Ranges.{head_part, head_sizes, regions_of}
 use Rattle.machine_words.specs.Words.{AreLaid, Writes, regions_in, words_of}
 use Rattle.machine_words.proofs.Sizes.{head_words}
-
--- a gang has a lane
-pub gang_some : (w : ℕ) → IsGangWidth w → 0 < w
-gang_some w (inl e) = omega arith
-gang_some w (inr (inl e)) = omega arith
-gang_some w (inr (inr e)) = omega arith
-
--- a word for each lane is room for a scalar
-pub rate_room : (w : ℕ) → IsGangWidth w → (rate : Rate) → words_for w rate ≤ w
-rate_room w gang Uniform = omega (arith, gang_some w gang)
-rate_room w gang Varying = omega arith
 
 -- ---- words
 
@@ -62,12 +51,6 @@ module _ {T : Type 0} (history : T → History) (left : T → ℕ) (w : ℕ) whe
 
 -- ---- lanes
 
-either_way : (a b : Bool) → (a || b) ≡ (b || a)
-either_way true true = refl
-either_way true false = refl
-either_way false true = refl
-either_way false false = refl
-
 -- the word of a mask keeps its lanes
 pub word_keeps : (w word : ℕ) (mask : Mask) → word ≡ word_of_lanes (lanes_of w mask) → lanes_of_word w word ≡ lanes_of w mask
 word_keeps w word mask e = ap (lanes_of_word w) e ∙ lanes_of_word_of_lanes w (lanes_of w mask) (length-lanes_of_word w mask.word)
@@ -78,7 +61,7 @@ pub keeps_both : (w word : ℕ) (some other both : Mask) (others : Lanes) → la
 keeps_both w word some other both others is either e k h =
     ap (λ lanes. has lanes k) (word_keeps w word both e)
     ∙ either w k h
-    ∙ either_way (has (lanes_of w other) k) (has (lanes_of w some) k)
+    ∙ or_comm (has (lanes_of w other) k) (has (lanes_of w some) k)
     ∙ ap (λ lanes. has (lanes_of w some) k || has lanes k) is
 
 -- ---- lanes that go on

@@ -11,6 +11,7 @@ use Rattle.gang_model.specs.Running.Value.{value}
 use Rattle.gang_model.specs.Running.Step.{Passed, passed}
 use Rattle.codegen.specs.Codes.{Fit, IsArg}
 use Rattle.codegen.specs.declared.code.ArgCode.{ArgCode}
+use Rattle.codegen.proofs.Rows.{fit_more}
 use Rattle.machine_states.specs.Regions.{Regions}
 use Rattle.machine_steps.specs.declared.active.Active.{Active}
 use Rattle.machine_steps.specs.declared.compiled.CompiledProgram.{CompiledProgram}
@@ -57,12 +58,6 @@ abbrev pub parameters_with : List ArgCode → Lanes → (given : List (List ℕ)
 parameters_with [] lanes given = []
 parameters_with (arg ∷ args) lanes [] = []
 parameters_with (arg ∷ args) lanes (values ∷ given) = (arg.parameter.id, declared_words arg.parameter.rate lanes values) ∷ parameters_with args lanes given
-
-fit_more : {A B : Type 0} (P : A → B → Type 0) (xs : List A) (ys : List B) (x : A) (y : B) → Fit P xs ys → P x y → Fit P (xs ++ x ∷ []) (ys ++ y ∷ [])
-fit_more P [] [] x y h k = (k, tt)
-fit_more P [] (b ∷ ys) x y h k = absurd h
-fit_more P (a ∷ xs) [] x y h k = absurd h
-fit_more P (a ∷ xs) (b ∷ ys) x y h k = (h.0, fit_more P xs ys x y h.1 k)
 
 module _ (lanes : Lanes) (state : State) where
   abbrev AreValues : List Arg → List (List ℕ) → Type 0

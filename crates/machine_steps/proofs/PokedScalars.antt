@@ -10,14 +10,14 @@ use Rattle.gang_types.specs.Lanes.{no_lane}
 use Rattle.undo_log.specs.History.{History}
 use Rattle.undo_log.specs.declared.timeline.Undone.TheVariants as undone
 use Rattle.gang_model.specs.Types.Tree.{Variable, Program}
-use Rattle.gang_model.specs.Running.State.{with_words_in}
+use Rattle.gang_model.specs.Running.State.{with_words_in, words_for}
 use Rattle.gang_model.specs.Debugger.Debugger.{poked_by}
 use Rattle.gang_model.specs.Debugger.Events.{poked}
 use Rattle.mask_states.specs.Masked.{Masked}
 use Rattle.machine_states.specs.Declared.{AreDeclared}
 use Rattle.machine_states.specs.Effects.{assigned_region}
 use Rattle.machine_states.specs.Regions.{Region, Regions, with_region}
-use Rattle.machine_states.specs.Shows.{IsScalarIn, Shows, words_for}
+use Rattle.machine_states.specs.Shows.{IsScalarIn, Shows}
 use Rattle.machine_states.specs.Steps.{poked_region}
 use Rattle.machine_states.specs.Variables.{Variables, rate_of}
 use Rattle.machine_states.proofs.AlwaysDeclared.{poked_declared}

@@ -7,14 +7,14 @@ use Rattle.gang_types.specs.declared.places.VarId.TheVariants.{File, Local}
 use Rattle.undo_log.specs.History.{History}
 use Rattle.mask_states.specs.Points.{points_in}
 use Rattle.machine_states.specs.Regions.{Region}
-use Rattle.machine_states.specs.Shows.{words_for}
+use Rattle.gang_model.specs.Running.State.{words_for}
 use Rattle.machine_words.specs.declared.words.MachineWords.{MachineWords}
 use Rattle.machine_words.specs.Words.{regions_in}
 use Rattle.machine_steps.specs.declared.compiled.CompiledProgram.{CompiledProgram}
 use Rattle.machine_steps.specs.Seen.{IsScalarAt}
 use Rattle.machine_steps.specs.Standing.{AreSound}
-use Rattle.machine_steps.proofs.SeenScalars.{some_lanes, words_within}
 use Rattle.machine_steps.proofs.Standings.{file_sized, frame_below, own_sized}
+use Rattle.machine_steps.proofs.GangLanes.{words_few}
 
 module _ {T : Type 0} (history : T → History) (width : ℕ) (compiled : CompiledProgram) (words : MachineWords T) (sound : AreSound history width compiled words) where
   -- it has room for the scalar's words, and no more words than there are lanes
@@ -24,11 +24,11 @@ module _ {T : Type 0} (history : T → History) (width : ℕ) (compiled : Compil
       let long : length (regions_in history width words region) ≡ words_for width rate =
       ap (λ r. length (regions_in history width words r)) region_is ∙ file_sized history width compiled words words sound.lie refl sound.lie.laid k u is
       ∙ ap (words_for width) (sym rate_is) in
-      (omega (arith, long), omega (arith, long, words_within width (some_lanes width sound.lie.gang) rate))
+      (omega (arith, long), omega (arith, long, words_few width sound.lie.gang rate))
   scalar_room (Local k) region rate at_region =
       let active = at_region.active in
       let below = frame_below history width compiled words sound active at_region.f (slice_get (points_in at_region.f) active.step) at_region.active_is in
       let long : length (regions_in history width words region) ≡ width =
       ap (λ r. length (regions_in history width words r)) at_region.region_is
       ∙ own_sized history width compiled words words sound.lie refl sound.lie.laid active.frame active.function k at_region.variable below at_region.is_variable in
-      (omega (arith, long, words_within width (some_lanes width sound.lie.gang) rate), omega (arith, long))
+      (omega (arith, long, words_few width sound.lie.gang rate), omega (arith, long))

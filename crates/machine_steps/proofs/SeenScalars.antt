@@ -9,7 +9,7 @@ use Rattle.gang_types.specs.declared.places.VarId.{VarId}
 use Rattle.gang_types.specs.declared.places.VarId.TheVariants.{File, Local}
 use Rattle.gang_types.specs.Masks.{IsGangWidth}
 use Rattle.gang_model.specs.Types.Tree.{Variable, Standing, Function, Program}
-use Rattle.gang_model.specs.Running.State.{words_in}
+use Rattle.gang_model.specs.Running.State.{words_in, words_for}
 use Rattle.gang_model.specs.Debugger.Debugger.{poked_by}
 use Rattle.gang_model.specs.Debugger.Events.{LaneOf, ElementAt, poked}
 use Rattle.gang_model.specs.Debugger.Positions.{spot_in}
@@ -18,7 +18,7 @@ use Rattle.mask_states.specs.Masked.{Masked}
 use Rattle.codegen.specs.Programs.{IsRunnable}
 use Rattle.machine_states.specs.Plain.{IsPlainName}
 use Rattle.machine_states.specs.Regions.{Depth, OfFile, Region, Regions, with_region}
-use Rattle.machine_states.specs.Shows.{AreSized, IsScalarIn, Shows, words_for}
+use Rattle.machine_states.specs.Shows.{AreSized, IsScalarIn, Shows}
 use Rattle.machine_states.specs.Declared.{AreDeclared}
 use Rattle.machine_states.specs.Steps.{poked_region}
 use Rattle.machine_states.specs.Variables.{Variables, own_of}
@@ -35,17 +35,6 @@ use Rattle.machine_steps.specs.Seen.{IsInScope, IsNoScalar, IsScalarAt, IsSeen, 
 use Rattle.machine_steps.specs.Standing.{IsActive}
 
 -- ---- words
-
--- each gang has a lane
-pub some_lanes : (width : ℕ) → IsGangWidth width → 0 < width
-some_lanes width (inl e) = omega (arith, e)
-some_lanes width (inr (inl e)) = omega (arith, e)
-some_lanes width (inr (inr e)) = omega (arith, e)
-
--- no scalar has more words than there are lanes
-pub words_within : (width : ℕ) → 0 < width → (rate : Rate) → words_for width rate ≤ width
-words_within width some Uniform = some
-words_within width some Varying = omega arith
 
 -- a scalar's words are read in its region
 pub read_in : (width : ℕ) (rate : Rate) (words region : List ℕ) (index : ℕ) → index < words_for width rate → IsScalarIn width rate words region

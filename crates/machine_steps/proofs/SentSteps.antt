@@ -22,7 +22,8 @@ use Rattle.mask_states.specs.Points.{Point}
 use Rattle.mask_states.specs.Masked.{Masked, sent}
 use Rattle.machine_states.specs.Variables.{IsScalar, Variables, variable_of}
 use Rattle.machine_states.specs.Regions.{NumbersOf, OfHead, Region, Regions, with_region}
-use Rattle.machine_states.specs.Shows.{AreSized, words_for}
+use Rattle.gang_model.specs.Running.State.{words_for}
+use Rattle.machine_states.specs.Shows.{AreSized}
 use Rattle.machine_states.specs.Effects.{region_of, sent_on}
 use Rattle.machine_states.specs.Steps.{FailsWith, waiting_in}
 use Rattle.machine_words.specs.declared.words.MachineWords.{MachineWords}
@@ -32,6 +33,7 @@ use Rattle.machine_steps.specs.declared.compiled.CompiledProgram.{CompiledProgra
 use Rattle.machine_steps.specs.Compiled.{program_of, variables_of}
 use Rattle.machine_steps.specs.Standing.{AreSound, Begins, EndsAs, IsActive}
 use Rattle.machine_steps.proofs.Standings.{IsUnderWay, begun, frame_below, head_sized, lanes_long, may_write, sized, some_active, wrote}
+use Rattle.machine_steps.proofs.GangLanes.{words_few}
 
 -- ---- lanes
 
@@ -62,13 +64,6 @@ target_at width target k h = get_or-replicate width k target 0 h
 
 -- ---- scalars
 
-words_for_most : (width : ℕ) → IsGangWidth width → (rate : Rate) → words_for width rate ≤ width
-words_for_most width gang Uniform = positive width gang
-  where
-    positive : (w : ℕ) → IsGangWidth w → 1 ≤ w
-    positive w is = grind arith
-words_for_most width gang Varying = omega arith
-
 -- a scalar's region has room for its words, and has at most one for each lane
 abbrev pub HasPlace : (width : ℕ) → Rate → List ℕ → Type 0
 HasPlace width rate words = (words_for width rate ≤ length words) × (length words ≤ width)
@@ -77,11 +72,11 @@ module _ (variables : Variables) (width : ℕ) (gang : IsGangWidth width) (regio
   place_of : (id : VarId) (v : Variable) → variable_of variables n id ≡ Some v → HasPlace width v.rate (regions (region_of index id))
   place_of (File k) v e =
       let long = sizes.file k v e in
-      let most = words_for_most width gang v.rate in
+      let most = words_few width gang v.rate in
       (omega (arith, long), omega (arith, long, most))
   place_of (Local k) v e =
       let long = sizes.own index n k v there e in
-      let most = words_for_most width gang v.rate in
+      let most = words_few width gang v.rate in
       (omega (arith, long, most), omega (arith, long))
 
   pub scalar_place : (x : Var) → IsScalar variables n x → HasPlace width x.rate (regions (region_of index x.id))

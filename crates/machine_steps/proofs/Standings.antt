@@ -11,7 +11,7 @@ use Rattle.gang_types.specs.Lanes.{no_lane}
 use Rattle.gang_types.specs.Masks.{lanes_of}
 use Rattle.gang_types.specs.MaskLaws.{gang_width-le, length-lanes_of_word}
 use Rattle.gang_model.specs.Types.Tree.{Var as ModelVar, StepNumber, Expr, Scalar, ElementOf, Arg, Value, Array, Stmt, Empty, Then, Declare, Assign, Change as ModelChange, If, Loop, BodyFirst, Break, Continue, Return, Switch, Segment, ForEach, Call, Check, PackedStore, PackedLoad, Variable, Function, Program}
-use Rattle.gang_model.specs.Running.State.{Frame}
+use Rattle.gang_model.specs.Running.State.{Frame, words_for}
 use Rattle.gang_model.specs.Running.Step.{round_number}
 use Rattle.gang_model.proofs.StandingLaws.{Each, each_join}
 use Rattle.undo_log.specs.History.{History, Moment, marked}
@@ -25,13 +25,12 @@ use Rattle.typed_tree.specs.Views.{result_view, var_view, variable_view}
 use Rattle.gang_memory.specs.declared.parts.Part.{Part}
 use Rattle.gang_memory.specs.Layouts.{IsLayoutOf, global_words}
 use Rattle.gang_memory.specs.Recorded.{left_in, without_words}
-use Rattle.gang_memory.specs.ScalarWords.{rate_words}
 use Rattle.mask_states.specs.Points.{Point, Put, Go, Branch, Turn, Enter, Ways, before_step, entry_of, body_ways, update_ways, round_ways, points_of, function_ways, points_in}
 use Rattle.mask_states.specs.Masked.{Level, Masked}
 use Rattle.mask_states.specs.MaskedStep.{Goes, masked_step}
 use Rattle.machine_states.specs.Variables.{Variables, or_none, own_of}
 use Rattle.machine_states.specs.Regions.{Head, FunctionOf, OfFile, Depth, OfHead, OfLocal, Region, Regions, same_region, with_region}
-use Rattle.machine_states.specs.Shows.{AreSized, ShowsFrames, words_for}
+use Rattle.machine_states.specs.Shows.{AreSized, ShowsFrames}
 use Rattle.machine_states.specs.Steps.{GoesTo}
 use Rattle.machine_states.proofs.AlwaysDeclared.{next_names}
 use Rattle.machine_states.proofs.DeclaredNames.{NamesBefore}
@@ -189,11 +188,7 @@ mapped_at : {A B C : Type 0} (f : A → C) (g : B → C) (xs : List A) (ys : Lis
 mapped_at f g xs ys k y same e = ap (λ zs. slice_get zs k) same ∙ slice_get-map g ys k ∙ ap (option_map g) e
 
 scalar_words : (width : ℕ) (g : FileVariable) → g.variable.is_array ≡ false → global_words width g ≡ words_for width g.variable.rate
-scalar_words width g e = ap (λ b. cond b g.length (rate_words width g.variable.rate)) e ∙ by_rate g.variable.rate
-  where
-    by_rate : (rate : Rate) → rate_words width rate ≡ words_for width rate
-    by_rate Uniform = refl
-    by_rate Varying = refl
+scalar_words width g e = ap (λ b. cond b g.length (words_for width g.variable.rate)) e
 
 -- a variable of a function is one of so many
 module _ (functions : List TypedFunction) (most : ℕ) (all : All (λ f. length f.variables.items ≤ most) functions) (n k : ℕ) (v : Variable) where

@@ -1,10 +1,9 @@
 //! The words of variables, as a debugger shows and sets them.
 ghost use Rattle.std.specs.Prelude.{◌≡◌, ℕ, ◌<◌, None, IfSome, slice_index};
 ghost use Rattle.gang_model.specs.Types.Tree.{Variable};
-ghost use Rattle.gang_model.specs.Running.State.{words_in};
+ghost use Rattle.gang_model.specs.Running.State.{words_in, words_for};
 ghost use Rattle.gang_model.specs.Debugger.Debugger.{poked_by};
 ghost use Rattle.gang_model.specs.Debugger.Events.{poked};
-ghost use Rattle.machine_states.specs.Shows.{words_for};
 ghost use Rattle.mask_states.specs.Masked.{Masked};
 ghost use Rattle.undo_log.specs.declared.timeline.Undone.TheVariants as undone;
 ghost use Rattle.machine_words.specs.Views.{region_view};

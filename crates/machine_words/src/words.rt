@@ -4,7 +4,7 @@ ghost use Rattle.gang_types.specs.Lanes.{no_lane};
 ghost use Rattle.gang_types.specs.Masks.{IsGangWidth, lanes_of};
 ghost use Rattle.gang_model.specs.Running.Lanes.{merged};
 ghost use Rattle.machine_states.specs.Effects.{assigned_region, declared_region};
-ghost use Rattle.machine_states.specs.Shows.{words_for};
+ghost use Rattle.gang_model.specs.Running.State.{words_for};
 ghost use Rattle.machine_words.specs.Views.{region_view};
 ghost use Rattle.machine_words.specs.Words.{AreLaid, Writes, left_of, regions_in};
 

@@ -1,6 +1,7 @@
 -- Each form of a first task: its point stands in the table, and the two steps end alike.
 use Rattle.std.proofs.Common.{◌≡◌, refl, sym, ap, ◌∙◌, subst, ℕ, true, false, List, [], ◌∷◌, ◌++◌, Option, Some, None, length}
 use Rattle.std.specs.Prelude.{Result, Ok, Err, IfOk, map, slice_get, unwrap_or, not}
+use Rattle.std.proofs.lemmas.Result.{IfOk-weaker}
 use Rattle.gang_types.specs.Lanes.{Lanes, has, no_lane, lowest, lanes_where}
 use Rattle.gang_types.specs.LaneLaws.{lowest_has}
 use Rattle.gang_model.specs.Types.Tree.{Var, Expr, StepNumber, Arg, ResultFor, Nothing, Declares, Assigns, Returns, Stmt, Empty, Then, Declare, Assign, Change, If, Loop, BodyFirst, Break, Continue, Return, Switch, Segment, ForEach, Call, Check, PackedStore, PackedLoad, Function, Program}
@@ -24,10 +25,6 @@ use Rattle.mask_states.proofs.RoundHeads.{form_begins}
 use Rattle.mask_states.proofs.Levels.{StandsBehind}
 use Rattle.mask_states.proofs.GoesOn.{with_bone_tasks, Alike}
 use Rattle.mask_states.proofs.HeadSteps.{with_top_tasks, put_alike, branch_alike, choose_alike, go_alike, begin_alike}
-
-if_ok_map : {A : Type 0} (P Q : A → Type 0) (r : Result A Fault) → ((x : A) → P x → Q x) → IfOk r P → IfOk r Q
-if_ok_map P Q (Ok x) go h = go x h
-if_ok_map P Q (Err fault) go h = tt
 
 put_same : (s : Stmt) (a b : StepNumber) → Put s a ≡ Put s b → a ≡ b
 put_same s a b e = cc
@@ -93,7 +90,7 @@ module _ (p : Program) (w : ℕ) (f : Function) (memory : Store) (frame : Frame)
         Put s n,
         point,
         put_alike p w f memory frame frames level below rest back behind is stands_behind lower old S n number s puts more new
-            (if_ok_map _ _ (run p s S out) (λ after b. b ∙ ap (λ ts. with_bone_tasks p w ts frame ∷ bones frames) (left_all S more behind at_end.2))
+            (IfOk-weaker (run p s S out) _ _ (λ after b. b ∙ ap (λ ts. with_bone_tasks p w ts frame ∷ bones frames) (left_all S more behind at_end.2))
             (bones_run_returns p s leaves S out (record frame { tasks = more ++ behind }) frames f refl is)) moved,
       )
 

@@ -2,6 +2,7 @@
 -- declared before it.
 use Rattle.std.proofs.Common.{ℕ, ◌+◌, Bool, true≢false, true, false, ◌||◌, ◌&&◌, List, [], ◌∷◌, ◌++◌, append_assoc, ◌≡◌, refl, sym, ◌∙◌, ap, subst, inl}
 use Rattle.std.specs.Prelude.{Option, Some, if◌then◌else◌}
+use Rattle.std.proofs.Math.Bool.{or-false}
 use Rattle.gang_types.specs.declared.places.Place.{Place}
 use Rattle.gang_types.specs.declared.places.VarId.{VarId}
 use Rattle.gang_types.specs.declared.places.VarId.TheVariants.{Local}
@@ -100,10 +101,6 @@ block_first ss scope k m h = record {
 
 -- ---- branches
 
-or_nothing : (b : Bool) → (b || false) ≡ b
-or_nothing true = refl
-or_nothing false = refl
-
 if_first : (p : Place) (e : ParsedExpr) (s : ParsedStmt) (scope : Scope) (k : ℕ) (n : StepNumber) (test : Expr) (m : Made) → IsNamed scope test → StatementFirst s scope k m
     → IsFirst scope scope k (standings_in (ParsedIf p e s)) (after (ParsedIf p e s)) (has_return s) (If n test m.stmt Empty)
 if_first p e s scope k n test m u h = record {
@@ -112,7 +109,7 @@ if_first p e s scope k n test m u h = record {
   lists = λ there site same names.
       (there_listed there site.environment names, listed_last (declared_at there m.stmt) (standings_in s (enclosed site)) (h.lists there (enclosed site) same names));
   sites = λ there site same names. names;
-  returned = or_nothing (may_return m.stmt) ∙ h.returned;
+  returned = or-false (may_return m.stmt) ∙ h.returned;
 }
 
 both_or : (a b c d : Bool) → a ≡ c → b ≡ d → (a || b) ≡ (c || d)

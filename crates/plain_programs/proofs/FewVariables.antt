@@ -14,11 +14,11 @@ use Rattle.gang_model.specs.Types.Resolved.{length_of, param_variables}
 use Rattle.gang_model.specs.Types.Statements.{Made}
 use Rattle.gang_model.proofs.JudgedLaws.{OnSound}
 use Rattle.gang_model.proofs.StandingLaws.{Each}
-use Rattle.gang_model.proofs.VariableLaws.{bindings_numbers_all}
+use Rattle.gang_model.proofs.VariableLaws.{bindings_numbers_all, params_count}
 use Rattle.machine_states.specs.Variables.{own_of, or_none}
 use Rattle.plain_programs.specs.Sources.{own_variables, source_variables, variables_made}
 use Rattle.plain_programs.proofs.Elements.{each_get, get_mapped}
-use Rattle.plain_programs.proofs.OwnVariables.{body_of, BodyFaithful, body_faithful, params_count}
+use Rattle.plain_programs.proofs.OwnVariables.{body_of, BodyFaithful, body_faithful}
 
 -- ---- a function's variables
 

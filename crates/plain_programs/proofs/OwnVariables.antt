@@ -15,7 +15,7 @@ use Rattle.gang_model.specs.Types.Statements.{Made, statements}
 use Rattle.gang_model.specs.Types.Resolved.{global_entries, param_entries, param_variables}
 use Rattle.gang_model.proofs.JudgedLaws.{OnSound}
 use Rattle.gang_model.proofs.NumberLaws.{Faithful, two_parts, statements_faithful}
-use Rattle.gang_model.proofs.VariableLaws.{Consecutive, function_numbers, params_bound}
+use Rattle.gang_model.proofs.VariableLaws.{Consecutive, function_numbers, params_bound, params_count}
 use Rattle.machine_states.specs.Variables.{own_of, or_none, parameters_of}
 use Rattle.plain_programs.specs.Sources.{own_variables, source_variables, variables_made}
 use Rattle.plain_programs.proofs.Elements.{get_mapped, get_more}
@@ -77,10 +77,6 @@ own_at source n k v e = by (slice_get (map (own_variables source) (functions_in 
     by (Some own) there e =
         let f = get_mapped (own_variables source) (functions_in source) n own there in
         number_at own (subst (λ vs. Consecutive 0 (variable_bindings vs)) f.2 (own_numbered f.0 (body_of source f.0) (body_faithful source f.0))) k v e
-
-pub params_count : (k : ℕ) (params : List ParsedParam) → length (param_variables k params) ≡ length params
-params_count k [] = refl
-params_count k (p ∷ params) = ap suc (params_count (suc k) params)
 
 -- how many parameters a function has
 pub parameters_at : (source : ParsedSource) (n : ℕ) (f : ParsedFunction) → slice_get (functions_in source) n ≡ Some f → parameters_of (source_variables source) n ≡ length f.params

@@ -15,14 +15,15 @@ use Rattle.gang_model.specs.Names.Scope.{Binding, NameStanding, file_scope, stan
 use Rattle.gang_model.specs.Types.Typing.{Scope, declared}
 use Rattle.gang_model.specs.Types.TypeFaults.{signature_faults}
 use Rattle.gang_model.specs.Types.Statements.{Made}
-use Rattle.gang_model.specs.Types.Resolved.{global_entries, global_entry, param_entries, param_variables, no_variable, local_at, standing_with, function_made, judged_function}
+use Rattle.gang_model.specs.Types.Resolved.{global_entries, global_entry, param_entries, param_variables, no_variable, local_at, standing_with, function_made, judged_function, file_variables}
 use Rattle.gang_model.proofs.JudgedLaws.{OnSound, on_any, on_pair}
 use Rattle.gang_model.proofs.StandingLaws.{Each, each_join, each_left, each_right, Found, AllFound}
 use Rattle.gang_model.proofs.VariableLaws.{Consecutive, function_numbers, steps_found}
 use Rattle.gang_model.proofs.ScopedStmts.{ScopeScoped, Own, AllRight, statements_scoped}
+use Rattle.gang_model.proofs.ScopedPrograms.{own_found, file_found, params_found}
 use Rattle.machine_states.specs.Variables.{Variables, own_of, variable_of}
 use Rattle.machine_states.specs.Plain.{IsPlainName, IsPlainFunction}
-use Rattle.plain_programs.specs.Sources.{file_variables, source_variables, variables_made}
+use Rattle.plain_programs.specs.Sources.{source_variables, variables_made}
 use Rattle.plain_programs.proofs.Elements.{each_get, each_follows, get_mapped}
 use Rattle.plain_programs.proofs.KnownFunctions.{IsKnownFunction, HasFewParams}
 use Rattle.plain_programs.proofs.OwnVariables.{context_of, scope_of, body_of, BodyFaithful, body_faithful, own_bound, own_is, parameters_first}
@@ -30,29 +31,6 @@ use Rattle.plain_programs.proofs.PlainForms.{IsNoArray, IsDeclaredScalar, MadePl
 use Rattle.plain_programs.proofs.ScopedTrees.{AreParameters, IsTable, stmt_plain}
 
 -- ---- what is in scope
-
--- variables stand in the table by their numbers
-own_found : (table : Table) (k : ℕ) (later : List Variable) → Consecutive k (variable_bindings later)
-    → ((i : ℕ) (v : Variable) → slice_get later i ≡ Some v → slice_get table.own (k + i) ≡ Some v) → Each (Own table) later
-own_found table k [] numbered at = tt
-own_found table k (v ∷ later) numbered at = (
-  ap (variable_at table) numbered.0 ∙ subst (λ n. slice_get table.own n ≡ Some v) (omega arith) (at 0 v refl),
-  own_found table (suc k) later numbered.1 (λ i w there. subst (λ n. slice_get table.own n ≡ Some w) (omega arith) (at (suc i) w there)),
-)
-
--- so do the variables of the file
-file_found : (table : Table) (k : ℕ) (globals : List ParsedGlobal)
-    → ((i : ℕ) (v : Variable) → slice_get (file_variables k globals) i ≡ Some v → slice_get table.file (k + i) ≡ Some v) → ScopeScoped table (global_entries k globals)
-file_found table k [] at = tt
-file_found table k (g ∷ globals) at = (
-  subst (λ n. slice_get table.file n ≡ Some (global_entry k g).variable) (omega arith) (at 0 (global_entry k g).variable refl),
-  file_found table (suc k) globals (λ i w there. subst (λ n. slice_get table.file n ≡ Some w) (omega arith) (at (suc i) w there)),
-)
-
-params_found : (table : Table) (k : ℕ) (params : List ParsedParam) (scope : Scope) → ScopeScoped table scope → Each (Own table) (param_variables k params)
-    → ScopeScoped table (param_entries k params scope)
-params_found table k [] scope h own = h
-params_found table k (p ∷ params) scope h own = params_found table (suc k) params (declared p.name (Local k) p.spec p.is_array true ∷ scope) (own.0, h) own.1
 
 params_scalar : (k : ℕ) (params : List ParsedParam) → Each (λ p. p.is_array ≡ false) params → Each IsNoArray (param_variables k params)
 params_scalar k [] h = tt

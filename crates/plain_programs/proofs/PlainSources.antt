@@ -15,12 +15,12 @@ use Rattle.gang_model.specs.Source.Parsed.{Name, ParsedFunction, ParsedGlobal, P
 use Rattle.gang_model.specs.Source.Known.{known_function, known_form, known_item, is_known}
 use Rattle.gang_model.specs.Types.SourceRefusals.{first_refusal, refusal_of, IsAccepted}
 use Rattle.gang_model.specs.Types.TypeFaults.{is_array_form}
-use Rattle.gang_model.specs.Types.Resolved.{global_entry, judged_function, judged_functions, program_of}
+use Rattle.gang_model.specs.Types.Resolved.{global_entry, judged_function, judged_functions, program_of, file_variables}
 use Rattle.gang_model.proofs.JudgedLaws.{OnSound, on_pair, and_true}
 use Rattle.gang_model.proofs.StandingLaws.{Each}
 use Rattle.machine_states.specs.Variables.{Variables, own_of}
 use Rattle.machine_states.specs.Plain.{IsPlainFunction, IsPlainProgram}
-use Rattle.plain_programs.specs.Sources.{plain_forms, file_variables, own_variables, source_variables}
+use Rattle.plain_programs.specs.Sources.{plain_forms, own_variables, source_variables}
 use Rattle.plain_programs.proofs.Elements.{each_get}
 use Rattle.plain_programs.proofs.FewVariables.{few_variables}
 use Rattle.plain_programs.proofs.KnownFunctions.{IsKnownFunction, known_functions, HasFewParams, few_params}

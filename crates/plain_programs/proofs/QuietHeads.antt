@@ -7,6 +7,7 @@ use Rattle.gang_model.specs.Source.SpellsStatements.{SpellsDeclaration, SpellsSi
 use Rattle.gang_model.specs.Source.SpellsSource.{SpellsFunction, IsTree, max_nesting}
 use Rattle.gang_model.specs.Names.Scope.{has_return}
 use Rattle.gang_model.proofs.StandingLaws.{Each}
+use Rattle.gang_model.proofs.NestingLaws.{opened}
 
 abbrev mutual
   -- no start and no update of a `for` in a statement holds a `return`
@@ -54,20 +55,16 @@ update_head d s ts rest h = simple_head d s ts rest h
 
 -- ---- statements
 
-opened : (d : ℕ) (inside : ℕ → Type 0) → Opens d inside → (inner : ℕ) × inside inner
-opened zero inside h = absurd h
-opened (suc d) inside h = (d, h)
-
 body_opened : (s : ParsedStmt) (d : ℕ) (inside : ℕ → Type 0) → OpensBody s d inside → (inner : ℕ) × inside inner
 body_opened (ParsedBlock ss) d inside h = (d, h)
-body_opened s d inside h = opened d inside h
+body_opened s d inside h = let within = opened d inside h in (within.0, within.2)
 
 mutual
   -- a spelled statement is quiet
   quiet_statement : (s : ParsedStmt) (d : ℕ) (ts rest : List Lexeme) → SpellsStmt s d ts rest → IsQuiet s
   quiet_statement ParsedEmpty d ts rest h = tt
   quiet_statement (ParsedBlock ss) d ts rest h =
-      let inside = opened d (λ inner. SpellsStmts ss inner h.0 h.1) h.3 in quiet_statements ss inside.0 h.0 h.1 inside.1
+      let inside = opened d (λ inner. SpellsStmts ss inner h.0 h.1) h.3 in quiet_statements ss inside.0 h.0 h.1 inside.2
   quiet_statement (ParsedDeclare p spec at name e) d ts rest h = tt
   quiet_statement (ParsedAssign p target e) d ts rest h = tt
   quiet_statement (ParsedChange p target op e) d ts rest h = tt
@@ -88,8 +85,8 @@ mutual
       let inside = body_opened body d (λ inner. SpellsStmt body inner h.1 h.2) h.6 in quiet_statement body inside.0 h.1 h.2 inside.1
   quiet_statement (ParsedFor p start e update body) d ts rest h =
       let head = opened d _ h.3.3 in
-      let start_is = start_head head.0 start h.3.0 head.1.0 head.1.4 in
-      let update_is = update_head head.0 update head.1.3 h.3.1 head.1.8 in
+      let start_is = start_head head.0 start h.3.0 head.2.0 head.2.4 in
+      let update_is = update_head head.0 update head.2.3 h.3.1 head.2.8 in
       let inside = body_opened body d (λ inner. SpellsStmt body inner h.1 rest) h.4 in
       (start_is.0, update_is.0, start_is.1, update_is.1, quiet_statement body inside.0 h.1 rest inside.1)
   quiet_statement (ParsedSwitch p e segments) d ts rest h = tt
@@ -113,7 +110,7 @@ HasQuietHeads source = Each HasQuietBody (functions_in source)
 quiet_function : (f : ParsedFunction) (ts rest : List Lexeme) → SpellsFunction f ts rest → HasQuietBody f
 quiet_function f ts rest h =
     let inside = opened max_nesting (λ inner. SpellsStmts f.body inner h.5 h.6) h.15 in
-    quiet_statements f.body inside.0 h.5 h.6 inside.1
+    quiet_statements f.body inside.0 h.5 h.6 inside.2
 
 -- a tree that tokens spell
 pub quiet_heads : (source : ParsedSource) (tokens : List Lexeme) → IsTree source tokens → HasQuietHeads source

@@ -11,7 +11,7 @@ use Rattle.gang_model.specs.Source.Limits.{most_variables, limit_refusal}
 use Rattle.gang_model.specs.Source.Sources.{IsProgramOf}
 use Rattle.gang_model.specs.Source.Judged.{unless}
 use Rattle.gang_model.specs.Types.TypeFaults.{global_faults}
-use Rattle.gang_model.specs.Types.Resolved.{global_of, judged_globals, program_of}
+use Rattle.gang_model.specs.Types.Resolved.{global_of, judged_globals, program_of, file_variables}
 use Rattle.gang_model.specs.Types.SourceRefusals.{refusal_of}
 use Rattle.gang_model.proofs.JudgedLaws.{OnSound, on_pair, on_unless}
 use Rattle.gang_model.proofs.StandingLaws.{Each}
@@ -26,7 +26,7 @@ use Rattle.typed_tree.specs.declared.program.Program.{Program}
 use Rattle.typed_tree.specs.Views.{variable_view, global_view, program_view}
 use Rattle.codegen.specs.Programs as programs
 use Rattle.codegen.specs.Programs.{variables_of, IsRunnable}
-use Rattle.plain_programs.specs.Sources.{plain_forms, file_variables, source_variables, HasVariablesOf, IsOwnName}
+use Rattle.plain_programs.specs.Sources.{plain_forms, source_variables, HasVariablesOf, IsOwnName}
 use Rattle.plain_programs.proofs.DeclaredSources.{declared_text}
 use Rattle.plain_programs.proofs.Elements.{each_get}
 use Rattle.plain_programs.proofs.EntryFunctions.{entry_exported, typed_function}

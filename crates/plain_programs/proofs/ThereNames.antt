@@ -6,7 +6,7 @@ use Rattle.gang_types.specs.declared.places.VarId.TheVariants.{File, Local}
 use Rattle.gang_model.specs.Source.Names.{same_text}
 use Rattle.gang_model.specs.Names.Scope.{Binding, Environment, is_local, unhidden, listed, NameStanding}
 use Rattle.gang_model.specs.Types.Typing.{Entry, Scope}
-use Rattle.gang_model.proofs.StandingLaws.{Each, each_join}
+use Rattle.gang_model.proofs.StandingLaws.{Each, each_join, each_filter}
 use Rattle.machine_states.specs.Declared.{IsThere}
 use Rattle.machine_states.proofs.DeclaredLists.{within_back}
 
@@ -15,14 +15,6 @@ use Rattle.machine_states.proofs.DeclaredLists.{within_back}
 pub each_mapped : {A : Type 0} (P Q : A → Type 0) (xs : List A) → ((x : A) → P x → Q x) → Each P xs → Each Q xs
 each_mapped P Q [] f all = tt
 each_mapped P Q (x ∷ xs) f all = (f x all.0, each_mapped P Q xs f all.1)
-
-each_kept : {A : Type 0} (P : A → Type 0) (b : Bool) (x : A) (xs : List A) → P x → Each P xs → Each P (cond b (x ∷ xs) xs)
-each_kept P true x xs p q = (p, q)
-each_kept P false x xs p q = q
-
-each_filter : {A : Type 0} (P : A → Type 0) (test : A → Bool) (xs : List A) → Each P xs → Each P (filter test xs)
-each_filter P test [] p = tt
-each_filter P test (x ∷ xs) p = each_kept P (test x) x (filter test xs) p.0 (each_filter P test xs p.1)
 
 -- ---- names and entries
 

@@ -7,7 +7,7 @@ use Rattle.gang_model.specs.Source.Known.{Forms}
 use Rattle.gang_model.specs.Source.Judged.{Judged, Sound, Faulty}
 use Rattle.gang_model.specs.Types.Signatures.{result_of}
 use Rattle.gang_model.specs.Types.Statements.{Made, statements}
-use Rattle.gang_model.specs.Types.Resolved.{global_entries, global_of, param_entries, param_variables}
+use Rattle.gang_model.specs.Types.Resolved.{file_variables, global_entries, param_entries, param_variables}
 use Rattle.machine_states.specs.Variables.{Variables, own_of}
 use Rattle.codegen.specs.Programs as programs
 use Rattle.typed_tree.specs.declared.program.Program.{Program}
@@ -15,11 +15,6 @@ use Rattle.typed_tree.specs.declared.program.Program.{Program}
 -- all over scalars, control flow and calls of the source's own functions
 abbrev pub plain_forms : Forms
 plain_forms = record { scalars = true; control = true; calls = true; arrays = false; rounds = false; library = false; switches = false }
-
--- the file-scope variables, by their numbers from k on
-abbrev pub file_variables : ℕ → List ParsedGlobal → List Variable
-file_variables k [] = []
-file_variables k (g ∷ globals) = (global_of k g).variable ∷ file_variables (suc k) globals
 
 -- the variables that a body declares
 abbrev pub variables_made : Judged Made → List Variable

@@ -2,11 +2,12 @@ use Rattle.std.proofs.Common.{◌≡◌, ◌<◌, ◌∙◌, length, refl, sym, 
 use Rattle.std.proofs.lemmas.List.{length-map}
 use Rattle.std.proofs.lemmas.Option.{slice_get_within}
 use Rattle.std.specs.Prelude.{map}
+use Rattle.machine_steps.proofs.Viewed.{read_at}
 use Rattle.typed_tree.specs.declared.program.Global.{Global}
 use Rattle.typed_tree.specs.Views.{global_view}
 use Rattle.gang_machine.specs.Found.{IsSeen, SeesFound}
 use Rattle.gang_machine.specs.Standings.{file_variables}
-use Rattle.gang_machine.proofs.FirstNamed.{get_mapped, read_at}
+use Rattle.gang_machine.proofs.FirstNamed.{get_mapped}
 use Rattle.gang_machine.proofs.names.file_named.Goals as goal
 
 pub bounds-globals-number : goal.bounds-globals-number

@@ -1,7 +1,8 @@
 use Rattle.std.proofs.Common.{refl, ap, ◌∙◌, sym}
+use Rattle.machine_steps.proofs.Viewed.{read_at}
 use Rattle.gang_model.specs.Source.Names.{same_text}
 use Rattle.typed_tree.specs.Views.{variable_view}
-use Rattle.gang_machine.proofs.FirstNamed.{get_mapped, local_variable, read_at, same_name}
+use Rattle.gang_machine.proofs.FirstNamed.{get_mapped, local_variable, same_name}
 use Rattle.gang_machine.proofs.names.is_called.Goals as goal
 
 pub returns-in-Some : goal.returns-in-Some

@@ -7,14 +7,15 @@ use Rattle.machine_states.specs.Effects.{assigned_region}
 use Rattle.machine_states.specs.Regions.{ReturnedOf, ResultOf, OfHead, lanes_in, with_region}
 use Rattle.machine_states.proofs.ChangedRegions.{part_away}
 use Rattle.machine_words.specs.Words.{regions_in}
-use Rattle.machine_steps.proofs.Heads.{alike, head_long, keeps_both, only_word, rate_room, regions_after}
+use Rattle.machine_steps.proofs.Heads.{alike, head_long, keeps_both, only_word, regions_after}
 use Rattle.machine_steps.proofs.assignments.give_result.Goals as goal
+use Rattle.machine_steps.proofs.GangLanes.{words_few}
 
 pub assign-requires : goal.assign-requires
 assign-requires g c =
     let long = head_long g.T.Timeline.history g.T.Timeline.left g.row.W c.args.words.now c.requires.laid c.args.frame ResultOf c.requires.there in (
       omega (arith, gang_width-le g.row.W c.requires.width),
-      (c.requires.width, (c.requires.laid, (omega (arith, long, rate_room g.row.W c.requires.width c.args.rate), (omega (arith, long), (c.requires.lane, omega (arith, c.requires.left)))))),
+      (c.requires.width, (c.requires.laid, (omega (arith, long, words_few g.row.W c.requires.width c.args.rate), (omega (arith, long), (c.requires.lane, omega (arith, c.requires.left)))))),
     )
 
 pub word-requires-clause-within : goal.word-requires-clause-within

@@ -6,14 +6,15 @@ use Rattle.gang_types.specs.MaskLaws.{gang_width-le}
 use Rattle.gang_model.specs.Debugger.Debugger.{poked_by}
 use Rattle.gang_model.specs.Debugger.Events.{poked}
 use Rattle.machine_states.specs.Effects.{assigned_region}
-use Rattle.machine_states.specs.Shows.{words_for}
+use Rattle.gang_model.specs.Running.State.{words_for}
 use Rattle.machine_words.specs.Views.{region_view}
 use Rattle.machine_words.specs.Words.{regions_in}
 use Rattle.machine_steps.specs.Standing.{IsShown}
 use Rattle.machine_steps.proofs.PokedScalars.{all_some, assigned_poked, empty_records, empty_sound, lane_within, mid_laid, mid_left, mid_room, no_lane_of, poke_shown, poke_sound, seen_rate}
 use Rattle.machine_steps.proofs.ScalarRoom.{scalar_room}
-use Rattle.machine_steps.proofs.SeenScalars.{is_found, some_lanes}
+use Rattle.machine_steps.proofs.SeenScalars.{is_found}
 use Rattle.machine_steps.proofs.shown.poke.Goals as goal
+use Rattle.machine_steps.proofs.GangLanes.{gang_some}
 
 pub returns-in_default-clause-shown : goal.returns-in_default-clause-shown
 returns-in_default-clause-shown g c masked v shown seen e part =
@@ -41,7 +42,7 @@ assign-requires g c =
             (
               room.1,
               (
-                ap no_lane c.all.ensures ∙ all_some g.row.W (some_lanes g.row.W sound.lie.gang),
+                ap no_lane c.all.ensures ∙ all_some g.row.W (gang_some g.row.W sound.lie.gang),
                 mid_left history left g.row.W compiled old sound mid c.begin.ensures g.row.W (omega arith),
               ),
             ),
@@ -70,7 +71,7 @@ returns-in-None-default-clause-sound g c =
     let make : List ℕ → List ℕ = λ words. assigned_region scalar.rate (lanes_of width c.all.result) (replicate width c.args.word) words in
     let room = scalar_room history width compiled old sound c.args.variable region scalar.rate c.in-Some.ensures.found in
     let made = ap (λ lanes. assigned_region scalar.rate lanes (replicate width c.args.word) (regions_in history width old region)) c.all.ensures
-    ∙ assigned_poked width (some_lanes width sound.lie.gang) scalar.rate c.args.word (regions_in history width old region) room.0 room.1 in
+    ∙ assigned_poked width (gang_some width sound.lie.gang) scalar.rate c.args.word (regions_in history width old region) room.0 room.1 in
     poke_sound history g.T.Timeline.left width compiled old sound c.begin.new.words c.begin.ensures c.args.variable region scalar.rate c.in-Some.ensures.found
     None c.args.word c.assign.new.self make width made c.assign.ensures
 
@@ -86,7 +87,7 @@ returns-in-None-default-clause-shown g c masked v shown seen e part =
     let make : List ℕ → List ℕ = λ words. assigned_region scalar.rate (lanes_of width c.all.result) (replicate width c.args.word) words in
     let room = scalar_room history width compiled old sound c.args.variable region scalar.rate c.in-Some.ensures.found in
     let made = ap (λ lanes. assigned_region scalar.rate lanes (replicate width c.args.word) (regions_in history width old region)) c.all.ensures
-    ∙ assigned_poked width (some_lanes width sound.lie.gang) scalar.rate c.args.word (regions_in history width old region) room.0 room.1 in
+    ∙ assigned_poked width (gang_some width sound.lie.gang) scalar.rate c.args.word (regions_in history width old region) room.0 room.1 in
     subst (λ at. IsShown history width compiled c.assign.new.self (record masked { state = poked (poked_by v at) c.args.word masked.state })) (sym c.in-None-default.is-0)
     (poke_shown history g.T.Timeline.left width compiled old sound c.begin.new.words c.begin.ensures c.args.variable region scalar.rate c.in-Some.ensures.found
     None c.args.word c.assign.new.self make width made c.assign.ensures masked v shown seen e)

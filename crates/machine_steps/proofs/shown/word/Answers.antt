@@ -1,6 +1,5 @@
 use Rattle.std.proofs.Common.{◌≡◌, ◌∙◌, refl, ap, arith}
-use Rattle.machine_states.specs.Shows.{words_for}
-use Rattle.gang_model.specs.Running.State.{words_in}
+use Rattle.gang_model.specs.Running.State.{words_in, words_for}
 use Rattle.machine_words.specs.Views.{region_view}
 use Rattle.machine_words.specs.Words.{regions_in}
 use Rattle.machine_steps.proofs.ScalarRoom.{scalar_room}

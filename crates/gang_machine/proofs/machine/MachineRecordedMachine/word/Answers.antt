@@ -1,5 +1,5 @@
 use Rattle.std.proofs.Common.{◌<◌, ◌∙◌, sym, ap, subst, slice_index, arith}
-use Rattle.machine_states.specs.Shows.{words_for}
+use Rattle.gang_model.specs.Running.State.{words_for}
 use Rattle.gang_machine.specs.Standings.{Stands}
 use Rattle.gang_machine.proofs.Seeing.{is_seen, shown_here, shown_long, words_by_name}
 use Rattle.gang_machine.proofs.machine.MachineRecordedMachine.word.Goals as goal

@@ -2,7 +2,7 @@ use Rattle.std.proofs.Common.{◌≡◌, ◌≤◌, ◌∙◌, sym, ap, subst, a
 use Rattle.gang_types.specs.Masks.{lanes_of}
 use Rattle.gang_model.specs.Running.Lanes.{merged}
 use Rattle.machine_states.specs.Effects.{declared_region}
-use Rattle.machine_states.specs.Shows.{words_for}
+use Rattle.gang_model.specs.Running.State.{words_for}
 use Rattle.machine_words.specs.Views.{region_view}
 use Rattle.machine_words.specs.Words.{Writes, regions_in}
 use Rattle.machine_words.proofs.AllLanes.{merged_all}
