@@ -1,5 +1,5 @@
 -- Results, tests and single tokens.
-use Rattle.std.proofs.Common.{◌≡◌, ◌⊎◌, inl, inr, ℕ, zero, suc, List, [], ◌∷◌, Option, Some, None, Bool, true, false, refl, ap, subst, ◌∙◌}
+use Rattle.std.proofs.Common.{◌≡◌, inl, inr, ℕ, zero, suc, List, [], ◌∷◌, Some, None, Bool, true, false, refl, ap, subst, ◌∙◌}
 use Rattle.std.specs.Prelude.{◌==◌}
 use Rattle.std.proofs.lemmas.Bool.{eqb-true}
 use denote.Enum.Bare.{same_true, true_same}
@@ -13,7 +13,6 @@ use Rattle.gang_model.specs.declared.forms.Infix.{Infix}
 use Rattle.gang_model.specs.declared.forms.Infix.TheVariants.{Op, AndAlso, OrElse}
 use Rattle.gang_model.specs.Source.Tokens.{Sort, named, numbered, marked, Lexeme}
 use Rattle.gang_model.specs.Source.Spells.{Takes, truth_mark, unary_mark, infix_mark, level}
-use Rattle.ispc_lexer.specs.Options.{◌>>=◌}
 use Rattle.ispc_parser_expressions.specs.Parse.{is_mark, begins, take, unary_op, truth_of, infix_of, mark_of, operator_at, spend}
 use Rattle.ispc_lexer.proofs.Runs.{bind_some, which}
 use Rattle.std.proofs.lemmas.Option.{same_Some}

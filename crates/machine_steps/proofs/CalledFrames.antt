@@ -1,6 +1,6 @@
 -- Each frame was made for some lane: a run begins so, and each step and poke keeps it.
-use Rattle.std.proofs.Common.{ℕ, zero, suc, ◌<◌, ◌≡◌, refl, sym, ◌∙◌, ap, subst, Bool, true, false, arith, List, [], ◌∷◌, length, Option, Some, None}
-use Rattle.std.specs.Prelude.{Err, IfOk, Ok, Result, map, replicate, slice_get, ◌==◌, if◌then◌else◌}
+use Rattle.std.proofs.Common.{ℕ, zero, suc, ◌<◌, ◌≡◌, refl, sym, ◌∙◌, ap, subst, true, false, arith, List, [], ◌∷◌, length, Option, Some, None}
+use Rattle.std.specs.Prelude.{Err, IfOk, Ok, Result, map, replicate, slice_get, ◌==◌}
 use Rattle.std.proofs.lemmas.Option.{slice_get_within}
 use Rattle.undo_log.specs.History.{History}
 use Rattle.gang_types.specs.declared.faults.FaultName.TheVariants.{CallDepth}

@@ -1,5 +1,5 @@
 -- The value of an expression of the next step depends on the machine's regions alone.
-use Rattle.std.proofs.Common.{◌≡◌, sym, ap, ◌∙◌, subst, ℕ, suc, ◌<◌, ◌≤◌, true, true≢false, List, [], ◌∷◌, length, Result, arith}
+use Rattle.std.proofs.Common.{◌≡◌, sym, ap, ◌∙◌, subst, ℕ, suc, ◌<◌, ◌≤◌, true, true≢false, List, length, Result, arith}
 use Rattle.gang_types.specs.declared.places.VarId.{VarId}
 use Rattle.gang_types.specs.Lanes.{Lanes}
 use Rattle.gang_types.specs.Masks.{lanes_of}

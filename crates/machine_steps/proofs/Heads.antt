@@ -1,13 +1,11 @@
 -- The words of frames' heads, and the regions after a write.
-use Rattle.std.proofs.Common.{ℕ, suc, ◌<◌, ◌≤◌, ◌≡◌, refl, sym, ◌∙◌, ap, subst, arith, Bool, true, false, List, [], ◌∷◌, length, inl, inr}
+use Rattle.std.proofs.Common.{ℕ, suc, ◌<◌, ◌≡◌, refl, sym, ◌∙◌, ap, subst, arith, true, false, List, [], ◌∷◌, length}
 use Rattle.std.specs.Prelude.{◌||◌, if◌then◌else◌, replicate, slice_index, slice_set}
 use Rattle.std.proofs.Math.Bool.{or_comm}
 use Rattle.undo_log.specs.History.{History}
-use Rattle.gang_types.specs.declared.types.Rate.{Rate}
-use Rattle.gang_types.specs.declared.types.Rate.TheVariants.{Uniform, Varying}
 use Rattle.gang_types.specs.declared.masks.Mask.{Mask}
 use Rattle.gang_types.specs.Lanes.{Lanes, has}
-use Rattle.gang_types.specs.Masks.{IsGangWidth, lanes_of, lanes_of_word, word_of_lanes}
+use Rattle.gang_types.specs.Masks.{lanes_of, lanes_of_word, word_of_lanes}
 use Rattle.gang_types.specs.MaskLaws.{lanes_of_word_of_lanes, length-lanes_of_word}
 use Rattle.gang_model.specs.Running.Lanes.{merged, words_from}
 use Rattle.mask_states.specs.Masked.{sent}

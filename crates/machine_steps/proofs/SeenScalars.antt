@@ -1,13 +1,11 @@
 -- A variable that is seen is declared, and has its words where the machine finds them.
-use Rattle.std.proofs.Common.{◌≡◌, refl, sym, ap, ◌∙◌, subst, ℕ, ◌<◌, ◌≤◌, inl, inr, false, List, [], ◌∷◌, length, Option, Some, None, arith, get_or-take}
+use Rattle.std.proofs.Common.{◌≡◌, refl, sym, ap, ◌∙◌, subst, ℕ, ◌<◌, inl, inr, false, List, [], ◌∷◌, length, Option, Some, None, arith, get_or-take}
 use Rattle.std.specs.Prelude.{All, take, slice_get, slice_index, if◌then◌else◌}
 use Rattle.std.proofs.lemmas.List.{take_all}
 use Rattle.std.proofs.lemmas.Option.{get_or_from_slice_get, none-some, slice_get_within}
 use Rattle.gang_types.specs.declared.types.Rate.{Rate}
-use Rattle.gang_types.specs.declared.types.Rate.TheVariants.{Uniform, Varying}
 use Rattle.gang_types.specs.declared.places.VarId.{VarId}
 use Rattle.gang_types.specs.declared.places.VarId.TheVariants.{File, Local}
-use Rattle.gang_types.specs.Masks.{IsGangWidth}
 use Rattle.gang_model.specs.Types.Tree.{Variable, Standing, Function, Program}
 use Rattle.gang_model.specs.Running.State.{words_in, words_for}
 use Rattle.gang_model.specs.Debugger.Debugger.{poked_by}

@@ -6,7 +6,6 @@ use Rattle.gang_types.specs.declared.masks.Mask.{Mask}
 use Rattle.gang_types.specs.declared.places.VarId.{VarId}
 use Rattle.gang_types.specs.declared.places.VarId.TheVariants.{File, Local}
 use Rattle.gang_types.specs.declared.types.Rate.{Rate}
-use Rattle.gang_types.specs.declared.types.Rate.TheVariants.{Uniform, Varying}
 use Rattle.gang_types.specs.Lanes.{Lanes, has, no_lane}
 use Rattle.gang_types.specs.Masks.{IsGangWidth, lanes_of}
 use Rattle.gang_types.specs.MaskLaws.{gang_width-le}

@@ -1,9 +1,9 @@
 -- The body of a function, from what its statements make.
-use Rattle.std.proofs.Common.{◌≡◌, ℕ, suc, refl, sym, ap, subst, ◌∙◌, List, [], ◌∷◌, ◌++◌, length}
+use Rattle.std.proofs.Common.{◌≡◌, sym, ap, subst, ◌∙◌, List, ◌++◌, length}
 use Rattle.std.specs.Prelude.{Ok, Err, Some}
 use Rattle.gang_model.specs.declared.refusals.SourceRefusal.{SourceRefusal}
 use Rattle.gang_model.specs.Types.Tree as tree
-use Rattle.gang_model.specs.Source.Parsed.{ParsedFunction, ParsedParam, ParsedSource, ParsedStmts, functions_in, globals_in}
+use Rattle.gang_model.specs.Source.Parsed.{ParsedFunction, ParsedSource, ParsedStmts, functions_in, globals_in}
 use Rattle.gang_model.specs.Types.Calls.{Context}
 use Rattle.gang_model.specs.Source.Judged.{Judged, Sound, Faulty, ◌>>=◌, answer_of, sound_part}
 use Rattle.gang_model.specs.Types.Signatures.{result_of}

@@ -1,5 +1,5 @@
 -- The costs of arguments, one by one.
-use Rattle.std.proofs.Common.{ℕ, ◌≡◌, ◌∙◌, ◌+◌, ◌<◌, refl, sym, ap, suc, List, [], ◌∷◌, ◌++◌, length, get_or, drop, append_assoc, append-nil, Option, Some, None, map}
+use Rattle.std.proofs.Common.{ℕ, ◌≡◌, ◌∙◌, ◌+◌, refl, sym, ap, suc, List, [], ◌∷◌, ◌++◌, length, append_assoc, append-nil, Option, Some, None, map}
 use Rattle.std.specs.Prelude.{option_map}
 use Rattle.gang_model.specs.Source.Parsed.{ParsedParam}
 use Rattle.gang_model.specs.Types.Typing.{Passing}

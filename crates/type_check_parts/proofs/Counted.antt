@@ -1,5 +1,5 @@
 -- The steps of statements, counted one statement after another.
-use Rattle.std.proofs.Common.{◌≡◌, ℕ, ◌+◌, ◌<◌, ◌≤◌, List, ◌∷◌, length, drop, get_or, sym, ap, ◌∙◌, arith, Vec, Global}
+use Rattle.std.proofs.Common.{◌≡◌, ℕ, ◌+◌, ◌<◌, ◌≤◌, List, length, drop, get_or, sym, ap, ◌∙◌, arith, Vec, Global}
 use Rattle.std.proofs.lemmas.List.{drop_all}
 use Rattle.gang_model.specs.Running.Numbering.{steps_in, steps_in_all}
 use Rattle.gang_model.proofs.WalkedLists.{next_item}
