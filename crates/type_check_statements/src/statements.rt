@@ -25,8 +25,8 @@ use type_check_forms::{
     repeated, started, type_of,
 };
 use type_check_parts::{
-    advanced, assignment, called, change, declare, declare_indices, dimensions, increment, one_step,
-    returning, some_test, steps_in, test_of, variable_of,
+    advanced, assignment, called, change, declare, declare_indices, dimensions, increment,
+    one_step, returning, some_test, steps_in, test_of, variable_of,
 };
 use type_check_scopes::{Declared, TypeScope, index_variable};
 use typed_tree::Stmt;
