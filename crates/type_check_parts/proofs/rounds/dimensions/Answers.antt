@@ -32,5 +32,7 @@ returns c =
     let scope = c.args.scope.now in
     let dims = c.args.dims.now in
     let i = c.loop-dim.dim-index in
-    rows-all scope.entries (length scope.locals) c.loop-dim.number (map dim_view dims) (map dim_view (drop i dims)) (seen (λ ds. map dimension_view ds.items) c.loop-dim.typed)
-    c.loop-dim.invariant (ap (map dim_view) (drop_all i dims c.loop-dim-test.false))
+    record {
+      dimensions = rows-all scope.entries (length scope.locals) c.loop-dim.number (map dim_view dims) (map dim_view (drop i dims)) (seen (λ ds. map dimension_view ds.items) c.loop-dim.typed)
+          c.loop-dim.invariant (ap (map dim_view) (drop_all i dims c.loop-dim-test.false));
+    }
