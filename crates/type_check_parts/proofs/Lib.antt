@@ -1,6 +1,5 @@
 pub mod Counted
 pub mod Declaring
-pub mod InOrder
 pub mod Indices
 pub mod InRows
 pub mod Judging
