@@ -82,121 +82,168 @@ pub fn measure_all<R: Clock + Print>(rt: &R, ty: IntType) -> io::Result<()> {
     measure_divisions(rt, ty)
 }
 
-fn measure_arithmetic<R: Clock + Print>(rt: &R, ty: IntType) -> io::Result<()> {
+/// An operation on one word of each lane, beside the plain one.
+fn unary<R: Clock + Print, K: Fn(Lanes) -> Lanes>(
+    rt: &R,
+    name: &str,
+    operator: UnaryOp,
+    ty: IntType,
+    kernel: &K,
+) -> io::Result<()>
+    requires { K.IsAlwaysCallable kernel.now }
+{
     row(
+        rt,
+        name,
+        &|x| x.a = kernel(x.a),
+        &|x| x.a = plain::unary(operator, ty, x.a),
+    )
+}
+
+/// An operation on two words of each lane, beside the plain one.
+fn binary<R: Clock + Print, K: Fn(Lanes, Lanes) -> Lanes>(
+    rt: &R,
+    name: &str,
+    operator: BinaryOp,
+    ty: IntType,
+    kernel: &K,
+) -> io::Result<()>
+    requires { K.IsAlwaysCallable kernel.now }
+{
+    row(
+        rt,
+        name,
+        &|x| x.a = kernel(x.a, x.b),
+        &|x| x.a = plain::binary(operator, ty, x.a, x.b),
+    )
+}
+
+fn measure_arithmetic<R: Clock + Print>(rt: &R, ty: IntType) -> io::Result<()> {
+    binary(
         rt,
         "add",
-        &|x| x.a = lane_kernels::add(ty, x.a, x.b),
-        &|x| x.a = plain::binary(BinaryOp::Add, ty, x.a, x.b),
+        BinaryOp::Add,
+        ty,
+        &|a, b| lane_kernels::add(ty, a, b),
     )?;
-    row(
+    binary(
         rt,
         "sub",
-        &|x| x.a = lane_kernels::sub(ty, x.a, x.b),
-        &|x| x.a = plain::binary(BinaryOp::Sub, ty, x.a, x.b),
+        BinaryOp::Sub,
+        ty,
+        &|a, b| lane_kernels::sub(ty, a, b),
     )?;
-    row(
+    binary(
         rt,
         "mul",
-        &|x| x.a = lane_kernels::mul(ty, x.a, x.b),
-        &|x| x.a = plain::binary(BinaryOp::Mul, ty, x.a, x.b),
+        BinaryOp::Mul,
+        ty,
+        &|a, b| lane_kernels::mul(ty, a, b),
     )?;
-    row(
+    unary(
         rt,
         "negate",
-        &|x| x.a = lane_kernels::negate(ty, x.a),
-        &|x| x.a = plain::unary(UnaryOp::Negate, ty, x.a),
+        UnaryOp::Negate,
+        ty,
+        &|a| lane_kernels::negate(ty, a),
     )
 }
 
 fn measure_bits<R: Clock + Print>(rt: &R, ty: IntType) -> io::Result<()> {
-    row(
+    binary(
         rt,
         "and",
-        &|x| x.a = lane_kernels::and(ty, x.a, x.b),
-        &|x| x.a = plain::binary(BinaryOp::And, ty, x.a, x.b),
+        BinaryOp::And,
+        ty,
+        &|a, b| lane_kernels::and(ty, a, b),
     )?;
-    row(
+    binary(
         rt,
         "or",
-        &|x| x.a = lane_kernels::or(ty, x.a, x.b),
-        &|x| x.a = plain::binary(BinaryOp::Or, ty, x.a, x.b),
+        BinaryOp::Or,
+        ty,
+        &|a, b| lane_kernels::or(ty, a, b),
     )?;
-    row(
+    binary(
         rt,
         "xor",
-        &|x| x.a = lane_kernels::xor(ty, x.a, x.b),
-        &|x| x.a = plain::binary(BinaryOp::Xor, ty, x.a, x.b),
+        BinaryOp::Xor,
+        ty,
+        &|a, b| lane_kernels::xor(ty, a, b),
     )?;
-    row(
+    unary(
         rt,
         "complement",
-        &|x| x.a = lane_kernels::complement(ty, x.a),
-        &|x| x.a = plain::unary(UnaryOp::Complement, ty, x.a),
+        UnaryOp::Complement,
+        ty,
+        &|a| lane_kernels::complement(ty, a),
     )
 }
 
 fn measure_shifts<R: Clock + Print>(rt: &R, ty: IntType) -> io::Result<()> {
-    row(
+    binary(
         rt,
         "shl",
-        &|x| x.a = lane_kernels::shl(ty, x.a, x.b),
-        &|x| x.a = plain::binary(BinaryOp::Shl, ty, x.a, x.b),
+        BinaryOp::Shl,
+        ty,
+        &|a, b| lane_kernels::shl(ty, a, b),
     )?;
-    row(
+    binary(
         rt,
         "shr",
-        &|x| x.a = lane_kernels::shr(ty, x.a, x.b),
-        &|x| x.a = plain::binary(BinaryOp::Shr, ty, x.a, x.b),
+        BinaryOp::Shr,
+        ty,
+        &|a, b| lane_kernels::shr(ty, a, b),
     )
 }
 
 fn measure_orders<R: Clock + Print>(rt: &R, ty: IntType) -> io::Result<()> {
-    row(
+    binary(
         rt,
         "less",
-        &|x| x.a = lane_kernels::less(ty, x.a, x.b),
-        &|x| x.a = plain::binary(BinaryOp::Less, ty, x.a, x.b),
+        BinaryOp::Less,
+        ty,
+        &|a, b| lane_kernels::less(ty, a, b),
     )?;
-    row(
+    binary(
         rt,
         "less_equal",
-        &|x| x.a = lane_kernels::less_equal(ty, x.a, x.b),
-        &|x| x.a = plain::binary(BinaryOp::LessEqual, ty, x.a, x.b),
+        BinaryOp::LessEqual,
+        ty,
+        &|a, b| lane_kernels::less_equal(ty, a, b),
     )?;
-    row(
+    binary(
         rt,
         "greater",
-        &|x| x.a = lane_kernels::greater(ty, x.a, x.b),
-        &|x| x.a = plain::binary(BinaryOp::Greater, ty, x.a, x.b),
+        BinaryOp::Greater,
+        ty,
+        &|a, b| lane_kernels::greater(ty, a, b),
     )?;
-    row(
+    binary(
         rt,
         "greater_equal",
-        &|x| x.a = lane_kernels::greater_equal(ty, x.a, x.b),
-        &|x| x.a = plain::binary(BinaryOp::GreaterEqual, ty, x.a, x.b),
+        BinaryOp::GreaterEqual,
+        ty,
+        &|a, b| lane_kernels::greater_equal(ty, a, b),
     )
 }
 
 fn measure_equalities<R: Clock + Print>(rt: &R, ty: IntType) -> io::Result<()> {
-    row(
+    binary(
         rt,
         "equal",
-        &|x| x.a = lane_kernels::equal(ty, x.a, x.b),
-        &|x| x.a = plain::binary(BinaryOp::Equal, ty, x.a, x.b),
+        BinaryOp::Equal,
+        ty,
+        &|a, b| lane_kernels::equal(ty, a, b),
     )?;
-    row(
+    binary(
         rt,
         "not_equal",
-        &|x| x.a = lane_kernels::not_equal(ty, x.a, x.b),
-        &|x| x.a = plain::binary(BinaryOp::NotEqual, ty, x.a, x.b),
+        BinaryOp::NotEqual,
+        ty,
+        &|a, b| lane_kernels::not_equal(ty, a, b),
     )?;
-    row(
-        rt,
-        "not",
-        &|x| x.a = lane_kernels::not(ty, x.a),
-        &|x| x.a = plain::unary(UnaryOp::Not, ty, x.a),
-    )
+    unary(rt, "not", UnaryOp::Not, ty, &|a| lane_kernels::not(ty, a))
 }
 
 fn measure_choices<R: Clock + Print>(rt: &R, ty: IntType) -> io::Result<()> {
