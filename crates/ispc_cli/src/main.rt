@@ -1,21 +1,13 @@
 //! Compiles a program for gangs, and debugs it by commands, forwards and backwards.
 #![tactic(auto)]
 
-mod options;
-mod refusal;
-mod running;
-mod script;
 mod streams;
-#[cfg(test)]
-mod tests;
 
-ghost use Rattle.ispc_cli.specs.Ranges.{AreInRange};
+ghost use Rattle.ispc_options.specs.Ranges.{AreInRange};
 
 use clap::error::{Error, ErrorKind};
-use options::{Options, Paths, read_options, wrong_arguments};
-use refusal::{Refusal, write_refusal};
-use running::run;
-use script::{MOST_BYTES, split_script};
+use ispc_debugger::{MOST_BYTES, Refusal, run, split_script, write_refusal};
+use ispc_options::{Options, Paths, read_options, wrong_arguments};
 use std::alloc::AllocError;
 use std::io::Read;
 use std::process::ExitCode;

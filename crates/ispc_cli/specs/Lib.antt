@@ -1,4 +1,0 @@
-pub mod Marks
-pub mod Ranges
-pub mod Refusals
-pub mod Runs

@@ -1,0 +1,123 @@
+//! A run: a source is compiled, and command lines are answered.
+ghost use Rattle.std.specs.Prelude.{◌≡◌, ◌⊎◌, ℕ, ◌+◌, ◌≤◌, true, false, List, [], Ok, IfOk, IfErr, option_map};
+ghost use Rattle.std.specs.Io.KnownBytes.{Appends};
+ghost use Rattle.gang_types.specs.Masks.{IsGangWidth};
+ghost use Rattle.gang_model.specs.Debugger.Debugger.{fresh};
+ghost use Rattle.gang_model.specs.Texts.Endings.{Ends};
+ghost use Rattle.gang_model.specs.Source.Sources.{IsProgramOf};
+ghost use Rattle.plain_programs.specs.Sources.{plain_forms};
+ghost use Rattle.gang_model.specs.Texts.Transcript.{setting};
+ghost use Rattle.gang_model.specs.Types.Tree.{Program as ModelProgram};
+ghost use Rattle.typed_tree.specs.Views.{program_view};
+ghost use Rattle.debug_session.specs.Sessions.{StandsFor};
+ghost use Rattle.gang_machine.specs.Standings.{Stands};
+ghost use Rattle.transcript.specs.Endings.{ending_of};
+ghost use Rattle.ispc_compiler.specs.Front.{IsReady};
+ghost use Rattle.ispc_options.specs.Ranges.{AreInRange};
+ghost use Rattle.ispc_debugger.specs.Runs.{IsRight, asked_of, options_view};
+
+use crate::refusal::Refusal;
+use debug_machine::{AnswerWriter, CommandReader, READS};
+use debug_session::Session;
+use gang_machine::{Machine, open};
+use ispc_compiler::{Compiled, compile_source};
+use ispc_options::{Options, Width};
+use source_answers::SourceFault;
+use std::alloc::{AllocError, Global};
+use transcript::{Ending, answer_lines};
+use undo_log::SnapshotRing;
+
+/// Compiles a source, and answers the command lines that the reader gives. It begins with the exported function of the name
+/// that the options ask for, or with the first exported one where they ask for none.
+///
+/// A run that is not refused writes the transcript of the debugger of the definitions: after each command it shows the state
+/// that the source reaches by the steps not taken back, and taking one back restores every word, up to the history limit.
+/// Refused for the source, it names the right fault, and nothing is read or written.
+pub fn run<R: CommandReader, O: AnswerWriter>(
+    alloc: Global,
+    source: &[u8],
+    input: &[u8],
+    options: &Options<'_>,
+    reader: &mut R,
+    writer: &mut O,
+) -> Result<Ending, Refusal>
+    requires input { input.now ≡ [] }
+    requires range { AreInRange options.now }
+    requires fresh { R.reads reader.old ≡ 0 }
+    requires reader_works { R.has_failed reader.old ≡ false }
+    requires writer_works { O.has_failed writer.old ≡ false }
+    ensures transcript { IfOk result (λ ending. (program : ModelProgram) × (entry : ℕ) × IsProgramOf plain_forms source.now (asked_of options.now) program entry
+        × ((out : List ℕ) × Appends (O.written writer.old) (O.written writer.new) out
+        × Ends (setting program entry [] (options_view options.now)) (fresh options.now.history) (ending_of ending) (R.left reader.old) (R.left reader.new) out)) }
+    ensures refused { IfErr result (λ refusal. IsRight source.now (asked_of options.now) refusal × ((reader.new ≡ reader.old) × (writer.new ≡ writer.old))) }
+    ensures read_fault { result ≡ Ok Ending.ReadFault
+        → (R.has_failed reader.new ≡ true)
+        ⊎ ((R.reads reader.new ≡ READS) × (R.pieces reader.new ≡ R.pieces reader.old + READS)) }
+    ensures write_fault { result ≡ Ok Ending.WriteFault → O.has_failed writer.new ≡ true }
+    ensures reads { R.reads reader.new ≤ READS }
+{
+    match compile_source(alloc, source, asked_entry(options)) {
+        Err(SourceFault::Refused(refusal)) => Err(Refusal::Source(refusal)),
+        Err(SourceFault::Memory) => Err(Refusal::Memory),
+        Ok(None) => Err(Refusal::NoEntry),
+        Ok(Some(compiled)) => match options.width {
+            Width::Four => run_wide::<4, R, O>(alloc, compiled, options, reader, writer),
+            Width::Eight => run_wide::<8, R, O>(alloc, compiled, options, reader, writer),
+            Width::Sixteen => run_wide::<16, R, O>(alloc, compiled, options, reader, writer),
+        },
+    }
+}
+
+/// The bytes of the name of the entry that is asked for, if one is.
+fn asked_entry<'a>(options: &Options<'a>) -> Option<&'a [u8]>
+    ensures { option_map (λ name. name.now) result ≡ asked_of options.now }
+{
+    options.entry.map(|name| name.as_bytes())
+}
+
+/// The run of a program at a width.
+fn run_wide<const W: usize, R: CommandReader, O: AnswerWriter>(
+    alloc: Global,
+    compiled: Compiled,
+    options: &Options<'_>,
+    reader: &mut R,
+    writer: &mut O,
+) -> Result<Ending, Refusal>
+    requires width { IsGangWidth W }
+    requires ready { IsReady compiled }
+    requires range { AreInRange options.now }
+    requires fresh { R.reads reader.old ≡ 0 }
+    requires reader_works { R.has_failed reader.old ≡ false }
+    requires writer_works { O.has_failed writer.old ≡ false }
+    ensures transcript { IfOk result (λ ending. (out : List ℕ) × Appends (O.written writer.old) (O.written writer.new) out
+        × Ends (setting (program_view compiled.program) compiled.entry.0 [] (record { width = W; history = options.now.history; steps = options.now.steps })) (fresh options.now.history)
+        (ending_of ending) (R.left reader.old) (R.left reader.new) out) }
+    ensures refused { IfErr result (λ refusal. (refusal ≡ Refusal.Memory) × ((reader.new ≡ reader.old) × (writer.new ≡ writer.old))) }
+    ensures read_fault { result ≡ Ok Ending.ReadFault
+        → (R.has_failed reader.new ≡ true)
+        ⊎ ((R.reads reader.new ≡ READS) × (R.pieces reader.new ≡ R.pieces reader.old + READS)) }
+    ensures write_fault { result ≡ Ok Ending.WriteFault → O.has_failed writer.new ≡ true }
+    ensures reads { R.reads reader.new ≤ READS }
+{
+    match begun::<W>(alloc, compiled, options) {
+        Err(_) => Err(Refusal::Memory),
+        Ok(mut session) => Ok(answer_lines(&mut session, reader, writer)),
+    }
+}
+
+/// The debugger of a program at a width, before its first step.
+fn begun<const W: usize>(
+    alloc: Global,
+    compiled: Compiled,
+    options: &Options<'_>,
+) -> Result<Session<Machine<W, SnapshotRing>>, AllocError>
+    requires width { IsGangWidth W }
+    requires ready { IsReady compiled }
+    requires range { AreInRange options.now }
+    ensures { IfOk result (λ session. StandsFor Stands session
+        (setting (program_view compiled.program) compiled.entry.0 [] (record { width = W; history = options.now.history; steps = options.now.steps }))
+        (fresh options.now.history)) }
+{
+    let machine = open::<W>(alloc, compiled.program, compiled.entry, options.history)?;
+    Ok(Session::open(machine, options.steps))
+}

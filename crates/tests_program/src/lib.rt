@@ -1,0 +1,7 @@
+//! Tests of the program that need public calls alone.
+#![tactic(auto)]
+
+#[cfg(test)]
+mod options;
+#[cfg(test)]
+mod runs;
