@@ -1,7 +1,6 @@
 -- Statements that lie in a Vec.
-use Rattle.std.proofs.Common.{◌≡◌, refl, ap, ◌∙◌, Vec, Global}
-use mathlib.Core.Former.{Count}
-use Rattle.gang_model.specs.Source.Parsed.{ParsedBlock, ParsedNext}
+use Rattle.std.proofs.Common.{◌≡◌, List, refl, ap, ◌∙◌, Vec, Global}
+use Rattle.gang_model.specs.Source.Parsed.{ParsedStmt, ParsedBlock, ParsedNext}
 use Rattle.ispc_parser.specs.declared.tree.Stmt.{Stmt, Block, Block', Row_of-Stmt, end_of-Stmt, more_of-Stmt, items-the_row-Stmt, items_hidden-the_row-Stmt-0}
 use Rattle.ispc_parser.specs.Tree.{stmt_view, row_view, stmts_view}
 
@@ -9,11 +8,14 @@ row_view_items : (n : _) (row : Row_of-Stmt n) → row_view row ≡ stmts_view (
 row_view_items n end_of-Stmt = refl
 row_view_items n (more_of-Stmt s ss) = ap (ParsedNext (stmt_view s)) (row_view_items _ ss)
 
-abbrev row_of : Stmt → (n : Count) × Row_of-Stmt n
-row_of (Block' _ row) = (_, row)
-row_of _ = (_, end_of-Stmt)
+-- a statement as it is written, a block by the list of its statements
+abbrev listed_view : Stmt → ParsedStmt
+listed_view (Block' _ row) = ParsedBlock (stmts_view (items-the_row-Stmt _ row))
+listed_view s = stmt_view s
+
+as_listed : (s : Stmt) → stmt_view s ≡ listed_view s
+as_listed (Block' _ row) = ap ParsedBlock (row_view_items _ row)
+as_listed s = refl
 
 pub view_block : (v : Vec Stmt Global) → stmt_view (Block v) ≡ ParsedBlock (stmts_view v.items)
-view_block v =
-    let row = row_of (Block v) in
-    ap ParsedBlock (row_view_items row.0 row.1 ∙ ap stmts_view (items_hidden-the_row-Stmt-0 v))
+view_block v = as_listed (Block v) ∙ ap (λ (ss : List Stmt). ParsedBlock (stmts_view ss)) (items_hidden-the_row-Stmt-0 v)
