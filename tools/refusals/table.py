@@ -349,9 +349,12 @@ KNOWN = [
     (P + 'int x = (1 + programIndex) * 0x10; x = x; }', True),
     (P + 'int x; }', True), (P + 'int x = 2147483648; }', True), (P + 'int x = 1u; }', True), (P + 'int x = 1 - 1; }', True),
     (P + 'int8 x = 1; }', True), (P + 'uniform int x = 1; }', True), (P + 'int x = programCount; }', True), (P + 'int x = 1; x -= 1; }', True), (P + '{ } }', True),
-    (P + 'if (1) ; }', False), ('void go() { }', True), (P + '}\n' + P + '}', True), ('uniform int a;', True), (P + 'int x = any(1); }', False),
-    ('uniform int a[3];', False), (P + 'int x = a[0]; }', False), (P + 'a[0] = 1; }', False), ('void f(int n) { }', False), (P + 'f(); }', False), (P + 'int x = -f(); }', False),
-    (P + '{ while (true) ; } }', False), (P + 'break; }', False), (P + 'return; }', False), (P + 'foreach (i = 0 ... 4) ; }', False),
+    (P + 'if (1) ; }', True), ('void go() { }', True), (P + '}\n' + P + '}', True), ('uniform int a;', True), (P + 'int x = any(1); }', False),
+    ('uniform int a[3];', False), (P + 'int x = a[0]; }', False), (P + 'a[0] = 1; }', False), ('void f(int n) { }', True), (P + 'f(); }', True), (P + 'int x = -f(); }', True),
+    (P + '{ while (true) ; } }', True), (P + 'break; }', True), (P + 'return; }', True), (P + 'foreach (i = 0 ... 4) ; }', False),
+    ('export void go(uniform int n) { }', False), ('void f(uniform int a[]) { }', False), (P + 'f(a[0]); }', False), (P + 'f(&a[0]); }', False), (P + 'assert(true); }', False),
+    (P + 'foreach_active (i) ; }', False), (P + 'foreach_unique (v in 1) ; }', False), (P + 'switch (1) { } }', False),
+    (P + 'if (1) ; else { for (int i = 0; i < abs(1); i++) ; } }', False),
 ]
 
 # a file-scope variable and its first word

@@ -1,4 +1,5 @@
-"""The table of commands in docs/COMMANDS.md: each of its commands is answered, and not as a line that spells none."""
+"""The table of commands in docs/COMMANDS.md: it has the commands that the program reads, and each is answered, and not as a line that
+spells none."""
 
 import re
 
@@ -44,12 +45,26 @@ def commands(root):
     return [line for row in rows(root) for line in lines_of(row["Command"])]
 
 
+def words_read(root):
+    """The words of each command that the program reads."""
+    text = (root / "crates/debug_commands/src/table.rt").read_text(encoding="utf-8")
+    return {" ".join(re.findall(r'b"([^"]+)"', it)) for it in re.findall(r"Entry\(&\[([^\]]*)\]", text)}
+
+
+def words_shown(root):
+    """The words of each command of the table, without what stands for a value."""
+    forms = [form.split() for row in rows(root) for form in re.findall(r"`([^`]*)`", row["Command"])]
+    return {" ".join(word for word in form if word not in VALUES and word != "=") for form in forms}
+
+
 def check(root):
-    """A result for each command of the table: it stands there once."""
+    """A result for each command of the table, which stands there once, and one for the commands that the program reads."""
     found = commands(root)
     if not found:
         return [Result("the table of commands", False, ["docs/COMMANDS.md has no table with the columns Command and Does"])]
-    return [Result(it, found.count(it) == 1, ["it is there twice"]) for it in found]
+    only_one = sorted(words_read(root) ^ words_shown(root))
+    same = Result("the commands that the program reads", not only_one, [f"only one of the two has: {it}" for it in only_one])
+    return [*(Result(it, found.count(it) == 1, ["it is there twice"]) for it in found), same]
 
 
 def runs(root):

@@ -1,4 +1,4 @@
-//! Forms of the language that the later stages do not run yet.
+//! Forms of the language that are let through, and those that are not there yet.
 ghost use Rattle.std.specs.List.{list_all};
 ghost use Rattle.std.specs.Prelude.{◌≡◌, ◌&&◌, is_ok, map, not, option_map};
 ghost use Rattle.ispc_parser_expressions.specs.Tree.{args_view, expr_view};
@@ -16,8 +16,8 @@ use ispc_parser_expressions::{Arg, Expr};
 ///
 /// # Errors
 ///
-/// Where the first form stands that is not: the first token of the smallest statement or expression that has it, where
-/// `do` stands at its `while`, or the name of a function or file-scope variable.
+/// Where the first form stands that is not: the first token of the outermost statement, target or expression of such a form,
+/// or the name of a function or file-scope variable.
 pub(crate) fn check_forms(tree: &Tree) -> Result<(), Place>
     ensures { is_ok result ≡ is_known plain_forms (tree_view tree.now) }
 {

@@ -21,15 +21,13 @@ use arrayvec::ArrayVec;
 use codegen::ArgCode;
 use debug_machine::Fault;
 use expression_code::Stacks;
+use gang_memory::MOST_FRAMES;
 use gang_types::{FaultName, Mask};
 use machine_words::{Head, MachineWords, Region};
 use undo_log::{Timeline, Undone};
 
 /// The most arguments of a call.
 const MOST_ARGS: usize = 8;
-
-/// The most frames.
-const MOST_FRAMES: usize = 64;
 
 /// The values of a call's arguments.
 type Arguments<const W: usize> = ArrayVec<[u64; W], MOST_ARGS>;

@@ -12,9 +12,9 @@ use Rattle.gang_model.specs.Types.Typing.{expression}
 use Rattle.gang_model.specs.Types.Resolved.{program_of}
 use Rattle.tests_transcripts.proofs.Forms.{at}
 
--- all forms over scalars, in straight lines
-abbrev pub straight_lines : Forms
-straight_lines = record { scalars = true; control = false; calls = false; arrays = false; rounds = false; library = false; switches = false }
+-- functions over scalars alone
+abbrev pub scalar_forms : Forms
+scalar_forms = record { arrays = false; rounds = false; library = false; switches = false }
 
 -- a refusal and its place
 abbrev pub refused : RefusalNumber → ℕ → ℕ → Option SourceRefusal

@@ -1,30 +1,16 @@
 -- Which forms of the language a source has; the definitions have the whole language
 -- (a choice of this project: forms are let through in the order in which their running code is proved).
-use Rattle.std.specs.Prelude.{◌≡◌, ◌^◌, Bool, true, false, not, ◌&&◌, ◌||◌, nat_lt, List, [], ◌∷◌, length, ◌==◌, Option, Some, None, codes, is_none, is_some}
+use Rattle.std.specs.Prelude.{Bool, true, not, ◌&&◌, ◌||◌, List, [], ◌∷◌, length, ◌==◌, Option, Some, None, is_none, is_some}
 use Rattle.std.specs.List.{list_all}
-use Rattle.gang_types.specs.declared.types.IntType.{IntType}
-use Rattle.gang_types.specs.declared.types.IntType.TheVariants as t
-use Rattle.gang_types.specs.declared.operators.BinaryOp.{BinaryOp}
-use Rattle.gang_types.specs.declared.operators.BinaryOp.TheVariants as op
-use Rattle.gang_model.specs.declared.forms.Infix.{Infix}
-use Rattle.gang_model.specs.declared.forms.Infix.TheVariants.{Op}
-use Rattle.gang_model.specs.declared.forms.Spec.{Spec}
 use Rattle.gang_model.specs.declared.forms.GlobalForm.{GlobalForm}
 use Rattle.gang_model.specs.declared.forms.GlobalForm.TheVariants.{Array}
-use Rattle.gang_model.specs.Source.Names.{same_text}
 use Rattle.gang_model.specs.Types.LibraryTable.{is_library_name, statement_call}
 use Rattle.gang_model.specs.Source.Parsed.{Name, ParsedExpr, ParsedNumber, ParsedBool, ParsedName, ParsedIndex, ParsedCall, ParsedParen, ParsedUnary, ParsedCast, ParsedBinary, ParsedChoice, ParsedArgs, ParsedEnd, ParsedValue, ParsedPart, ParsedPartFrom, ParsedDim, ParsedTarget, ParsedStmt, ParsedEmpty, ParsedBlock, ParsedDeclare, ParsedAssign, ParsedChange, ParsedIncrement, ParsedDoCall, ParsedBreak, ParsedContinue, ParsedReturn, ParsedIf, ParsedIfElse, ParsedWhile, ParsedDo, ParsedFor, ParsedSwitch, ParsedForEach, ParsedForEachActive, ParsedForEachUnique, ParsedStmts, ParsedLast, ParsedNext, ParsedSegments, ParsedNoMore, ParsedSegment, ParsedParam, ParsedFunction, ParsedItem, ParsedFunctionItem, ParsedGlobalItem, ParsedSource}
 
--- which groups of forms are let through, beside one exported function of declarations `int x = e;`, assignments `x = e;`
--- and `x += e;`, with numbers below 2 ^ 31 without suffix, names, `programIndex`, parentheses, `+` and `*`
+-- which groups of forms are let through, beside functions over scalars: every type and rate, every expression without indexing and calls
+-- of the library, file-scope scalars, every assignment, `++`, `--`, block and empty statement, `if`, the loops, `break`, `continue`,
+-- `return`, and calls of the source's own functions
 pub record Forms : Type 0 where
-  -- every type and rate, every expression without indexing and calls, file-scope scalars, several functions without
-  -- parameters, and every assignment, `++`, `--`, block and empty statement
-  pub scalars : Bool
-  -- `if`, the loops, `break` and `continue`
-  pub control : Bool
-  -- calls of user functions, parameters and `return`
-  pub calls : Bool
   -- arrays, indexing, parameters of exported functions
   pub arrays : Bool
   -- the four foreach forms
@@ -32,30 +18,23 @@ pub record Forms : Type 0 where
   pub library : Bool
   pub switches : Bool
 
--- `+` and `*`
-abbrev pub is_plain_operation : Infix → Bool
-is_plain_operation (Op op.Add) = true
-is_plain_operation (Op op.Mul) = true
-is_plain_operation operation = false
-
--- a call: of the library, or of a user's function
+-- a call of one of the source's functions, or of the library
 abbrev pub known_call : Name → Forms → Bool
-known_call name forms = (forms.library && (is_library_name name || is_some (statement_call name)))
-    || (forms.calls && not (is_library_name name || is_some (statement_call name)))
+known_call name forms = forms.library || not (is_library_name name || is_some (statement_call name))
 
 abbrev mutual
   -- whether an expression has forms that are let through alone
   pub known_expr : ParsedExpr → Forms → Bool
-  known_expr (ParsedNumber p n is_unsigned is_long) forms = forms.scalars || (not is_unsigned && (not is_long && nat_lt n (2 ^ 31)))
-  known_expr (ParsedBool p b) forms = forms.scalars
-  known_expr (ParsedName p name) forms = forms.scalars || not (same_text name (codes "programCount"))
+  known_expr (ParsedNumber p n is_unsigned is_long) forms = true
+  known_expr (ParsedBool p b) forms = true
+  known_expr (ParsedName p name) forms = true
   known_expr (ParsedIndex p name e) forms = forms.arrays && known_expr e forms
   known_expr (ParsedCall p name args) forms = known_call name forms && known_args args forms
   known_expr (ParsedParen p e) forms = known_expr e forms
-  known_expr (ParsedUnary p op e) forms = forms.scalars && known_expr e forms
-  known_expr (ParsedCast p rate type e) forms = forms.scalars && known_expr e forms
-  known_expr (ParsedBinary op a b) forms = (forms.scalars || is_plain_operation op) && (known_expr a forms && known_expr b forms)
-  known_expr (ParsedChoice c a b) forms = forms.scalars && (known_expr c forms && (known_expr a forms && known_expr b forms))
+  known_expr (ParsedUnary p op e) forms = known_expr e forms
+  known_expr (ParsedCast p rate type e) forms = known_expr e forms
+  known_expr (ParsedBinary op a b) forms = known_expr a forms && known_expr b forms
+  known_expr (ParsedChoice c a b) forms = known_expr c forms && (known_expr a forms && known_expr b forms)
 
   -- whether arguments have forms that are let through alone
   pub known_args : ParsedArgs → Forms → Bool
@@ -73,20 +52,6 @@ known_some (Some e) forms = known_expr e forms
 abbrev pub known_target : ParsedTarget → Forms → Bool
 known_target target forms = is_none target.index || (forms.arrays && known_some target.index forms)
 
--- `int`, without a rate or any other word
-abbrev pub is_plain_type : Option IntType → Bool
-is_plain_type (Some t.Int32) = true
-is_plain_type type = false
-
--- the spec `int`
-abbrev pub is_plain_spec : Spec → Bool
-is_plain_spec spec = is_plain_type spec.value_type && (is_none spec.rate && not spec.is_constant)
-
--- `+`
-abbrev pub is_sum : BinaryOp → Bool
-is_sum op.Add = true
-is_sum op = false
-
 -- whether the bounds have forms that are let through alone
 abbrev pub known_dims : List ParsedDim → Forms → Bool
 known_dims [] forms = true
@@ -95,22 +60,22 @@ known_dims (d ∷ dims) forms = known_expr d.low forms && (known_expr d.high for
 abbrev mutual
   -- whether a statement has forms that are let through alone
   pub known_stmt : ParsedStmt → Forms → Bool
-  known_stmt ParsedEmpty forms = forms.scalars
-  known_stmt (ParsedBlock ss) forms = forms.scalars && known_stmts ss forms
-  known_stmt (ParsedDeclare p spec at name e) forms = (forms.scalars || (is_plain_spec spec && is_some e)) && known_some e forms
+  known_stmt ParsedEmpty forms = true
+  known_stmt (ParsedBlock ss) forms = known_stmts ss forms
+  known_stmt (ParsedDeclare p spec at name e) forms = known_some e forms
   known_stmt (ParsedAssign p target e) forms = known_target target forms && known_expr e forms
-  known_stmt (ParsedChange p target op e) forms = (forms.scalars || is_sum op) && (known_target target forms && known_expr e forms)
-  known_stmt (ParsedIncrement p target op) forms = forms.scalars && known_target target forms
+  known_stmt (ParsedChange p target op e) forms = known_target target forms && known_expr e forms
+  known_stmt (ParsedIncrement p target op) forms = known_target target forms
   known_stmt (ParsedDoCall p name args) forms = known_call name forms && known_args args forms
-  known_stmt (ParsedBreak p) forms = forms.control
-  known_stmt (ParsedContinue p) forms = forms.control
-  known_stmt (ParsedReturn p e) forms = forms.calls && known_some e forms
-  known_stmt (ParsedIf p e a) forms = forms.control && (known_expr e forms && known_stmt a forms)
-  known_stmt (ParsedIfElse p e a b) forms = forms.control && (known_expr e forms && (known_stmt a forms && known_stmt b forms))
-  known_stmt (ParsedWhile p e body) forms = forms.control && (known_expr e forms && known_stmt body forms)
-  known_stmt (ParsedDo body p e) forms = forms.control && (known_stmt body forms && known_expr e forms)
+  known_stmt (ParsedBreak p) forms = true
+  known_stmt (ParsedContinue p) forms = true
+  known_stmt (ParsedReturn p e) forms = known_some e forms
+  known_stmt (ParsedIf p e a) forms = known_expr e forms && known_stmt a forms
+  known_stmt (ParsedIfElse p e a b) forms = known_expr e forms && (known_stmt a forms && known_stmt b forms)
+  known_stmt (ParsedWhile p e body) forms = known_expr e forms && known_stmt body forms
+  known_stmt (ParsedDo body p e) forms = known_stmt body forms && known_expr e forms
   known_stmt (ParsedFor p start e update body) forms =
-      forms.control && (known_stmt start forms && (known_some e forms && (known_stmt update forms && known_stmt body forms)))
+      known_stmt start forms && (known_some e forms && (known_stmt update forms && known_stmt body forms))
   known_stmt (ParsedSwitch p e segments) forms = forms.switches && (known_expr e forms && known_segments segments forms)
   known_stmt (ParsedForEach p is_tiled dims body) forms = forms.rounds && (known_dims dims forms && known_stmt body forms)
   known_stmt (ParsedForEachActive p at name body) forms = forms.rounds && known_stmt body forms
@@ -129,20 +94,16 @@ abbrev mutual
 -- parameters, of exported functions only with arrays
 abbrev pub known_params : List ParsedParam → (is_exported : Bool) → Forms → Bool
 known_params params is_exported forms =
-    (length params == 0) || ((forms.calls && (forms.arrays || not is_exported)) && list_all (λ p. forms.arrays || not p.is_array) params)
-
--- `export void` before a name
-abbrev pub is_plain_entry : Spec → Bool
-is_plain_entry spec = (spec.is_exported && is_none spec.value_type) && (is_none spec.rate && (not spec.is_static && not spec.is_inline))
+    (length params == 0) || ((forms.arrays || not is_exported) && list_all (λ p. forms.arrays || not p.is_array) params)
 
 -- the same of a function
 abbrev pub known_function : ParsedFunction → Forms → Bool
-known_function f forms = (forms.scalars || is_plain_entry f.spec) && (known_params f.params f.spec.is_exported forms && known_stmts f.body forms)
+known_function f forms = known_params f.params f.spec.is_exported forms && known_stmts f.body forms
 
 -- the same of what follows a file-scope variable's name
 abbrev pub known_form : GlobalForm → Forms → Bool
 known_form (Array n) forms = forms.arrays
-known_form form forms = forms.scalars
+known_form form forms = true
 
 -- the same of a definition
 abbrev pub known_item : Forms → ParsedItem → Bool
@@ -151,4 +112,4 @@ known_item forms (ParsedGlobalItem g) = known_form g.form forms
 
 -- whether a source has forms that are let through alone
 abbrev pub is_known : Forms → ParsedSource → Bool
-is_known forms source = (forms.scalars || nat_lt (length source) 2) && list_all (known_item forms) source
+is_known forms source = list_all (known_item forms) source
