@@ -5,7 +5,7 @@ use gang_types::{BinaryOp, FaultName};
 use std::alloc::{AllocError, Global};
 use typed_tree::Expr;
 
-const DIVISORS: Memory<'static> = Memory {
+const DIVISORS: Memory<'static, 4> = Memory {
     variables: &[[3, 0, 2, 0]],
     arrays: &[],
 };

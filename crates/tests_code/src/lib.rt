@@ -8,6 +8,10 @@ mod expressions;
 #[cfg(test)]
 mod library;
 #[cfg(test)]
+mod limits;
+#[cfg(test)]
 mod operations;
 #[cfg(test)]
 mod trees;
+#[cfg(test)]
+mod wide;

@@ -22,7 +22,7 @@ const PLACES: usize = 2;
 
 const PLACES_OF_TWO: usize = 3;
 
-const MEMORY: Memory<'static> = Memory {
+const MEMORY: Memory<'static, 4> = Memory {
     variables: &[
         [5, MINUS_TWO, 7, 3],
         [1, 2, 3, 4],

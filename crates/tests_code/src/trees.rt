@@ -1,16 +1,18 @@
-//! Expressions and a store in memory, for gangs of 4 lanes.
+//! Expressions and a store in memory.
+ghost use Rattle.gang_types.specs.Masks.{IsGangWidth};
+
 use expression_code::{Stacks, Stop, Words, compile, evaluate};
 use gang_types::{BinaryOp, FaultName, IntType, Mask, Rate, VarId};
 use std::alloc::{AllocError, Global};
 use typed_tree::{Expr, Reduction, Scan, Var};
 
 /// Variables by their numbers, and arrays by theirs, of no state.
-pub(crate) struct Memory<'a> {
-    pub(crate) variables: &'a [[u64; 4]],
+pub(crate) struct Memory<'a, const W: usize> {
+    pub(crate) variables: &'a [[u64; W]],
     pub(crate) arrays: &'a [&'a [u64]],
 }
 
-impl Memory<'_> {
+impl<const W: usize> Memory<'_, W> {
     // The element for one lane, 0 where the lane is not active.
     fn element(
         &self,
@@ -18,8 +20,10 @@ impl Memory<'_> {
         mask: Mask,
         lane: usize,
         index: u64,
-    ) -> Result<u64, (usize, FaultName)> {
-        if !mask.has::<4>(lane) {
+    ) -> Result<u64, (usize, FaultName)>
+        requires { IsGangWidth W }
+    {
+        if !mask.has::<W>(lane) {
             return Ok(0);
         }
         let number = match array {
@@ -36,19 +40,19 @@ impl Memory<'_> {
     }
 }
 
-impl Words<4> for Memory<'_> {
+impl<const W: usize> Words<W> for Memory<'_, W> {
     ghost shows = { λ store state. ⊥ };
 
     ghost shows_arrays = { λ store state. ⊥ };
 
-    fn words(&self, variable: Var) -> [u64; 4] {
+    fn words(&self, variable: Var) -> [u64; W] {
         let number = match variable.id {
             VarId::File(number) => number,
             VarId::Local(number) => number,
         };
         match self.variables.get(number) {
             Some(words) => *words,
-            None => [0; 4],
+            None => [0; W],
         }
     }
 
@@ -56,26 +60,27 @@ impl Words<4> for Memory<'_> {
         &self,
         array: VarId,
         mask: Mask,
-        indices: &[u64; 4],
-    ) -> Result<[u64; 4], (usize, FaultName)> {
-        Ok([
-            self.element(array, mask, 0, indices[0])?,
-            self.element(array, mask, 1, indices[1])?,
-            self.element(array, mask, 2, indices[2])?,
-            self.element(array, mask, 3, indices[3])?,
-        ])
+        indices: &[u64; W],
+    ) -> Result<[u64; W], (usize, FaultName)> {
+        let mut found = [0; W];
+        for lane in 0..W {
+            found[lane] = self.element(array, mask, lane, indices[lane])?;
+        }
+        Ok(found)
     }
 }
 
 /// The value of an expression in the lanes of a mask, by its code.
-pub(crate) fn value_of(
+pub(crate) fn value_of<const W: usize>(
     alloc: Global,
     expression: Expr,
-    memory: &Memory,
+    memory: &Memory<'_, W>,
     lanes: u64,
-) -> Result<Result<[u64; 4], Stop>, AllocError> {
+) -> Result<Result<[u64; W], Stop>, AllocError>
+    requires { IsGangWidth W }
+{
     let code = compile(alloc, &expression)?;
-    let mask = Mask::from_word::<4>(lanes);
+    let mask = Mask::from_word::<W>(lanes);
     Ok(evaluate(&code, memory, mask, &mut Stacks::new()))
 }
 
