@@ -7,7 +7,7 @@ pub struct Target<'a> {
     pub at: Option<u32>,
 }
 
-/// A command of the debugger, as GDB names it.
+/// A command of the debugger, by its name in GDB; `undo` has its own.
 #[derive(Clone, Copy, Debug)]
 pub enum Command<'a> {
     Step(u32),
@@ -23,7 +23,7 @@ pub enum Command<'a> {
     Set { target: Target<'a>, value: i128 },
     Break(u32),
     Watch(Target<'a>),
-    /// One breakpoint or watchpoint by its number, or all.
+    /// One breakpoint or watch by its number, or all.
     Delete(Option<u32>),
     InfoBreakpoints,
     InfoLocals,

@@ -20,7 +20,7 @@ pub(crate) enum Form {
     Counted(Motion),
     /// The line of a breakpoint.
     Break,
-    /// The number of a breakpoint or watchpoint, or nothing.
+    /// The number of a breakpoint or watch, or nothing.
     Delete,
     /// A target that is printed.
     Print,
@@ -34,7 +34,7 @@ pub(crate) enum Form {
 #[derive(Clone, Copy)]
 pub(crate) struct Entry(pub(crate) &'static [&'static [u8]], pub(crate) Form);
 
-/// All commands, as GDB names them.
+/// All commands, by their names in GDB; `undo` has its own.
 pub(crate) const COMMANDS: [Entry; 28] = [
     Entry(&[b"step"], Counted(Motion::Step)),
     Entry(&[b"s"], Counted(Motion::Step)),

@@ -15,6 +15,7 @@ pub struct StreamReader<R> {
 }
 
 impl<R: Read> StreamReader<R> {
+    /// A reader that has read nothing.
     pub fn new(inner: R) -> Self
         ensures fresh { result.reads ≡ 0 }
         ensures works { result.has_failed ≡ false }
@@ -61,6 +62,7 @@ pub struct StreamWriter<O> {
 }
 
 impl<O: Write> StreamWriter<O> {
+    /// A writer that has not failed.
     pub fn new(inner: O) -> Self
         ensures works { result.has_failed ≡ false }
         ensures inner { result.inner ≡ inner }

@@ -21,6 +21,10 @@ pub enum Refusal {
 }
 
 /// Writes the line that tells a refusal.
+///
+/// # Errors
+///
+/// `WriteFault` where the writer fails or takes 0 bytes; a strict front of the text has been written then.
 pub fn write_refusal<O: AnswerWriter>(refusal: &Refusal, out: &mut O) -> Result<(), WriteFault>
     requires { O.has_failed out.old ≡ false }
     ensures { Writes (run_refusal_text (refusal_view refusal.now)) (O.written out.old) (O.written out.new) (O.has_failed out.new) result }

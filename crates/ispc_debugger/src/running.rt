@@ -33,6 +33,11 @@ use undo_log::SnapshotRing;
 /// A run that is not refused writes the transcript of the debugger of the definitions: after each command it shows the state
 /// that the source reaches by the steps not taken back, and taking one back restores every word, up to the history limit.
 /// Refused for the source, it names the right fault, and nothing is read or written.
+///
+/// # Errors
+///
+/// Why the run is refused: its source, the entry that it asks for, or out of memory. A read or write that fails ends a run, and is
+/// no error.
 pub fn run<R: CommandReader, O: AnswerWriter>(
     alloc: Global,
     source: &[u8],

@@ -4,12 +4,14 @@ ghost use Rattle.std.specs.List.{prefix_len};
 ghost use Rattle.gang_model.specs.Source.Spelling as spelling;
 ghost use Rattle.ispc_lexer.specs.Pieces as spec;
 
+/// Whether it is a space, a tab, a line feed or a carriage return.
 pub fn is_blank(byte: u8) -> bool
     ensures { result ≡ spelling.is_blank byte }
 {
     matches!(byte, b' ' | b'\t' | b'\n' | b'\r')
 }
 
+/// Whether it is a decimal digit.
 pub fn is_digit(byte: u8) -> bool
     ensures { result ≡ spelling.is_digit byte }
 {

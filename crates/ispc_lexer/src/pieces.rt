@@ -90,6 +90,10 @@ fn comment_or_mark(bytes: &[u8]) -> Option<Step>
 }
 
 /// The piece at the front, if one can be taken there.
+///
+/// # Errors
+///
+/// Out of memory.
 #[tactic(auto, unfolding(crate::specs::Pieces::piece_of))]
 pub fn first_step(alloc: Global, bytes: &[u8]) -> Result<Option<Step>, AllocError>
     ensures value { IfOk result (λ o. option_map step_view o ≡ option_map spec.shape (spec.piece_of bytes.now)) }

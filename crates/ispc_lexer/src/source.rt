@@ -80,8 +80,10 @@ fn read(alloc: Global, source: &[u8]) -> Result<Vec<Token>, SourceFault>
 
 /// The tokens of the source, from its first byte to its last: blanks and comments are none.
 ///
-/// Refuses a source of more than 65,536 bytes (S13 at 1:1), and else the first place where no token, blank or comment can
-/// be read: S2 at a number that is none, S1 at any other byte.
+/// # Errors
+///
+/// S13 at 1:1 for a source of more than 65,536 bytes, and else the first place where no token, blank or comment can be read: S2
+/// at a number that is none, S1 at any other byte. Out of memory.
 pub fn tokens(alloc: Global, source: &[u8]) -> Result<Vec<Token>, SourceFault>
     // The source is spelled by these tokens.
     ensures found { IfOk result (λ v. (length source.now ≤ max_source) × Lexes source.now (lexemes_of v.items)) }

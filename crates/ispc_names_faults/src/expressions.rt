@@ -13,7 +13,7 @@ use ispc_names_scopes::{FunctionNames, Scopes, is_library_name, is_same, stateme
 use ispc_parser_expressions::{Arg, Expr};
 use source_answers::{fault_if, least, least_inside};
 
-/// Whether every place knows a name that nothing declares.
+/// Whether a name is built in: it is known everywhere, though nothing declares it.
 pub fn is_built_in(name: &[u8]) -> bool
     ensures { result ≡ scope.is_built_in name.now }
 {

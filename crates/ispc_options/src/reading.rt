@@ -16,6 +16,11 @@ const MOST_HISTORY: u32 = 65_536;
 const MOST_STEPS: u32 = 10_000_000;
 
 /// Reads the words after the program's name.
+///
+/// # Errors
+///
+/// What the words lack or have too much, as `clap` tells it; a history or a number of steps out of its range; or the help that
+/// was asked for. Out of memory is a kind of it.
 pub fn read_options<'a>(
     alloc: Global,
     words: &'a [&'a str],
@@ -30,6 +35,10 @@ pub fn read_options<'a>(
 }
 
 /// A fault of the arguments that no option tells of.
+///
+/// # Errors
+///
+/// Out of memory.
 pub fn wrong_arguments(alloc: Global, message: &str) -> Result<Error, AllocError> {
     fault_of(alloc, ErrorKind::UnknownArgument, message)
 }

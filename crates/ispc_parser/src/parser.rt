@@ -23,9 +23,13 @@ fn whole(alloc: Global, tokens: &[Token], end: Place) -> Result<Tree, SourceFaul
     Ok(Tree { items })
 }
 
-/// The tree that the tokens of a source spell, where `end` is the place behind the last of them. S3 stands at the
-/// first token after which no source can follow, or at the end; S4 at the token that opens the 65th nesting; S13 at
-/// the first token past a limit: of 256 operators, calls and indexings in one expression, 8 parameters, 3 dimensions.
+/// The tree that the tokens of a source spell, where `end` is the place behind the last of them.
+///
+/// # Errors
+///
+/// S3 at the first token after which no source can follow, or at the end; S4 at the token that opens the 65th nesting; S13 at
+/// the first token past a limit: of 256 operators, calls and indexings in one expression, 8 parameters, 3 dimensions. Out of
+/// memory.
 pub fn parse(alloc: Global, tokens: &[Token], end: Place) -> Result<Tree, SourceFault>
     // What is read is spelled so.
     ensures found { IfOk result (λ tree. IsTree (tree_view tree) (lexemes_of tokens.now)) }

@@ -49,7 +49,11 @@ pub fn after(mark: Mark, tokens: &[Token]) -> Option<&[Token]>
     }
 }
 
-/// The tokens after this mark, or S3 at what stands first in its place.
+/// The tokens after this mark.
+///
+/// # Errors
+///
+/// S3 at what stands first in its place, or at the end.
 pub fn take(mark: Mark, tokens: &[Token], end: Place) -> Result<&[Token], SourceFault>
     ensures { Gives (λ rest. lexemes_of rest.now) result (spec.take mark (lexemes_of tokens.now)) }
 {

@@ -17,8 +17,10 @@ use std::alloc::Global;
 /// The expression at the front of the tokens, which stands in no other one, with so many nestings left, and the
 /// tokens after it.
 ///
-/// An error is `Memory`, or a refusal where no expression within the limits stands there: S3 at the first token after
-/// which none can follow, or at the end; S4 at the token that opens a nesting where none is left; S13 at what comes
+/// # Errors
+///
+/// Out of memory, or a refusal where no expression within the limits stands there: S3 at the first token after which none
+/// can follow, or at the end; S4 at the token that opens a nesting where none is left; S13 at what comes
 /// after 256 operators, calls and indexings: at the operator, a cast's `(`, the `?`, or the name of a call or indexing.
 #[tactic(auto, unfolding(crate::specs::Parse::whole_expr))]
 pub fn expression(
@@ -36,8 +38,11 @@ pub fn expression(
 
 /// The arguments of a call that is a statement, up to its `)`, with so many nestings left inside the parentheses.
 ///
-/// Each argument is an expression of its own, with its own 256 operators, calls and indexings. The errors are those of
-/// [`expression`].
+/// Each argument is an expression of its own, with its own 256 operators, calls and indexings.
+///
+/// # Errors
+///
+/// Those of [`expression`].
 #[tactic(auto, unfolding(crate::specs::Parse::whole_args))]
 pub fn arguments(
     alloc: Global,

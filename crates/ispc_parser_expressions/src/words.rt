@@ -103,8 +103,11 @@ pub fn spec_words(tokens: &[Token]) -> usize
     count
 }
 
-/// The spec that stands first, its words in any order, and the tokens after it; or S3 at the first word that cannot
-/// stand where it does, or after the words where they name no type.
+/// The spec that stands first, its words in any order, and the tokens after it.
+///
+/// # Errors
+///
+/// S3 at the first word that cannot stand where it does, or after the words where they name no type.
 pub fn take_spec(tokens: &[Token], end: Place) -> Result<(Spec, &[Token]), SourceFault>
     ensures { Gives (λ x. (x.0, lexemes_of x.1.now)) result (spec.spec_at (lexemes_of tokens.now)) }
 {

@@ -70,6 +70,11 @@ fn row<R: Clock + Print, K: Fn(&mut Operands), P: Fn(&mut Operands)>(
     )
 }
 
+/// Prints the time of each operation on a type for a lane, of its vectors and of its plain loop.
+///
+/// # Errors
+///
+/// That of printing.
 pub fn measure_all<R: Clock + Print>(rt: &R, ty: IntType) -> io::Result<()> {
     println!(rt; "{:<14} {:>10} {:>10}", "operation", "vectors", "loop")?;
     measure_arithmetic(rt, ty)?;

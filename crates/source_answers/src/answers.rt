@@ -27,6 +27,10 @@ pub fn set_apart<A: Drop>(part: Result<A, SourceFault>) -> Result<Answer<A>, All
 }
 
 /// The answer with out of memory among its errors.
+///
+/// # Errors
+///
+/// The refusal, or out of memory.
 pub fn joined<A: Drop>(answer: Answer<A>) -> Result<A, SourceFault>
     ensures { result ≡ joined answer }
 {

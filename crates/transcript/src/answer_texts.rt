@@ -19,6 +19,10 @@ use debug_machine::{AnswerWriter, Fault, RecordedMachine, WriteFault};
 use itoa::Buffer;
 
 /// Writes the text of an answer to a command that led to where the machine stands, with these breakpoints and watches.
+///
+/// # Errors
+///
+/// `WriteFault` where the writer fails or takes 0 bytes; a strict front of the text has been written then.
 pub fn write_answer<M: RecordedMachine, O: AnswerWriter>(
     answer: &Answer<'_>,
     machine: &M,

@@ -6,6 +6,10 @@ ghost use Rattle.debug_machine.specs.Devices.{Writes};
 use debug_machine::{AnswerWriter, WriteFault};
 
 /// Writes these pieces in order, or the front of them where the writer fails.
+///
+/// # Errors
+///
+/// `WriteFault` where the writer fails or takes 0 bytes.
 pub fn write_pieces<O: AnswerWriter>(writer: &mut O, pieces: &[&[u8]]) -> Result<(), WriteFault>
     requires { O.has_failed writer.old ≡ false }
     ensures { Writes (concat (map (λ p. p.now) pieces.now)) (O.written writer.old) (O.written writer.new) (O.has_failed writer.new) result }

@@ -13,6 +13,10 @@ use type_check_values::Typed;
 use typed_tree::{Dimension, Expr, Rounds, Stmt, Var};
 
 /// The statements with one more after them.
+///
+/// # Errors
+///
+/// Out of memory.
 pub fn more_statements(
     first: Answer<Vec<Stmt>>,
     next: Answer<Stmt>,
@@ -59,6 +63,10 @@ fn if_of(
 }
 
 /// `if` without `else`.
+///
+/// # Errors
+///
+/// Out of memory.
 pub fn conditional(
     alloc: Global,
     step: usize,
@@ -73,6 +81,10 @@ pub fn conditional(
 }
 
 /// `if` with `else`.
+///
+/// # Errors
+///
+/// Out of memory.
 pub fn choice(
     alloc: Global,
     step: usize,
@@ -105,6 +117,10 @@ fn loop_of(
 }
 
 /// `while`.
+///
+/// # Errors
+///
+/// Out of memory.
 pub fn repeated(
     alloc: Global,
     step: usize,
@@ -119,6 +135,10 @@ pub fn repeated(
 }
 
 /// `do`.
+///
+/// # Errors
+///
+/// Out of memory.
 pub fn body_first(
     alloc: Global,
     step: usize,
@@ -140,6 +160,10 @@ fn then_of(alloc: Global, first: Stmt, rest: Stmt) -> Result<Answer<Stmt>, Alloc
 }
 
 /// `for`: its start and its test, its update and its body.
+///
+/// # Errors
+///
+/// Out of memory.
 pub fn started(
     alloc: Global,
     step: usize,
@@ -180,6 +204,10 @@ fn rounds_of(
 }
 
 /// `foreach` and `foreach_tiled`.
+///
+/// # Errors
+///
+/// Out of memory.
 pub fn over_rows(
     alloc: Global,
     step: usize,
@@ -197,6 +225,10 @@ pub fn over_rows(
 }
 
 /// `foreach_active`.
+///
+/// # Errors
+///
+/// Out of memory.
 pub fn over_lanes(
     alloc: Global,
     step: usize,
@@ -222,6 +254,10 @@ pub fn type_of(value: &Answer<Typed>) -> IntType
 }
 
 /// `foreach_unique`, where a fault of the value hides those of the body.
+///
+/// # Errors
+///
+/// Out of memory.
 #[tactic(auto, using(crate::proofs::InOrder::rounds_in_order, crate::proofs::InOrder::fault_in_order))]
 pub fn over_values(
     alloc: Global,

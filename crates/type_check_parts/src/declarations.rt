@@ -111,6 +111,10 @@ fn then_declare<A: Drop>(
 }
 
 /// A declaration. Its value is typed before the name is in scope.
+///
+/// # Errors
+///
+/// Out of memory.
 pub fn declare(
     alloc: Global,
     spec: Spec,

@@ -8,7 +8,11 @@ use ispc_parser::Stmt;
 use source_answers::{Answer, SourceFault, set_apart};
 use std::alloc::AllocError;
 
-/// The number that comes so many steps later; one that is too large counts as out of memory.
+/// The number that comes so many steps later.
+///
+/// # Errors
+///
+/// Out of memory, as which a number that is too large counts.
 pub fn advanced(step: usize, steps: usize) -> Result<usize, AllocError>
     ensures number { IfOk result (λ number. number ≡ step + steps) }
 {
@@ -16,6 +20,10 @@ pub fn advanced(step: usize, steps: usize) -> Result<usize, AllocError>
 }
 
 /// The answer for what has one step, after which the next one is numbered.
+///
+/// # Errors
+///
+/// Out of memory.
 pub fn one_step<A: Drop>(
     made: Result<A, SourceFault>,
     step: &mut usize,
@@ -28,6 +36,10 @@ pub fn one_step<A: Drop>(
 }
 
 /// How many steps a statement has.
+///
+/// # Errors
+///
+/// Out of memory, as which a number that is too large counts.
 pub fn steps_in(stmt: &Stmt) -> Result<usize, AllocError>
     ensures steps { IfOk result (λ steps. steps ≡ model.steps_in (stmt_view stmt.now)) }
 {

@@ -9,7 +9,8 @@ use circular_buffer::HeapCircularBuffer;
 use std::alloc::{AllocError, Global};
 use std::marker::Model;
 
-/// A record that keeps, for each `set` since the oldest kept event was opened, the word as it was before. Taking an event back writes just its words.
+/// A record that keeps, for each `set` since the oldest kept event was opened, the word as it was before. Taking an event back
+/// writes just its words.
 #[derive(Drop)]
 pub struct DeltaRing {
     words: Vec<u64>,
@@ -38,7 +39,12 @@ impl DeltaRing {
     ghost use Rattle.undo_log.specs.History.{new_history, marked, limited};
     ghost use Rattle.undo_log.specs.Deltas.{deltas};
 
-    /// A record of this many words, all 0, that keeps nothing. `limit` is the most events that are kept, and `cells` the most words that may be set after one mark.
+    /// A record of this many words, all 0, that keeps nothing. `limit` is the most events that are kept, and `cells` the most words
+    /// that may be set after one mark.
+    ///
+    /// # Errors
+    ///
+    /// Out of memory.
     pub fn new(alloc: Global, words: usize, limit: usize, cells: usize) -> Result<Self, AllocError>
         requires limit { (1 ≤ limit) × (limit ≤ 65536) }
         requires cells { cells ≤ 65536 }

@@ -9,7 +9,8 @@ use std::alloc::{AllocError, Global};
 use std::marker::Model;
 use std::mem;
 
-/// A record that keeps a copy of all words for each event. It has `limit + 1` lists of words at least, whose memory is taken by `new`, and by `set_limit` to a larger limit.
+/// A record that keeps a copy of all words for each event. It has `limit + 1` lists of words at least, whose memory is taken by
+/// `new`, and by `set_limit` to a larger limit.
 #[derive(Drop)]
 pub struct SnapshotRing {
     words: Vec<u64>,
@@ -34,6 +35,10 @@ impl Model for SnapshotRing {
 
 impl SnapshotRing {
     /// A record of this many words, all 0, that keeps nothing. `limit` is the most events that are kept.
+    ///
+    /// # Errors
+    ///
+    /// Out of memory.
     pub fn new(alloc: Global, words: usize, limit: usize) -> Result<Self, AllocError>
         requires { (1 ≤ limit) × (limit ≤ 65536) }
         ensures { IfOk result (λ r. r ≡ new_history words limit usize.MAX) }

@@ -51,7 +51,11 @@ pub trait Timeline {
         ensures history { history self.new ≡ marked event (history self.old) }
         ensures left { left self.new ≡ (history self.old).room };
 
-    /// Takes the newest kept event back: all words are again those before it. `NoHistory` where no event is kept, and then nothing changes.
+    /// Takes the newest kept event back: all words are again those before it.
+    ///
+    /// # Errors
+    ///
+    /// `NoHistory` where no event is kept, and then nothing changes.
     fn back(&mut self) -> Result<Back, NoHistory>
         ensures answer { TakenBack (history self.old) result (history self.new) }
         ensures written { IfOk result (λ back. back.written ≤ (history self.old).room) }
@@ -72,7 +76,11 @@ pub trait Timeline {
         ensures limit { result ≡ (history self.now).limit }
         ensures kept { length (history self.now).past ≤ result };
 
-    /// Changes the limit. A smaller limit drops the oldest events and takes no memory. A larger one takes all its memory first: where that is refused, nothing changes.
+    /// Changes the limit. A smaller limit drops the oldest events and takes no memory.
+    ///
+    /// # Errors
+    ///
+    /// Out of memory. A larger limit takes all its memory first: where that is refused, nothing changes.
     fn set_limit(&mut self, limit: usize) -> Result<(), AllocError>
         requires { (1 ≤ limit) × (limit ≤ 65536) }
         ensures ok { OnOk result (history self.new ≡ limited limit (history self.old)) }
