@@ -44,16 +44,11 @@ fn word(alloc: Global, text: &[u8]) -> Result<Option<Kind>, AllocError>
 {
     match text {
         [] => Ok(None),
-        [first, ..] => {
-            if is_digit(*first) {
-                Ok(number_of(text).map(Kind::Number))
-            } else {
-                match reserved(text) {
-                    Some(mark) => Ok(Some(Kind::Mark(mark))),
-                    None => Ok(Some(Kind::Name(Vec::from_slice(alloc, text)?))),
-                }
-            }
-        }
+        [first, ..] if is_digit(*first) => Ok(number_of(text).map(Kind::Number)),
+        _ => match reserved(text) {
+            Some(mark) => Ok(Some(Kind::Mark(mark))),
+            None => Ok(Some(Kind::Name(Vec::from_slice(alloc, text)?))),
+        },
     }
 }
 
