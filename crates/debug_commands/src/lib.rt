@@ -11,6 +11,3 @@ mod words;
 
 pub use command::{Command, Target};
 pub use reading::read_command;
-
-#[cfg(test)]
-mod tests;

@@ -10,8 +10,6 @@ mod session;
 mod showing;
 mod stopping;
 mod table;
-#[cfg(test)]
-mod tests;
 mod watching;
 
 pub use session::Session;

@@ -6,8 +6,6 @@ mod masks;
 mod operations;
 mod operators;
 mod places;
-#[cfg(test)]
-mod tests;
 mod types;
 mod values;
 

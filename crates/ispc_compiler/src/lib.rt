@@ -3,7 +3,5 @@
 
 mod forms;
 mod front;
-#[cfg(test)]
-mod tests;
 
 pub use front::{Compiled, compile_source};

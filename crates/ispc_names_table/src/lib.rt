@@ -3,7 +3,5 @@
 
 mod look_ups;
 mod table;
-#[cfg(test)]
-mod tests;
 
 pub use table::{Declaration, Standing, StepScopes};

@@ -6,8 +6,6 @@ mod lowering;
 mod masked;
 mod point;
 mod steps;
-#[cfg(test)]
-mod tests;
 mod ways;
 
 pub use masked::{Masked, lower};

@@ -1,4 +1,4 @@
-//! Values of operations and of the code of expressions.
+//! Values of operations and of the code of expressions, and the points of a function.
 #![tactic(auto)]
 
 #[cfg(test)]
@@ -11,6 +11,8 @@ mod library;
 mod limits;
 #[cfg(test)]
 mod operations;
+#[cfg(test)]
+mod points;
 #[cfg(test)]
 mod trees;
 #[cfg(test)]

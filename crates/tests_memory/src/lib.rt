@@ -1,4 +1,4 @@
-//! Scalars, elements, packed calls and layouts of the memory of a program.
+//! Scalars, elements, packed calls and layouts of the memory of a program, and records of its old words.
 #![tactic(auto)]
 
 #[cfg(test)]
@@ -11,5 +11,7 @@ mod layouts;
 mod packed;
 #[cfg(test)]
 mod plain;
+#[cfg(test)]
+mod records;
 #[cfg(test)]
 mod worked_by_hand;

@@ -6,6 +6,8 @@ mod faults;
 #[cfg(test)]
 mod limits;
 #[cfg(test)]
+mod look_ups;
+#[cfg(test)]
 mod names;
 #[cfg(test)]
 mod resolution;

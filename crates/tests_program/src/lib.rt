@@ -1,7 +1,9 @@
-//! Tests of the program that need public calls alone.
+//! Tests of the program, from its sources and its command line to its runs, that need public calls alone.
 #![tactic(auto)]
 
 #[cfg(test)]
 mod options;
 #[cfg(test)]
 mod runs;
+#[cfg(test)]
+mod sources;

@@ -12,8 +12,6 @@ mod place_texts;
 mod session_lines;
 mod stop_texts;
 mod target_texts;
-#[cfg(test)]
-mod tests;
 mod texts;
 mod value_texts;
 

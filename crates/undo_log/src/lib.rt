@@ -10,6 +10,3 @@ mod timeline;
 pub use delta_ring::DeltaRing;
 pub use snapshot_ring::SnapshotRing;
 pub use timeline::{Back, NoHistory, Timeline, Undone};
-
-#[cfg(test)]
-mod tests;

@@ -1,7 +1,7 @@
 //! The points of a function with each form of control flow, worked out by hand.
-use crate::{Point, lower};
 use gang_types::{IntType, Rate, VarId};
 use ispc_names_table::StepScopes;
+use mask_lowering::{Point, lower};
 use std::alloc::{AllocError, Global};
 use std::test::*;
 use typed_tree::{Expr, Function, Program, ResultFor, Rounds, Stmt, Target, Var};

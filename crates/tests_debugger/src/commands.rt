@@ -1,4 +1,5 @@
-use crate::{Command, Target, read_command};
+//! Command lines, and the commands that they spell.
+use debug_commands::{Command, Target, read_command};
 use std::test::*;
 
 fn is_target(target: &Target, wanted: &Target) -> bool {

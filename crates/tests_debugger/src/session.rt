@@ -1,11 +1,9 @@
 //! Commands on a machine with two frames.
-mod machine;
-
-use crate::session::Session;
+use crate::two_frames::TwoFrames;
 use debug_answers::{Answer, Refusal};
 use debug_commands::{Command, Target};
 use debug_machine::RecordedMachine;
-use machine::TwoFrames;
+use debug_session::Session;
 use std::process::Abort;
 use std::test::Fail;
 

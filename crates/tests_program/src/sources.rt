@@ -1,7 +1,7 @@
 //! Sources that are refused, each at its place, and programs with their entries. The place is a column of line 1.
-use crate::compile_source;
 use gang_model::{RefusalNumber, SourceRefusal};
 use gang_types::{FuncId, Place};
+use ispc_compiler::compile_source;
 use source_answers::SourceFault;
 use std::alloc::Global;
 use std::test::*;

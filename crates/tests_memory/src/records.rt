@@ -1,7 +1,8 @@
+//! Three events over three words, in each kind of record.
 ghost use Rattle.std.specs.Prelude.{◌≡◌, ◌≤◌, length};
 
-use crate::{Back, DeltaRing, NoHistory, SnapshotRing, Timeline, Undone};
 use std::test::*;
+use undo_log::{Back, DeltaRing, NoHistory, SnapshotRing, Timeline, Undone};
 
 /// Three events over three words: the first sets one word twice, the others set a word each.
 fn make_events<T: Timeline>(timeline: &mut T)

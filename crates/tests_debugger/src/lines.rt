@@ -1,11 +1,7 @@
 //! Lines in pieces, `quit`, long lines, and devices that fail.
-mod answers;
-mod debugger;
-mod machine;
-
-use crate::{Ending, answer_lines};
-use debugger::RepeatingDebugger;
+use crate::repeating::RepeatingDebugger;
 use tests_devices::{BlankReader, PieceReader, PieceWriter};
+use transcript::{Ending, answer_lines};
 
 const COMMANDS: &[u8] = b"one\n\nthree\nlast";
 

@@ -23,10 +23,30 @@ pub const CONSTANT: Shown = Shown {
     count: 2,
 };
 
-/// Stands in `f`, which `m` called; or at its end, where it has no variables.
+/// Where a machine stands.
+#[derive(Clone, Copy)]
+pub enum Standing {
+    /// In `f`, which `m` called.
+    Inside,
+    /// In `sum`, where the last lane of 16 is active.
+    Wide,
+    /// At its end, where it has no variables.
+    Ended,
+}
+
+/// Stands there, whatever it is asked to do.
 #[derive(Drop)]
 pub struct StillMachine {
-    pub has_ended: bool,
+    pub at: Standing,
+}
+
+impl StillMachine {
+    fn has_ended(&self) -> bool {
+        match self.at {
+            Standing::Ended => true,
+            Standing::Inside | Standing::Wide => false,
+        }
+    }
 }
 
 // It stands for no program, so that only its answers count.
@@ -60,20 +80,27 @@ impl RecordedMachine for StillMachine {
     }
 
     fn position(&self) -> Option<Position<'_>> {
-        if self.has_ended {
-            return None;
+        match self.at {
+            Standing::Inside => Some(Position {
+                place: Place { line: 2, col: 5 },
+                function: b"f",
+                depth: 2,
+                width: 4,
+                lanes: Mask::only::<4>(1).with::<4>(3),
+            }),
+            Standing::Wide => Some(Position {
+                place: Place { line: 12, col: 1 },
+                function: b"sum",
+                depth: 3,
+                width: 16,
+                lanes: Mask::only::<16>(15),
+            }),
+            Standing::Ended => None,
         }
-        Some(Position {
-            place: Place { line: 2, col: 5 },
-            function: b"f",
-            depth: 2,
-            width: 4,
-            lanes: Mask::only::<4>(1).with::<4>(3),
-        })
     }
 
     fn call(&self, depth: usize) -> Option<Position<'_>> {
-        if self.has_ended || depth != 1 {
+        if self.has_ended() || depth != 1 {
             return None;
         }
         Some(Position {
@@ -104,12 +131,12 @@ impl RecordedMachine for StillMachine {
     }
 
     fn local_count(&self) -> usize {
-        if self.has_ended { 0 } else { 1 }
+        if self.has_ended() { 0 } else { 1 }
     }
 
     fn local_variable(&self, number: usize) -> Option<NamedVariable<'_>> {
         match number {
-            0 if !self.has_ended => Some(NamedVariable {
+            0 if !self.has_ended() => Some(NamedVariable {
                 name: b"on",
                 shown: CONSTANT,
             }),

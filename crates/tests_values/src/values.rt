@@ -1,7 +1,7 @@
 //! Values worked out by hand.
-use crate::{
-    BinaryOp, FaultName, IntType, Mask, UnaryOp, add, binary, convert, div, equal, less, mul, rem,
-    shl, shr, sub, unary, value, wrap,
+use gang_types::{
+    BinaryOp, FaultName, IntType, UnaryOp, add, binary, convert, div, equal, less, mul, rem, shl,
+    shr, sub, unary, value, wrap,
 };
 
 #[test]
@@ -101,25 +101,4 @@ fn conversions_keep_the_value_or_wrap_it(rt: HostRuntime) {
     assert_eq!(&rt; unary(UnaryOp::Complement, IntType::Uint8, 5), 250);
     assert_eq!(&rt; unary(UnaryOp::Not, IntType::Int8, 5), 0);
     assert_eq!(&rt; unary(UnaryOp::Plus, IntType::Int8, 5), 5);
-}
-
-#[test]
-fn masks_are_sets_of_lanes(rt: HostRuntime) {
-    let odd = Mask::all::<4>().where_true([0, 1, 0, 9]);
-    assert_eq!(&rt; odd.word::<4>(), 0b1010);
-    assert_eq!(&rt; odd.count::<4>(), 2);
-    assert_eq!(&rt; odd.lowest::<4>(), 1);
-    assert_eq!(&rt; odd.has::<4>(3), true);
-    assert_eq!(&rt; odd.has::<4>(4), false);
-    assert_eq!(&rt;
-        Mask::all::<16>().without(Mask::only::<16>(15)).word::<16>(),
-        0x7fff
-    );
-    assert_eq!(&rt;
-        odd.and(Mask::only::<4>(3)).with::<4>(0).word::<4>(),
-        0b1001
-    );
-    assert_eq!(&rt; odd.or(Mask::only::<4>(2)).word::<4>(), 0b1110);
-    assert_eq!(&rt; Mask::none().is_empty::<8>(), true);
-    assert_eq!(&rt; Mask::from_word::<8>(0x1ff).word::<8>(), 0xff);
 }

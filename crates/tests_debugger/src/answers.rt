@@ -1,12 +1,11 @@
 //! The texts of answers.
-use super::machine::{ARRAY, StillMachine};
-use crate::place_texts::write_place_line;
-use crate::write_answer;
+use crate::still_machine::{ARRAY, Standing, StillMachine};
 use debug_answers::{Answer, NumberedStop, Refusal, Stop};
 use debug_commands::Target;
-use debug_machine::{Fault, Position};
-use gang_types::{FaultName, Mask, Place};
+use debug_machine::Fault;
+use gang_types::FaultName;
 use tests_devices::PieceWriter;
+use transcript::write_answer;
 
 const ELEMENT: Target<'static> = Target {
     name: b"a",
@@ -80,13 +79,8 @@ C10 NoSuchNumber\n"
 }
 
 /// What is written for answers, up to the first fault of a writer that has so much room.
-fn told(
-    answers: &[Answer<'_>],
-    has_ended: bool,
-    stops: &[NumberedStop],
-    room: usize,
-) -> PieceWriter {
-    let machine = StillMachine { has_ended };
+fn told(answers: &[Answer<'_>], at: Standing, stops: &[NumberedStop], room: usize) -> PieceWriter {
+    let machine = StillMachine { at };
     let mut writer = PieceWriter::new(7, room);
     for answer in answers {
         if write_answer(answer, &machine, stops, &mut writer).is_err() {
@@ -98,7 +92,7 @@ fn told(
 
 /// What is written for an answer of every kind.
 fn told_every(room: usize) -> PieceWriter {
-    told(&ANSWERS, false, &STOPS, room)
+    told(&ANSWERS, Standing::Inside, &STOPS, room)
 }
 
 #[test]
@@ -123,7 +117,7 @@ fn tells_of_nothing(rt: HostRuntime) {
         },
         Answer::Refused(Refusal::TableFull),
     ];
-    let writer = told(&answers, true, &[], 1000);
+    let writer = told(&answers, Standing::Ended, &[], 1000);
     let texts = b"ended\nnone\nnone\nended\ndeleted 7\na = 7 -1 0\nC11 TableFull\n";
     assert!(rt; writer.bytes() == texts.as_slice());
 }
@@ -139,16 +133,10 @@ fn stops_where_the_writer_fails(rt: HostRuntime) {
 
 #[test]
 fn writes_a_wide_gang(rt: HostRuntime) {
-    let position = Position {
-        place: Place { line: 12, col: 1 },
-        function: b"sum",
-        depth: 3,
-        width: 16,
-        lanes: Mask::only::<16>(15),
-    };
+    let machine = StillMachine { at: Standing::Wide };
     let mut writer = PieceWriter::new(64, 1000);
-    let written = write_place_line(&[b"fault: "], Some(position), &mut writer);
+    let written = write_answer(&Answer::HistoryEnd, &machine, &[], &mut writer);
     assert!(rt; written.is_ok());
-    let line = b"fault: at 12:1 sum depth 3 lanes 0000000000000001\n";
+    let line = b"history end: at 12:1 sum depth 3 lanes 0000000000000001\n";
     assert!(rt; writer.bytes() == line.as_slice());
 }

@@ -1,6 +1,6 @@
 //! Two variables of one name, an inner one in a block, and a step in the block and one behind it.
-use crate::{Declaration, Standing, StepScopes};
 use gang_types::Place;
+use ispc_names_table::{Declaration, Standing, StepScopes};
 use std::alloc::{AllocError, Global};
 use std::test::*;
 
