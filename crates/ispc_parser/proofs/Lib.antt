@@ -7,6 +7,7 @@ pub mod Tokens
 pub mod Lengths
 pub mod PartsSound
 pub mod PartsComplete
+pub mod InsideHeads
 pub mod HeadsSound
 pub mod HeadsComplete
 pub mod StatementsSound

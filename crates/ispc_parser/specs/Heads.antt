@@ -78,6 +78,14 @@ head_of (loop.ForEach is_tiled) d at ts = in_parens dims_of d ts >>= λ dims. So
 head_of loop.ForEachActive d at ts = in_parens (λ inner. name_of) d ts >>= λ n. Some (ActiveHead at n.0.0 n.0.1, n.1)
 head_of loop.ForEachUnique d at ts = in_parens distinct_of d ts >>= λ v. Some (UniqueHead at v.0, v.1)
 
+-- what stands inside its parentheses
+abbrev pub inside_of : Loop → Place → ℕ → Reader ParsedHead
+inside_of loop.While at d ts = whole_expr d ts >>= λ e. Some (WhileHead at e.0, e.1)
+inside_of loop.For at d ts = rounds_of d ts >>= λ r. Some (ForHead at r.0, r.1)
+inside_of (loop.ForEach is_tiled) at d ts = dims_of d ts >>= λ dims. Some (ForEachHead at is_tiled dims.0, dims.1)
+inside_of loop.ForEachActive at d ts = name_of ts >>= λ n. Some (ActiveHead at n.0.0 n.0.1, n.1)
+inside_of loop.ForEachUnique at d ts = distinct_of d ts >>= λ v. Some (UniqueHead at v.0, v.1)
+
 -- ---- views
 
 abbrev pub rounds_view : Rounds → ParsedRounds

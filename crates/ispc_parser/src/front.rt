@@ -23,7 +23,7 @@ pub(crate) struct Context {
 }
 
 /// A name and where it stands.
-#[derive(Debug, Drop)]
+#[derive(Drop)]
 pub(crate) struct Identifier {
     pub(crate) place: Place,
     pub(crate) text: Vec<u8>,

@@ -1,5 +1,5 @@
 //! What stands between the word of a loop or a foreach form and its body.
-ghost use Rattle.std.specs.Prelude.{map, option_map};
+ghost use Rattle.std.specs.Prelude.{◌≡◌, IfOk, map, option_map};
 ghost use Rattle.ispc_lexer.specs.Views.{lexemes_of};
 ghost use Rattle.ispc_parser_expressions.specs.Tree.{expr_view};
 ghost use Rattle.ispc_parser_expressions.specs.Parse.{Gives, whole_expr};
@@ -7,7 +7,7 @@ ghost use Rattle.ispc_parser.specs.Tree.{dim_view, stmt_view};
 ghost use Rattle.ispc_parser.specs.Parts.{name_view, name_of, in_parens};
 ghost use Rattle.ispc_parser.specs.Refusals.{IsRefusal};
 ghost use Rattle.ispc_parser.specs.Heads as spec;
-ghost use Rattle.ispc_parser.specs.Heads.{rounds_view, distinct_view, head_view};
+ghost use Rattle.ispc_parser.specs.Heads.{ForHead, UniqueHead, rounds_view, distinct_view, head_view, completed};
 
 use crate::front::{Context, Identifier, Read, enter, name, refused_at};
 use crate::parts::{declaration, simple};
@@ -17,28 +17,79 @@ use gang_model::{Mark, RefusalNumber};
 use gang_types::Place;
 use ispc_lexer::{Kind, Token};
 use ispc_parser_expressions::{Expr, after, begins, begins_word, expression, take, unexpected};
-use source_answers::SourceFault;
+use source_answers::{SourceFault, both_boxed, boxed};
+use std::alloc::{AllocError, Global};
 
 /// How many dimensions a `foreach` may have.
 const MAX_DIMS: usize = 3;
 
 /// `start; test; update`, where each part may be missing.
-#[derive(Drop)]
 pub(crate) struct Rounds {
     pub(crate) start: Stmt,
     pub(crate) test: Option<Expr>,
     pub(crate) update: Stmt,
 }
 
+impl Drop for Rounds {
+    fn drop(self) {
+        let Self {
+            start: _,
+            test: _,
+            update: _,
+        } = self;
+    }
+}
+
+impl Rounds {
+    /// The `for` at this place with these rounds and this body.
+    fn with_body(self, alloc: Global, place: Place, body: Box<Stmt>) -> Result<Stmt, AllocError>
+        ensures { IfOk result (λ s. stmt_view s ≡ completed (ForHead place (rounds_view self)) (stmt_view body.value)) }
+    {
+        let Self {
+            start,
+            test,
+            update,
+        } = self;
+        let (start, update) = both_boxed(alloc, start, update)?;
+        Ok(Stmt::For {
+            place,
+            start,
+            test,
+            update,
+            body,
+        })
+    }
+}
+
 /// `name in value`.
-#[derive(Drop)]
 pub(crate) struct Distinct {
     pub(crate) name: Identifier,
     pub(crate) value: Expr,
 }
 
+impl Drop for Distinct {
+    fn drop(self) {
+        let Self { name: _, value: _ } = self;
+    }
+}
+
+impl Distinct {
+    /// The `foreach_unique` at this place over these values with this body.
+    fn with_body(self, place: Place, body: Box<Stmt>) -> Stmt
+        ensures { stmt_view result ≡ completed (UniqueHead place (distinct_view self)) (stmt_view body.value) }
+    {
+        let Self { name, value } = self;
+        Stmt::ForEachUnique {
+            place,
+            name_place: name.place,
+            name: name.text,
+            value,
+            body,
+        }
+    }
+}
+
 /// A loop or a foreach form without its body, and the place of its word.
-#[derive(Drop)]
 pub(crate) enum Head {
     While {
         place: Place,
@@ -63,6 +114,58 @@ pub(crate) enum Head {
     },
 }
 
+impl Drop for Head {
+    fn drop(self) {
+        match self {
+            Head::While { place: _, test: _ }
+            | Head::For {
+                place: _,
+                rounds: _,
+            }
+            | Head::ForEach {
+                place: _,
+                is_tiled: _,
+                dims: _,
+            }
+            | Head::ForEachActive { place: _, name: _ }
+            | Head::ForEachUnique {
+                place: _,
+                distinct: _,
+            } => {}
+        }
+    }
+}
+
+impl Head {
+    /// The loop or foreach form with its body.
+    pub(crate) fn with_body(self, alloc: Global, body: Stmt) -> Result<Stmt, AllocError>
+        ensures { IfOk result (λ s. stmt_view s ≡ completed (head_view self) (stmt_view body)) }
+    {
+        let body = boxed(alloc, body)?;
+        match self {
+            Head::While { place, test } => Ok(Stmt::While { place, test, body }),
+            Head::For { place, rounds } => rounds.with_body(alloc, place, body),
+            Head::ForEach {
+                place,
+                is_tiled,
+                dims,
+            } => Ok(Stmt::ForEach {
+                place,
+                is_tiled,
+                dims,
+                body,
+            }),
+            Head::ForEachActive { place, name } => Ok(Stmt::ForEachActive {
+                place,
+                name_place: name.place,
+                name: name.text,
+                body,
+            }),
+            Head::ForEachUnique { place, distinct } => Ok(distinct.with_body(place, body)),
+        }
+    }
+}
+
 /// `( e )`.
 #[tactic(auto, unfolding(crate::specs::Parts::in_parens))]
 pub(crate) fn test(context: Context, depth: u32, tokens: &[Token]) -> Read<'_, Expr>
@@ -71,7 +174,8 @@ pub(crate) fn test(context: Context, depth: u32, tokens: &[Token]) -> Read<'_, E
 {
     let (inner, rest) = enter(Mark::LeftParen, depth, tokens, context.end)?;
     let (test, rest) = expression(context.alloc, inner, rest, context.end)?;
-    take(Mark::RightParen, rest, context.end).map(|rest| (test, rest))
+    let rest = take(Mark::RightParen, rest, context.end)?;
+    Ok((test, rest))
 }
 
 /// An expression before a `;`, which may be missing.
@@ -202,69 +306,64 @@ fn distinct_of(context: Context, depth: u32, tokens: &[Token]) -> Read<'_, Disti
     Ok((Distinct { name, value }, rest))
 }
 
-#[tactic(auto, unfolding(crate::specs::Heads::head_of, crate::specs::Parts::in_parens))]
-fn for_head(context: Context, depth: u32, place: Place, tokens: &[Token]) -> Read<'_, Head>
-    ensures { Gives (λ x. (head_view x.0, lexemes_of x.1.now)) result
-        (spec.head_of Loop.For depth place (lexemes_of tokens.now)) }
-{
-    let (inner, rest) = enter(Mark::LeftParen, depth, tokens, context.end)?;
-    let (rounds, rest) = rounds_of(context, inner, rest)?;
-    take(Mark::RightParen, rest, context.end).map(|rest| (Head::For { place, rounds }, rest))
-}
-
-#[tactic(auto, unfolding(crate::specs::Heads::head_of, crate::specs::Parts::in_parens))]
-fn for_each_head(
+/// What stands between the parentheses of a loop or a foreach form whose word stands at this place.
+fn inside(
     context: Context,
     depth: u32,
-    is_tiled: bool,
+    word: Loop,
     place: Place,
     tokens: &[Token],
 ) -> Read<'_, Head>
     ensures { Gives (λ x. (head_view x.0, lexemes_of x.1.now)) result
-        (spec.head_of (Loop.ForEach is_tiled) depth place (lexemes_of tokens.now)) }
+        (spec.inside_of word place depth (lexemes_of tokens.now)) }
+{
+    match word {
+        Loop::While => {
+            let (test, rest) = expression(context.alloc, depth, tokens, context.end)?;
+            Ok((Head::While { place, test }, rest))
+        }
+        Loop::For => {
+            let (rounds, rest) = rounds_of(context, depth, tokens)?;
+            Ok((Head::For { place, rounds }, rest))
+        }
+        Loop::ForEach { is_tiled } => {
+            let (dims, rest) = dims(context, depth, tokens)?;
+            Ok((
+                Head::ForEach {
+                    place,
+                    is_tiled,
+                    dims,
+                },
+                rest,
+            ))
+        }
+        Loop::ForEachActive => {
+            let (name, rest) = name(context, tokens)?;
+            Ok((Head::ForEachActive { place, name }, rest))
+        }
+        Loop::ForEachUnique => {
+            let (distinct, rest) = distinct_of(context, depth, tokens)?;
+            Ok((Head::ForEachUnique { place, distinct }, rest))
+        }
+    }
+}
+
+/// The same with its parentheses.
+#[tactic(auto, unfolding(crate::specs::Parts::in_parens))]
+fn parenthesized(
+    context: Context,
+    depth: u32,
+    word: Loop,
+    place: Place,
+    tokens: &[Token],
+) -> Read<'_, Head>
+    ensures { Gives (λ x. (head_view x.0, lexemes_of x.1.now)) result
+        (in_parens (spec.inside_of word place) depth (lexemes_of tokens.now)) }
 {
     let (inner, rest) = enter(Mark::LeftParen, depth, tokens, context.end)?;
-    let (dims, rest) = dims(context, inner, rest)?;
+    let (head, rest) = inside(context, inner, word, place, rest)?;
     let rest = take(Mark::RightParen, rest, context.end)?;
-    Ok((
-        Head::ForEach {
-            place,
-            is_tiled,
-            dims,
-        },
-        rest,
-    ))
-}
-
-#[tactic(auto, unfolding(crate::specs::Heads::head_of, crate::specs::Parts::in_parens))]
-fn active_head(context: Context, depth: u32, place: Place, tokens: &[Token]) -> Read<'_, Head>
-    ensures { Gives (λ x. (head_view x.0, lexemes_of x.1.now)) result
-        (spec.head_of Loop.ForEachActive depth place (lexemes_of tokens.now)) }
-{
-    let (_, rest) = enter(Mark::LeftParen, depth, tokens, context.end)?;
-    let (name, rest) = name(context, rest)?;
-    let rest = take(Mark::RightParen, rest, context.end)?;
-    Ok((Head::ForEachActive { place, name }, rest))
-}
-
-#[tactic(auto, unfolding(crate::specs::Heads::head_of, crate::specs::Parts::in_parens))]
-fn unique_head(context: Context, depth: u32, place: Place, tokens: &[Token]) -> Read<'_, Head>
-    ensures { Gives (λ x. (head_view x.0, lexemes_of x.1.now)) result
-        (spec.head_of Loop.ForEachUnique depth place (lexemes_of tokens.now)) }
-{
-    let (inner, rest) = enter(Mark::LeftParen, depth, tokens, context.end)?;
-    let (distinct, rest) = distinct_of(context, inner, rest)?;
-    let rest = take(Mark::RightParen, rest, context.end);
-    rest.map(|rest| (Head::ForEachUnique { place, distinct }, rest))
-}
-
-#[tactic(auto, unfolding(crate::specs::Heads::head_of))]
-fn while_head(context: Context, depth: u32, place: Place, tokens: &[Token]) -> Read<'_, Head>
-    ensures { Gives (λ x. (head_view x.0, lexemes_of x.1.now)) result
-        (spec.head_of Loop.While depth place (lexemes_of tokens.now)) }
-{
-    let (test, rest) = test(context, depth, tokens)?;
-    Ok((Head::While { place, test }, rest))
+    Ok((head, rest))
 }
 
 /// Behind the word of a loop or a foreach form, which stands at this place, up to its body.
@@ -278,11 +377,5 @@ pub(crate) fn head_of(
     ensures { Gives (λ x. (head_view x.0, lexemes_of x.1.now)) result
         (spec.head_of word depth place (lexemes_of tokens.now)) }
 {
-    match word {
-        Loop::While => while_head(context, depth, place, tokens),
-        Loop::For => for_head(context, depth, place, tokens),
-        Loop::ForEach { is_tiled } => for_each_head(context, depth, is_tiled, place, tokens),
-        Loop::ForEachActive => active_head(context, depth, place, tokens),
-        Loop::ForEachUnique => unique_head(context, depth, place, tokens),
-    }
+    parenthesized(context, depth, word, place, tokens)
 }

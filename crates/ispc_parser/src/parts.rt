@@ -141,29 +141,25 @@ fn changed<'a>(
         ));
     }
     if mark == Mark::Assign {
-        let value = expression(context.alloc, depth, rest, context.end);
-        return value.map(|(value, rest)| {
-            let stmt = Stmt::Assign {
-                place,
-                target,
-                value,
-            };
-            (stmt, rest)
-        });
+        let (value, rest) = expression(context.alloc, depth, rest, context.end)?;
+        let assigned = Stmt::Assign {
+            place,
+            target,
+            value,
+        };
+        return Ok((assigned, rest));
     }
     let Some(operator) = change_of(mark) else {
         return Err(unexpected(tokens, context.end));
     };
-    let value = expression(context.alloc, depth, rest, context.end);
-    value.map(|(value, rest)| {
-        let stmt = Stmt::Change {
-            place,
-            target,
-            operator,
-            value,
-        };
-        (stmt, rest)
-    })
+    let (value, rest) = expression(context.alloc, depth, rest, context.end)?;
+    let changed = Stmt::Change {
+        place,
+        target,
+        operator,
+        value,
+    };
+    Ok((changed, rest))
 }
 
 /// Behind a target.

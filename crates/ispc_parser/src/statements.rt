@@ -28,7 +28,8 @@ fn ended_simple(context: Context, depth: u32, tokens: &[Token]) -> Read<'_, Stmt
         (spec.ended_of (simple_of depth) (lexemes_of tokens.now)) }
 {
     let (simple, rest) = simple(context, depth, tokens)?;
-    take(Mark::Semicolon, rest, context.end).map(|rest| (simple, rest))
+    let rest = take(Mark::Semicolon, rest, context.end)?;
+    Ok((simple, rest))
 }
 
 #[tactic(auto, unfolding(crate::specs::Statements::ended_of))]
@@ -37,7 +38,8 @@ fn ended_declaration(context: Context, depth: u32, place: Place, tokens: &[Token
         (spec.ended_of (declaration_of depth place) (lexemes_of tokens.now)) }
 {
     let (declared, rest) = declaration(context, depth, place, tokens)?;
-    take(Mark::Semicolon, rest, context.end).map(|rest| (declared, rest))
+    let rest = take(Mark::Semicolon, rest, context.end)?;
+    Ok((declared, rest))
 }
 
 /// Behind `return`, which stands at this place.
@@ -53,7 +55,8 @@ fn return_stmt<'a>(
         (spec.plain_of Plain.Return depth place (lexemes_of tokens.now) (lexemes_of rest.now)) }
 {
     let (value, rest) = optional(context, depth, rest)?;
-    take(Mark::Semicolon, rest, context.end).map(|rest| (Stmt::Return { place, value }, rest))
+    let rest = take(Mark::Semicolon, rest, context.end)?;
+    Ok((Stmt::Return { place, value }, rest))
 }
 
 /// A statement that holds no other one: all of its tokens, and those behind its first, which stands at this place.
@@ -179,12 +182,11 @@ fn if_stmt(context: Context, depth: u32, place: Place, tokens: &[Token]) -> Read
     if !begins(Mark::Else, rest) {
         return Ok((nodes::if_then(context.alloc, place, test, first)?, rest));
     }
-    else_body(context, depth, rest).and_then(|(other, rest)| {
-        Ok((
-            nodes::if_else(context.alloc, place, test, first, other)?,
-            rest,
-        ))
-    })
+    let (other, rest) = else_body(context, depth, rest)?;
+    Ok((
+        nodes::if_else(context.alloc, place, test, first, other)?,
+        rest,
+    ))
 }
 
 /// `while ( e ) ;` behind the body of a `do`: the place of its word, and the test.
@@ -195,7 +197,8 @@ fn do_test(context: Context, depth: u32, tokens: &[Token]) -> Read<'_, (Place, E
 {
     let (place, rest) = take_at(Mark::While, tokens, context.end)?;
     let (test, rest) = test(context, depth, rest)?;
-    take(Mark::Semicolon, rest, context.end).map(|rest| ((place, test), rest))
+    let rest = take(Mark::Semicolon, rest, context.end)?;
+    Ok(((place, test), rest))
 }
 
 /// Behind `do`.
@@ -206,9 +209,8 @@ fn do_stmt(context: Context, depth: u32, tokens: &[Token]) -> Read<'_, Stmt>
         (spec.do_of depth (parsers depth) (lexemes_of tokens.now)) }
 {
     let (body, rest) = body(context, depth, tokens)?;
-    do_test(context, depth, rest).and_then(|(tested, rest)| {
-        Ok((nodes::do_while(context.alloc, body, tested)?, rest))
-    })
+    let (tested, rest) = do_test(context, depth, rest)?;
+    Ok((nodes::do_while(context.alloc, body, tested)?, rest))
 }
 
 /// Behind the word of a loop or a foreach form, which stands at this place.
@@ -225,9 +227,8 @@ fn loop_stmt(
         (spec.loop_of word depth (parsers depth) place (lexemes_of tokens.now)) }
 {
     let (head, rest) = head_of(context, depth, word, place, tokens)?;
-    body(context, depth, rest).and_then(|(body, rest)| {
-        Ok((nodes::with_body(context.alloc, head, body)?, rest))
-    })
+    let (body, rest) = body(context, depth, rest)?;
+    Ok((head.with_body(context.alloc, body)?, rest))
 }
 
 /// A statement with this opening: all of its tokens, and those behind its first, which stands at this place.

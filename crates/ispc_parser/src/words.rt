@@ -5,7 +5,7 @@ ghost use Rattle.ispc_parser.specs.Statements as spec;
 use gang_model::Mark;
 
 /// A loop or a foreach form, by its word.
-#[derive(Clone, Copy, Debug, PartialEq, Eq, Drop)]
+#[derive(Clone, Copy, Drop)]
 pub(crate) enum Loop {
     While,
     For,
@@ -15,7 +15,7 @@ pub(crate) enum Loop {
 }
 
 /// A statement that holds no other one, by its first mark.
-#[derive(Clone, Copy, Debug, PartialEq, Eq, Drop)]
+#[derive(Clone, Copy, Drop)]
 pub(crate) enum Plain {
     Empty,
     Break,
@@ -25,7 +25,7 @@ pub(crate) enum Plain {
 }
 
 /// A statement by its first mark.
-#[derive(Clone, Copy, Debug, PartialEq, Eq, Drop)]
+#[derive(Clone, Copy, Drop)]
 pub(crate) enum Opening {
     Plain(Plain),
     Block,
