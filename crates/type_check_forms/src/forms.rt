@@ -13,10 +13,7 @@ use type_check_values::Typed;
 use typed_tree::{Dimension, Expr, Rounds, Stmt, Var};
 
 /// The items with one more after them.
-fn one_longer<T: Drop>(
-    first: Answer<Vec<T>>,
-    next: Answer<T>,
-) -> Result<Answer<Vec<T>>, AllocError>
+fn one_longer<T: Drop>(first: Answer<Vec<T>>, next: Answer<T>) -> Result<Answer<Vec<T>>, AllocError>
     ensures longer { IfOk result (λ answer. seen (λ list. list.items) answer ≡ one_longer (seen (λ list. list.items) first) next) }
 {
     match both_answers(first, next) {
