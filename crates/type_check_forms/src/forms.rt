@@ -4,13 +4,26 @@ ghost use Rattle.gang_model.specs.Types.Tree as tree;
 ghost use Rattle.typed_tree.specs.Views.{dimension_view, expr_view, rounds_view, stmt_view, stmts_view, var_view};
 ghost use Rattle.type_check_values.specs.Views.{typed_view};
 ghost use Rattle.source_answers.specs.Apart.{seen};
-ghost use Rattle.type_check_forms.specs.Sequences.{one_more, type_or_int32, value_rounds};
+ghost use Rattle.type_check_forms.specs.Sequences.{one_longer, one_more, type_or_int32, value_rounds};
 
 use gang_types::IntType;
-use source_answers::{Answer, both_answers, both_boxed, boxed, in_order};
+use source_answers::{Answer, both_answers, boxed, in_order};
 use std::alloc::{AllocError, Global};
 use type_check_values::Typed;
 use typed_tree::{Dimension, Expr, Rounds, Stmt, Var};
+
+/// The items with one more after them.
+fn one_longer<T: Drop>(first: Answer<Vec<T>>, next: Answer<T>) -> Result<Answer<Vec<T>>, AllocError>
+    ensures longer { IfOk result (λ answer. seen (λ list. list.items) answer ≡ one_longer (seen (λ list. list.items) first) next) }
+{
+    match both_answers(first, next) {
+        Ok((mut items, next)) => {
+            items.push(next)?;
+            Ok(Ok(items))
+        }
+        Err(fault) => Ok(Err(fault)),
+    }
+}
 
 /// The statements with one more after them.
 ///
@@ -23,13 +36,7 @@ pub fn more_statements(
 ) -> Result<Answer<Vec<Stmt>>, AllocError>
     ensures more { IfOk result (λ answer. seen (λ stmts. stmts.items) answer ≡ one_more (seen (λ stmts. stmts.items) first) next) }
 {
-    match both_answers(first, next) {
-        Ok((mut stmts, next)) => {
-            stmts.push(next)?;
-            Ok(Ok(stmts))
-        }
-        Err(fault) => Ok(Err(fault)),
-    }
+    one_longer(first, next)
 }
 
 /// The statements as one.
@@ -42,6 +49,27 @@ pub fn block(stmts: Answer<Vec<Stmt>>) -> Answer<Stmt>
     }
 }
 
+/// A statement in a box.
+fn in_box(alloc: Global, stmt: Stmt) -> Result<Box<Stmt>, AllocError>
+    ensures value { IfOk result (λ place. place.value ≡ stmt) }
+{
+    boxed(alloc, stmt)
+}
+
+/// Two statements in boxes.
+fn both_in_boxes(
+    alloc: Global,
+    first: Stmt,
+    second: Stmt,
+) -> Result<(Box<Stmt>, Box<Stmt>), AllocError>
+    ensures first { IfOk result (λ places. places.0.value ≡ first) }
+    ensures second { IfOk result (λ places. places.1.value ≡ second) }
+{
+    let first = in_box(alloc, first)?;
+    let second = in_box(alloc, second)?;
+    Ok((first, second))
+}
+
 /// `if`, with both of its statements.
 fn if_of(
     alloc: Global,
@@ -52,14 +80,13 @@ fn if_of(
 ) -> Result<Answer<Stmt>, AllocError>
     ensures form { IfOk result (λ answer. seen stmt_view answer ≡ Ok (tree.If step (expr_view test) (stmt_view first) (stmt_view other))) }
 {
-    both_boxed(alloc, first, other).map(|(first, other)| {
-        Ok(Stmt::If {
-            step,
-            test,
-            first,
-            other,
-        })
-    })
+    let (first, other) = both_in_boxes(alloc, first, other)?;
+    Ok(Ok(Stmt::If {
+        step,
+        test,
+        first,
+        other,
+    }))
 }
 
 /// `if` without `else`.
@@ -108,7 +135,8 @@ fn loop_of(
 ) -> Result<Stmt, AllocError>
     ensures form { IfOk result (λ stmt. stmt_view stmt ≡ tree.Loop step (expr_view test) (stmt_view update) (stmt_view body)) }
 {
-    both_boxed(alloc, update, body).map(|(update, body)| Stmt::Loop {
+    let (update, body) = both_in_boxes(alloc, update, body)?;
+    Ok(Stmt::Loop {
         step,
         test,
         update,
@@ -129,7 +157,7 @@ pub fn repeated(
     ensures form { IfOk result (λ answer. seen stmt_view answer ≡ seen (λ parts. tree.Loop step (expr_view parts.0) tree.Empty (stmt_view parts.1)) parts) }
 {
     match parts {
-        Ok((test, body)) => loop_of(alloc, step, test, Stmt::Empty, body).map(|stmt| Ok(stmt)),
+        Ok((test, body)) => Ok(Ok(loop_of(alloc, step, test, Stmt::Empty, body)?)),
         Err(fault) => Ok(Err(fault)),
     }
 }
@@ -147,7 +175,10 @@ pub fn body_first(
     ensures form { IfOk result (λ answer. seen stmt_view answer ≡ seen (λ parts. tree.BodyFirst step (expr_view parts.1) (stmt_view parts.0)) parts) }
 {
     match parts {
-        Ok((body, test)) => boxed(alloc, body).map(|body| Ok(Stmt::BodyFirst { step, test, body })),
+        Ok((body, test)) => {
+            let body = in_box(alloc, body)?;
+            Ok(Ok(Stmt::BodyFirst { step, test, body }))
+        }
         Err(fault) => Ok(Err(fault)),
     }
 }
@@ -156,7 +187,8 @@ pub fn body_first(
 fn then_of(alloc: Global, first: Stmt, rest: Stmt) -> Result<Answer<Stmt>, AllocError>
     ensures form { IfOk result (λ answer. seen stmt_view answer ≡ Ok (tree.Then (stmt_view first) (stmt_view rest))) }
 {
-    both_boxed(alloc, first, rest).map(|(first, rest)| Ok(Stmt::Then { first, rest }))
+    let (first, rest) = both_in_boxes(alloc, first, rest)?;
+    Ok(Ok(Stmt::Then { first, rest }))
 }
 
 /// `for`: its start and its test, its update and its body.
@@ -173,8 +205,8 @@ pub fn started(
 {
     match parts {
         Ok(((start, test), (update, body))) => {
-            let rest = loop_of(alloc, step, test, update, body);
-            rest.and_then(|rest| then_of(alloc, start, rest))
+            let rest = loop_of(alloc, step, test, update, body)?;
+            then_of(alloc, start, rest)
         }
         Err(fault) => Ok(Err(fault)),
     }
@@ -200,7 +232,8 @@ fn rounds_of(
 ) -> Result<Answer<Stmt>, AllocError>
     ensures form { IfOk result (λ answer. seen stmt_view answer ≡ Ok (tree.ForEach step (rounds_view rounds) (stmt_view body))) }
 {
-    boxed(alloc, body).map(|body| Ok(Stmt::ForEach { step, rounds, body }))
+    let body = in_box(alloc, body)?;
+    Ok(Ok(Stmt::ForEach { step, rounds, body }))
 }
 
 /// `foreach` and `foreach_tiled`.

@@ -13,8 +13,9 @@ use Rattle.source_answers.specs.declared.fault.SourceFault.TheVariants.{Memory, 
 use Rattle.typed_tree.specs.declared.expressions.Var.{Var}
 use Rattle.typed_tree.specs.Views.{var_view}
 use Rattle.source_answers.specs.Answers.{Answers, both_answers, pair_view}
-use Rattle.source_answers.proofs.Answered.{answers-both, answers-same, answers-then}
+use Rattle.source_answers.proofs.Answered.{answers-both, answers-refused, answers-same, answers-then}
 use Rattle.type_check_parts.specs.declared.targets.Aimed.{Aimed}
+use Rattle.type_check_parts.specs.Beside.{second_part}
 use Rattle.type_check_parts.specs.Typed.{aimed_view}
 use Rattle.type_check_parts.specs.Changes.{wanted, wanted_variable}
 use Rattle.type_check_expressions.proofs.Residuals.{inside-refused}
@@ -73,20 +74,8 @@ variable-both view (Err (Refused fault)) (Faulty first others) value given_to k 
     answers-both var_view view (Err (Refused fault)) value (Faulty first others) (k (variable_of (Faulty first others))) h
     (subst (λ p. Answers view value (k (var_view p))) e v)
 
--- a fault in the variable or in the call
-pub variable-refused : {A B C D : Type 0} (view : A → B) (v : C → D) (target : Result Var SourceFault) (j : Judged tree.Var) (value : Result A SourceFault) (given_to : Var)
-    (k : tree.Var → Judged B) (next : tree.Var × B → Judged D) (fault : SourceFault) (result : Result C SourceFault)
-    → IsErrAnd result (λ y. y ≡ fault) → Err fault ≡ both_answers target value → Answers var_view target j → given_to ≡ wanted_variable target → Answers view value (k (var_view given_to))
-    → Answers v result (both j (k (variable_of j)) >>= next)
-variable-refused view v target j value given_to k next fault result e h a w b =
-    inside-refused (pair_view var_view view) v fault result (both j (k (variable_of j))) next e
-    (answers-same (pair_view var_view view) (Err fault) (both_answers target value) (both j (k (variable_of j))) h (variable-both view target j value given_to k a w b))
-
--- what a sound variable with a sound call stands for
-pub variable-stands : {A B D : Type 0} (view : A → B) (target : Result Var SourceFault) (j : Judged tree.Var) (value : Result A SourceFault) (given_to : Var)
-    (k : tree.Var → Judged B) (next : tree.Var × B → Judged D) (x : Var) (y : A)
-    → Ok (x, y) ≡ both_answers target value → Answers var_view target j → given_to ≡ wanted_variable target → Answers view value (k (var_view given_to))
-    → (both j (k (variable_of j)) >>= next) ≡ next (var_view x, view y)
-variable-stands view target j value given_to k next x y h a w b =
-    ap (λ parts. parts >>= next)
-    (answers-same (pair_view var_view view) (Ok (x, y)) (both_answers target value) (both j (k (variable_of j))) h (variable-both view target j value given_to k a w b))
+-- the second of two parts that are judged each by itself
+pub second-answers : {A B C D : Type 0} (f : A → C) (g : B → D) (parts : Result (A × B) SourceFault) (result : Result B SourceFault) (j : Judged (C × D))
+    → result ≡ second_part parts → Answers (pair_view f g) parts j → Answers g result (j >>= (λ p. Sound p.1))
+second-answers f g (Ok p) result j e h = answers-same g result (Ok p.1) (j >>= (λ q. Sound q.1)) e (ap (λ x. x >>= (λ q. Sound q.1)) h)
+second-answers f g (Err fault) result j e h = answers-same g result (Err fault) (j >>= (λ q. Sound q.1)) e (answers-refused (pair_view f g) g fault j (λ q. Sound q.1) h)

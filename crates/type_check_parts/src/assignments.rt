@@ -11,6 +11,7 @@ ghost use Rattle.type_check_calls.specs.Calls.{context_view, whole_call_view};
 ghost use Rattle.type_check_parts.specs.Changes.{wanted, wanted_variable, change_of, increment_of};
 ghost use Rattle.type_check_parts.specs.Typed.{aimed_view};
 
+use crate::beside::second_of;
 use crate::targets::{Aimed, scalar_target, target_of};
 use gang_model::RefusalNumber;
 use gang_types::{BinaryOp, IntType, Place, Rate, VarId};
@@ -89,8 +90,7 @@ fn assigned_call(
         result_for: ResultFor::Assigns(given_to),
     };
     let stmt = right_call(alloc, context, scope, call, receiver, step);
-    let (_, stmt) = both(variable, stmt)?;
-    Ok(stmt)
+    second_of(variable, stmt)
 }
 
 /// `target = value`, where a call stands whole for a variable, and not for an element.

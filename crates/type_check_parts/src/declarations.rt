@@ -1,5 +1,5 @@
 //! Declarations.
-ghost use Rattle.std.specs.Prelude.{◌≡◌, ◌+◌, ◌++◌, ◌∷◌, [], IfOk, OnOk, false, length, option_map};
+ghost use Rattle.std.specs.Prelude.{◌≡◌, ◌+◌, ◌++◌, ◌∷◌, [], IfOk, Ok, OnOk, false, length, option_map};
 ghost use Rattle.gang_types.specs.declared.places.Place.{Place};
 ghost use Rattle.gang_types.specs.declared.places.VarId.TheVariants.{Local};
 ghost use Rattle.ispc_parser_expressions.specs.Tree.{expr_view};
@@ -9,18 +9,19 @@ ghost use Rattle.gang_model.specs.Types.Calls as calls;
 ghost use Rattle.gang_model.specs.Types.Statements as model;
 ghost use Rattle.ispc_parser.specs.Tree as parsed;
 ghost use Rattle.typed_tree.specs.Views.{stmt_view, var_view};
-ghost use Rattle.source_answers.specs.Answers.{Answers, both_answers};
+ghost use Rattle.source_answers.specs.Answers.{Answers};
+ghost use Rattle.source_answers.specs.Apart.{apart};
 ghost use Rattle.type_check_scopes.specs.Entries.{declared_view};
 ghost use Rattle.type_check_calls.specs.Calls.{context_view};
-ghost use Rattle.type_check_parts.specs.Beside.{second_part};
 ghost use Rattle.type_check_parts.specs.Typed.{IsTyped};
 
+use crate::beside::second_of;
 use crate::numbering::one_step;
 use crate::targets::variable_of;
 use gang_model::{RefusalNumber, Spec};
 use gang_types::{Place, VarId};
 use ispc_parser_expressions::Expr;
-use source_answers::{Answer, SourceFault, both, fault_if, refuse};
+use source_answers::{Answer, SourceFault, fault_if, refuse};
 use std::alloc::{AllocError, Global};
 use type_check_calls::{Context, Receiver, right_call, whole_call};
 use type_check_expressions::{first_of, given_value};
@@ -83,31 +84,23 @@ fn declaration(
     }
 }
 
-/// The statement, unless it or the name beside it has a fault.
-fn beside(
-    name: Result<(), SourceFault>,
-    stmt: Result<Stmt, SourceFault>,
-) -> Result<Stmt, SourceFault>
-    ensures { result ≡ second_part (both_answers name stmt) }
-{
-    let (_, stmt) = both(name, stmt)?;
-    Ok(stmt)
-}
-
-/// Declares the function's next variable, and gives on what was made before.
+/// The answer for what has one step, after which the function's next variable is declared.
 fn then_declare<A: Drop>(
     alloc: Global,
     name: &[u8],
     declared: Declared,
     scope: &mut TypeScope,
-    made: A,
-) -> Result<A, AllocError>
+    made: Result<A, SourceFault>,
+    step: &mut usize,
+) -> Result<Answer<A>, AllocError>
     requires next { declared.id ≡ Local (length scope.old.locals) }
-    ensures made { IfOk result (λ kept. (kept ≡ made) × (scope.new.locals ≡ scope.old.locals ++ (declared_view name.now declared).variable ∷ [])) }
+    ensures made { IfOk result (λ answer. (Ok answer ≡ apart made) × (scope.new.locals ≡ scope.old.locals ++ (declared_view name.now declared).variable ∷ [])) }
     ensures entries { OnOk result (scope.new.entries ≡ declared_view name.now declared ∷ scope.old.entries) }
+    ensures steps { OnOk result (step.new ≡ step.old + 1) }
 {
+    let answer = one_step(made, step)?;
     scope.declare(alloc, name, declared)?;
-    Ok(made)
+    Ok(answer)
 }
 
 /// A declaration. Its value is typed before the name is in scope.
@@ -133,6 +126,6 @@ pub fn declare(
     let declared = declared_with(VarId::Local(scope.next()), spec, false, false);
     let in_name = refuse(fault_if(spec.value_type.is_none(), RefusalNumber::S8, place));
     let stmt = declaration(alloc, context, scope, variable_of(declared), value, *step);
-    let answer = one_step(beside(in_name, stmt), step)?;
-    then_declare(alloc, name, declared, scope, answer)
+    let typed = second_of(in_name, stmt);
+    then_declare(alloc, name, declared, scope, typed, step)
 }

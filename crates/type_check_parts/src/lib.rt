@@ -2,6 +2,7 @@
 #![tactic(auto)]
 
 mod assignments;
+mod beside;
 mod calls;
 mod conditions;
 mod declarations;

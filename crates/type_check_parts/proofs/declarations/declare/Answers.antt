@@ -14,11 +14,11 @@ then_declare-requires c = record { next = declared-id c.declared_with-declared.r
 pub returns-clause-typed : goal.returns-clause-typed
 returns-clause-typed c =
     let before = c.args.scope.now in
-    IfOk-weaker c.then_declare.result _ _ (λ kept facts p. rw facts.0
-    (declared-typed c.args.name.now p c.args.place c.args.spec (option_map expr_view c.args.value.now) (context_view c.args.context.now) before.entries before.locals c.then_declare.new.scope.locals c.args.step.now
-    c.declared_with-declared.result c.next.result c.variable_of.result c.is_none.result c.fault_if.result c.refuse-in_name.result c.declaration-stmt.result c.beside.result c.in_ok-answer.answer
+    IfOk-weaker c.then_declare.result _ _ (λ answer facts p.
+    declared-typed c.args.name.now p c.args.place c.args.spec (option_map expr_view c.args.value.now) (context_view c.args.context.now) before.entries before.locals c.then_declare.new.scope.locals c.args.step.now
+    c.declared_with-declared.result c.next.result c.variable_of.result c.is_none.result c.fault_if.result c.refuse-in_name.result c.declaration-stmt.result c.second_of-typed.result answer
     c.declared_with-declared.ensures c.next.ensures c.is_none.ensures c.fault_if.ensures c.refuse-in_name.ensures c.variable_of.ensures c.declaration-stmt.ensures
-    c.beside.ensures c.in_ok-answer.ensures.answer facts.1))
+    c.second_of-typed.ensures facts.0 facts.1)
     c.then_declare.ensures.made
 
 pub returns-clause-after : goal.returns-clause-after
