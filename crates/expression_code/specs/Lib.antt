@@ -7,3 +7,4 @@ pub mod Correct
 pub mod Read
 pub mod Bridge
 pub mod Evaluated
+pub mod Stacks

@@ -32,8 +32,12 @@ pub struct Stacks<const W: usize> {
 }
 
 impl<const W: usize> Stacks<W> {
+    ghost use Rattle.expression_code.specs.Stacks.{AreEmpty};
+
     /// Empty stacks.
-    pub fn new() -> Self {
+    pub fn new() -> Self
+        ensures { AreEmpty result }
+    {
         Stacks {
             vectors: ArrayVec::new(),
             masks: ArrayVec::new(),
