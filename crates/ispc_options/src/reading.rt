@@ -1,5 +1,7 @@
 //! The words of the command line.
-ghost use Rattle.std.specs.Prelude.{◌≤◌, IfOk, IfSome};
+ghost use Rattle.std.specs.Prelude.{◌≡◌, ◌≤◌, IfOk, IfSome};
+ghost use Rattle.clap.specs.Values.{kind_of};
+ghost use Rattle.clap.specs.declared.error.kind.ErrorKind.TheVariants.{UnknownArgument};
 ghost use Rattle.ispc_options.specs.Ranges.{AreInRange};
 
 use crate::options::{Options, Paths, Width};
@@ -39,11 +41,15 @@ pub fn read_options<'a>(
 /// # Errors
 ///
 /// Out of memory.
-pub fn wrong_arguments(alloc: Global, message: &str) -> Result<Error, AllocError> {
+pub fn wrong_arguments(alloc: Global, message: &str) -> Result<Error, AllocError>
+    ensures { IfOk result (λ error. kind_of error ≡ UnknownArgument) }
+{
     fault_of(alloc, ErrorKind::UnknownArgument, message)
 }
 
-fn fault_of(alloc: Global, kind: ErrorKind, message: &str) -> Result<Error, AllocError> {
+fn fault_of(alloc: Global, kind: ErrorKind, message: &str) -> Result<Error, AllocError>
+    ensures { IfOk result (λ error. kind_of error ≡ kind) }
+{
     command(alloc)?.error(kind, message)
 }
 

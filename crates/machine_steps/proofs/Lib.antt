@@ -23,6 +23,7 @@ pub mod PassedCalls
 pub mod PokedScalars
 pub mod RegionStates
 pub mod ReturnSteps
+pub mod SameScalars
 pub mod ScalarRoom
 pub mod SeenScalars
 pub mod SentSteps

@@ -1,6 +1,6 @@
 -- What a poke leaves: it is recorded, and the words show a masked state; a variable that is seen is shown as it was set.
-use Rattle.std.proofs.Common.{◌≡◌, refl, sym, ap, ◌∙◌, subst, ℕ, zero, suc, ◌+◌, ◌<◌, ◌≤◌, true, false, List, [], ◌∷◌, length, map, Option, Some, None, arith}
-use Rattle.std.specs.Prelude.{replicate, take}
+use Rattle.std.proofs.Common.{◌≡◌, refl, sym, ap, ap₂, ◌∙◌, subst, ℕ, zero, suc, ◌+◌, ◌<◌, ◌≤◌, Bool, true, false, List, [], ◌∷◌, length, map, Option, Some, None, arith}
+use Rattle.std.specs.Prelude.{replicate, take, if◌then◌else◌}
 use Rattle.std.proofs.lemmas.List.{length-map, length-replicate, length-set, length-take-le}
 use Rattle.gang_types.specs.declared.types.Rate.{Rate}
 use Rattle.gang_types.specs.declared.types.Rate.TheVariants.{Uniform, Varying}
@@ -28,9 +28,10 @@ use Rattle.machine_words.specs.Words.{AreLaid, Writes, left_of, regions_in}
 use Rattle.machine_words.proofs.AllLanes.{merged_all}
 use Rattle.machine_steps.specs.declared.compiled.CompiledProgram.{CompiledProgram}
 use Rattle.machine_steps.specs.Compiled.{program_of, variables_of}
-use Rattle.machine_steps.specs.Seen.{IsPartOf, IsScalarAt, IsSeen}
+use Rattle.machine_steps.specs.Seen.{IsNoScalar, IsPartOf, IsScalarAt, IsSeen, IsSetIn, has_part}
 use Rattle.machine_steps.specs.Standing.{AreSound, Begins, HaveLanes, IsShown, Records}
 use Rattle.machine_steps.proofs.CalledFrames.{words_called}
+use Rattle.machine_steps.proofs.SameScalars.{no_scalar, same_scalar}
 use Rattle.machine_steps.proofs.ScalarRoom.{scalar_room}
 use Rattle.machine_steps.proofs.SeenScalars.{poke_shows, rate_found}
 use Rattle.machine_steps.proofs.SetWords.{words_declared}
@@ -142,6 +143,13 @@ module _ {T : Type 0} (history : T → History) (left : T → ℕ) (width : ℕ)
       called = sound.called;
     }
 
+    -- no scalar is set where there is none
+    pub none_set : (id : VarId) → IsNoScalar width compiled regions id → (part : Option ℕ) (word : ℕ) → IsSetIn width compiled id part word regions (regions_in history width mid)
+    none_set id none part word = record {
+      scalar = λ region rate is. absurd (no_scalar width compiled regions id region rate is none);
+      none = λ _. opened.regions_are;
+    }
+
     -- what a write asks for
     pub mid_laid : AreLaid history width mid
     mid_laid = begun_laid history left width compiled undone.Poke old mid sound.lie begins
@@ -160,6 +168,16 @@ module _ {T : Type 0} (history : T → History) (left : T → ℕ) (width : ℕ)
           subst (λ rs. (words_for width rate ≤ length (rs region)) × (length (rs region) ≤ width)) (sym (begun_regions history left width compiled undone.Poke old mid sound.lie begins))
           (scalar_room history width compiled old sound id region rate found)
 
+      -- nothing is set where the scalar has no such part
+      pub part_lacks : (part : Option ℕ) (word : ℕ) → has_part width rate part ≡ false → IsSetIn width compiled id part word regions (regions_in history width mid)
+      part_lacks part word lacks = record {
+        scalar = λ other also is r.
+            let same = same_scalar width compiled regions id region other rate also found is in
+            let lacking : false ≡ has_part width also part = sym lacks ∙ ap (λ x. has_part width x part) same.1 in
+            opened.regions_are r ∙ ap (λ (b : Bool). (if b then with_region other (poked_region also part word (regions other)) regions else regions) r) lacking;
+        none = λ none. absurd (no_scalar width compiled regions id region rate found none);
+      }
+
       -- ---- a scalar is set
 
       module _ (lane : Option ℕ) (word : ℕ) (new : MachineWords T) (make : List ℕ → List ℕ) (writes : ℕ)
@@ -174,6 +192,16 @@ module _ {T : Type 0} (history : T → History) (left : T → ℕ) (width : ℕ)
 
         pub poke_records : Records history width undone.Poke old new
         poke_records = recorded_so_far history left width undone.Poke (with_region region after regions) (0 + writes) old new done
+
+        pub part_set : has_part width rate lane ≡ true → IsSetIn width compiled id lane word regions (regions_in history width new)
+        part_set has = record {
+          scalar = λ other also is r.
+              let same = same_scalar width compiled regions id region other rate also found is in
+              let having : true ≡ has_part width also lane = sym has ∙ ap (λ x. has_part width x lane) same.1 in
+              done.regions_are r ∙ ap₂ (λ s x. with_region s (poked_region x lane word (regions s)) regions r) same.0 same.1
+              ∙ ap (λ (b : Bool). (if b then with_region other (poked_region also lane word (regions other)) regions else regions) r) having;
+          none = λ none. absurd (no_scalar width compiled regions id region rate found none);
+        }
 
         shown_after : (masked : Masked) → Shows p variables width (with_region region after regions) masked → AreDeclared variables p masked → IsShown history width compiled new masked
         shown_after masked shows declared = record {

@@ -1,5 +1,5 @@
 -- What a debugger sees of a masked state, and what it sets.
-use Rattle.std.specs.Prelude.{◌≡◌, ◌⊎◌, ℕ, ◌<◌, [], ◌∷◌, length, Option, Some, None, slice_get}
+use Rattle.std.specs.Prelude.{◌≡◌, ◌⊎◌, ℕ, ◌<◌, Bool, true, false, nat_lt, List, [], ◌∷◌, length, Option, Some, None, slice_get, if◌then◌else◌}
 use Rattle.gang_types.specs.declared.places.VarId.{VarId}
 use Rattle.gang_types.specs.declared.places.VarId.TheVariants.{File, Local}
 use Rattle.gang_types.specs.declared.masks.Mask.{Mask}
@@ -7,12 +7,15 @@ use Rattle.gang_types.specs.declared.types.Rate.{Rate}
 use Rattle.gang_types.specs.declared.types.Rate.TheVariants.{Uniform, Varying}
 use Rattle.gang_types.specs.Masks.{lanes_of}
 use Rattle.gang_model.specs.Types.Tree.{Variable, Standing, Function}
+use Rattle.gang_model.specs.Running.Lanes.{at}
+use Rattle.gang_model.specs.Running.State.{words_for}
 use Rattle.gang_model.specs.Debugger.Positions.{spot_in}
 use Rattle.debug_machine.specs.declared.machine.Position.{Position}
 use Rattle.mask_states.specs.Points.{points_in}
 use Rattle.mask_states.specs.Masked.{Masked, masked_lanes, masked_spot}
 use Rattle.machine_states.specs.Variables.{own_of}
-use Rattle.machine_states.specs.Regions.{Depth, OfFile, OfLocal, Region, Regions}
+use Rattle.machine_states.specs.Regions.{Depth, OfFile, OfLocal, Region, Regions, with_region}
+use Rattle.machine_states.specs.Steps.{poked_region}
 use Rattle.machine_steps.specs.declared.active.Active.{Active}
 use Rattle.machine_steps.specs.declared.compiled.CompiledProgram.{CompiledProgram}
 use Rattle.machine_steps.specs.Compiled.{function_of, variables_of}
@@ -81,3 +84,29 @@ pub record HasNoLocal (width : ℕ) (compiled : CompiledProgram) (regions : Regi
 abbrev pub IsNoScalar : (width : ℕ) → CompiledProgram → Regions → VarId → Type 0
 IsNoScalar width compiled regions (File k) = slice_get (variables_of compiled).file k ≡ None
 IsNoScalar width compiled regions (Local k) = (regions Depth ≡ 0 ∷ []) ⊎ ((active : Active) × HasNoLocal width compiled regions k active)
+
+-- ---- what is read and set
+
+-- the word of this index of a scalar with its words in front; 0 behind them
+abbrev pub word_at : (width : ℕ) → Rate → List ℕ → (index : ℕ) → ℕ
+word_at width rate words index = if nat_lt index (words_for width rate) then at words index else 0
+
+-- a word of a variable is that of its scalar, and 0 where it has none
+pub record IsWordOf (width : ℕ) (compiled : CompiledProgram) (regions : Regions) (id : VarId) (index word : ℕ) : Type 0 where
+  pub scalar : (region : Region) (rate : Rate) → IsScalarAt width compiled regions id region rate → word ≡ word_at width rate (regions region) index
+  pub none : IsNoScalar width compiled regions id → word ≡ 0
+
+-- whether a scalar has this part: the whole, or a lane of a varying one
+abbrev pub has_part : (width : ℕ) → Rate → Option ℕ → Bool
+has_part width rate None = true
+has_part width Uniform (Some lane) = false
+has_part width Varying (Some lane) = nat_lt lane width
+
+-- the regions once a part of a scalar is set; the same where it has no such part
+abbrev pub set_in : (width : ℕ) → Region → Rate → Option ℕ → (word : ℕ) → Regions → Regions
+set_in width region rate part word regions = if has_part width rate part then with_region region (poked_region rate part word (regions region)) regions else regions
+
+-- the part of a variable's scalar is set and no other word; none where it has no scalar
+pub record IsSetIn (width : ℕ) (compiled : CompiledProgram) (id : VarId) (part : Option ℕ) (word : ℕ) (old new : Regions) : Type 0 where
+  pub scalar : (region : Region) (rate : Rate) → IsScalarAt width compiled old id region rate → (r : Region) → new r ≡ set_in width region rate part word old r
+  pub none : IsNoScalar width compiled old id → (r : Region) → new r ≡ old r

@@ -8,7 +8,7 @@ ghost use Rattle.mask_states.specs.Masked.{Masked};
 ghost use Rattle.undo_log.specs.declared.timeline.Undone.TheVariants as undone;
 ghost use Rattle.machine_words.specs.Views.{region_view};
 ghost use Rattle.machine_words.specs.Words.{regions_in};
-ghost use Rattle.machine_steps.specs.Seen.{IsNoScalar, IsPartOf, IsScalarAt, IsSeen};
+ghost use Rattle.machine_steps.specs.Seen.{IsNoScalar, IsPartOf, IsScalarAt, IsSeen, IsSetIn, IsWordOf};
 ghost use Rattle.machine_steps.specs.Standing.{AreSound, IsShown, Records};
 
 use crate::active::next_step;
@@ -26,8 +26,9 @@ pub fn word<const W: usize, T: Timeline + Drop>(
     index: usize,
 ) -> u64
     requires sound { AreSound T.history W compiled.now words.now }
-    ensures { (masked : Masked) (v : Variable) → IsShown T.history W compiled.now words.now masked → IsSeen compiled.now masked v → v.id ≡ variable
+    ensures shown { (masked : Masked) (v : Variable) → IsShown T.history W compiled.now words.now masked → IsSeen compiled.now masked v → v.id ≡ variable
         → index < words_for W v.rate → result ≡ slice_index (words_in masked.state variable) index }
+    ensures reads { IsWordOf W compiled.now (regions_in T.history W words.now) variable index result }
 {
     let Some(scalar) = find_scalar::<W, T>(compiled, words, variable) else {
         return 0;
@@ -39,7 +40,8 @@ pub fn word<const W: usize, T: Timeline + Drop>(
     }
 }
 
-/// Sets a scalar, in all lanes or in one, and records it.
+/// Sets a scalar of the file, or of the function of the top frame, in all lanes or in one, and records it. Where there is no such scalar
+/// or lane, the record is all that is made.
 pub fn poke<const W: usize, T: Timeline + Drop>(
     compiled: &CompiledProgram,
     words: &mut MachineWords<T>,
@@ -50,6 +52,7 @@ pub fn poke<const W: usize, T: Timeline + Drop>(
     requires sound { AreSound T.history W compiled.now words.old }
     ensures sound { AreSound T.history W compiled.now words.new }
     ensures records { Records T.history W undone.Poke words.old words.new }
+    ensures sets { IsSetIn W compiled.now variable at word (regions_in T.history W words.old) (regions_in T.history W words.new) }
     ensures shown { (masked : Masked) (v : Variable) → IsShown T.history W compiled.now words.old masked → IsSeen compiled.now masked v → v.id ≡ variable
         → IsPartOf W v.rate at → IsShown T.history W compiled.now words.new (record masked { state = poked (poked_by v at) word masked.state }) }
 {

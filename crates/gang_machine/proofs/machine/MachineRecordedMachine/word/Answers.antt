@@ -15,4 +15,4 @@ returns g c s d v stands is below =
     let same = words_by_name history g.row.W m.entry m.compiled m.lines.items m.words c.self.invariant s d here v c.args.shown.id seen is.id in
     let long = shown_long history g.row.W m.entry m.compiled m.lines.items m.words c.self.invariant s d here v seen in
     let within : index < words_for g.row.W v.rate = omega (arith, below, is.count, long) in
-    c.word.ensures _ v shown seen is.id within ∙ ap (λ ws. slice_index ws index) (sym same)
+    c.word.ensures.shown _ v shown seen is.id within ∙ ap (λ ws. slice_index ws index) (sym same)
