@@ -1,5 +1,5 @@
 //! The tops of the machine's stacks.
-ghost use Rattle.std.specs.Prelude.{◌≡◌, ◌<◌, ℕ, List, [], ◌∷◌, length, reverse, MatchResult};
+ghost use Rattle.std.specs.Prelude.{◌≡◌, ◌<◌, ℕ, false, List, [], ◌∷◌, length, replicate, reverse, MatchResult};
 ghost use Rattle.gang_types.specs.Masks.{lanes_of};
 ghost use Rattle.expression_code.specs.declared.stop.Stop.TheVariants.{NoRoom};
 ghost use Rattle.expression_code.specs.Bridge.{masks_view};
@@ -16,6 +16,8 @@ pub(crate) struct ActiveLanes {
 }
 
 impl Default for ActiveLanes {
+    ghost is_default = { λ active. (w : ℕ) → lanes_of w active.mask ≡ replicate w false };
+
     fn default() -> Self {
         ActiveLanes { mask: Mask::none() }
     }
