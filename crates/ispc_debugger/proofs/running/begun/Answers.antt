@@ -4,6 +4,7 @@ use Rattle.gang_model.specs.Texts.Transcript.{setting}
 use Rattle.typed_tree.specs.Views.{program_view}
 use Rattle.ispc_debugger.proofs.running.begun.Goals as goal
 
+-- the machine stands for the first state at every number of steps, and the session begins over it at the one that is asked for
 pub returns : goal.returns
 returns g c =
     let options = c.args.options.now in
