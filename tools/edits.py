@@ -2,7 +2,8 @@
 
 A function's proof rests on the contracts of the others and not on their bodies, so a body that is refused beside other wrong bodies is
 refused alone. Functions of one cycle have one proof: of them one is edited at a time. An edit counts as refused where something is not
-proved in a function that it changes; every other edit is tried alone, as the toolchain's own gate does it.
+proved in a function that it changes; every other edit is tried alone, as the toolchain's own gate does it. An edit that is refused only
+by a limit of the prover, or only because a proof names what the edit took away, has not shown that a clause refuses it, and fails.
 """
 
 import dataclasses
@@ -15,6 +16,7 @@ from toolchain import rt, rtlib
 
 WENT = "has no field|is not in scope|has no `|was not admitted"
 NAMES_WHAT_WENT = rf"(\./)?proofs/.*({WENT})"
+ONLY_A_NAME = "only because a proof file names what the edit took away"
 GAP = r"(?: |\n +)"
 SPREAD = re.compile(rf"^((?:\./)?proofs/.*?){GAP}({WENT.replace(' ', GAP)})", re.M)
 
@@ -154,5 +156,6 @@ def tried(crate, batch, jobs, kept):
         if told:
             answers.append((edit, True, f"must-fail {crate.name}/{os.path.basename(edit)}: refused beside others: {told[:160]}"))
         else:
-            answers.append((edit, *rt.must_fail(crate, edit, jobs, kept)))
+            comes_to, said = rt.must_fail(crate, edit, jobs, kept)
+            answers.append((edit, comes_to == rt.REFUSED and ONLY_A_NAME not in said, said))
     return answers
