@@ -15,7 +15,7 @@ use Rattle.ispc_parser_expressions.proofs.SpecWords.{words_begin}
 use Rattle.ispc_parser_expressions.proofs.Follows.{stops_at, take_none}
 use Rattle.ispc_parser_expressions.proofs.Whole.{whole_complete}
 use Rattle.ispc_parser.specs.declared.words.Loop.TheVariants as loop
-use Rattle.ispc_parser.specs.Parts.{Reader, name_of, in_parens, list_of, declaration_of, simple_of}
+use Rattle.ispc_parser.specs.Parts.{Reader, name_of, in_parens, behind, list_of, declaration_of, simple_of}
 use Rattle.ispc_parser.specs.Heads.{optional_of, start_of, update_of, rounds_of, dim_of, dims_of, distinct_of, ParsedRounds, ParsedDistinct, WhileHead, ForHead, ForEachHead, ActiveHead, UniqueHead, head_of}
 use Rattle.ispc_parser.proofs.Tokens.{other_first, in_parens_again, name_again}
 use Rattle.ispc_parser.proofs.PartsComplete.{BeginsSimple, declaration_complete, simple_complete, simple_first}
@@ -116,7 +116,7 @@ module _ (d : ℕ) where
       ) refl
 
   dim_complete : (x : ParsedDim) (ts rest : List Lexeme) → SpellsDim d x ts rest → Stops any_level rest → dim_of d ts ≡ Some (x, rest)
-  unfolding dim_of
+  unfolding dim_of behind
   dim_complete x ts rest h stop =
       rw (
         name_again x.at x.name ts h.0 h.4,
@@ -131,7 +131,7 @@ module _ (d : ℕ) where
   dims_complete xs ts rest after h close = list_complete (dim_of d) (SpellsDim d) dim_complete max_dims xs ts rest after h.0 h.1 close
 
   distinct_complete : (v : ParsedDistinct) (ts rest after : List Lexeme) → SpellsDistinct v.at v.name v.value d ts rest → Takes (marked mark.RightParen) rest after → distinct_of d ts ≡ Some (v, rest)
-  unfolding distinct_of
+  unfolding distinct_of behind
   distinct_complete v ts rest after h close =
       rw (name_again v.at v.name ts h.0 h.2, take_again mark.In h.0 h.1 h.3, whole_complete d v.value h.1 rest h.4 (stops_at any_level (marked mark.RightParen) rest after close (omega arith))) refl
 

@@ -8,7 +8,7 @@ use Rattle.gang_model.specs.Source.SpellsStatements.{Maybe, SpellsList, SpellsDe
 use Rattle.ispc_parser_expressions.specs.Parse.{begins, begins_word, take, is_mark, whole_expr}
 use Rattle.ispc_parser_expressions.proofs.Tools.{take_takes}
 use Rattle.ispc_parser_expressions.proofs.Whole.{whole_sound}
-use Rattle.ispc_parser.specs.Parts.{Reader, name_of, list_of}
+use Rattle.ispc_parser.specs.Parts.{Reader, name_of, behind, list_of}
 use Rattle.ispc_parser.specs.Heads.{optional_of, start_of, update_of, ParsedRounds, rounds_of, dim_of, dims_of, ParsedDistinct, distinct_of}
 use Rattle.ispc_parser.proofs.Tokens.{name_sound}
 use Rattle.ispc_parser.proofs.PartsSound.{declaration_sound, simple_sound}
@@ -115,23 +115,23 @@ module _ (d : ℕ) where
       )
 
   dim_sound : (x : ParsedDim) (ts rest : List Lexeme) → dim_of d ts ≡ Some (x, rest) → SpellsDim d x ts rest
-  unfolding dim_of
+  unfolding dim_of behind
   dim_sound x ts rest e =
       let q1 = bind_some (name_of ts) _ (x, rest) e in
-      let q2 = bind_some (take mark.Assign q1.0.1) _ (x, rest) q1.2 in
-      let q3 = bind_some (whole_expr d q2.0) _ (x, rest) q2.2 in
-      let q4 = bind_some (take mark.Dots q3.0.1) _ (x, rest) q3.2 in
-      let q5 = bind_some (whole_expr d q4.0) _ (x, rest) q4.2 in
-      subst (λ (y : ParsedDim × List Lexeme). SpellsDim d y.0 ts y.1) (same_Some (record { at = q1.0.0.0; name = q1.0.0.1; low = q3.0.0; high = q5.0.0 }, q5.0.1) (x, rest) q5.2) (
+      let low = bind_some (behind mark.Assign d q1.0.1) _ (x, rest) q1.2 in
+      let q2 = bind_some (take mark.Assign q1.0.1) _ low.0 low.1 in
+      let high = bind_some (behind mark.Dots d low.0.1) _ (x, rest) low.2 in
+      let q4 = bind_some (take mark.Dots low.0.1) _ high.0 high.1 in
+      subst (λ (y : ParsedDim × List Lexeme). SpellsDim d y.0 ts y.1) (same_Some (record { at = q1.0.0.0; name = q1.0.0.1; low = low.0.0; high = high.0.0 }, high.0.1) (x, rest) high.2) (
         q1.0.1,
         q2.0,
-        q3.0.1,
+        low.0.1,
         q4.0,
         name_sound q1.0.0 ts q1.0.1 q1.1,
         take_takes mark.Assign q1.0.1 q2.0 q2.1,
-        whole_sound d q3.0.0 q2.0 q3.0.1 q3.1,
-        take_takes mark.Dots q3.0.1 q4.0 q4.1,
-        whole_sound d q5.0.0 q4.0 q5.0.1 q5.1,
+        whole_sound d low.0.0 q2.0 low.0.1 q2.2,
+        take_takes mark.Dots low.0.1 q4.0 q4.1,
+        whole_sound d high.0.0 q4.0 high.0.1 q4.2,
       )
 
   pub dims_sound : (xs : List ParsedDim) (ts rest : List Lexeme) → dims_of d ts ≡ Some (xs, rest) → SpellsDims xs d ts rest
@@ -139,10 +139,10 @@ module _ (d : ℕ) where
   dims_sound xs ts rest e = list_sound (dim_of d) (SpellsDim d) dim_sound max_dims xs ts rest e
 
   pub distinct_sound : (v : ParsedDistinct) (ts rest : List Lexeme) → distinct_of d ts ≡ Some (v, rest) → SpellsDistinct v.at v.name v.value d ts rest
-  unfolding distinct_of
+  unfolding distinct_of behind
   distinct_sound v ts rest e =
       let q1 = bind_some (name_of ts) _ (v, rest) e in
-      let q2 = bind_some (take mark.In q1.0.1) _ (v, rest) q1.2 in
-      let q3 = bind_some (whole_expr d q2.0) _ (v, rest) q2.2 in
+      let q3 = bind_some (behind mark.In d q1.0.1) _ (v, rest) q1.2 in
+      let q2 = bind_some (take mark.In q1.0.1) _ q3.0 q3.1 in
       subst (λ (y : ParsedDistinct × List Lexeme). SpellsDistinct y.0.at y.0.name y.0.value d ts y.1) (same_Some (record { at = q1.0.0.0; name = q1.0.0.1; value = q3.0.0 }, q3.0.1) (v, rest) q3.2)
-      (q1.0.1, q2.0, name_sound q1.0.0 ts q1.0.1 q1.1, take_takes mark.In q1.0.1 q2.0 q2.1, whole_sound d q3.0.0 q2.0 q3.0.1 q3.1)
+      (q1.0.1, q2.0, name_sound q1.0.0 ts q1.0.1 q1.1, take_takes mark.In q1.0.1 q2.0 q2.1, whole_sound d q3.0.0 q2.0 q3.0.1 q2.2)

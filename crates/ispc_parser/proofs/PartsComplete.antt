@@ -17,7 +17,7 @@ use Rattle.ispc_parser_expressions.proofs.Tools.{take_again, begins_again}
 use Rattle.ispc_parser_expressions.proofs.Starts.{takes_at}
 use Rattle.ispc_parser_expressions.proofs.Follows.{stops_at, not_begins}
 use Rattle.ispc_parser_expressions.proofs.Whole.{whole_complete, args_complete}
-use Rattle.ispc_parser.specs.Parts.{value_of, declaration_of, index_of, target_of, changed_of, assigned_of, call_of, named_of, incremented_of, simple_of}
+use Rattle.ispc_parser.specs.Parts.{behind, between, value_of, declaration_of, index_of, target_of, changed_of, assigned_of, call_of, named_of, incremented_of, simple_of}
 use Rattle.ispc_parser.proofs.Tokens.{other_first, begins_at, enter_again, in_parens_again, name_again, local_spec_again}
 
 -- ---- tokens
@@ -43,7 +43,7 @@ module _ (d : ℕ) where
   -- ---- declarations
 
   value_complete : (o : Option ParsedExpr) (ts rest after : List Lexeme) → Maybe (SpellsValue d) o ts rest → Takes (marked mark.Semicolon) rest after → value_of d ts ≡ Some (o, rest)
-  unfolding value_of
+  unfolding value_of behind
   value_complete None ts rest after h last = rw (h, other_first mark.Assign (marked mark.Semicolon) rest after last refl) refl
   value_complete (Some e) ts rest after h last =
       rw (begins_again mark.Assign ts h.0 h.1, take_again mark.Assign ts h.0 h.1, whole_complete d e h.0 rest h.2 (stops_at any_level (marked mark.Semicolon) rest after last (omega arith))) refl
@@ -57,7 +57,7 @@ module _ (d : ℕ) where
   -- ---- targets
 
   index_complete : (o : Option ParsedExpr) (ts rest : List Lexeme) → Maybe (λ e. InBrackets d (λ inner. WholeExpr inner e)) o ts rest → begins mark.LeftBracket rest ≡ false → index_of d ts ≡ Some (o, rest)
-  unfolding index_of
+  unfolding index_of between
   index_complete None ts rest h none = rw (h, none) refl
   index_complete (Some e) ts rest h none =
       let p = opened d (λ (n : ℕ). WholeExpr n e h.0 h.1) h.3 in

@@ -13,7 +13,7 @@ use Rattle.ispc_parser_expressions.specs.Parse.{begins, take, mark_of, whole_exp
 use Rattle.ispc_parser_expressions.proofs.Tools.{take_takes}
 use Rattle.ispc_parser_expressions.proofs.Starts.{takes_at}
 use Rattle.ispc_parser_expressions.proofs.Whole.{whole_sound, args_sound}
-use Rattle.ispc_parser.specs.Parts.{enter, name_of, in_parens, local_spec_of, value_of, declaration_of, index_of, target_of, changed_of, assigned_of, call_of, named_of, incremented_of, simple_at, simple_of}
+use Rattle.ispc_parser.specs.Parts.{enter, name_of, in_parens, behind, between, local_spec_of, value_of, declaration_of, index_of, target_of, changed_of, assigned_of, call_of, named_of, incremented_of, simple_at, simple_of}
 use Rattle.ispc_parser.proofs.Tokens.{opens_here, begins_at, first_at, enter_sound, in_parens_sound, name_sound, local_spec_sound}
 use Rattle.ispc_parser_expressions.proofs.Tools.{mark_of_is}
 use Rattle.std.proofs.lemmas.Option.{same_Some}
@@ -21,14 +21,14 @@ use Rattle.ispc_lexer.proofs.Runs.{which, bind_some, chosen}
 
 module _ (d : ℕ) where
   pub value_sound : (o : Option ParsedExpr) (ts rest : List Lexeme) → value_of d ts ≡ Some (o, rest) → Maybe (SpellsValue d) o ts rest
-  unfolding value_of
+  unfolding value_of behind
   value_sound o ts rest e =
       elim (which (begins mark.Assign ts) _ _ (Some (o, rest)) e) [
         | inl p ↦
-            let q1 = bind_some (take mark.Assign ts) _ (o, rest) p.1 in
-            let q2 = bind_some (whole_expr d q1.0) _ (o, rest) q1.2 in
-            subst (λ (y : Option ParsedExpr × List Lexeme). Maybe (SpellsValue d) y.0 ts y.1) (same_Some (Some q2.0.0, q2.0.1) (o, rest) q2.2)
-            (q1.0, take_takes mark.Assign ts q1.0 q1.1, whole_sound d q2.0.0 q1.0 q2.0.1 q2.1)
+            let q = bind_some (behind mark.Assign d ts) _ (o, rest) p.1 in
+            let q1 = bind_some (take mark.Assign ts) _ q.0 q.1 in
+            subst (λ (y : Option ParsedExpr × List Lexeme). Maybe (SpellsValue d) y.0 ts y.1) (same_Some (Some q.0.0, q.0.1) (o, rest) q.2)
+            (q1.0, take_takes mark.Assign ts q1.0 q1.1, whole_sound d q.0.0 q1.0 q.0.1 q1.2)
         | inr p ↦ subst (λ (y : Option ParsedExpr × List Lexeme). Maybe (SpellsValue d) y.0 ts y.1) (same_Some (None, ts) (o, rest) p.1) refl
       ]
 
@@ -46,16 +46,18 @@ module _ (d : ℕ) where
   Index = Maybe (λ e. InBrackets d (λ inner. WholeExpr inner e))
 
   pub index_sound : (o : Option ParsedExpr) (ts rest : List Lexeme) → index_of d ts ≡ Some (o, rest) → Index o ts rest
-  unfolding index_of
+  unfolding index_of between
   index_sound o ts rest e =
       elim (which (begins mark.LeftBracket ts) _ _ (Some (o, rest)) e) [
         | inl p ↦
-            let q1 = bind_some (enter mark.LeftBracket d ts) _ (o, rest) p.1 in
-            let q2 = bind_some (whole_expr q1.0.0 q1.0.1) _ (o, rest) q1.2 in
-            let q3 = bind_some (take mark.RightBracket q2.0.1) _ (o, rest) q2.2 in
+            let q = bind_some (between mark.LeftBracket mark.RightBracket d ts) _ (o, rest) p.1 in
+            let q1 = bind_some (enter mark.LeftBracket d ts) _ q.0 q.1 in
+            let q2 = bind_some (whole_expr q1.0.0 q1.0.1) _ q.0 q1.2 in
+            let q3 = bind_some (take mark.RightBracket q2.0.1) _ q.0 q2.2 in
             let s = enter_sound mark.LeftBracket d q1.0.0 ts q1.0.1 q1.1 in
-            subst (λ (y : Option ParsedExpr × List Lexeme). Index y.0 ts y.1) (same_Some (Some q2.0.0, q3.0) (o, rest) q3.2)
-            (q1.0.1, q2.0.1, s.0, opens_here d q1.0.0 (λ n. WholeExpr n q2.0.0 q1.0.1 q2.0.1) s.1 (whole_sound q1.0.0 q2.0.0 q1.0.1 q2.0.1 q2.1), take_takes mark.RightBracket q2.0.1 q3.0 q3.1)
+            subst (λ (y : Option ParsedExpr × List Lexeme). Index y.0 ts y.1) (same_Some (Some q.0.0, q.0.1) (o, rest) q.2)
+            (subst (λ (y : ParsedExpr × List Lexeme). Index (Some y.0) ts y.1) (same_Some (q2.0.0, q3.0) q.0 q3.2)
+            (q1.0.1, q2.0.1, s.0, opens_here d q1.0.0 (λ n. WholeExpr n q2.0.0 q1.0.1 q2.0.1) s.1 (whole_sound q1.0.0 q2.0.0 q1.0.1 q2.0.1 q2.1), take_takes mark.RightBracket q2.0.1 q3.0 q3.1))
         | inr p ↦ subst (λ (y : Option ParsedExpr × List Lexeme). Index y.0 ts y.1) (same_Some (None, ts) (o, rest) p.1) refl
       ]
 

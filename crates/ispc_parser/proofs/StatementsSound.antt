@@ -111,10 +111,10 @@ module _ (d : ℕ) where
       let q = bind_some (take mark.Semicolon ts) _ (x, rest) e in
       subst (λ (y : ParsedStmt × List Lexeme). SpellsStmt y.0 d all y.1) (same_Some (ParsedContinue at, q.0) (x, rest) q.2) (ts, first, take_takes mark.Semicolon ts q.0 q.1)
   plain_sound plain.Return at x all ts rest first e =
-      let q = bind_some (ended_of (optional_of d) ts) _ (x, rest) e in
-      let s = ended_sound (optional_of d) q.0.0 ts q.0.1 q.1 in
-      subst (λ (y : ParsedStmt × List Lexeme). SpellsStmt y.0 d all y.1) (same_Some (ParsedReturn at q.0.0, q.0.1) (x, rest) q.2)
-      (ts, s.0, first, optional_sound d q.0.0 ts s.0 s.1, s.2)
+      let q = bind_some (optional_of d ts) _ (x, rest) e in
+      let a = bind_some (take mark.Semicolon q.0.1) _ (x, rest) q.2 in
+      subst (λ (y : ParsedStmt × List Lexeme). SpellsStmt y.0 d all y.1) (same_Some (ParsedReturn at q.0.0, a.0) (x, rest) a.2)
+      (ts, q.0.1, first, optional_sound d q.0.0 ts q.0.1 q.1, take_takes mark.Semicolon q.0.1 a.0 a.1)
   plain_sound plain.Simple at x all ts rest first e = ended_simple_sound x all rest e
 
 -- ---- statements that hold others

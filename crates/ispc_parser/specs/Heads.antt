@@ -14,7 +14,7 @@ use Rattle.ispc_parser.specs.declared.heads.Distinct.{Distinct}
 use Rattle.ispc_parser.specs.declared.heads.Head.{Head}
 use Rattle.ispc_parser.specs.declared.heads.Head.TheVariants as head
 use Rattle.ispc_parser.specs.Tree.{dim_view, stmt_view}
-use Rattle.ispc_parser.specs.Parts.{Reader, name_of, in_parens, list_of, declaration_of, simple_of}
+use Rattle.ispc_parser.specs.Parts.{Reader, name_of, in_parens, behind, list_of, declaration_of, simple_of}
 
 -- an expression, which may be missing, before a `;`
 unfoldable pub optional_of : ℕ → Reader (Option ParsedExpr)
@@ -40,7 +40,7 @@ rounds_of d ts = start_of d ts >>= λ s. take mark.Semicolon s.1 >>= λ a. optio
     update_of d b >>= λ u. Some (record { start = s.0; test = e.0; update = u.0 }, u.1)
 
 unfoldable pub dim_of : ℕ → Reader ParsedDim
-dim_of d ts = name_of ts >>= λ n. take mark.Assign n.1 >>= λ a. whole_expr d a >>= λ l. take mark.Dots l.1 >>= λ b. whole_expr d b >>= λ h.
+dim_of d ts = name_of ts >>= λ n. behind mark.Assign d n.1 >>= λ l. behind mark.Dots d l.1 >>= λ h.
     Some (record { at = n.0.0; name = n.0.1; low = l.0; high = h.0 }, h.1)
 
 unfoldable pub dims_of : ℕ → Reader (List ParsedDim)
@@ -53,7 +53,7 @@ pub record ParsedDistinct : Type 0 where
   pub value : ParsedExpr
 
 unfoldable pub distinct_of : ℕ → Reader ParsedDistinct
-distinct_of d ts = name_of ts >>= λ n. take mark.In n.1 >>= λ a. whole_expr d a >>= λ e. Some (record { at = n.0.0; name = n.0.1; value = e.0 }, e.1)
+distinct_of d ts = name_of ts >>= λ n. behind mark.In d n.1 >>= λ e. Some (record { at = n.0.0; name = n.0.1; value = e.0 }, e.1)
 
 -- a loop or a foreach form without its body
 pub data ParsedHead : Type 0 where
@@ -89,7 +89,7 @@ inside_of loop.ForEachUnique at d ts = distinct_of d ts >>= λ v. Some (UniqueHe
 -- ---- views
 
 abbrev pub rounds_view : Rounds → ParsedRounds
-rounds_view r = record { start = stmt_view r.start; test = option_map expr_view r.test; update = stmt_view r.update }
+rounds_view r = record { start = stmt_view r.start.value; test = option_map expr_view r.test; update = stmt_view r.update.value }
 
 abbrev pub distinct_view : Distinct → ParsedDistinct
 distinct_view v = record { at = v.name.place; name = v.name.text.items; value = expr_view v.value }

@@ -47,6 +47,22 @@ name_view n = (n.place, n.text.items)
 unfoldable pub in_parens : {A : Type 0} → (ℕ → Reader A) → ℕ → Reader A
 in_parens one d ts = enter mark.LeftParen d ts >>= λ o. one o.0 o.1 >>= λ x. take mark.RightParen x.1 >>= λ rest. Some (x.0, rest)
 
+-- a value for which nothing more is read
+abbrev pub just : {A : Type 0} → A → Reader A
+just x ts = Some (x, ts)
+
+-- a value, where this mark stands
+abbrev pub closed_by : {A : Type 0} → Mark → A → Reader A
+closed_by m x ts = take m ts >>= λ rest. Some (x, rest)
+
+-- an expression behind a mark
+unfoldable pub behind : Mark → ℕ → Reader ParsedExpr
+behind m d ts = take m ts >>= λ a. whole_expr d a
+
+-- an expression between two marks
+unfoldable pub between : Mark → Mark → ℕ → Reader ParsedExpr
+between left right d ts = enter left d ts >>= λ o. whole_expr o.0 o.1 >>= λ e. take right e.1 >>= λ rest. Some (e.0, rest)
+
 -- one to n, with commas between them
 unfoldable pub list_of : {A : Type 0} → Reader A → ℕ → Reader (List A)
 list_of one zero ts = None
@@ -65,7 +81,7 @@ local_spec_of ts = spec_at ts >>= λ s. if is_local s.0 then Some s else None
 
 unfoldable pub value_of : ℕ → Reader (Option ParsedExpr)
 value_of d ts =
-    if begins mark.Assign ts then (take mark.Assign ts >>= λ a. whole_expr d a >>= λ e. Some (Some e.0, e.1))
+    if begins mark.Assign ts then (behind mark.Assign d ts >>= λ e. Some (Some e.0, e.1))
     else Some (None, ts)
 
 -- a declaration whose first word stands here
@@ -75,7 +91,7 @@ declaration_of d at ts = local_spec_of ts >>= λ s. name_of s.1 >>= λ n. value_
 unfoldable pub index_of : ℕ → Reader (Option ParsedExpr)
 index_of d ts =
     if begins mark.LeftBracket ts
-    then (enter mark.LeftBracket d ts >>= λ o. whole_expr o.0 o.1 >>= λ e. take mark.RightBracket e.1 >>= λ rest. Some (Some e.0, rest))
+    then (between mark.LeftBracket mark.RightBracket d ts >>= λ e. Some (Some e.0, e.1))
     else Some (None, ts)
 
 unfoldable pub target_of : ℕ → Reader ParsedTarget

@@ -74,12 +74,15 @@ number_of (t ∷ ts) = digits_in t.sort >>= λ n. Some (n, ts)
 abbrev pub signed : Bool → Digits → Literal
 signed is_negative n = literal.Number is_negative n.value n.is_unsigned n.is_long
 
+abbrev pub signed_number_of : Bool → Reader Literal
+signed_number_of is_negative ts = number_of ts >>= λ n. Some (signed is_negative n.0, n.1)
+
 unfoldable pub literal_of : Reader Literal
 literal_of ts =
-    if_some (take mark.Minus ts) (λ a. number_of a >>= λ n. Some (signed true n.0, n.1))
+    if_some (take mark.Minus ts) (signed_number_of true)
     (if_some (take mark.True ts) (λ a. Some (literal.Truth true, a))
     (if_some (take mark.False ts) (λ a. Some (literal.Truth false, a))
-    (number_of ts >>= λ n. Some (signed false n.0, n.1))))
+    (signed_number_of false ts)))
 
 unfoldable pub form_of : Reader GlobalForm
 form_of ts =

@@ -48,7 +48,7 @@ unfoldable pub plain_of : Plain → ℕ → Place → List Lexeme → Reader Par
 plain_of plain.Empty d at all rest = Some (ParsedEmpty, rest)
 plain_of plain.Break d at all rest = take mark.Semicolon rest >>= λ after. Some (ParsedBreak at, after)
 plain_of plain.Continue d at all rest = take mark.Semicolon rest >>= λ after. Some (ParsedContinue at, after)
-plain_of plain.Return d at all rest = ended_of (optional_of d) rest >>= λ e. Some (ParsedReturn at e.0, e.1)
+plain_of plain.Return d at all rest = optional_of d rest >>= λ e. take mark.Semicolon e.1 >>= λ after. Some (ParsedReturn at e.0, after)
 plain_of plain.Simple d at all rest = ended_of (simple_of d) all
 
 -- what parses one nesting deeper

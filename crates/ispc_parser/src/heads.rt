@@ -1,5 +1,5 @@
 //! What stands between the word of a loop or a foreach form and its body.
-ghost use Rattle.std.specs.Prelude.{◌≡◌, IfOk, map, option_map};
+ghost use Rattle.std.specs.Prelude.{◌≡◌, map, option_map};
 ghost use Rattle.ispc_lexer.specs.Views.{lexemes_of};
 ghost use Rattle.ispc_parser_expressions.specs.Tree.{expr_view};
 ghost use Rattle.ispc_parser_expressions.specs.Parse.{Gives, whole_expr};
@@ -10,24 +10,24 @@ ghost use Rattle.ispc_parser.specs.Heads as spec;
 ghost use Rattle.ispc_parser.specs.Heads.{ForHead, UniqueHead, rounds_view, distinct_view, head_view, completed};
 
 use crate::front::{Context, Identifier, Read, enter, name, refused_at};
-use crate::parts::{declaration, simple};
+use crate::nodes::with_rest;
+use crate::parts::{behind, between, declaration, simple};
 use crate::tree::{Dim, Stmt};
 use crate::words::Loop;
 use gang_model::{Mark, RefusalNumber};
 use gang_types::Place;
 use ispc_lexer::{Kind, Token};
 use ispc_parser_expressions::{Expr, after, begins, begins_word, expression, take, unexpected};
-use source_answers::{SourceFault, both_boxed, boxed};
-use std::alloc::{AllocError, Global};
+use source_answers::SourceFault;
 
 /// How many dimensions a `foreach` may have.
 const MAX_DIMS: usize = 3;
 
 /// `start; test; update`, where each part may be missing.
 pub(crate) struct Rounds {
-    pub(crate) start: Stmt,
+    pub(crate) start: Box<Stmt>,
     pub(crate) test: Option<Expr>,
-    pub(crate) update: Stmt,
+    pub(crate) update: Box<Stmt>,
 }
 
 impl Drop for Rounds {
@@ -42,22 +42,21 @@ impl Drop for Rounds {
 
 impl Rounds {
     /// The `for` at this place with these rounds and this body.
-    fn with_body(self, alloc: Global, place: Place, body: Box<Stmt>) -> Result<Stmt, AllocError>
-        ensures { IfOk result (λ s. stmt_view s ≡ completed (ForHead place (rounds_view self)) (stmt_view body.value)) }
+    fn with_body(self, place: Place, body: Box<Stmt>) -> Stmt
+        ensures { stmt_view result ≡ completed (ForHead place (rounds_view self)) (stmt_view body.value) }
     {
         let Self {
             start,
             test,
             update,
         } = self;
-        let (start, update) = both_boxed(alloc, start, update)?;
-        Ok(Stmt::For {
+        Stmt::For {
             place,
             start,
             test,
             update,
             body,
-        })
+        }
     }
 }
 
@@ -138,44 +137,40 @@ impl Drop for Head {
 
 impl Head {
     /// The loop or foreach form with its body.
-    pub(crate) fn with_body(self, alloc: Global, body: Stmt) -> Result<Stmt, AllocError>
-        ensures { IfOk result (λ s. stmt_view s ≡ completed (head_view self) (stmt_view body)) }
+    pub(crate) fn with_body(self, body: Box<Stmt>) -> Stmt
+        ensures { stmt_view result ≡ completed (head_view self) (stmt_view body.value) }
     {
-        let body = boxed(alloc, body)?;
         match self {
-            Head::While { place, test } => Ok(Stmt::While { place, test, body }),
-            Head::For { place, rounds } => rounds.with_body(alloc, place, body),
+            Head::While { place, test } => Stmt::While { place, test, body },
+            Head::For { place, rounds } => rounds.with_body(place, body),
             Head::ForEach {
                 place,
                 is_tiled,
                 dims,
-            } => Ok(Stmt::ForEach {
+            } => Stmt::ForEach {
                 place,
                 is_tiled,
                 dims,
                 body,
-            }),
-            Head::ForEachActive { place, name } => Ok(Stmt::ForEachActive {
+            },
+            Head::ForEachActive { place, name } => Stmt::ForEachActive {
                 place,
                 name_place: name.place,
                 name: name.text,
                 body,
-            }),
-            Head::ForEachUnique { place, distinct } => Ok(distinct.with_body(place, body)),
+            },
+            Head::ForEachUnique { place, distinct } => distinct.with_body(place, body),
         }
     }
 }
 
 /// `( e )`.
-#[tactic(auto, unfolding(crate::specs::Parts::in_parens))]
+#[tactic(auto, unfolding(crate::specs::Parts::in_parens, crate::specs::Parts::between))]
 pub(crate) fn test(context: Context, depth: u32, tokens: &[Token]) -> Read<'_, Expr>
     ensures { Gives (λ x. (expr_view x.0, lexemes_of x.1.now)) result
         (in_parens whole_expr depth (lexemes_of tokens.now)) }
 {
-    let (inner, rest) = enter(Mark::LeftParen, depth, tokens, context.end)?;
-    let (test, rest) = expression(context.alloc, inner, rest, context.end)?;
-    let rest = take(Mark::RightParen, rest, context.end)?;
-    Ok((test, rest))
+    between(context, depth, Mark::LeftParen, Mark::RightParen, tokens)
 }
 
 /// An expression before a `;`, which may be missing.
@@ -192,15 +187,15 @@ pub(crate) fn optional(context: Context, depth: u32, tokens: &[Token]) -> Read<'
 }
 
 #[tactic(auto, unfolding(crate::specs::Heads::start_of))]
-fn start(context: Context, depth: u32, tokens: &[Token]) -> Read<'_, Stmt>
-    ensures { Gives (λ x. (stmt_view x.0, lexemes_of x.1.now)) result
+fn start(context: Context, depth: u32, tokens: &[Token]) -> Read<'_, Box<Stmt>>
+    ensures { Gives (λ x. (stmt_view x.0.value, lexemes_of x.1.now)) result
         (spec.start_of depth (lexemes_of tokens.now)) }
 {
     match tokens {
         [] => Err(unexpected(tokens, context.end)),
         [first, ..] => {
             if begins(Mark::Semicolon, tokens) {
-                Ok((Stmt::Empty, tokens))
+                with_rest(context.alloc, Stmt::Empty, tokens)
             } else if begins_word(tokens) {
                 declaration(context, depth, first.place, tokens)
             } else {
@@ -211,12 +206,12 @@ fn start(context: Context, depth: u32, tokens: &[Token]) -> Read<'_, Stmt>
 }
 
 #[tactic(auto, unfolding(crate::specs::Heads::update_of))]
-fn update(context: Context, depth: u32, tokens: &[Token]) -> Read<'_, Stmt>
-    ensures { Gives (λ x. (stmt_view x.0, lexemes_of x.1.now)) result
+fn update(context: Context, depth: u32, tokens: &[Token]) -> Read<'_, Box<Stmt>>
+    ensures { Gives (λ x. (stmt_view x.0.value, lexemes_of x.1.now)) result
         (spec.update_of depth (lexemes_of tokens.now)) }
 {
     if begins(Mark::RightParen, tokens) {
-        Ok((Stmt::Empty, tokens))
+        with_rest(context.alloc, Stmt::Empty, tokens)
     } else {
         simple(context, depth, tokens)
     }
@@ -249,10 +244,8 @@ fn dim(context: Context, depth: u32, tokens: &[Token]) -> Read<'_, Dim>
         (spec.dim_of depth (lexemes_of tokens.now)) }
 {
     let (name, rest) = name(context, tokens)?;
-    let rest = take(Mark::Assign, rest, context.end)?;
-    let (low, rest) = expression(context.alloc, depth, rest, context.end)?;
-    let rest = take(Mark::Dots, rest, context.end)?;
-    let (high, rest) = expression(context.alloc, depth, rest, context.end)?;
+    let (low, rest) = behind(context, depth, Mark::Assign, rest)?;
+    let (high, rest) = behind(context, depth, Mark::Dots, rest)?;
     let dim = Dim {
         place: name.place,
         name: name.text,
@@ -301,8 +294,7 @@ fn distinct_of(context: Context, depth: u32, tokens: &[Token]) -> Read<'_, Disti
         (spec.distinct_of depth (lexemes_of tokens.now)) }
 {
     let (name, rest) = name(context, tokens)?;
-    let rest = take(Mark::In, rest, context.end)?;
-    let (value, rest) = expression(context.alloc, depth, rest, context.end)?;
+    let (value, rest) = behind(context, depth, Mark::In, rest)?;
     Ok((Distinct { name, value }, rest))
 }
 

@@ -1,14 +1,65 @@
-//! Statements with their parts in boxes.
-ghost use Rattle.std.specs.Prelude.{◌≡◌, IfOk};
+//! Statements in boxes, with their parts.
+ghost use Rattle.std.specs.Prelude.{◌≡◌, [], ◌∷◌, ◌++◌, IfOk, OnOk};
 ghost use Rattle.gang_model.specs.Source.Parsed.{ParsedBlock, ParsedIf, ParsedIfElse, ParsedDo};
+ghost use Rattle.ispc_lexer.specs.Views.{lexemes_of};
+ghost use Rattle.ispc_parser_expressions.specs.Parse.{Gives};
 ghost use Rattle.ispc_parser_expressions.specs.Tree.{expr_view};
+ghost use Rattle.ispc_parser.specs.Parts.{just, closed_by};
 ghost use Rattle.ispc_parser.specs.Tree.{stmt_view, stmts_view};
 
+use crate::front::{Context, Read};
 use crate::tree::Stmt;
+use gang_model::Mark;
 use gang_types::Place;
-use ispc_parser_expressions::Expr;
-use source_answers::{both_boxed, boxed};
+use ispc_lexer::Token;
+use ispc_parser_expressions::{Expr, take};
+use source_answers::boxed;
 use std::alloc::{AllocError, Global};
+
+/// A statement in a box. Statements are large, so what reads them hands on boxes.
+fn in_box(alloc: Global, stmt: Stmt) -> Result<Box<Stmt>, AllocError>
+    ensures { IfOk result (λ place. place.value ≡ stmt) }
+{
+    boxed(alloc, stmt)
+}
+
+/// A statement in a box, and the tokens after it.
+pub(crate) fn with_rest(alloc: Global, stmt: Stmt, rest: &[Token]) -> Read<'_, Box<Stmt>>
+    ensures { Gives (λ x. (stmt_view x.0.value, lexemes_of x.1.now)) result
+        (just (stmt_view stmt) (lexemes_of rest.now)) }
+{
+    Ok((in_box(alloc, stmt)?, rest))
+}
+
+/// A statement that this mark closes, in a box.
+pub(crate) fn closed(
+    context: Context,
+    mark: Mark,
+    stmt: Stmt,
+    tokens: &[Token],
+) -> Read<'_, Box<Stmt>>
+    ensures { Gives (λ x. (stmt_view x.0.value, lexemes_of x.1.now)) result
+        (closed_by mark (stmt_view stmt) (lexemes_of tokens.now)) }
+{
+    let rest = take(mark, tokens, context.end)?;
+    with_rest(context.alloc, stmt, rest)
+}
+
+/// A statement with the `;` behind it.
+pub(crate) fn ended(stmt: Box<Stmt>, tokens: &[Token], end: Place) -> Read<'_, Box<Stmt>>
+    ensures { Gives (λ x. (stmt_view x.0.value, lexemes_of x.1.now)) result
+        (closed_by Mark.Semicolon (stmt_view stmt.value) (lexemes_of tokens.now)) }
+{
+    let rest = take(Mark::Semicolon, tokens, end)?;
+    Ok((stmt, rest))
+}
+
+/// Puts a statement behind the others.
+pub(crate) fn push(stmts: &mut Vec<Stmt>, stmt: Box<Stmt>) -> Result<(), AllocError>
+    ensures { OnOk result (stmts.new.items ≡ stmts.old.items ++ stmt.value ∷ []) }
+{
+    Ok(stmts.push(Box::into_inner(stmt))?)
+}
 
 pub(crate) fn block(stmts: Vec<Stmt>) -> Stmt
     ensures { stmt_view result ≡ ParsedBlock (stmts_view stmts.items) }
@@ -20,41 +71,50 @@ pub(crate) fn if_then(
     alloc: Global,
     place: Place,
     test: Expr,
-    first: Stmt,
-) -> Result<Stmt, AllocError>
-    ensures { IfOk result (λ s. stmt_view s ≡ ParsedIf place (expr_view test) (stmt_view first)) }
+    first: Box<Stmt>,
+    rest: &[Token],
+) -> Read<'_, Box<Stmt>>
+    ensures { Gives (λ x. (stmt_view x.0.value, lexemes_of x.1.now)) result
+        (just (ParsedIf place (expr_view test) (stmt_view first.value)) (lexemes_of rest.now)) }
 {
-    let first = boxed(alloc, first)?;
-    Ok(Stmt::If {
+    let stmt = Stmt::If {
         place,
         test,
         first,
         other: None,
-    })
+    };
+    with_rest(alloc, stmt, rest)
 }
 
 pub(crate) fn if_else(
     alloc: Global,
     place: Place,
     test: Expr,
-    first: Stmt,
-    other: Stmt,
-) -> Result<Stmt, AllocError>
-    ensures { IfOk result (λ s. stmt_view s ≡ ParsedIfElse place (expr_view test) (stmt_view first) (stmt_view other)) }
+    first: Box<Stmt>,
+    other: Box<Stmt>,
+    rest: &[Token],
+) -> Read<'_, Box<Stmt>>
+    ensures { Gives (λ x. (stmt_view x.0.value, lexemes_of x.1.now)) result
+        (just (ParsedIfElse place (expr_view test) (stmt_view first.value) (stmt_view other.value)) (lexemes_of rest.now)) }
 {
-    let (first, other) = both_boxed(alloc, first, other)?;
-    Ok(Stmt::If {
+    let stmt = Stmt::If {
         place,
         test,
         first,
         other: Some(other),
-    })
+    };
+    with_rest(alloc, stmt, rest)
 }
 
-pub(crate) fn do_while(alloc: Global, body: Stmt, tested: (Place, Expr)) -> Result<Stmt, AllocError>
-    ensures { IfOk result (λ s. stmt_view s ≡ ParsedDo (stmt_view body) tested.0 (expr_view tested.1)) }
+pub(crate) fn do_while(
+    alloc: Global,
+    body: Box<Stmt>,
+    tested: (Place, Expr),
+    rest: &[Token],
+) -> Read<'_, Box<Stmt>>
+    ensures { Gives (λ x. (stmt_view x.0.value, lexemes_of x.1.now)) result
+        (just (ParsedDo (stmt_view body.value) tested.0 (expr_view tested.1)) (lexemes_of rest.now)) }
 {
     let (place, test) = tested;
-    let body = boxed(alloc, body)?;
-    Ok(Stmt::Do { body, place, test })
+    with_rest(alloc, Stmt::Do { body, place, test }, rest)
 }

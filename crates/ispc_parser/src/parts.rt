@@ -10,6 +10,7 @@ ghost use Rattle.ispc_parser.specs.Parts.{name_view};
 
 use crate::front::{Context, Identifier, Read, copied_name, enter, name};
 use crate::misfits::local_spec;
+use crate::nodes::{closed, with_rest};
 use crate::tree::{Stmt, Target};
 use gang_model::Mark;
 use gang_types::{BinaryOp, Place};
@@ -47,6 +48,34 @@ fn increment_of(mark: Mark) -> Option<BinaryOp>
     }
 }
 
+/// An expression behind a mark.
+#[tactic(auto, unfolding(crate::specs::Parts::behind))]
+pub(crate) fn behind(context: Context, depth: u32, mark: Mark, tokens: &[Token]) -> Read<'_, Expr>
+    ensures { Gives (λ x. (expr_view x.0, lexemes_of x.1.now)) result
+        (spec.behind mark depth (lexemes_of tokens.now)) }
+{
+    let rest = take(mark, tokens, context.end)?;
+    expression(context.alloc, depth, rest, context.end)
+}
+
+/// An expression in parentheses or brackets.
+#[tactic(auto, unfolding(crate::specs::Parts::between))]
+pub(crate) fn between(
+    context: Context,
+    depth: u32,
+    opening: Mark,
+    closing: Mark,
+    tokens: &[Token],
+) -> Read<'_, Expr>
+    ensures { Gives (λ x. (expr_view x.0, lexemes_of x.1.now)) result
+        (spec.between opening closing depth (lexemes_of tokens.now)) }
+{
+    let (inner, rest) = enter(opening, depth, tokens, context.end)?;
+    let (value, rest) = expression(context.alloc, inner, rest, context.end)?;
+    let rest = take(closing, rest, context.end)?;
+    Ok((value, rest))
+}
+
 /// `= e`, which may be missing.
 #[tactic(auto, unfolding(crate::specs::Parts::value_of))]
 fn value(context: Context, depth: u32, tokens: &[Token]) -> Read<'_, Option<Expr>>
@@ -56,8 +85,7 @@ fn value(context: Context, depth: u32, tokens: &[Token]) -> Read<'_, Option<Expr
     if !begins(Mark::Assign, tokens) {
         return Ok((None, tokens));
     }
-    let rest = take(Mark::Assign, tokens, context.end)?;
-    let (value, rest) = expression(context.alloc, depth, rest, context.end)?;
+    let (value, rest) = behind(context, depth, Mark::Assign, tokens)?;
     Ok((Some(value), rest))
 }
 
@@ -68,8 +96,8 @@ pub(crate) fn declaration(
     depth: u32,
     place: Place,
     tokens: &[Token],
-) -> Read<'_, Stmt>
-    ensures { Gives (λ x. (stmt_view x.0, lexemes_of x.1.now)) result
+) -> Read<'_, Box<Stmt>>
+    ensures { Gives (λ x. (stmt_view x.0.value, lexemes_of x.1.now)) result
         (spec.declaration_of depth place (lexemes_of tokens.now)) }
 {
     let (spec, rest) = local_spec(context, tokens)?;
@@ -82,7 +110,7 @@ pub(crate) fn declaration(
         name: name.text,
         value,
     };
-    Ok((declared, rest))
+    with_rest(context.alloc, declared, rest)
 }
 
 /// `[ e ]`, which may be missing.
@@ -94,9 +122,13 @@ fn index(context: Context, depth: u32, tokens: &[Token]) -> Read<'_, Option<Expr
     if !begins(Mark::LeftBracket, tokens) {
         return Ok((None, tokens));
     }
-    let (inner, rest) = enter(Mark::LeftBracket, depth, tokens, context.end)?;
-    let (index, rest) = expression(context.alloc, inner, rest, context.end)?;
-    let rest = take(Mark::RightBracket, rest, context.end)?;
+    let (index, rest) = between(
+        context,
+        depth,
+        Mark::LeftBracket,
+        Mark::RightBracket,
+        tokens,
+    )?;
     Ok((Some(index), rest))
 }
 
@@ -125,20 +157,18 @@ fn changed<'a>(
     mark: Mark,
     tokens: &'a [Token],
     rest: &'a [Token],
-) -> Read<'a, Stmt>
-    ensures { Gives (λ x. (stmt_view x.0, lexemes_of x.1.now)) result
+) -> Read<'a, Box<Stmt>>
+    ensures { Gives (λ x. (stmt_view x.0.value, lexemes_of x.1.now)) result
         (spec.changed_of depth (target_view target) mark (lexemes_of rest.now)) }
 {
     let place = target.place;
     if let Some(operator) = increment_of(mark) {
-        return Ok((
-            Stmt::Increment {
-                place,
-                target,
-                operator,
-            },
-            rest,
-        ));
+        let increment = Stmt::Increment {
+            place,
+            target,
+            operator,
+        };
+        return with_rest(context.alloc, increment, rest);
     }
     if mark == Mark::Assign {
         let (value, rest) = expression(context.alloc, depth, rest, context.end)?;
@@ -147,7 +177,7 @@ fn changed<'a>(
             target,
             value,
         };
-        return Ok((assigned, rest));
+        return with_rest(context.alloc, assigned, rest);
     }
     let Some(operator) = change_of(mark) else {
         return Err(unexpected(tokens, context.end));
@@ -159,13 +189,13 @@ fn changed<'a>(
         operator,
         value,
     };
-    Ok((changed, rest))
+    with_rest(context.alloc, changed, rest)
 }
 
 /// Behind a target.
 #[tactic(auto, unfolding(crate::specs::Parts::assigned_of))]
-fn assigned(context: Context, depth: u32, target: Target, tokens: &[Token]) -> Read<'_, Stmt>
-    ensures { Gives (λ x. (stmt_view x.0, lexemes_of x.1.now)) result
+fn assigned(context: Context, depth: u32, target: Target, tokens: &[Token]) -> Read<'_, Box<Stmt>>
+    ensures { Gives (λ x. (stmt_view x.0.value, lexemes_of x.1.now)) result
         (spec.assigned_of depth (target_view target) (lexemes_of tokens.now)) }
 {
     match tokens {
@@ -179,25 +209,24 @@ fn assigned(context: Context, depth: u32, target: Target, tokens: &[Token]) -> R
 
 /// Behind the name of a function that is called.
 #[tactic(auto, unfolding(crate::specs::Parts::call_of, crate::specs::Parts::in_parens))]
-fn call(context: Context, depth: u32, name: Identifier, tokens: &[Token]) -> Read<'_, Stmt>
-    ensures { Gives (λ x. (stmt_view x.0, lexemes_of x.1.now)) result
+fn call(context: Context, depth: u32, name: Identifier, tokens: &[Token]) -> Read<'_, Box<Stmt>>
+    ensures { Gives (λ x. (stmt_view x.0.value, lexemes_of x.1.now)) result
         (spec.call_of depth (name_view name).0 (name_view name).1 (lexemes_of tokens.now)) }
 {
     let (inner, rest) = enter(Mark::LeftParen, depth, tokens, context.end)?;
     let (args, rest) = arguments(context.alloc, inner, rest, context.end)?;
-    let rest = take(Mark::RightParen, rest, context.end)?;
     let call = Stmt::Call {
         place: name.place,
         name: name.text,
         args,
     };
-    Ok((call, rest))
+    closed(context, Mark::RightParen, call, rest)
 }
 
 /// Behind a name: a call, or an assignment or an increment of what it names.
 #[tactic(auto, unfolding(crate::specs::Parts::named_of))]
-fn named(context: Context, depth: u32, name: Identifier, tokens: &[Token]) -> Read<'_, Stmt>
-    ensures { Gives (λ x. (stmt_view x.0, lexemes_of x.1.now)) result
+fn named(context: Context, depth: u32, name: Identifier, tokens: &[Token]) -> Read<'_, Box<Stmt>>
+    ensures { Gives (λ x. (stmt_view x.0.value, lexemes_of x.1.now)) result
         (spec.named_of depth (name_view name).0 (name_view name).1 (lexemes_of tokens.now)) }
 {
     if begins(Mark::LeftParen, tokens) {
@@ -221,28 +250,26 @@ fn incremented<'a>(
     mark: Mark,
     tokens: &'a [Token],
     rest: &'a [Token],
-) -> Read<'a, Stmt>
-    ensures { Gives (λ x. (stmt_view x.0, lexemes_of x.1.now)) result
+) -> Read<'a, Box<Stmt>>
+    ensures { Gives (λ x. (stmt_view x.0.value, lexemes_of x.1.now)) result
         (spec.incremented_of depth place mark (lexemes_of rest.now)) }
 {
     let Some(operator) = increment_of(mark) else {
         return Err(unexpected(tokens, context.end));
     };
     let (target, rest) = target(context, depth, rest)?;
-    Ok((
-        Stmt::Increment {
-            place,
-            target,
-            operator,
-        },
-        rest,
-    ))
+    let increment = Stmt::Increment {
+        place,
+        target,
+        operator,
+    };
+    with_rest(context.alloc, increment, rest)
 }
 
 /// An assignment, an increment or a call.
 #[tactic(auto, unfolding(crate::specs::Parts::simple_of))]
-pub(crate) fn simple(context: Context, depth: u32, tokens: &[Token]) -> Read<'_, Stmt>
-    ensures { Gives (λ x. (stmt_view x.0, lexemes_of x.1.now)) result
+pub(crate) fn simple(context: Context, depth: u32, tokens: &[Token]) -> Read<'_, Box<Stmt>>
+    ensures { Gives (λ x. (stmt_view x.0.value, lexemes_of x.1.now)) result
         (spec.simple_of depth (lexemes_of tokens.now)) }
 {
     match tokens {

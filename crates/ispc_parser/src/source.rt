@@ -181,6 +181,15 @@ fn signed(is_negative: bool, number: Number) -> Literal
     }
 }
 
+/// A number, or its negative.
+fn signed_number(is_negative: bool, tokens: &[Token], end: Place) -> Read<'_, Literal>
+    ensures { Gives (λ x. (x.0, lexemes_of x.1.now)) result
+        (spec.signed_number_of is_negative (lexemes_of tokens.now)) }
+{
+    let (number, rest) = number(tokens, end)?;
+    Ok((signed(is_negative, number), rest))
+}
+
 /// A number with an optional minus, `true` or `false`.
 #[tactic(auto, unfolding(crate::specs::Source::literal_of))]
 fn literal(tokens: &[Token], end: Place) -> Read<'_, Literal>
@@ -188,8 +197,7 @@ fn literal(tokens: &[Token], end: Place) -> Read<'_, Literal>
         (spec.literal_of (lexemes_of tokens.now)) }
 {
     if let Some(rest) = after(Mark::Minus, tokens) {
-        let (number, rest) = number(rest, end)?;
-        return Ok((signed(true, number), rest));
+        return signed_number(true, rest, end);
     }
     if let Some(rest) = after(Mark::True, tokens) {
         return Ok((Literal::Truth(true), rest));
@@ -197,8 +205,7 @@ fn literal(tokens: &[Token], end: Place) -> Read<'_, Literal>
     if let Some(rest) = after(Mark::False, tokens) {
         return Ok((Literal::Truth(false), rest));
     }
-    let (number, rest) = number(tokens, end)?;
-    Ok((signed(false, number), rest))
+    signed_number(false, tokens, end)
 }
 
 /// Behind a variable's name: its length, its first value, or nothing.

@@ -10,7 +10,7 @@ ghost use Rattle.ispc_parser.specs.Statements.{within, parsers};
 
 use crate::front::{Context, Read, refused_at, take_at};
 use crate::heads::{head_of, optional, test};
-use crate::nodes;
+use crate::nodes::{self, closed, ended, push, with_rest};
 use crate::parts::{declaration, simple};
 use crate::tree::Stmt;
 use crate::words::{Loop, Opening, Plain, opening_of};
@@ -23,40 +23,47 @@ use source_answers::SourceFault;
 // ---- statements that hold no other one
 
 #[tactic(auto, unfolding(crate::specs::Statements::ended_of))]
-fn ended_simple(context: Context, depth: u32, tokens: &[Token]) -> Read<'_, Stmt>
-    ensures { Gives (λ x. (stmt_view x.0, lexemes_of x.1.now)) result
+fn ended_simple(context: Context, depth: u32, tokens: &[Token]) -> Read<'_, Box<Stmt>>
+    ensures { Gives (λ x. (stmt_view x.0.value, lexemes_of x.1.now)) result
         (spec.ended_of (simple_of depth) (lexemes_of tokens.now)) }
 {
     let (simple, rest) = simple(context, depth, tokens)?;
-    let rest = take(Mark::Semicolon, rest, context.end)?;
-    Ok((simple, rest))
+    ended(simple, rest, context.end)
 }
 
 #[tactic(auto, unfolding(crate::specs::Statements::ended_of))]
-fn ended_declaration(context: Context, depth: u32, place: Place, tokens: &[Token]) -> Read<'_, Stmt>
-    ensures { Gives (λ x. (stmt_view x.0, lexemes_of x.1.now)) result
+fn ended_declaration(
+    context: Context,
+    depth: u32,
+    place: Place,
+    tokens: &[Token],
+) -> Read<'_, Box<Stmt>>
+    ensures { Gives (λ x. (stmt_view x.0.value, lexemes_of x.1.now)) result
         (spec.ended_of (declaration_of depth place) (lexemes_of tokens.now)) }
 {
     let (declared, rest) = declaration(context, depth, place, tokens)?;
-    let rest = take(Mark::Semicolon, rest, context.end)?;
-    Ok((declared, rest))
+    ended(declared, rest, context.end)
 }
 
 /// Behind `return`, which stands at this place.
-#[tactic(auto, unfolding(crate::specs::Statements::plain_of, crate::specs::Statements::ended_of))]
+#[tactic(auto, unfolding(crate::specs::Statements::plain_of))]
 fn return_stmt<'a>(
     context: Context,
     depth: u32,
     place: Place,
     tokens: &'a [Token],
     rest: &'a [Token],
-) -> Read<'a, Stmt>
-    ensures { Gives (λ x. (stmt_view x.0, lexemes_of x.1.now)) result
+) -> Read<'a, Box<Stmt>>
+    ensures { Gives (λ x. (stmt_view x.0.value, lexemes_of x.1.now)) result
         (spec.plain_of Plain.Return depth place (lexemes_of tokens.now) (lexemes_of rest.now)) }
 {
     let (value, rest) = optional(context, depth, rest)?;
-    let rest = take(Mark::Semicolon, rest, context.end)?;
-    Ok((Stmt::Return { place, value }, rest))
+    closed(
+        context,
+        Mark::Semicolon,
+        Stmt::Return { place, value },
+        rest,
+    )
 }
 
 /// A statement that holds no other one: all of its tokens, and those behind its first, which stands at this place.
@@ -68,20 +75,14 @@ fn plain_stmt<'a>(
     place: Place,
     tokens: &'a [Token],
     rest: &'a [Token],
-) -> Read<'a, Stmt>
-    ensures { Gives (λ x. (stmt_view x.0, lexemes_of x.1.now)) result
+) -> Read<'a, Box<Stmt>>
+    ensures { Gives (λ x. (stmt_view x.0.value, lexemes_of x.1.now)) result
         (spec.plain_of word depth place (lexemes_of tokens.now) (lexemes_of rest.now)) }
 {
     match word {
-        Plain::Empty => Ok((Stmt::Empty, rest)),
-        Plain::Break => {
-            let rest = take(Mark::Semicolon, rest, context.end)?;
-            Ok((Stmt::Break { place }, rest))
-        }
-        Plain::Continue => {
-            let rest = take(Mark::Semicolon, rest, context.end)?;
-            Ok((Stmt::Continue { place }, rest))
-        }
+        Plain::Empty => with_rest(context.alloc, Stmt::Empty, rest),
+        Plain::Break => closed(context, Mark::Semicolon, Stmt::Break { place }, rest),
+        Plain::Continue => closed(context, Mark::Semicolon, Stmt::Continue { place }, rest),
         Plain::Return => return_stmt(context, depth, place, tokens, rest),
         Plain::Simple => ended_simple(context, depth, tokens),
     }
@@ -134,22 +135,21 @@ fn inside_body(depth: u32, tokens: &[Token], end: Place) -> Result<u32, SourceFa
 
 #[cycle(statement)]
 #[tactic(auto, unfolding(crate::specs::Statements::block_of))]
-fn block(context: Context, depth: u32, tokens: &[Token]) -> Read<'_, Stmt>
-    ensures { Gives (λ x. (stmt_view x.0, lexemes_of x.1.now)) result
+fn block(context: Context, depth: u32, tokens: &[Token]) -> Read<'_, Box<Stmt>>
+    ensures { Gives (λ x. (stmt_view x.0.value, lexemes_of x.1.now)) result
         (spec.block_of (parsers depth) (lexemes_of tokens.now)) }
 {
     let rest = take(Mark::LeftBrace, tokens, context.end)?;
     let inner = inside_block(depth, tokens, context.end)?;
     let (stmts, rest) = stmts(context, inner, rest)?;
-    let rest = take(Mark::RightBrace, rest, context.end)?;
-    Ok((nodes::block(stmts), rest))
+    closed(context, Mark::RightBrace, nodes::block(stmts), rest)
 }
 
 /// The body of a form that stands with so many nestings left.
 #[cycle(statement)]
 #[tactic(auto, unfolding(crate::specs::Statements::body_of))]
-fn body(context: Context, depth: u32, tokens: &[Token]) -> Read<'_, Stmt>
-    ensures { Gives (λ x. (stmt_view x.0, lexemes_of x.1.now)) result
+fn body(context: Context, depth: u32, tokens: &[Token]) -> Read<'_, Box<Stmt>>
+    ensures { Gives (λ x. (stmt_view x.0.value, lexemes_of x.1.now)) result
         (spec.body_of (parsers depth) (lexemes_of tokens.now)) }
 {
     if begins(Mark::LeftBrace, tokens) {
@@ -162,8 +162,8 @@ fn body(context: Context, depth: u32, tokens: &[Token]) -> Read<'_, Stmt>
 /// `else` and its body.
 #[cycle(statement)]
 #[tactic(auto, unfolding(crate::specs::Statements::else_of))]
-fn else_body(context: Context, depth: u32, tokens: &[Token]) -> Read<'_, Stmt>
-    ensures { Gives (λ x. (stmt_view x.0, lexemes_of x.1.now)) result
+fn else_body(context: Context, depth: u32, tokens: &[Token]) -> Read<'_, Box<Stmt>>
+    ensures { Gives (λ x. (stmt_view x.0.value, lexemes_of x.1.now)) result
         (spec.else_of (parsers depth) (lexemes_of tokens.now)) }
 {
     let rest = take(Mark::Else, tokens, context.end)?;
@@ -173,20 +173,17 @@ fn else_body(context: Context, depth: u32, tokens: &[Token]) -> Read<'_, Stmt>
 /// Behind `if`, which stands at this place.
 #[cycle(statement)]
 #[tactic(auto, unfolding(crate::specs::Statements::if_of))]
-fn if_stmt(context: Context, depth: u32, place: Place, tokens: &[Token]) -> Read<'_, Stmt>
-    ensures { Gives (λ x. (stmt_view x.0, lexemes_of x.1.now)) result
+fn if_stmt(context: Context, depth: u32, place: Place, tokens: &[Token]) -> Read<'_, Box<Stmt>>
+    ensures { Gives (λ x. (stmt_view x.0.value, lexemes_of x.1.now)) result
         (spec.if_of depth (parsers depth) place (lexemes_of tokens.now)) }
 {
     let (test, rest) = test(context, depth, tokens)?;
     let (first, rest) = body(context, depth, rest)?;
     if !begins(Mark::Else, rest) {
-        return Ok((nodes::if_then(context.alloc, place, test, first)?, rest));
+        return nodes::if_then(context.alloc, place, test, first, rest);
     }
     let (other, rest) = else_body(context, depth, rest)?;
-    Ok((
-        nodes::if_else(context.alloc, place, test, first, other)?,
-        rest,
-    ))
+    nodes::if_else(context.alloc, place, test, first, other, rest)
 }
 
 /// `while ( e ) ;` behind the body of a `do`: the place of its word, and the test.
@@ -204,13 +201,13 @@ fn do_test(context: Context, depth: u32, tokens: &[Token]) -> Read<'_, (Place, E
 /// Behind `do`.
 #[cycle(statement)]
 #[tactic(auto, unfolding(crate::specs::Statements::do_of))]
-fn do_stmt(context: Context, depth: u32, tokens: &[Token]) -> Read<'_, Stmt>
-    ensures { Gives (λ x. (stmt_view x.0, lexemes_of x.1.now)) result
+fn do_stmt(context: Context, depth: u32, tokens: &[Token]) -> Read<'_, Box<Stmt>>
+    ensures { Gives (λ x. (stmt_view x.0.value, lexemes_of x.1.now)) result
         (spec.do_of depth (parsers depth) (lexemes_of tokens.now)) }
 {
     let (body, rest) = body(context, depth, tokens)?;
     let (tested, rest) = do_test(context, depth, rest)?;
-    Ok((nodes::do_while(context.alloc, body, tested)?, rest))
+    nodes::do_while(context.alloc, body, tested, rest)
 }
 
 /// Behind the word of a loop or a foreach form, which stands at this place.
@@ -222,13 +219,13 @@ fn loop_stmt(
     word: Loop,
     place: Place,
     tokens: &[Token],
-) -> Read<'_, Stmt>
-    ensures { Gives (λ x. (stmt_view x.0, lexemes_of x.1.now)) result
+) -> Read<'_, Box<Stmt>>
+    ensures { Gives (λ x. (stmt_view x.0.value, lexemes_of x.1.now)) result
         (spec.loop_of word depth (parsers depth) place (lexemes_of tokens.now)) }
 {
     let (head, rest) = head_of(context, depth, word, place, tokens)?;
     let (body, rest) = body(context, depth, rest)?;
-    Ok((head.with_body(context.alloc, body)?, rest))
+    with_rest(context.alloc, head.with_body(body), rest)
 }
 
 /// A statement with this opening: all of its tokens, and those behind its first, which stands at this place.
@@ -240,8 +237,8 @@ fn opened_stmt<'a>(
     place: Place,
     tokens: &'a [Token],
     rest: &'a [Token],
-) -> Read<'a, Stmt>
-    ensures { Gives (λ x. (stmt_view x.0, lexemes_of x.1.now)) result
+) -> Read<'a, Box<Stmt>>
+    ensures { Gives (λ x. (stmt_view x.0.value, lexemes_of x.1.now)) result
         (spec.opened_of opening depth (parsers depth) place (lexemes_of tokens.now) (lexemes_of rest.now)) }
 {
     match opening {
@@ -256,8 +253,8 @@ fn opened_stmt<'a>(
 /// A statement, with so many nestings left.
 #[cycle(statement)]
 #[tactic(auto, unfolding(crate::specs::Statements::stmt_of))]
-fn stmt(context: Context, depth: u32, tokens: &[Token]) -> Read<'_, Stmt>
-    ensures { Gives (λ x. (stmt_view x.0, lexemes_of x.1.now)) result
+fn stmt(context: Context, depth: u32, tokens: &[Token]) -> Read<'_, Box<Stmt>>
+    ensures { Gives (λ x. (stmt_view x.0.value, lexemes_of x.1.now)) result
         (spec.stmt_of depth (parsers depth) (lexemes_of tokens.now)) }
 {
     match tokens {
@@ -305,7 +302,7 @@ pub(crate) fn stmts(context: Context, depth: u32, tokens: &[Token]) -> Read<'_, 
             return Ok((stmts, rest));
         }
         let (stmt, after) = stmt(context, depth, rest)?;
-        stmts.push(stmt)?;
+        push(&mut stmts, stmt)?;
         rest = after;
     }
     Ok((stmts, rest))

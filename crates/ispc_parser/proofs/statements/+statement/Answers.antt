@@ -27,8 +27,8 @@ stmts-returns-in_err-stmt t c =
 
 pub stmts-loop-preserved : goal.stmts-loop-preserved
 stmts-loop-preserved t c =
-    let e : stmts_view c.push.new.self.items ≡ append (stmts_view c.loop.stmts.items) (ParsedNext (stmt_view c.in_ok-stmt.stmt) ParsedLast) = rw c.in_ok-push.ensures.items (stmts_view-push c.loop.stmts.items c.in_ok-stmt.stmt) in
-    rw e (stmts_go_on (stmt_of c.args.depth (parsers c.args.depth)) (length c.args.tokens.now - c.loop.counter) (length c.args.tokens.now - (c.loop.counter + 1)) (stmts_view c.loop.stmts.items) (lexemes_of c.loop.rest.now) _ (omega arith) (cc) c.loop.invariant (stmt_view c.in_ok-stmt.stmt) (lexemes_of c.in_ok-stmt.after.now) c.in_ok-stmt.ensures)
+    let e : stmts_view c.push.new.stmts.items ≡ append (stmts_view c.loop.stmts.items) (ParsedNext (stmt_view c.in_ok-stmt.stmt.value) ParsedLast) = rw c.in_ok-push.ensures (stmts_view-push c.loop.stmts.items c.in_ok-stmt.stmt.value) in
+    rw e (stmts_go_on (stmt_of c.args.depth (parsers c.args.depth)) (length c.args.tokens.now - c.loop.counter) (length c.args.tokens.now - (c.loop.counter + 1)) (stmts_view c.loop.stmts.items) (lexemes_of c.loop.rest.now) _ (omega arith) (cc) c.loop.invariant (stmt_view c.in_ok-stmt.stmt.value) (lexemes_of c.in_ok-stmt.after.now) c.in_ok-stmt.ensures)
 
 pub stmts-returns : goal.stmts-returns
 stmts-returns t c = sym c.loop.invariant ∙ stmts_spent (stmt_of c.args.depth (parsers c.args.depth)) (length c.args.tokens.now - c.loop.counter) (stmts_view c.loop.stmts.items) (lexemes_of c.loop.rest.now) (omega arith)
