@@ -1,16 +1,20 @@
 -- The lists of functions and of file-scope variables of a tree, and names that stand twice in them.
-use Rattle.std.proofs.Common.{◌≡◌, List, [], ◌∷◌, ◌++◌, Bool, ◌||◌, refl, sym, ap, ◌∙◌}
+use Rattle.std.proofs.Common.{◌≡◌, List, [], ◌∷◌, ◌++◌, Bool, ◌||◌, map, refl, sym, ap, ◌∙◌, append-nil, append_assoc}
+use Rattle.std.specs.Prelude.{IfOk, Result}
 use Rattle.std.specs.List.{list_any}
+use Rattle.std.proofs.lemmas.Result.{IfOk-weaker}
 use Rattle.std.proofs.Math.Bool.{or_comm, or_assoc}
 use Rattle.gang_model.specs.declared.refusals.RefusalNumber.TheVariants.{S6}
-use Rattle.gang_model.specs.declared.refusals.SourceRefusal.{SourceRefusal}
 use Rattle.gang_model.specs.Source.Judged.{fault_if, least_fault, merged}
 use Rattle.gang_model.specs.Types.LibraryTable.{is_among}
 use Rattle.gang_model.specs.Names.NameFaults.{globals_twice, functions_twice}
 use Rattle.gang_model.specs.Source.Names.{same_text}
-use Rattle.gang_model.specs.Source.Parsed.{Name, ParsedGlobal, ParsedFunction}
+use Rattle.gang_model.specs.Source.Parsed.{Name, ParsedGlobal, ParsedFunction, ParsedItem, ParsedFunctionItem, ParsedGlobalItem, functions_in, globals_in}
 use Rattle.gang_model.specs.Names.Scope.{is_built_in}
 use Rattle.gang_model.specs.Types.Signatures.{same_signature}
+use Rattle.ispc_parser.specs.declared.tree.Item.{Item}
+use Rattle.ispc_parser.specs.Tree.{item_view}
+use Rattle.ispc_names_faults.specs.NamesBefore.{later_globals, later_functions}
 use Rattle.ispc_names_faults.specs.SignatureKeys.{signature_key}
 use Rattle.gang_model.proofs.JudgedLaws.{least_fault-append}
 use Rattle.ispc_names_faults.proofs.Merging.{Fault, one_more}
@@ -27,12 +31,7 @@ among-last q (n ∷ names) name =
 
 -- ---- file-scope variables
 
--- those with the name of one before, where the names before stand in the order of the source
-abbrev pub later_globals : List ParsedGlobal → List Name → List SourceRefusal
-later_globals [] before = []
-later_globals (g ∷ globals) before = fault_if (is_among g.name before || is_built_in g.name) S6 g.at ++ later_globals globals (before ++ g.name ∷ [])
-
-pub later_globals-twice : (globals : List ParsedGlobal) (names before : List Name) → ((q : Name) → is_among q names ≡ is_among q before)
+later_globals-twice : (globals : List ParsedGlobal) (names before : List Name) → ((q : Name) → is_among q names ≡ is_among q before)
     → later_globals globals names ≡ globals_twice globals before
 later_globals-twice [] names before h = refl
 later_globals-twice (g ∷ globals) names before h =
@@ -53,14 +52,15 @@ globals_step rest later g before grown name total found fault more taken split t
     (f ∙ ap (λ b. least_fault (fault_if b S6 g.at)) (test ∙ ap (λ n. is_among n before || is_built_in n) same))
     m
 
+pub globals_found : {E : Type 0} (result : Result Fault E) (globals : List ParsedGlobal) (before : List Name) → before ≡ []
+    → IfOk result (λ fault. fault ≡ least_fault (later_globals globals before)) → IfOk result (λ fault. fault ≡ least_fault (globals_twice globals []))
+globals_found result globals before none h =
+    IfOk-weaker result (λ fault. fault ≡ least_fault (later_globals globals before)) (λ fault. fault ≡ least_fault (globals_twice globals []))
+    (λ fault f. f ∙ (ap (λ names. least_fault (later_globals globals names)) none ∙ ap least_fault (later_globals-twice globals [] [] (λ q. refl)))) h
+
 -- ---- functions
 
--- those with the signature of one before, by the texts of the signatures
-abbrev pub later_functions : List ParsedFunction → List Name → List SourceRefusal
-later_functions [] before = []
-later_functions (f ∷ functions) before = fault_if (is_among (signature_key f) before) S6 f.at ++ later_functions functions (before ++ signature_key f ∷ [])
-
-pub later_functions-twice : (functions : List ParsedFunction) (keys : List Name) (before : List ParsedFunction)
+later_functions-twice : (functions : List ParsedFunction) (keys : List Name) (before : List ParsedFunction)
     → ((f : ParsedFunction) → is_among (signature_key f) keys ≡ list_any (same_signature f) before)
     → later_functions functions keys ≡ functions_twice functions before
 later_functions-twice [] keys before h = refl
@@ -74,15 +74,54 @@ later_functions-twice (f ∷ functions) keys before h =
         among-last (signature_key g) keys (signature_key f)
         ∙ (ap (λ b. b || is_among (signature_key g) keys) (same_key g f) ∙ ap (λ b. same_signature g f || b) (h g))
 
-pub functions_step : (rest later : List ParsedFunction) (f : ParsedFunction) (before grown : List Name) (key : Name) (total found fault more : Fault) (twice : Bool)
-    → rest ≡ f ∷ later → total ≡ merged found (least_fault (later_functions rest before)) → key ≡ signature_key f → twice ≡ is_among key before
-    → fault ≡ least_fault (fault_if twice S6 f.at) → more ≡ merged found fault → grown ≡ before ++ signature_key f ∷ []
+pub functions_step : (rest later : List ParsedFunction) (f : ParsedFunction) (before grown : List Name) (total found fault more : Fault)
+    → rest ≡ f ∷ later → total ≡ merged found (least_fault (later_functions rest before)) → fault ≡ least_fault (fault_if (is_among (signature_key f) before) S6 f.at)
+    → more ≡ merged found fault → grown ≡ before ++ signature_key f ∷ []
     → total ≡ merged more (least_fault (later_functions later grown))
-functions_step rest later f before grown key total found fault more twice split t same test own_is m more_names =
+functions_step rest later f before grown total found fault more split t own_is m more_names =
     let own = fault_if (is_among (signature_key f) before) S6 f.at in
     one_more total found fault more (least_fault own) (least_fault (later_functions rest before)) (least_fault (later_functions later grown)) t
     (ap (λ fs. least_fault (later_functions fs before)) split
     ∙ (least_fault-append own (later_functions later (before ++ signature_key f ∷ []))
     ∙ ap (λ ns. merged (least_fault own) (least_fault (later_functions later ns))) (sym more_names)))
-    (own_is ∙ ap (λ b. least_fault (fault_if b S6 f.at)) (test ∙ ap (λ n. is_among n before) same))
-    m
+    own_is m
+
+pub functions_found : {E : Type 0} (result : Result Fault E) (functions : List ParsedFunction) (before : List Name) → before ≡ []
+    → IfOk result (λ fault. fault ≡ least_fault (later_functions functions before)) → IfOk result (λ fault. fault ≡ least_fault (functions_twice functions []))
+functions_found result functions before none h =
+    IfOk-weaker result (λ fault. fault ≡ least_fault (later_functions functions before)) (λ fault. fault ≡ least_fault (functions_twice functions []))
+    (λ fault f. f ∙ (ap (λ keys. least_fault (later_functions functions keys)) none ∙ ap least_fault (later_functions-twice functions [] [] (λ g. refl)))) h
+
+-- ---- the items of a tree
+
+functions_first : (x : ParsedItem) (xs : List ParsedItem) → functions_in (x ∷ xs) ≡ functions_in (x ∷ []) ++ functions_in xs
+functions_first (ParsedFunctionItem f) xs = refl
+functions_first (ParsedGlobalItem g) xs = refl
+
+globals_first : (x : ParsedItem) (xs : List ParsedItem) → globals_in (x ∷ xs) ≡ globals_in (x ∷ []) ++ globals_in xs
+globals_first (ParsedFunctionItem f) xs = refl
+globals_first (ParsedGlobalItem g) xs = refl
+
+-- one more item
+pub functions_passed : (rest later : List Item) (x : Item) (found more all : List ParsedFunction) → rest ≡ x ∷ later → found ++ functions_in (map item_view rest) ≡ all
+    → more ≡ found ++ functions_in (item_view x ∷ []) → more ++ functions_in (map item_view later) ≡ all
+functions_passed rest later x found more all split t m =
+    ap (λ fs. fs ++ functions_in (map item_view later)) m
+    ∙ (append_assoc found (functions_in (item_view x ∷ [])) (functions_in (map item_view later))
+    ∙ (ap (λ fs. found ++ fs) (sym (functions_first (item_view x) (map item_view later)))
+    ∙ (ap (λ xs. found ++ functions_in (map item_view xs)) (sym split) ∙ t)))
+
+pub globals_passed : (rest later : List Item) (x : Item) (found more all : List ParsedGlobal) → rest ≡ x ∷ later → found ++ globals_in (map item_view rest) ≡ all
+    → more ≡ found ++ globals_in (item_view x ∷ []) → more ++ globals_in (map item_view later) ≡ all
+globals_passed rest later x found more all split t m =
+    ap (λ gs. gs ++ globals_in (map item_view later)) m
+    ∙ (append_assoc found (globals_in (item_view x ∷ [])) (globals_in (map item_view later))
+    ∙ (ap (λ gs. found ++ gs) (sym (globals_first (item_view x) (map item_view later)))
+    ∙ (ap (λ xs. found ++ globals_in (map item_view xs)) (sym split) ∙ t)))
+
+-- no item is left
+pub functions_all : (rest : List Item) (found all : List ParsedFunction) → found ++ functions_in (map item_view rest) ≡ all → rest ≡ [] → found ≡ all
+functions_all rest found all t none = sym (append-nil found) ∙ (ap (λ xs. found ++ functions_in (map item_view xs)) (sym none) ∙ t)
+
+pub globals_all : (rest : List Item) (found all : List ParsedGlobal) → found ++ globals_in (map item_view rest) ≡ all → rest ≡ [] → found ≡ all
+globals_all rest found all t none = sym (append-nil found) ∙ (ap (λ xs. found ++ globals_in (map item_view xs)) (sym none) ∙ t)

@@ -1,16 +1,15 @@
 -- The least fault of a declaration, a statement or a function, from those of its parts.
-use Rattle.std.proofs.Common.{◌≡◌, ℕ, List, [], ◌∷◌, ◌++◌, Bool, not, refl, sym, ap, ◌∙◌, Option, map}
+use Rattle.std.proofs.Common.{◌≡◌, ℕ, List, [], ◌∷◌, ◌++◌, Bool, not, refl, sym, ap, ◌∙◌, Option}
 use Rattle.std.specs.Prelude.{◌||◌, IfOk, OnOk, Result, is_some}
 use Rattle.std.proofs.lemmas.Result.{IfOk-weaker, on_ok_weaker}
-use Rattle.std.specs.List.{flat_map}
 use Rattle.gang_types.specs.declared.places.Place.{Place}
 use Rattle.gang_model.specs.declared.refusals.RefusalNumber.TheVariants.{S6, S11}
 use Rattle.gang_model.specs.declared.refusals.SourceRefusal.{SourceRefusal}
 use Rattle.gang_model.specs.Source.Judged.{fault_if, least_fault, merged}
 use Rattle.gang_model.specs.Types.LibraryTable.{is_library_name, statement_call}
-use Rattle.gang_model.specs.Names.NameFaults.{Allowed, in_loop, in_round, in_domain_round, in_function, names_in, names_in_some, twice, dims_names, params_twice, stmt_names, stmts_names, function_names, globals_twice, functions_twice}
+use Rattle.gang_model.specs.Names.NameFaults.{Allowed, in_loop, in_round, in_domain_round, in_function, names_in, names_in_some, twice, dims_names, params_twice, stmt_names, stmts_names, function_names}
 use Rattle.gang_model.specs.Source.Parsed.{Name, ParsedExpr, ParsedDim, ParsedParam, ParsedStmt, ParsedIfElse, ParsedWhile, ParsedDo, ParsedFor, ParsedForEach, ParsedForEachUnique, ParsedGlobal, ParsedFunction, ParsedSource, functions_in, globals_in}
-use Rattle.gang_model.specs.Names.Scope.{Environment, Site, with_name, with_dims, with_params, enclosed, past, after, after_all, at_test, in_for, in_rounds, in_domain, locals_in, function_site, file_bindings}
+use Rattle.gang_model.specs.Names.Scope.{Environment, Site, with_name, with_dims, with_params, enclosed, past, after, after_all, at_test, in_for, in_rounds, in_domain, locals_in, function_site}
 use Rattle.gang_model.specs.Types.SourceRefusals.{names_refusal}
 use Rattle.gang_model.proofs.JudgedLaws.{least_fault-append}
 use Rattle.ispc_names_scopes.specs.Scopes.{Scoped, site}
@@ -18,6 +17,7 @@ use Rattle.ispc_parser.specs.declared.tree.Stmt.{Stmt}
 use Rattle.ispc_parser.specs.Tree.{stmt_view, stmts_view}
 use Rattle.ispc_names_faults.specs.IndexVariables.{dims_twice, bounds_names}
 use Rattle.ispc_names_faults.specs.Moved.{moved}
+use Rattle.ispc_names_faults.specs.NamesBefore.{names_of_all}
 use Rattle.ispc_names_faults.proofs.Merging.{Fault, pair_fault, either_order, one_more, all_found, second_first, two_pairs}
 
 -- ---- declarations
@@ -232,20 +232,9 @@ function_found s0 s1 s2 f functions name may taken own in_params in_body inside 
 
 -- ---- sources
 
-pub source_found : (source : ParsedSource) (gs globals : List ParsedGlobal) (fs functions others : List ParsedFunction) (names : List Name) (env : Environment) (a b d both r : Fault)
-    → gs ≡ globals_in source → globals ≡ globals_in source → fs ≡ functions_in source → functions ≡ functions_in source → others ≡ functions_in source
-    → names ≡ map (λ f. f.name) fs → env ≡ file_bindings 0 gs
-    → a ≡ least_fault (globals_twice globals []) → b ≡ least_fault (functions_twice functions []) → d ≡ least_fault (flat_map (function_names names env) others)
-    → both ≡ merged b d → r ≡ merged a both → r ≡ names_refusal source
-source_found source gs globals fs functions others names env a b d both r g1 g2 f1 f2 f3 n e in_globals in_signatures in_functions m whole =
-    let known = map (λ f. f.name) (functions_in source) in
-    let scope = file_bindings 0 (globals_in source) in
-    pair_fault (globals_twice (globals_in source) []) (functions_twice (functions_in source) [] ++ flat_map (function_names known scope) (functions_in source)) a both r
-    (in_globals ∙ ap (λ x. least_fault (globals_twice x [])) g2)
-    (pair_fault (functions_twice (functions_in source) []) (flat_map (function_names known scope) (functions_in source)) b d both
-    (in_signatures ∙ ap (λ x. least_fault (functions_twice x [])) f2)
-    (in_functions ∙ (ap (λ ns. least_fault (flat_map (function_names ns env) others)) (n ∙ ap (map (λ f. f.name)) f1)
-    ∙ (ap (λ x. least_fault (flat_map (function_names known x) others)) (e ∙ ap (file_bindings 0) g1)
-    ∙ ap (λ x. least_fault (flat_map (function_names known scope) x)) f3)))
-    m)
-    whole
+pub source_found : {E : Type 0} (result : Result Fault E) (source : ParsedSource) (globals : List ParsedGlobal) (functions : List ParsedFunction)
+    → globals ≡ globals_in source → functions ≡ functions_in source
+    → IfOk result (λ fault. fault ≡ least_fault (names_of_all globals functions)) → IfOk result (λ fault. fault ≡ names_refusal source)
+source_found result source globals functions g f h =
+    IfOk-weaker result (λ fault. fault ≡ least_fault (names_of_all globals functions)) (λ fault. fault ≡ names_refusal source)
+    (λ fault e. e ∙ (ap (λ gs. least_fault (names_of_all gs functions)) g ∙ ap (λ fs. least_fault (names_of_all (globals_in source) fs)) f)) h

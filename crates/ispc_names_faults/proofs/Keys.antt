@@ -1,12 +1,14 @@
 -- Two functions have the same signature where they have the same text of it.
-use Rattle.std.proofs.Common.{◌≡◌, ℕ, List, [], ◌∷◌, Bool, true, false, ◌&&◌, refl, ap, ◌∙◌}
+use Rattle.std.proofs.Common.{◌≡◌, ℕ, List, [], ◌∷◌, ◌++◌, Bool, true, false, ◌&&◌, map, refl, sym, ap, ◌∙◌, append_assoc}
 use Rattle.std.specs.Prelude.{◌==◌, is_none, if◌then◌else◌}
 use Rattle.gang_types.specs.Values.{width, is_signed}
 use Rattle.gang_model.specs.Source.Names.{same_text}
 use Rattle.gang_model.specs.Source.Parsed.{Name, ParsedParam, ParsedFunction}
 use Rattle.gang_model.specs.Types.Conversions.{same_bool, same_rate, is_varying}
 use Rattle.gang_model.specs.Types.Signatures.{declared_type, declared_rate, same_params, same_signature}
-use Rattle.ispc_names_faults.specs.SignatureKeys.{digit, key_with, signature_key}
+use Rattle.ispc_parser.specs.declared.tree.Param.{Param}
+use Rattle.ispc_parser.specs.Tree.{param_view}
+use Rattle.ispc_names_faults.specs.SignatureKeys.{digit, key_with, param_key, signature_key}
 
 same_digit : (a b : Bool) → (digit a == digit b) ≡ same_bool a b
 same_digit true true = refl
@@ -83,3 +85,11 @@ same_key_with (p ∷ params) (q ∷ others) n m =
 
 pub same_key : (f g : ParsedFunction) → same_text (signature_key f) (signature_key g) ≡ same_signature f g
 same_key f g = same_key_with f.params g.params f.name g.name
+
+-- one more parameter
+pub key_passed : (rest later : List Param) (p : Param) (name : Name) (found more all : List ℕ) → rest ≡ p ∷ later → found ++ key_with (map param_view rest) name ≡ all
+    → more ≡ found ++ param_key (param_view p) → more ++ key_with (map param_view later) name ≡ all
+key_passed rest later p name found more all split t m =
+    ap (λ k. k ++ key_with (map param_view later) name) m
+    ∙ (append_assoc found (param_key (param_view p)) (key_with (map param_view later) name)
+    ∙ (ap (λ ps. found ++ key_with (map param_view ps) name) (sym split) ∙ t))

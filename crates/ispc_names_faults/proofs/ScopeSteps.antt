@@ -172,3 +172,23 @@ reach_block s u xs e = record {
 
 pub reach_same : (s t : Scoped) (m n : ℕ) → m ≡ n → Reaches s t m → Reaches s t n
 reach_same s t m n e r = subst (Reaches s t) e r
+
+pub reach_here : (s t : Scoped) (x : ParsedStmt) → site t ≡ after x (site s) → Reaches s t (locals_in x)
+reach_here s t x e = record {
+  extends = extends_by s.environment (after x (site s)).environment t.environment (extends_after x (site s)) (ap (λ y. y.environment) e);
+  next_is = ap (λ y. y.next) e ∙ after-next x (site s);
+}
+
+pub reach_inner : (s t u : Scoped) (x : ParsedStmt) → site t ≡ enclosed (site s) → site u ≡ after x (site t) → Reaches s u (locals_in x)
+reach_inner s t u x entered e = reach_same s u (0 + locals_in x) (locals_in x) (omega arith) (reach_after s t u x 0 (reach_entered s t entered) e)
+
+pub reach_rounds : (s t u v : Scoped) (name : Name) (x : ParsedStmt) → site t ≡ enclosed (site s) → site u ≡ with_name name (site t) → v ≡ moved (locals_in x) u
+    → Reaches s v (1 + locals_in x)
+reach_rounds s t u v name x entered declared e =
+    reach_same s v ((0 + 1) + locals_in x) (1 + locals_in x) (omega arith)
+    (reach_moved s u v (locals_in x) (0 + 1) (reach_name s t u name 0 (reach_entered s t entered) declared) e)
+
+pub moved_twice : (s t u : Scoped) (m n : ℕ) → t ≡ moved m s → u ≡ moved n t → u ≡ moved (m + n) s
+moved_twice s t u m n e f =
+    let sum : (s.next + m) + n ≡ s.next + (m + n) = omega arith in
+    f ∙ (ap (moved n) e ∙ ap (λ (k : ℕ). record s { next = k }) sum)

@@ -1,11 +1,12 @@
 //! The functions and the variables of a file.
-ghost use Rattle.std.specs.Prelude.{◌≡◌, ◌||◌, [], IfOk, map};
+ghost use Rattle.std.specs.Prelude.{◌≡◌, ◌++◌, ◌∷◌, ◌||◌, [], IfOk, OnOk, map};
 ghost use Rattle.gang_model.specs.Source.Judged.{least_fault};
 ghost use Rattle.gang_model.specs.Types.LibraryTable.{is_among};
 ghost use Rattle.gang_model.specs.Names.NameFaults as names;
 ghost use Rattle.gang_model.specs.Source.Parsed.{functions_in, globals_in};
 ghost use Rattle.gang_model.specs.Names.Scope.{file_bindings, is_built_in};
-ghost use Rattle.ispc_parser.specs.Tree.{function_view, global_view, tree_view};
+ghost use Rattle.ispc_parser.specs.Tree.{function_view, global_view, item_view, tree_view};
+ghost use Rattle.ispc_names_faults.specs.NamesBefore.{later_globals};
 
 use crate::expressions::is_built_in;
 use gang_model::{RefusalNumber, SourceRefusal};
@@ -13,6 +14,17 @@ use ispc_names_scopes::{FunctionNames, Scopes};
 use ispc_parser::{Function, GlobalVariable, Item, Tree};
 use source_answers::{fault_if, least};
 use std::alloc::{AllocError, Global};
+
+/// Takes in an item that is a function.
+fn take_function<'a>(item: &'a Item, functions: &mut Vec<&'a Function>) -> Result<(), AllocError>
+    ensures taken { OnOk result (map (λ x. function_view x.now) functions.new.items ≡ map (λ x. function_view x.now) functions.old.items ++ functions_in (item_view item.now ∷ [])) }
+{
+    let Item::Function(function) = item else {
+        return Ok(());
+    };
+    functions.push(function)?;
+    Ok(())
+}
 
 /// The functions of a tree, in order.
 ///
@@ -24,11 +36,20 @@ pub fn functions_of(alloc: Global, tree: &Tree) -> Result<Vec<&Function>, AllocE
 {
     let mut functions = Vec::new(alloc);
     for item in &tree.items {
-        if let Item::Function(function) = item {
-            functions.push(function)?;
-        }
+        take_function(item, &mut functions)?;
     }
     Ok(functions)
+}
+
+/// Takes in an item that is a file-scope variable.
+fn take_global<'a>(item: &'a Item, globals: &mut Vec<&'a GlobalVariable>) -> Result<(), AllocError>
+    ensures taken { OnOk result (map (λ x. global_view x.now) globals.new.items ≡ map (λ x. global_view x.now) globals.old.items ++ globals_in (item_view item.now ∷ [])) }
+{
+    let Item::Global(global) = item else {
+        return Ok(());
+    };
+    globals.push(global)?;
+    Ok(())
 }
 
 /// The file-scope variables of a tree, in order.
@@ -41,37 +62,38 @@ pub fn globals_of(alloc: Global, tree: &Tree) -> Result<Vec<&GlobalVariable>, Al
 {
     let mut globals = Vec::new(alloc);
     for item in &tree.items {
-        if let Item::Global(global) = item {
-            globals.push(global)?;
-        }
+        take_global(item, &mut globals)?;
     }
     Ok(globals)
 }
 
-/// The names of functions, in order.
-pub(crate) fn names_of(alloc: Global, functions: &[&Function]) -> Result<FunctionNames, AllocError>
-    ensures names { IfOk result (λ names. names ≡ map (λ f. f.name) (map (λ f. function_view f.now) functions.now)) }
+/// The names of functions, in order, after those that stand already.
+pub(crate) fn add_names(
+    alloc: Global,
+    functions: &[&Function],
+    known: &mut FunctionNames,
+) -> Result<(), AllocError>
+    ensures known { OnOk result (known.new ≡ known.old ++ map (λ f. f.name) (map (λ f. function_view f.now) functions.now)) }
 {
-    let mut names = FunctionNames::new(alloc);
     for function in functions {
-        names.add(alloc, &function.name)?;
+        known.add(alloc, &function.name)?;
     }
-    Ok(names)
+    Ok(())
 }
 
-/// The file-scope variables as what is in scope everywhere.
-pub(crate) fn declared_globals(
+/// Declares the file-scope variables, which are then in scope everywhere, before what is declared already.
+pub(crate) fn declare_globals(
     alloc: Global,
     globals: &[&GlobalVariable],
-) -> Result<Scopes, AllocError>
-    ensures environment { IfOk result (λ scopes. scopes.environment ≡ file_bindings 0 (map (λ g. global_view g.now) globals.now)) }
+    scopes: &mut Scopes,
+) -> Result<(), AllocError>
+    ensures environment { OnOk result (scopes.new.environment ≡ file_bindings 0 (map (λ g. global_view g.now) globals.now) ++ scopes.old.environment) }
 {
-    let mut scopes = Scopes::new(alloc);
     for later in 0..globals.len() {
         let number = globals.len() - 1 - later;
         scopes.declare_in_file(alloc, &globals[number].name, number)?;
     }
-    Ok(scopes)
+    Ok(())
 }
 
 /// Whether a name stands before, or nothing may declare it.
@@ -79,6 +101,23 @@ fn is_taken(before: &FunctionNames, name: &[u8]) -> bool
     ensures { result ≡ (is_among name.now before.now || is_built_in name.now) }
 {
     before.contains(name) || is_built_in(name)
+}
+
+/// The first fault of a file-scope variable with a name that stands before, where those before it count.
+fn later_globals_fault(
+    alloc: Global,
+    globals: &[&GlobalVariable],
+    before: &mut FunctionNames,
+) -> Result<Option<SourceRefusal>, AllocError>
+    ensures fault { IfOk result (λ fault. fault ≡ least_fault (later_globals (map (λ g. global_view g.now) globals.now) before.old)) }
+{
+    let mut first = None;
+    for global in globals {
+        let is_twice = is_taken(before, &global.name);
+        first = least(first, fault_if(is_twice, RefusalNumber::S6, global.place));
+        before.add(alloc, &global.name)?;
+    }
+    Ok(first)
 }
 
 /// The first fault of a file-scope variable with the name of one before it, or with one that nothing may declare.
@@ -89,11 +128,5 @@ pub(crate) fn globals_twice_fault(
     ensures fault { IfOk result (λ fault. fault ≡ least_fault (names.globals_twice (map (λ g. global_view g.now) globals.now) [])) }
 {
     let mut before = FunctionNames::new(alloc);
-    let mut first = None;
-    for global in globals {
-        let is_twice = is_taken(&before, &global.name);
-        first = least(first, fault_if(is_twice, RefusalNumber::S6, global.place));
-        before.add(alloc, &global.name)?;
-    }
-    Ok(first)
+    later_globals_fault(alloc, globals, &mut before)
 }

@@ -68,13 +68,13 @@ pub(crate) fn functions_fault(
     alloc: Global,
     functions: &[&Function],
     known: &FunctionNames,
-    mut scopes: Scopes,
+    scopes: &mut Scopes,
 ) -> Result<Option<SourceRefusal>, AllocError>
-    ensures fault { IfOk result (λ fault. fault ≡ least_fault (flat_map (names.function_names known.now scopes.environment) (map (λ f. function_view f.now) functions.now))) }
+    ensures fault { IfOk result (λ fault. fault ≡ least_fault (flat_map (names.function_names known.now scopes.old.environment) (map (λ f. function_view f.now) functions.now))) }
 {
     let mut first = None;
     for function in functions {
-        first = least(first, function_fault(alloc, function, known, &mut scopes)?);
+        first = least(first, function_fault(alloc, function, known, scopes)?);
     }
     Ok(first)
 }

@@ -1,11 +1,15 @@
 //! Functions of one name with the same parameters.
-ghost use Rattle.std.specs.Prelude.{◌≡◌, ◌++◌, [], IfOk, OnOk, is_none, map};
+ghost use Rattle.std.specs.Prelude.{◌≡◌, ◌++◌, ◌∷◌, [], IfOk, OnOk, is_none, map};
 ghost use Rattle.gang_types.specs.Values.{width};
 ghost use Rattle.gang_model.specs.Types.Conversions.{is_varying};
+ghost use Rattle.gang_model.specs.Source.Judged as judged;
 ghost use Rattle.gang_model.specs.Source.Judged.{least_fault};
+ghost use Rattle.gang_model.specs.declared.refusals.RefusalNumber.TheVariants as number;
+ghost use Rattle.gang_model.specs.Types.LibraryTable.{is_among};
 ghost use Rattle.gang_model.specs.Names.NameFaults as names;
 ghost use Rattle.gang_model.specs.Types.Signatures.{declared_rate, declared_type};
 ghost use Rattle.ispc_parser.specs.Tree.{function_view, param_view};
+ghost use Rattle.ispc_names_faults.specs.NamesBefore.{later_functions};
 ghost use Rattle.ispc_names_faults.specs.SignatureKeys as keys;
 ghost use Rattle.ispc_names_faults.specs.SignatureKeys.{digit, param_key};
 
@@ -49,11 +53,14 @@ fn push_param(key: &mut Vec<u8>, param: &Param) -> Result<(), AllocError>
     ensures written { OnOk result (key.new.items ≡ key.old.items ++ param_key (param_view param.now)) }
 {
     let value_type = declared_type(param.spec);
-    key.push(1 + u8::from(param.spec.value_type.is_none()))?;
-    key.push(width_byte(value_type))?;
-    key.push(u8::from(is_signed(value_type)))?;
-    key.push(u8::from(is_varying(param.spec)))?;
-    key.push(u8::from(param.is_array))?;
+    let written = [
+        1 + u8::from(param.spec.value_type.is_none()),
+        width_byte(value_type),
+        u8::from(is_signed(value_type)),
+        u8::from(is_varying(param.spec)),
+        u8::from(param.is_array),
+    ];
+    key.extend_from_slice(&written)?;
     Ok(())
 }
 
@@ -71,6 +78,36 @@ fn signature_key(alloc: Global, function: &Function) -> Result<Vec<u8>, AllocErr
     Ok(key)
 }
 
+/// The fault of a function with a signature that stands before, where its own stands then too.
+fn signature_fault(
+    alloc: Global,
+    function: &Function,
+    before: &mut FunctionNames,
+) -> Result<Option<SourceRefusal>, AllocError>
+    ensures fault { IfOk result (λ fault. fault ≡ least_fault (judged.fault_if (is_among (keys.signature_key (function_view function.now)) before.old) number.S6 function.now.place)) }
+    ensures last { OnOk result (before.new ≡ before.old ++ keys.signature_key (function_view function.now) ∷ []) }
+{
+    let key = signature_key(alloc, function)?;
+    let is_twice = before.contains(&key);
+    before.add(alloc, &key)?;
+    Ok(fault_if(is_twice, RefusalNumber::S6, function.place))
+}
+
+/// The first fault of a function with a signature that stands before, where those before it count.
+fn later_functions_fault(
+    alloc: Global,
+    functions: &[&Function],
+    before: &mut FunctionNames,
+) -> Result<Option<SourceRefusal>, AllocError>
+    ensures fault { IfOk result (λ fault. fault ≡ least_fault (later_functions (map (λ f. function_view f.now) functions.now) before.old)) }
+{
+    let mut first = None;
+    for function in functions {
+        first = least(first, signature_fault(alloc, function, before)?);
+    }
+    Ok(first)
+}
+
 /// The first fault of a function with the signature of one before it.
 pub(crate) fn functions_twice_fault(
     alloc: Global,
@@ -79,12 +116,5 @@ pub(crate) fn functions_twice_fault(
     ensures fault { IfOk result (λ fault. fault ≡ least_fault (names.functions_twice (map (λ f. function_view f.now) functions.now) [])) }
 {
     let mut before = FunctionNames::new(alloc);
-    let mut first = None;
-    for function in functions {
-        let key = signature_key(alloc, function)?;
-        let is_twice = before.contains(&key);
-        first = least(first, fault_if(is_twice, RefusalNumber::S6, function.place));
-        before.add(alloc, &key)?;
-    }
-    Ok(first)
+    later_functions_fault(alloc, functions, &mut before)
 }

@@ -1,6 +1,12 @@
-use Rattle.std.proofs.Common.{◌∙◌, ◌+◌, drop, map, ap}
+use Rattle.std.proofs.Common.{◌∙◌, ◌+◌, drop, map, ap, sym}
+use Rattle.std.proofs.lemmas.List.{drop_all}
+use Rattle.gang_model.specs.Source.Judged.{least_fault}
+use Rattle.gang_model.specs.Names.Scope.{with_dims}
 use Rattle.gang_model.proofs.WalkedLists.{next_item}
+use Rattle.ispc_names_scopes.specs.Scopes.{site}
 use Rattle.ispc_parser.specs.Tree.{dim_view}
+use Rattle.ispc_names_faults.specs.IndexVariables.{dims_twice}
+use Rattle.ispc_names_faults.proofs.Merging.{all_found}
 use Rattle.ispc_names_faults.proofs.Found.{dims_step, dims_declared}
 use Rattle.ispc_names_faults.proofs.declarations.dims_fault.Goals as goal
 
@@ -20,3 +26,13 @@ loop-dim-preserved c =
           c.in_ok-declaration_fault.ensures.declared;
       outside = c.in_ok-declaration_fault.ensures.outside ∙ c.loop-dim.invariant.outside;
     }
+
+pub returns-clause-fault : goal.returns-clause-fault
+returns-clause-fault c =
+    all_found _ _ _ c.loop-dim.invariant.found
+    (ap (λ xs. least_fault (dims_twice (map dim_view xs) (site c.loop-dim.scopes))) (drop_all c.loop-dim.dim-index c.args.dims.now c.loop-dim-test.false))
+
+pub returns-clause-declared : goal.returns-clause-declared
+returns-clause-declared c =
+    sym (c.loop-dim.invariant.declared
+    ∙ ap (λ xs. with_dims (map dim_view xs) (site c.loop-dim.scopes)) (drop_all c.loop-dim.dim-index c.args.dims.now c.loop-dim-test.false))

@@ -1,6 +1,12 @@
-use Rattle.std.proofs.Common.{◌∙◌, ◌+◌, drop, map, ap}
+use Rattle.std.proofs.Common.{◌∙◌, ◌+◌, drop, map, ap, sym}
+use Rattle.std.proofs.lemmas.List.{drop_all}
+use Rattle.gang_model.specs.Source.Judged.{least_fault}
+use Rattle.gang_model.specs.Names.NameFaults.{params_twice}
+use Rattle.gang_model.specs.Names.Scope.{with_params}
 use Rattle.gang_model.proofs.WalkedLists.{next_item}
+use Rattle.ispc_names_scopes.specs.Scopes.{site}
 use Rattle.ispc_parser.specs.Tree.{param_view}
+use Rattle.ispc_names_faults.proofs.Merging.{all_found}
 use Rattle.ispc_names_faults.proofs.Found.{params_step, params_declared}
 use Rattle.ispc_names_faults.proofs.declarations.params_fault.Goals as goal
 
@@ -20,3 +26,13 @@ loop-param-preserved c =
           c.in_ok-declaration_fault.ensures.declared;
       outside = c.in_ok-declaration_fault.ensures.outside ∙ c.loop-param.invariant.outside;
     }
+
+pub returns-clause-fault : goal.returns-clause-fault
+returns-clause-fault c =
+    all_found _ _ _ c.loop-param.invariant.found
+    (ap (λ xs. least_fault (params_twice (map param_view xs) (site c.loop-param.scopes))) (drop_all c.loop-param.param-index c.args.params.now c.loop-param-test.false))
+
+pub returns-clause-declared : goal.returns-clause-declared
+returns-clause-declared c =
+    sym (c.loop-param.invariant.declared
+    ∙ ap (λ xs. with_params (map param_view xs) (site c.loop-param.scopes)) (drop_all c.loop-param.param-index c.args.params.now c.loop-param-test.false))

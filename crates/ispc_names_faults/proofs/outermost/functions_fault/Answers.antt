@@ -13,7 +13,7 @@ pub loop-function-preserved : goal.loop-function-preserved
 loop-function-preserved c =
     let items = c.args.functions.now in
     let i = c.loop-function.function-index in
-    let names = function_names c.args.known.now c.args.scopes.environment in
+    let names = function_names c.args.known.now c.args.scopes.now.environment in
     let f = function_view c.function-item.result.now in
     let later = map (λ x. function_view x.now) (drop (i + 1) items) in
     record {

@@ -13,7 +13,7 @@ use Rattle.ispc_parser.specs.Tree.{dim_view, stmt_view, stmts_view}
 use Rattle.ispc_parser.proofs.Rows.{view_block}
 use Rattle.ispc_names_faults.specs.MayStand.{allowed_view}
 use Rattle.ispc_names_faults.proofs.Merging.{pair_fault}
-use Rattle.ispc_names_faults.proofs.ScopeSteps.{marked_within, left_for, reach_entered, reach_after, reach_moved, reach_dims, reach_block, reach_same}
+use Rattle.ispc_names_faults.proofs.ScopeSteps.{marked_within, left_for, reach_entered, reach_after, reach_moved, reach_dims, reach_block, reach_here, reach_inner, reach_rounds, reach_same, moved_twice}
 use Rattle.ispc_names_faults.proofs.Found.{domain_found, rounds_found, stmts_step, stmts_passed, stmts_found, if_else_found, for_found, for_each_unique_found, found_as, found_at, after_as, while_found, do_found}
 use Rattle.ispc_names_faults.proofs.statements.+statement.Goals as goal
 
@@ -53,6 +53,50 @@ rounds_fault-returns-clause-fault t c =
     (allowed_view functions c.args.may) (allowed_view functions c.in_round.result) _ _ _
     c.enter-mark.ensures.inside c.in_ok-in_name.ensures.declared c.in_ok-in_name.ensures.fault
     (c.in_round.ensures functions) c.in_ok-in_body.ensures.fault c.least.ensures
+
+pub rounds_fault-leave-requires-clause-declared : goal.rounds_fault-leave-requires-clause-declared
+rounds_fault-leave-requires-clause-declared t c =
+    marked_within c.args.scopes.now c.inner_fault.new.scopes _ c.enter-mark.result.declared c.enter-mark.result.outside (record { declared_is = c.enter-mark.ensures.declared; outside_is = c.enter-mark.ensures.before })
+    (reach_rounds c.args.scopes.now c.enter-mark.new.self c.declaration_fault.new.scopes c.inner_fault.new.scopes c.args.name.now (stmt_view c.args.body.now)
+    c.enter-mark.ensures.inside c.in_ok-in_name.ensures.declared c.in_ok-in_body.ensures.after)
+
+pub rounds_fault-returns-clause-after : goal.rounds_fault-returns-clause-after
+rounds_fault-returns-clause-after t c =
+    left_for c.args.scopes.now c.inner_fault.new.scopes c.leave.new.self _ c.enter-mark.result.declared c.enter-mark.result.outside
+    (record { declared_is = c.enter-mark.ensures.declared; outside_is = c.enter-mark.ensures.before })
+    (reach_rounds c.args.scopes.now c.enter-mark.new.self c.declaration_fault.new.scopes c.inner_fault.new.scopes c.args.name.now (stmt_view c.args.body.now)
+    c.enter-mark.ensures.inside c.in_ok-in_name.ensures.declared c.in_ok-in_body.ensures.after)
+    (record { environment_is = c.leave.ensures.environment; outside_is = c.leave.ensures.outside; next_is = c.leave.ensures.next })
+
+-- ---- statements in a scope of their own, and the update of a `for`
+
+pub inner_fault-leave-requires-clause-declared : goal.inner_fault-leave-requires-clause-declared
+inner_fault-leave-requires-clause-declared t c =
+    marked_within c.args.scopes.now c.statement_fault.new.scopes _ c.enter-mark.result.declared c.enter-mark.result.outside (record { declared_is = c.enter-mark.ensures.declared; outside_is = c.enter-mark.ensures.before })
+    (reach_inner c.args.scopes.now c.enter-mark.new.self c.statement_fault.new.scopes (stmt_view c.args.stmt.now) c.enter-mark.ensures.inside c.in_ok-fault.ensures.after)
+
+pub inner_fault-returns-clause-fault : goal.inner_fault-returns-clause-fault
+inner_fault-returns-clause-fault t c =
+    c.in_ok-fault.ensures.fault ∙ ap (λ s. least_fault (stmt_names (stmt_view c.args.stmt.now) (allowed_view c.args.functions.now c.args.may) s)) c.enter-mark.ensures.inside
+
+pub inner_fault-returns-clause-after : goal.inner_fault-returns-clause-after
+inner_fault-returns-clause-after t c =
+    left_for c.args.scopes.now c.statement_fault.new.scopes c.leave.new.self _ c.enter-mark.result.declared c.enter-mark.result.outside
+    (record { declared_is = c.enter-mark.ensures.declared; outside_is = c.enter-mark.ensures.before })
+    (reach_inner c.args.scopes.now c.enter-mark.new.self c.statement_fault.new.scopes (stmt_view c.args.stmt.now) c.enter-mark.ensures.inside c.in_ok-fault.ensures.after)
+    (record { environment_is = c.leave.ensures.environment; outside_is = c.leave.ensures.outside; next_is = c.leave.ensures.next })
+
+pub update_fault-leave-requires-clause-declared : goal.update_fault-leave-requires-clause-declared
+update_fault-leave-requires-clause-declared t c =
+    marked_within c.args.scopes.now c.statement_fault.new.scopes _ c.mark-mark.result.declared c.mark-mark.result.outside (record { declared_is = c.mark-mark.ensures.declared; outside_is = c.mark-mark.ensures.outside })
+    (reach_here c.args.scopes.now c.statement_fault.new.scopes (stmt_view c.args.stmt.now) c.in_ok-fault.ensures.after)
+
+pub update_fault-returns-clause-after : goal.update_fault-returns-clause-after
+update_fault-returns-clause-after t c =
+    left_for c.args.scopes.now c.statement_fault.new.scopes c.leave.new.self _ c.mark-mark.result.declared c.mark-mark.result.outside
+    (record { declared_is = c.mark-mark.ensures.declared; outside_is = c.mark-mark.ensures.outside })
+    (reach_here c.args.scopes.now c.statement_fault.new.scopes (stmt_view c.args.stmt.now) c.in_ok-fault.ensures.after)
+    (record { environment_is = c.leave.ensures.environment; outside_is = c.leave.ensures.outside; next_is = c.leave.ensures.next })
 
 -- ---- blocks
 
@@ -103,6 +147,23 @@ choice_fault-returns-clause-fault t c = λ place.
     if_else_found c.args.scopes.now c.inner_fault.new.scopes place (expr_view c.args.test.now) (stmt_view c.args.first.now) (stmt_view c.args.other.now)
     (allowed_view c.args.functions.now c.args.may) _ _ _ _ _
     c.expression_fault-in_test.ensures c.in_ok-in_first.ensures.fault c.in_ok-in_first.ensures.after c.in_ok-in_other.ensures.fault c.least.ensures c.least-2.ensures
+
+pub choice_fault-returns-clause-after : goal.choice_fault-returns-clause-after
+choice_fault-returns-clause-after t c =
+    moved_twice c.args.scopes.now c.inner_fault.new.scopes c.inner_fault-2.new.scopes (locals_in (stmt_view c.args.first.now)) (locals_in (stmt_view c.args.other.now))
+    c.in_ok-in_first.ensures.after c.in_ok-in_other.ensures.after
+
+pub for_fault-leave-requires-clause-declared : goal.for_fault-leave-requires-clause-declared
+for_fault-leave-requires-clause-declared t c =
+    let s = c.args.scopes.now in
+    let s1 = c.enter-mark.new.self in
+    let s2 = c.statement_fault.new.scopes in
+    let s3 = c.update_fault.new.scopes in
+    let s4 = c.inner_fault.new.scopes in
+    marked_within s s4 _ c.enter-mark.result.declared c.enter-mark.result.outside (record { declared_is = c.enter-mark.ensures.declared; outside_is = c.enter-mark.ensures.before })
+    (reach_moved s s3 s4 (locals_in (stmt_view c.args.body.now)) _ (reach_moved s s2 s3 (locals_in (stmt_view c.args.update.now)) _
+    (reach_after s s1 s2 (stmt_view c.args.start.now) 0 (reach_entered s s1 c.enter-mark.ensures.inside) c.in_ok-in_start.ensures.after)
+    c.in_ok-in_update.ensures.after) c.in_ok-in_body.ensures.after)
 
 pub for_fault-returns-clause-fault : goal.for_fault-returns-clause-fault
 for_fault-returns-clause-fault t c = λ place.
