@@ -20,9 +20,9 @@ use Rattle.mask_states.specs.Masked.{Masked}
 use Rattle.typed_tree.specs.Views.{program_view}
 use Rattle.gang_memory.specs.declared.layout.Layout.{Layout}
 use Rattle.machine_words.specs.declared.words.MachineWords.{MachineWords}
-use Rattle.machine_steps.specs.declared.compiled.CompiledProgram.{CompiledProgram}
-use Rattle.machine_steps.specs.Seen.{IsPartOf, IsSeen}
-use Rattle.machine_steps.specs.Standing.{AreSound, IsShown as WordsShow, Records}
+use Rattle.machine_moves.specs.declared.compiled.CompiledProgram.{CompiledProgram}
+use Rattle.machine_moves.specs.Standing.{AreSound, IsShown as WordsShow, Records}
+use Rattle.machine_shown.specs.Seen.{IsPartOf, IsSeen}
 use Rattle.gang_machine.specs.Machines.{IsMachine}
 use Rattle.gang_machine.specs.Standings.{ShowsWords, Stands, masked_at, view_of}
 use Rattle.gang_machine.proofs.Keeping.{stands_moved}

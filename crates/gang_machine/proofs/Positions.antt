@@ -12,9 +12,9 @@ use Rattle.debug_machine.specs.declared.machine.Position.{Position}
 use Rattle.debug_machine.specs.Machines.{depth_of, line_of_position, position_text}
 use Rattle.gang_memory.specs.declared.layout.Layout.{Layout}
 use Rattle.mask_states.specs.Stands.{AreLowerable}
-use Rattle.machine_steps.specs.declared.compiled.CompiledProgram.{CompiledProgram}
-use Rattle.machine_steps.specs.Compiled.{program_of}
-use Rattle.machine_steps.specs.Seen.{IsPositionOf}
+use Rattle.machine_moves.specs.declared.compiled.CompiledProgram.{CompiledProgram}
+use Rattle.machine_moves.specs.Compiled.{program_of}
+use Rattle.machine_shown.specs.Seen.{IsPositionOf}
 use Rattle.gang_machine.specs.Standings.{Stands, view_of}
 use Rattle.gang_machine.proofs.Agreeing.{masked_now}
 use Rattle.gang_machine.proofs.Placing.{depth_ended, depth_here, line_ended, line_here, text_ended, text_here}

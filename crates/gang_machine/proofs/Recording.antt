@@ -10,8 +10,8 @@ use Rattle.gang_memory.specs.Layouts.{IsLayoutOf}
 use Rattle.machine_words.specs.declared.words.MachineWords.{MachineWords}
 use Rattle.machine_words.specs.Ranges.{head_sizes, machine_sizes}
 use Rattle.machine_words.specs.Words.{AreLaid}
-use Rattle.machine_steps.specs.declared.compiled.CompiledProgram.{CompiledProgram}
-use Rattle.machine_steps.specs.Standing.{AreSound, Records}
+use Rattle.machine_moves.specs.declared.compiled.CompiledProgram.{CompiledProgram}
+use Rattle.machine_moves.specs.Standing.{AreSound, Records}
 use Rattle.debug_machine.specs.Machines.{RecordsWords}
 use Rattle.gang_machine.specs.Machines.{IsMachine, IsSoundMoment}
 

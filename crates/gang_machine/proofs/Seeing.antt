@@ -29,12 +29,12 @@ use Rattle.machine_states.proofs.TopFrame.{spot}
 use Rattle.machine_states.proofs.WrittenVariables.{HasVariable, variable_in}
 use Rattle.machine_words.specs.declared.words.MachineWords.{MachineWords}
 use Rattle.machine_words.specs.Words.{regions_in}
-use Rattle.machine_steps.specs.declared.compiled.CompiledProgram.{CompiledProgram}
-use Rattle.machine_steps.specs.Compiled.{program_of, variables_of}
-use Rattle.machine_steps.specs.Seen.{IsInScope, IsSeen, StandsAt}
-use Rattle.machine_steps.specs.Standing.{IsShown}
-use Rattle.machine_steps.proofs.Standings.{sized}
-use Rattle.machine_steps.proofs.Viewed.{viewed_at}
+use Rattle.machine_moves.specs.declared.compiled.CompiledProgram.{CompiledProgram}
+use Rattle.machine_moves.specs.Compiled.{program_of, variables_of}
+use Rattle.machine_moves.specs.Standing.{IsShown}
+use Rattle.machine_moves.proofs.Standings.{sized}
+use Rattle.machine_shown.specs.Seen.{IsInScope, IsSeen, StandsAt}
+use Rattle.machine_shown.proofs.Viewed.{viewed_at}
 use Rattle.gang_machine.specs.Machines.{IsMachine}
 use Rattle.gang_machine.specs.Nexts.{HasEnded, IsNext, Sees}
 use Rattle.gang_machine.specs.Standings.{Stands, file_variables, view_of}

@@ -12,9 +12,9 @@ use Rattle.mask_states.specs.MaskedStep.{Goes, masked_step}
 use Rattle.mask_states.specs.Stands.{AreLowerable}
 use Rattle.typed_tree.specs.Views.{program_view}
 use Rattle.machine_words.specs.declared.words.MachineWords.{MachineWords}
-use Rattle.machine_steps.specs.declared.compiled.CompiledProgram.{CompiledProgram}
-use Rattle.machine_steps.specs.Standing.{AreSound, IsShown as WordsShow, Records}
-use Rattle.machine_steps.specs.Standing as words
+use Rattle.machine_moves.specs.declared.compiled.CompiledProgram.{CompiledProgram}
+use Rattle.machine_moves.specs.Standing.{AreSound, IsShown as WordsShow, Records}
+use Rattle.machine_moves.specs.Standing as words
 use Rattle.gang_machine.specs.Machines.{IsMachine}
 use Rattle.gang_machine.specs.Standings.{ShowsWords, Stands, masked_at, view_of}
 use Rattle.gang_machine.proofs.Agreeing.{masked_next, masked_now, step_fails, step_goes, step_over}

@@ -27,8 +27,8 @@ use Rattle.typed_tree.specs.declared.statements.ResultFor.{ResultFor as TypedRes
 use Rattle.codegen.specs.declared.code.StepCode.{StepCode}
 use Rattle.codegen.specs.declared.code.StepCode.TheVariants as code
 use Rattle.codegen.specs.Codes.{Does}
+use Rattle.machine_moves.specs.Standing.{HaveLanes}
 use Rattle.machine_steps.specs.Leaving.{IsAtCall}
-use Rattle.machine_steps.specs.Standing.{HaveLanes}
 
 -- ---- the frame that made the call
 

@@ -35,15 +35,15 @@ use Rattle.codegen.specs.declared.code.ArgCode.{ArgCode}
 use Rattle.codegen.specs.declared.code.StepCode.TheVariants as code
 use Rattle.machine_words.specs.declared.words.MachineWords.{MachineWords}
 use Rattle.machine_words.specs.Words.{AreLaid, left_of, regions_in}
-use Rattle.machine_steps.specs.declared.active.Active.{Active}
-use Rattle.machine_steps.specs.declared.compiled.CompiledProgram.{CompiledProgram}
+use Rattle.machine_moves.specs.declared.active.Active.{Active}
+use Rattle.machine_moves.specs.declared.compiled.CompiledProgram.{CompiledProgram}
+use Rattle.machine_moves.specs.Compiled.{IsCompiled, function_of, program_of, variables_of}
+use Rattle.machine_moves.specs.Standing.{AreSound, Begins, DoesNext, EndsAs, IsActive, IsShown, IsValueAt}
+use Rattle.machine_moves.proofs.FunctionCode.{fit_long}
+use Rattle.machine_moves.proofs.GangLanes.{gang_wide}
+use Rattle.machine_moves.proofs.Standings.{active_plain, begun_laid, begun_left, begun_regions, enters_at, frame_below, lanes_long, own_sized, some_active, value_at}
 use Rattle.machine_steps.specs.Calls.{AreParametersDeclared, BeginsFrame, IsArgumentAt, IsArgumentValue}
-use Rattle.machine_steps.specs.Compiled.{IsCompiled, function_of, program_of, variables_of}
-use Rattle.machine_steps.specs.Standing.{AreSound, Begins, DoesNext, EndsAs, IsActive, IsShown, IsValueAt}
-use Rattle.machine_steps.proofs.FunctionCode.{fit_long}
-use Rattle.machine_steps.proofs.GangLanes.{gang_wide}
 use Rattle.machine_steps.proofs.PassedArguments.{all_passed, parameters_with}
-use Rattle.machine_steps.proofs.Standings.{active_plain, begun_laid, begun_left, begun_regions, enters_at, frame_below, lanes_long, own_sized, some_active, value_at}
 
 -- ---- arguments
 

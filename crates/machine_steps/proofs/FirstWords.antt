@@ -31,12 +31,12 @@ use Rattle.machine_words.proofs.AllLanes.{merged_all}
 use Rattle.machine_words.specs.declared.words.MachineWords.{MachineWords}
 use Rattle.machine_words.specs.Ranges.{head_sizes, machine_sizes, regions_of, words_at}
 use Rattle.machine_words.specs.Words.{AreLaid, Writes, left_of, regions_in, words_of as all_words}
-use Rattle.machine_steps.specs.declared.compiled.CompiledProgram.{CompiledProgram}
+use Rattle.machine_moves.specs.declared.compiled.CompiledProgram.{CompiledProgram}
+use Rattle.machine_moves.specs.Compiled.{function_of, program_of, variables_of}
+use Rattle.machine_moves.specs.Standing.{AreFor, IsShown}
+use Rattle.machine_moves.proofs.GangLanes.{gang_wide}
+use Rattle.machine_moves.proofs.Standings.{file_sized}
 use Rattle.machine_steps.specs.Calls.{BeginsFrame}
-use Rattle.machine_steps.specs.Compiled.{function_of, program_of, variables_of}
-use Rattle.machine_steps.specs.Standing.{AreFor, IsShown}
-use Rattle.machine_steps.proofs.GangLanes.{gang_wide}
-use Rattle.machine_steps.proofs.Standings.{file_sized}
 use Rattle.machine_steps.proofs.WrittenRegions.{one_word, written_away, written_here}
 
 item_at : {A : Type 0} (xs : List A) (k : ℕ) → k < length xs → (x : A) × (slice_get xs k ≡ Some x)

@@ -16,10 +16,10 @@ use Rattle.machine_states.specs.Steps.{KeepsBoth, converted_values}
 use Rattle.machine_states.specs.Variables.{IsScalar, Variables, variable_of}
 use Rattle.machine_words.specs.declared.words.MachineWords.{MachineWords}
 use Rattle.machine_words.specs.Words.{AreLaid, Writes, regions_in}
+use Rattle.machine_moves.specs.Results.{Returns}
+use Rattle.machine_moves.proofs.Heads.{regions_after}
+use Rattle.machine_moves.proofs.GangLanes.{words_few}
 use Rattle.machine_steps.specs.Leaving.{GivesResult}
-use Rattle.machine_steps.specs.Results.{Returns}
-use Rattle.machine_steps.proofs.Heads.{regions_after}
-use Rattle.machine_steps.proofs.GangLanes.{words_few}
 
 -- ---- room
 

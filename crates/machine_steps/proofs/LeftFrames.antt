@@ -16,14 +16,14 @@ use Rattle.machine_states.proofs.LeaveSteps.{leaves, leaves_entry}
 use Rattle.machine_words.specs.declared.words.MachineWords.{MachineWords}
 use Rattle.machine_words.specs.Words.{AreLaid, Writes, regions_in, words_of}
 use Rattle.machine_words.proofs.Sizes.{depth_words}
-use Rattle.machine_steps.specs.declared.active.Active.{Active}
-use Rattle.machine_steps.specs.declared.compiled.CompiledProgram.{CompiledProgram}
-use Rattle.machine_steps.specs.Compiled.{IsCompiled, program_of, variables_of}
+use Rattle.machine_moves.specs.declared.active.Active.{Active}
+use Rattle.machine_moves.specs.declared.compiled.CompiledProgram.{CompiledProgram}
+use Rattle.machine_moves.specs.Compiled.{IsCompiled, program_of, variables_of}
+use Rattle.machine_moves.specs.Standing.{AreSound, Begins, IsActive, IsClosing, IsShown}
+use Rattle.machine_moves.proofs.Heads.{only_word}
+use Rattle.machine_moves.proofs.Standings.{IsUnderWay, begun, begun_left, begun_regions, lie_behind, recorded_so_far, shown_alike, sized, under_way_alike, wrote}
 use Rattle.machine_steps.specs.Leaving.{GoesPastCall, lanes_called, result_seen}
-use Rattle.machine_steps.specs.Standing.{AreSound, Begins, IsActive, IsClosing, IsShown}
 use Rattle.machine_steps.proofs.Callers.{call_declared, call_plain}
-use Rattle.machine_steps.proofs.Heads.{only_word}
-use Rattle.machine_steps.proofs.Standings.{IsUnderWay, begun, begun_left, begun_regions, lie_behind, recorded_so_far, shown_alike, sized, under_way_alike, wrote}
 
 -- ---- where lanes go on
 

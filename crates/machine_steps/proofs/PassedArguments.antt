@@ -13,10 +13,10 @@ use Rattle.codegen.specs.Codes.{Fit, IsArg}
 use Rattle.codegen.specs.declared.code.ArgCode.{ArgCode}
 use Rattle.codegen.proofs.Rows.{fit_more}
 use Rattle.machine_states.specs.Regions.{Regions}
-use Rattle.machine_steps.specs.declared.active.Active.{Active}
-use Rattle.machine_steps.specs.declared.compiled.CompiledProgram.{CompiledProgram}
+use Rattle.machine_moves.specs.declared.active.Active.{Active}
+use Rattle.machine_moves.specs.declared.compiled.CompiledProgram.{CompiledProgram}
+use Rattle.machine_moves.specs.Standing.{IsValueAt}
 use Rattle.machine_steps.specs.Calls.{IsArgumentAt, IsArgumentValue}
-use Rattle.machine_steps.specs.Standing.{IsValueAt}
 
 -- ---- one argument
 

@@ -18,15 +18,15 @@ use Rattle.codegen.specs.declared.code.StepCode.TheVariants as code
 use Rattle.codegen.specs.Codes.{DoAll, Does}
 use Rattle.machine_words.specs.declared.words.MachineWords.{MachineWords}
 use Rattle.machine_words.specs.Words.{regions_in}
-use Rattle.machine_steps.specs.declared.active.Active.{Active}
-use Rattle.machine_steps.specs.declared.compiled.CompiledProgram.{CompiledProgram}
-use Rattle.machine_steps.specs.Compiled.{IsCompiled, function_of, program_of, variables_of}
+use Rattle.machine_moves.specs.declared.active.Active.{Active}
+use Rattle.machine_moves.specs.declared.compiled.CompiledProgram.{CompiledProgram}
+use Rattle.machine_moves.specs.Compiled.{IsCompiled, function_of, program_of, variables_of}
+use Rattle.machine_moves.specs.Standing.{AreSound, IsClosing}
+use Rattle.machine_moves.proofs.FunctionCode.{code_long, fit_at}
+use Rattle.machine_moves.proofs.Heads.{first_word, head_long}
+use Rattle.machine_moves.proofs.Standings.{frame_below, sized}
 use Rattle.machine_steps.specs.Leaving.{IsAbove, IsAtCall, lanes_called}
-use Rattle.machine_steps.specs.Standing.{AreSound, IsClosing}
 use Rattle.machine_steps.proofs.Callers.{IsCalling, call_plain, call_within, calls_below, some_called}
-use Rattle.machine_steps.proofs.FunctionCode.{code_long, fit_at}
-use Rattle.machine_steps.proofs.Heads.{first_word, head_long}
-use Rattle.machine_steps.proofs.Standings.{frame_below, sized}
 
 -- ---- the frame at its closing brace
 

@@ -12,12 +12,12 @@ use Rattle.machine_states.specs.Regions.{Regions}
 use Rattle.codegen.specs.declared.code.StepCode.{StepCode}
 use Rattle.codegen.specs.Codes.{DoAll, Does}
 use Rattle.machine_words.specs.declared.words.MachineWords.{MachineWords}
-use Rattle.machine_steps.specs.declared.active.Active.{Active}
-use Rattle.machine_steps.specs.declared.compiled.CompiledProgram.{CompiledProgram}
-use Rattle.machine_steps.specs.Standing.{AreSound, DoesNext, Ends, IsActive, IsClosing, IsNextOf, IsShown, Steps}
-use Rattle.machine_steps.proofs.CalledFrames.{called_behind}
-use Rattle.machine_steps.proofs.FunctionCode.{fit_long, fit_with}
-use Rattle.machine_steps.proofs.Standings.{lie_behind, shown_behind}
+use Rattle.machine_moves.specs.declared.active.Active.{Active}
+use Rattle.machine_moves.specs.declared.compiled.CompiledProgram.{CompiledProgram}
+use Rattle.machine_moves.specs.Standing.{AreSound, DoesNext, Ends, IsActive, IsClosing, IsNextOf, IsShown, Steps}
+use Rattle.machine_moves.proofs.CalledFrames.{called_behind}
+use Rattle.machine_moves.proofs.FunctionCode.{fit_long, fit_with}
+use Rattle.machine_moves.proofs.Standings.{lie_behind, shown_behind}
 
 module _ (width : ℕ) (compiled : CompiledProgram) (regions : Regions) (active : Active) (next : IsNextOf width compiled regions (Some active)) where
   -- the next step's function

@@ -16,8 +16,8 @@ use Rattle.machine_states.specs.Shows.{result_of}
 use Rattle.machine_states.specs.Steps.{Delivers, waiting_in}
 use Rattle.machine_words.specs.declared.words.MachineWords.{MachineWords}
 use Rattle.machine_words.specs.Words.{AreLaid, left_of, regions_in}
-use Rattle.machine_steps.specs.declared.compiled.CompiledProgram.{CompiledProgram}
-use Rattle.machine_steps.specs.Compiled.{function_of, program_of, variables_of}
+use Rattle.machine_moves.specs.declared.compiled.CompiledProgram.{CompiledProgram}
+use Rattle.machine_moves.specs.Compiled.{function_of, program_of, variables_of}
 
 -- ---- the result
 

@@ -4,12 +4,12 @@ ghost use Rattle.gang_model.specs.Types.Tree.{Function as ModelFunction};
 ghost use Rattle.gang_memory.specs.Recorded.{without_words};
 ghost use Rattle.mask_states.specs.MaskedStep.{masked_start};
 ghost use Rattle.machine_states.specs.Variables.{parameters_of};
-ghost use Rattle.machine_steps.specs.Compiled.{function_of, program_of, variables_of};
-ghost use Rattle.machine_steps.specs.Standing.{AreFor, IsShown};
+ghost use Rattle.machine_moves.specs.Compiled.{function_of, program_of, variables_of};
+ghost use Rattle.machine_moves.specs.Standing.{AreFor, IsShown};
 
 use crate::calls::begin_frame;
-use crate::compiled::CompiledProgram;
 use gang_types::Mask;
+use machine_moves::CompiledProgram;
 use machine_words::{MachineWords, Region};
 use undo_log::Timeline;
 

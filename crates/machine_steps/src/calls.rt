@@ -9,20 +9,17 @@ ghost use Rattle.mask_states.specs.Masked.{Masked};
 ghost use Rattle.machine_states.specs.Regions.{OfLocal};
 ghost use Rattle.machine_words.specs.Words.{AreLaid, left_of, regions_in};
 ghost use Rattle.typed_tree.specs.declared.statements.ResultFor.{ResultFor as TypedResultFor};
+ghost use Rattle.machine_moves.specs.Compiled.{IsCompiled, function_of, variables_of};
+ghost use Rattle.machine_moves.specs.Standing.{AreSound, DoesNext, Ends, IsShown};
 ghost use Rattle.machine_steps.specs.Calls.{AreParametersDeclared, ArePassed, BeginsFrame, IsArgumentAt};
-ghost use Rattle.machine_steps.specs.Compiled.{IsCompiled, function_of, variables_of};
-ghost use Rattle.machine_steps.specs.Standing.{AreSound, DoesNext, Ends, IsShown};
 
-use crate::active::Active;
-use crate::compiled::CompiledProgram;
-use crate::recording::begin;
-use crate::values::value_of;
 use arrayvec::ArrayVec;
 use codegen::ArgCode;
 use debug_machine::Fault;
 use expression_code::Stacks;
 use gang_memory::MOST_FRAMES;
 use gang_types::{FaultName, Mask};
+use machine_moves::{Active, CompiledProgram, begin, value_of};
 use machine_words::{Head, MachineWords, Region};
 use undo_log::{Timeline, Undone};
 

@@ -1,17 +1,16 @@
 //! One step.
-ghost use Rattle.machine_steps.specs.Standing.{AreSound, DoesNext, Ends, IsShown, Steps};
+ghost use Rattle.machine_moves.specs.Standing.{AreSound, DoesNext, Ends, IsShown, Steps};
 ghost use Rattle.machine_words.specs.Words.{regions_in};
 ghost use Rattle.mask_states.specs.Masked.{Masked};
 
-use crate::active::{Active, next_step};
-use crate::assignments::{assign, change, declare, finish};
 use crate::calls::enter;
-use crate::compiled::CompiledProgram;
 use crate::leaving::leave;
-use crate::moves::{branch, go};
 use codegen::StepCode;
 use debug_machine::{Fault, StepEnd};
 use expression_code::Stacks;
+use machine_moves::{
+    Active, CompiledProgram, assign, branch, change, declare, finish, go, next_step,
+};
 use machine_words::MachineWords;
 use undo_log::Timeline;
 

@@ -2,7 +2,7 @@ use Rattle.std.proofs.Common.{◌≡◌, ◌<◌, ◌∙◌, length, refl, sym, 
 use Rattle.std.proofs.lemmas.List.{length-map}
 use Rattle.std.proofs.lemmas.Option.{slice_get_within}
 use Rattle.std.specs.Prelude.{map}
-use Rattle.machine_steps.proofs.Viewed.{read_at}
+use Rattle.machine_shown.proofs.Viewed.{read_at}
 use Rattle.typed_tree.specs.declared.program.Global.{Global}
 use Rattle.typed_tree.specs.Views.{global_view}
 use Rattle.gang_machine.specs.Found.{IsSeen, SeesFound}

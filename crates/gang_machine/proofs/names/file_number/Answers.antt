@@ -1,6 +1,6 @@
 use Rattle.std.proofs.Common.{◌<◌, length, refl, true, false, arith}
 use Rattle.std.specs.Prelude.{map}
-use Rattle.machine_steps.proofs.Viewed.{read_at}
+use Rattle.machine_shown.proofs.Viewed.{read_at}
 use Rattle.typed_tree.specs.Views.{global_view}
 use Rattle.gang_machine.specs.Standings.{file_variables}
 use Rattle.gang_machine.proofs.FirstNamed.{get_mapped, named_first, named_later, same_name}

@@ -1,5 +1,5 @@
 use Rattle.std.proofs.Common.{refl, ap, ◌∙◌, sym}
-use Rattle.machine_steps.proofs.Viewed.{read_at}
+use Rattle.machine_shown.proofs.Viewed.{read_at}
 use Rattle.gang_model.specs.Source.Names.{same_text}
 use Rattle.typed_tree.specs.Views.{variable_view}
 use Rattle.gang_machine.proofs.FirstNamed.{get_mapped, local_variable, same_name}

@@ -3,8 +3,8 @@ use Rattle.std.proofs.lemmas.Option.{slice_get_read}
 use Rattle.gang_types.specs.Lanes.{no_lane}
 use Rattle.gang_types.specs.Masks.{lanes_of}
 use Rattle.gang_types.specs.MaskLaws.{gang_width-le}
+use Rattle.machine_moves.proofs.GangLanes.{some_of_all, words_few}
 use Rattle.machine_steps.proofs.FirstWords.{first_lie, first_rest, first_shown, next_file, none_filled, one_filled, width_left}
-use Rattle.machine_steps.proofs.GangLanes.{some_of_all, words_few}
 use Rattle.machine_steps.proofs.beginning.start.Goals as goal
 
 pub loop-number-init : goal.loop-number-init

@@ -4,8 +4,8 @@ use Rattle.gang_model.specs.Types.Tree.{Arg}
 use Rattle.mask_states.specs.Masked.{Masked}
 use Rattle.codegen.specs.Codes.{Fit}
 use Rattle.machine_words.specs.Words.{regions_in}
+use Rattle.machine_moves.specs.Standing.{IsShown}
 use Rattle.machine_steps.specs.Calls.{IsArgumentAt, IsArgumentValue}
-use Rattle.machine_steps.specs.Standing.{IsShown}
 use Rattle.machine_steps.proofs.calls.arguments.Given as goal
 
 -- the arguments so far have their values

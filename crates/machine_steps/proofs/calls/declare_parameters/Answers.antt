@@ -7,8 +7,8 @@ use Rattle.gang_types.specs.MaskLaws.{gang_width-le}
 use Rattle.machine_states.specs.Effects.{declared_region}
 use Rattle.machine_states.specs.Regions.{OfLocal}
 use Rattle.machine_words.specs.Words.{Writes, regions_in}
+use Rattle.machine_moves.proofs.GangLanes.{words_few}
 use Rattle.machine_steps.specs.Calls.{AreParametersDeclared}
-use Rattle.machine_steps.proofs.GangLanes.{words_few}
 use Rattle.machine_steps.proofs.Parameters.{none_declared, one_declared, numbered_pair, pairs_long, next_left, next_region}
 use Rattle.machine_steps.proofs.calls.declare_parameters.Goals as goal
 

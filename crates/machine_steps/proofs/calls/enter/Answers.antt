@@ -8,12 +8,12 @@ use Rattle.debug_machine.specs.Machines.{fault_view}
 use Rattle.machine_states.specs.Regions.{OfLocal}
 use Rattle.machine_states.specs.Steps.{FailsWith}
 use Rattle.machine_words.specs.Words.{left_of, regions_in}
+use Rattle.machine_moves.specs.Compiled.{program_of}
+use Rattle.machine_moves.specs.Standing.{EndsAs}
+use Rattle.machine_moves.proofs.GangLanes.{given_small, stacks_small}
+use Rattle.machine_moves.proofs.Standings.{begun_laid}
 use Rattle.machine_steps.specs.Calls.{AreParametersDeclared}
-use Rattle.machine_steps.specs.Compiled.{program_of}
-use Rattle.machine_steps.specs.Standing.{EndsAs}
 use Rattle.machine_steps.proofs.EnteredCalls.{call_below, call_ends, call_fails, call_few, call_fits, call_lanes, call_of, call_there, call_too_deep, frame_left, given_long, parameters_left, parameters_sized}
-use Rattle.machine_steps.proofs.GangLanes.{given_small, stacks_small}
-use Rattle.machine_steps.proofs.Standings.{begun_laid}
 use Rattle.machine_steps.proofs.calls.enter.Goals as goal
 
 pub arguments-requires : goal.arguments-requires

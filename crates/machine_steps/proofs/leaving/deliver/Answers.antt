@@ -11,12 +11,12 @@ use Rattle.machine_states.specs.Regions.{FunctionOf, LanesOf, OfHead}
 use Rattle.machine_states.specs.Steps.{converted_values}
 use Rattle.machine_words.specs.Views.{region_view}
 use Rattle.machine_words.specs.Words.{regions_in}
-use Rattle.machine_steps.specs.Compiled.{function_of, variables_of}
+use Rattle.machine_moves.specs.Compiled.{function_of, variables_of}
+use Rattle.machine_moves.specs.Results.{Returns}
+use Rattle.machine_moves.proofs.FrameResults.{function_is, function_within}
+use Rattle.machine_moves.proofs.Heads.{first_word, head_long}
 use Rattle.machine_steps.specs.Leaving.{GivesResult, lanes_called, result_seen}
-use Rattle.machine_steps.specs.Results.{Returns}
-use Rattle.machine_steps.proofs.FrameResults.{function_is, function_within}
 use Rattle.machine_steps.proofs.GivenResults.{gives_assigned, gives_declared, gives_nothing, gives_returned, scalar_room}
-use Rattle.machine_steps.proofs.Heads.{first_word, head_long}
 use Rattle.machine_steps.proofs.leaving.deliver.Goals as goal
 
 pub word-requires-clause-within : goal.word-requires-clause-within

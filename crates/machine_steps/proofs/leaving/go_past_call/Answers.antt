@@ -11,9 +11,9 @@ use Rattle.machine_states.specs.Regions.{NumbersOf, OfHead}
 use Rattle.machine_states.specs.Steps.{waiting_in}
 use Rattle.typed_tree.specs.Views.{result_view}
 use Rattle.machine_words.specs.Words.{regions_in}
-use Rattle.machine_steps.specs.Compiled.{program_of}
+use Rattle.machine_moves.specs.Compiled.{program_of}
+use Rattle.machine_moves.proofs.Heads.{alike, head_long, regions_after, sent_to}
 use Rattle.machine_steps.proofs.Callers.{only_enters, some_calls}
-use Rattle.machine_steps.proofs.Heads.{alike, head_long, regions_after, sent_to}
 use Rattle.machine_steps.proofs.PassedCalls.{call_made, caller, caller_found, closing_there, function_word, is_above, numbers_long, reads_call, regions_sized, some_lanes_called}
 use Rattle.machine_steps.proofs.leaving.go_past_call.Goals as goal
 

@@ -8,8 +8,8 @@ use Rattle.machine_states.specs.Regions.{Depth, NumbersOf, OfHead, with_region}
 use Rattle.machine_states.specs.Steps.{waiting_in}
 use Rattle.machine_words.specs.Words.{AreLaid, Writes, regions_in, words_of}
 use Rattle.machine_words.proofs.Sizes.{depth_words}
+use Rattle.machine_moves.proofs.Standings.{begun, ends_well}
 use Rattle.machine_steps.proofs.LeftFrames.{begun_closing, begun_laid, begun_shown, begun_sized, depth_set, goes_nowhere, goes_past, past_under_way}
-use Rattle.machine_steps.proofs.Standings.{begun, ends_well}
 use Rattle.machine_steps.proofs.leaving.leave.Goals.{else-active-gt0, then-active-gt0}
 use Rattle.machine_steps.proofs.leaving.leave.Goals as goal
 

@@ -11,9 +11,9 @@ use Rattle.typed_tree.specs.Views.{function_view}
 use Rattle.machine_states.specs.Regions.{OfHead, ResultOf, ReturnedOf, lanes_in}
 use Rattle.machine_states.specs.Steps.{converted_values}
 use Rattle.machine_words.specs.Words.{regions_in}
+use Rattle.machine_moves.proofs.FrameResults.{function_is, uniform_given, varying_given}
+use Rattle.machine_moves.proofs.Heads.{head_long}
 use Rattle.machine_steps.specs.Leaving.{result_seen}
-use Rattle.machine_steps.proofs.FrameResults.{function_is, uniform_given, varying_given}
-use Rattle.machine_steps.proofs.Heads.{head_long}
 use Rattle.machine_steps.proofs.leaving.result_words.Goals.{in-Uniform, in-Uniform-2, in-Varying}
 use Rattle.machine_steps.proofs.leaving.result_words.Goals as goal
 

@@ -5,8 +5,8 @@ use Rattle.mask_states.specs.Points.{points_in}
 use Rattle.machine_states.proofs.Endings.{over_nowhere}
 use Rattle.machine_states.proofs.TopFrame.{spot}
 use Rattle.machine_words.specs.Words.{regions_in}
-use Rattle.machine_steps.specs.Compiled.{program_of, variables_of}
-use Rattle.machine_steps.proofs.Viewed.{read_at, viewed_within}
+use Rattle.machine_moves.specs.Compiled.{program_of, variables_of}
+use Rattle.machine_shown.proofs.Viewed.{read_at, viewed_within}
 use Rattle.gang_machine.specs.Nexts.{HasEnded, IsNext}
 use Rattle.gang_machine.specs.Standings.{Stands}
 use Rattle.gang_machine.proofs.Seeing.{has_ended, is_next, shown_here}

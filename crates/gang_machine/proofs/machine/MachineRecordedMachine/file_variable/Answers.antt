@@ -1,7 +1,7 @@
 use Rattle.std.proofs.Common.{refl, sym, subst, Some}
 use Rattle.std.specs.Prelude.{map}
 use Rattle.typed_tree.specs.Views.{global_view}
-use Rattle.machine_steps.proofs.Viewed.{read_at}
+use Rattle.machine_shown.proofs.Viewed.{read_at}
 use Rattle.gang_machine.specs.Found.{SeesNamed}
 use Rattle.gang_machine.specs.Standings.{Stands}
 use Rattle.gang_machine.proofs.Finding.{shows_file}

@@ -1,0 +1,172 @@
+-- Each frame was made for some lane: a run begins so, and each step and poke keeps it.
+use Rattle.std.proofs.Common.{ℕ, zero, suc, ◌<◌, ◌≡◌, refl, sym, ◌∙◌, ap, subst, true, false, arith, List, [], ◌∷◌, length, Option, Some, None}
+use Rattle.std.specs.Prelude.{Err, IfOk, Ok, Result, map, replicate, slice_get, ◌==◌}
+use Rattle.std.proofs.lemmas.Option.{slice_get_within}
+use Rattle.undo_log.specs.History.{History}
+use Rattle.gang_types.specs.declared.faults.FaultName.TheVariants.{CallDepth}
+use Rattle.gang_types.specs.declared.places.VarId.{VarId}
+use Rattle.gang_types.specs.declared.places.VarId.TheVariants.{File, Local}
+use Rattle.gang_types.specs.declared.types.IntType.{IntType}
+use Rattle.gang_types.specs.Lanes.{Lanes, lowest, no_lane}
+use Rattle.gang_types.specs.LaneLaws.{some_lane}
+use Rattle.gang_model.specs.Types.Tree.{Assign, Assigns, Call, Change, Declare, Declares, ElementOf, Function, Nothing, Program, ResultFor, Return, Returns, Scalar, StepNumber, Stmt}
+use Rattle.gang_model.specs.Running.Lanes.{Fault, try_each}
+use Rattle.gang_model.specs.Running.State.{Frame, State, Store, with_words_in}
+use Rattle.gang_model.specs.Running.Step.{Passed, deliver, entered, initial, left, passed, returned_on, run}
+use Rattle.gang_model.specs.Running.Value.{value}
+use Rattle.gang_model.specs.Debugger.Events.{ElementAt, Given, LaneOf, Poked, WholeOf, initial_memory, poked, started}
+use Rattle.gang_model.proofs.LaneWords.{if_ok_after, if_ok_bind, if_or_ok}
+use Rattle.mask_states.specs.Points.{Begin, Branch, Choose, Enter, Go, Point, Put, Turn, closing_number, function_ways, points_in}
+use Rattle.mask_states.specs.Masked.{Level, Masked, next_in, next_waiting}
+use Rattle.mask_states.specs.MaskedStep.{Acted, Goes, act, acted, masked_start, masked_step, points_at, step_levels, step_point, untasked, untasked_frame}
+use Rattle.mask_states.proofs.PlacedPoints.{length-points_of}
+use Rattle.machine_states.specs.Plain.{IsPlainProgram}
+use Rattle.machine_states.specs.Regions.{NumbersOf, OfHead, Regions}
+use Rattle.machine_states.specs.Shows.{Shows, ShowsFrames, body_level}
+use Rattle.machine_states.specs.Variables.{Variables}
+use Rattle.machine_states.proofs.DeclaredLevels.{Waits, waits_below}
+use Rattle.machine_states.proofs.DeclaredPoints.{IsPlainPoint, IsPlainPut, plain_point}
+use Rattle.machine_states.proofs.DeclaredSteps.{IfGoes, goes_at}
+use Rattle.machine_words.specs.declared.words.MachineWords.{MachineWords}
+use Rattle.machine_words.specs.Words.{regions_in}
+use Rattle.machine_moves.specs.declared.compiled.CompiledProgram.{CompiledProgram}
+use Rattle.machine_moves.specs.Compiled.{program_of, variables_of}
+use Rattle.machine_moves.specs.Standing.{AreSound, HaveLanes}
+
+-- ---- words of variables
+
+pub words_called : (state : State) (v : VarId) (words : List ℕ) → HaveLanes state.frames → HaveLanes (with_words_in state v words).frames
+words_called state (File n) words h = h
+words_called state (Local n) words h = by_frames state.frames h
+  where
+    by_frames : (frames : List Frame) → HaveLanes frames → HaveLanes (with_words_in (record { memory = state.memory; frames = frames }) (Local n) words).frames
+    by_frames [] h = tt
+    by_frames (frame ∷ frames) h = h
+
+-- a poke keeps each frame's lanes
+pub poked_called : (what : Poked) (word : ℕ) (state : State) → HaveLanes state.frames → HaveLanes (poked what word state).frames
+poked_called (WholeOf v) word state h = words_called state v _ h
+poked_called (LaneOf v k) word state h = words_called state v _ h
+poked_called (ElementAt v k) word state h = h
+
+untasked_called : (frames : List Frame) → HaveLanes frames → HaveLanes (map untasked_frame frames)
+untasked_called [] h = tt
+untasked_called (frame ∷ frames) h = (h.0, untasked_called frames h.1)
+
+-- ---- results
+
+module _ (p : Program) (type : IntType) (lanes : Lanes) (values : List ℕ) (memory : Store) where
+  given_called : (frames : List Frame) → HaveLanes frames → HaveLanes (deliver p type Returns lanes values (record { memory = memory; frames = frames })).frames
+  given_called [] h = tt
+  given_called (frame ∷ frames) h = (by_function (slice_get p.functions frame.function) refl, h.1)
+    where
+      by_function : (o : Option Function) → slice_get p.functions frame.function ≡ o → no_lane (returned_on (slice_get p.functions frame.function) type lanes values frame).lanes ≡ false
+      by_function None e = ap (λ o. no_lane (returned_on o type lanes values frame).lanes) e ∙ h.0
+      by_function (Some f) e = ap (λ o. no_lane (returned_on o type lanes values frame).lanes) e ∙ h.0
+
+  delivered_called : (result_for : ResultFor) (frames : List Frame) → HaveLanes frames → HaveLanes (deliver p type result_for lanes values (record { memory = memory; frames = frames })).frames
+  delivered_called Nothing frames h = h
+  delivered_called (Declares x) frames h = words_called (record { memory = memory; frames = frames }) x.id _ h
+  delivered_called (Assigns x) frames h = words_called (record { memory = memory; frames = frames }) x.id _ h
+  delivered_called Returns frames h = given_called frames h
+
+left_called : (p : Program) (o : Option Function) (above : Frame) (memory : Store) (frames : List Frame) → HaveLanes frames → HaveLanes (left p o above (record { memory = memory; frames = frames })).frames
+left_called p None above memory frames h = h
+left_called p (Some f) above memory frames h = delivered_called p f.result_type above.lanes _ memory above.result_for frames h
+
+-- ---- a step
+
+abbrev After : State → Type 0
+After state = HaveLanes state.frames
+
+module _ (variables : Variables) (p : Program) (m : ℕ) (memory : Store) (frame : Frame) (frames : List Frame) (h : HaveLanes (frame ∷ frames)) where
+  abbrev state : State
+  state = record { memory = memory; frames = frame ∷ frames }
+
+  run_called : (s : Stmt) (lanes : Lanes) → IsPlainPut variables m s → IfOk (run p s lanes state) After
+  run_called (Declare number x e) lanes plain = if_ok_after After (initial e lanes state) _ (λ values. words_called state x.id _ h)
+  run_called (Assign number (Scalar x) e) lanes plain = if_ok_after After (value e lanes state) _ (λ values. words_called state x.id _ h)
+  run_called (Assign number (ElementOf array rate index) e) lanes plain = absurd plain
+  run_called (Change number (Scalar x) type op in_type e) lanes plain =
+      if_ok_after After (value e lanes state) _ (λ y. if_ok_after After (try_each lanes _) _ (λ values. words_called state x.id _ h))
+  run_called (Change number (ElementOf array rate index) type op in_type e) lanes plain = absurd plain
+  run_called (Return number e) lanes plain = if_ok_after After (initial e lanes state) _ (λ values. h)
+  run_called s lanes plain = absurd plain
+
+  entered_called : (o : Option Function) (n : ℕ) (number : StepNumber) (result_for : ResultFor) (a : Passed) (lanes : Lanes) → no_lane lanes ≡ false
+      → IfOk (entered o n number result_for a lanes state) After
+  entered_called None n number result_for a lanes some = h
+  entered_called (Some f) n number result_for a lanes some = if_or_ok After (length (frame ∷ frames) == 64) (record { name = CallDepth; lane = lowest lanes }) _ (some, h)
+
+  act_called : (number : StepNumber) (point : Point) (lanes : Lanes) (level : Level) → no_lane lanes ≡ false → IsPlainPoint variables m number point
+      → IfOk (act p number point lanes state level []) (λ a. HaveLanes a.state.frames)
+  act_called number (Put s next) lanes level some plain = if_ok_bind After _ (run p s lanes state) _ (run_called s lanes plain) (λ after kept. kept)
+  act_called number (Go next) lanes level some plain = h
+  act_called number (Branch test yes' no') lanes level some plain = if_ok_after _ (value test lanes state) _ (λ c. h)
+  act_called number (Choose e segments entries next) lanes level some plain = absurd plain
+  act_called number (Begin form rounds next) lanes level some plain = absurd plain
+  act_called number (Turn body) lanes level some plain = absurd plain
+  act_called number (Enter n args result_for next) lanes level some plain =
+      if_ok_bind After _ (run p (Call number n args result_for) lanes state) _
+      (if_ok_after After (passed args lanes state) _ (λ a. entered_called (slice_get p.functions n) n number result_for a lanes some))
+      (λ after kept. untasked_called after.frames kept)
+
+abbrev Kept : Masked → Type 0
+Kept masked = HaveLanes masked.state.frames
+
+if_acted : (r : Result Acted Fault) (rest : List (List Level)) → IfOk r (λ a. HaveLanes a.state.frames) → IfGoes (acted r rest) Kept
+if_acted (Ok a) rest h = h
+if_acted (Err fault) rest h = tt
+
+module _ (variables : Variables) (most : ℕ) (p : Program) (plain : IsPlainProgram variables most p) (regions : Regions) (w : ℕ) (memory : Store) where
+  module _ (frame : Frame) (frames : List Frame) (h : HaveLanes (frame ∷ frames)) (rest : List (List Level)) (f : Function) (is : slice_get p.functions frame.function ≡ Some f) (numbers : List StepNumber) where
+    abbrev level : Level
+    level = body_level (closing_number f) numbers
+
+    point_called : (o : Option Point) → slice_get (points_in f) (next_in level) ≡ o → IfGoes (step_point p memory frames frame o level [] rest) Kept
+    point_called None e = left_called p (slice_get p.functions frame.function) frame memory frames h.1
+    point_called (Some point) e =
+        let within = slice_get_within (points_in f) (next_in level) point e in
+        let w : Waits level = waits_below level (omega (arith, within, length-points_of f.body (function_ways f))) in
+        if_acted (act p (next_in level) point (next_waiting level) (record { memory = memory; frames = frame ∷ frames }) level []) rest
+        (act_called variables p frame.function memory frame frames h (next_in level) point (next_waiting level) level (some_lane (next_waiting level) w.lane w.waiting)
+        (plain_point variables frame.function f (plain.functions frame.function f is).body (next_in level) point e))
+
+  frames_called : (frames : List Frame) (levels : List (List Level)) → ShowsFrames p variables w regions frames levels → HaveLanes frames → IfGoes (step_levels p memory frames levels) Kept
+  frames_called [] levels shown h = tt
+  frames_called (frame ∷ frames) [] shown h = tt
+  frames_called (frame ∷ frames) (levels ∷ rest) shown h =
+      let s = shown.0 in
+      let f : Function = s.function in
+      let numbers = regions (OfHead (length frames) NumbersOf) in
+      let level : Level = body_level (closing_number f) numbers in
+      subst (λ ls. IfGoes (step_levels p memory (frame ∷ frames) (ls ∷ rest)) Kept) (sym s.waits)
+      (subst (λ o. IfGoes (step_point p memory frames frame (slice_get (points_at o) (next_in level)) level [] rest) Kept) (sym s.is_function)
+      (point_called frame frames h rest f s.is_function numbers (slice_get (points_in f) (next_in level)) refl))
+
+-- a step keeps it
+pub step_called : (variables : Variables) (most : ℕ) (p : Program) → IsPlainProgram variables most p → (regions : Regions) (w : ℕ) (masked next : Masked) → Shows p variables w regions masked
+    → masked_step p masked ≡ Goes next → HaveLanes masked.state.frames → HaveLanes next.state.frames
+step_called variables most p plain regions w masked next shows e h =
+    goes_at Kept (masked_step p masked) next e (frames_called variables most p plain regions w masked.state.memory masked.state.frames masked.levels shows.frames h)
+
+-- ---- the start
+
+all_lanes : (w : ℕ) → 0 < w → no_lane (replicate w true) ≡ false
+all_lanes zero h = absurd (omega (arith, h))
+all_lanes (suc w) h = refl
+
+-- a run begins for all lanes
+pub start_called : (p : Program) (entry w : ℕ) (f : Function) → slice_get p.functions entry ≡ Some f → 0 < w → HaveLanes (masked_start p entry [] w).state.frames
+start_called p entry w f is wide =
+    let given : Given = record { passed = record { views = []; vars = [] }; memory = initial_memory w p.globals } in
+    subst (λ o. HaveLanes (untasked (started o entry w given)).frames) (sym is) (all_lanes w wide, tt)
+
+-- ---- words
+
+-- each frame of the next state has a lane, if those of words that stand well have
+pub called_behind : {T : Type 0} (history : T → History) (w : ℕ) (compiled : CompiledProgram) (words : MachineWords T) (sound : AreSound history w compiled words) (next : Masked)
+    → masked_step (program_of compiled) sound.masked ≡ Goes next → HaveLanes next.state.frames
+called_behind history w compiled words sound next e =
+    let runnable = sound.lie.compiled_is.runnable in
+    step_called (variables_of compiled) runnable.most (program_of compiled) runnable.plain (regions_in history w words) w sound.masked next sound.shown.shows e sound.called

@@ -1,0 +1,16 @@
+pub mod AssignSteps
+pub mod CalledFrames
+pub mod ChangedValues
+pub mod ExpressionValues
+pub mod FrameResults
+pub mod FunctionCode
+pub mod GangLanes
+pub mod Heads
+pub mod MoveSteps
+pub mod NextLanes
+pub mod OldWords
+pub mod RegionStates
+pub mod ReturnSteps
+pub mod SentSteps
+pub mod Standings
+pub mod TopFrames

@@ -1,0 +1,498 @@
+-- What follows for each step from how the words of a machine stand.
+use Rattle.std.proofs.Common.{ℕ, zero, suc, ◌+◌, ◌-◌, ◌^◌, ◌<◌, ◌≤◌, false, cond, ◌≡◌, refl, sym, ◌∙◌, ap, ap₂, subst, arith, inl, inr, List, [], ◌∷◌, ◌++◌, length, map, slice_index, Option, Some, None, Vec, Global}
+use Rattle.std.specs.Prelude.{All, Ok, min, option_map, slice_get, slice_index_or}
+use Rattle.std.proofs.lemmas.Bool.{cases_lt}
+use Rattle.std.proofs.lemmas.List.{length-map}
+use Rattle.std.proofs.lemmas.Option.{get_or_from_slice_get, none-some, slice_get-map, slice_get_within}
+use Rattle.gang_types.specs.declared.masks.Mask.{Mask}
+use Rattle.gang_types.specs.Lanes.{no_lane}
+use Rattle.gang_types.specs.Masks.{lanes_of}
+use Rattle.gang_types.specs.MaskLaws.{gang_width-le, length-lanes_of_word}
+use Rattle.gang_model.specs.Types.Tree.{Var as ModelVar, StepNumber, Expr, Scalar, ElementOf, Arg, Value, Array, Stmt, Empty, Then, Declare, Assign, Change as ModelChange, If, Loop, BodyFirst, Break, Continue, Return, Switch, Segment, ForEach, Call, Check, PackedStore, PackedLoad, Variable, Function, Program}
+use Rattle.gang_model.specs.Running.State.{Frame, words_for}
+use Rattle.gang_model.specs.Running.Step.{round_number}
+use Rattle.gang_model.proofs.StandingLaws.{Each, each_join}
+use Rattle.undo_log.specs.History.{History, Moment, marked}
+use Rattle.undo_log.specs.declared.timeline.Undone.{Undone}
+use Rattle.undo_log.specs.declared.timeline.Undone.TheVariants as undone
+use Rattle.typed_tree.specs.declared.expressions.Var.{Var}
+use Rattle.typed_tree.specs.declared.statements.ResultFor.{ResultFor}
+use Rattle.typed_tree.specs.declared.program.Function.{Function as TypedFunction}
+use Rattle.typed_tree.specs.declared.program.Global.{Global as FileVariable}
+use Rattle.typed_tree.specs.Views.{result_view, var_view, variable_view}
+use Rattle.gang_memory.specs.declared.parts.Part.{Part}
+use Rattle.gang_memory.specs.Layouts.{IsLayoutOf, global_words}
+use Rattle.gang_memory.specs.Recorded.{left_in, without_words}
+use Rattle.mask_states.specs.Points.{Point, Put, Go, Branch, Turn, Enter, Ways, before_step, entry_of, body_ways, update_ways, round_ways, points_of, function_ways, points_in}
+use Rattle.mask_states.specs.Masked.{Level, Masked}
+use Rattle.mask_states.specs.MaskedStep.{Goes, masked_step}
+use Rattle.machine_states.specs.Variables.{Variables, or_none, own_of}
+use Rattle.machine_states.specs.Regions.{Head, FunctionOf, OfFile, Depth, OfHead, OfLocal, Region, Regions, same_region, with_region}
+use Rattle.machine_states.specs.Shows.{AreSized, ShowsFrames}
+use Rattle.machine_states.specs.Steps.{GoesTo}
+use Rattle.machine_states.proofs.AlwaysDeclared.{next_names}
+use Rattle.machine_states.proofs.DeclaredNames.{NamesBefore}
+use Rattle.machine_states.proofs.PlainPoints.{points_in-plain, point_at}
+use Rattle.machine_states.proofs.DeclaredLists.{same_some}
+use Rattle.machine_states.proofs.DeclaredSteps.{step_declared}
+use Rattle.machine_states.proofs.LeaveSteps.{shows_alike}
+use Rattle.machine_states.proofs.NextPoints.{same_word}
+use Rattle.machine_states.proofs.PutSteps.{some_lane}
+use Rattle.machine_states.specs.Plain.{IsPlainExpr, ArgsPlain, IsPlainPoint}
+use Rattle.machine_states.specs.Declared.{NamesDeclared, ArgsDeclared, declared_before}
+use Rattle.expression_code.specs.declared.code.Instruction.{Instruction}
+use Rattle.expression_code.specs.Room.{HasRoom}
+use Rattle.expression_code.specs.ProgramRoom.{ArgsHaveRoom, HaveRoom}
+use Rattle.codegen.specs.declared.code.ArgCode.{ArgCode}
+use Rattle.codegen.specs.declared.code.Change.{Change}
+use Rattle.codegen.specs.declared.code.StepCode.TheVariants as code
+use Rattle.codegen.specs.Codes.{Does, Fit, IsArg, IsOptionValue, IsValue}
+use Rattle.codegen.specs.Programs.{own_variables}
+use Rattle.machine_words.specs.declared.words.MachineWords.{MachineWords}
+use Rattle.machine_words.specs.Ranges.{head_part, head_sizes, machine_sizes, regions_of}
+use Rattle.machine_words.specs.Words.{AreLaid, Writes, left_of, regions_in, words_of}
+use Rattle.machine_words.specs.Ranges.{IsLaid}
+use Rattle.machine_words.proofs.Sizes.{depth_words, file_words, head_words, local_words}
+use Rattle.machine_moves.specs.declared.active.Active.{Active}
+use Rattle.machine_moves.specs.declared.compiled.CompiledProgram.{CompiledProgram}
+use Rattle.machine_moves.specs.Compiled.{IsCompiled, program_of, variables_of}
+use Rattle.machine_moves.specs.Standing.{AreFor, AreSound, Begins, EndsAs, IsActive, IsShown, IsValueAt, DoesNext, Records, most_writes}
+
+-- ---- events
+
+-- after a mark as many words may be set as there is room for, if a word counts them
+pub left_after : (past : List Moment) (left room : ℕ) → left ≡ room → min room (2 ^ 64 - 1) ≤ left_in past left
+left_after [] left room e = omega arith
+left_after (m ∷ past) left room e = omega arith
+
+-- An event is open, and at most so many words were set in it, so that the regions are these.
+pub record IsUnderWay {T : Type 0} (history : T → History) (left : T → ℕ) (width : ℕ) (event : Undone) (regions : Regions) (writes : ℕ) (old new : MachineWords T) : Type 0 where
+  pub regions_are : (r : Region) → regions_in history width new r ≡ regions r
+  pub layout : new.layout ≡ old.layout
+  pub laid : AreLaid history width new
+  pub recorded : without_words (history new.store.timeline) ≡ without_words (marked event (history old.store.timeline))
+  pub left_is : most_writes width ≤ left_of history left new + writes
+
+-- it was opened
+module _ {T : Type 0} (history : T → History) (left : T → ℕ) (width : ℕ) (compiled : CompiledProgram) (event : Undone) (old new : MachineWords T)
+    (lie : AreFor history width compiled old) (begins : Begins history left width event old new) where
+  pub begun_laid : AreLaid history width new
+  begun_laid =
+      subst (λ l. IsLaid width l (words_of history new)) (sym begins.layout)
+      (subst (λ ws. IsLaid width old.layout ws) (sym begins.words) lie.laid)
+
+  pub begun_regions : regions_in history width new ≡ regions_in history width old
+  begun_regions = ap₂ (λ l ws. regions_of width l ws) begins.layout begins.words
+
+  pub begun_left : most_writes width ≤ left_of history left new
+  begun_left = let small = gang_width-le width lie.gang in omega (arith, small, lie.room, begins.left_is)
+
+  pub begun : IsUnderWay history left width event (regions_in history width old) 0 old new
+  begun = record {
+    regions_are = λ r. ap (λ regions. regions r) begun_regions;
+    layout = begins.layout;
+    laid = begun_laid;
+    recorded = begins.recorded;
+    left_is = omega (arith, begun_left);
+  }
+
+module _ {T : Type 0} (history : T → History) (left : T → ℕ) (width : ℕ) (event : Undone) (regions : Regions) (writes : ℕ) (old mid : MachineWords T)
+    (so_far : IsUnderWay history left width event regions writes old mid) where
+  -- so many words may still be set
+  pub may_write : (more : ℕ) → writes + more ≤ most_writes width → more ≤ left_of history left mid
+  may_write more h = omega (arith, h, so_far.left_is)
+
+  -- one more region is written, with what is made of its words
+  pub wrote : (new : MachineWords T) (region : Region) (make : List ℕ → List ℕ) (more : ℕ) → Writes history left width region (make (regions_in history width mid region)) more mid new
+      → IsUnderWay history left width event (with_region region (make (regions region)) regions) (writes + more) old new
+  wrote new region make more made = record {
+    regions_are = λ r.
+        ap (λ l. regions_of width l (words_of history new) r) made.layout ∙ made.changes r
+        ∙ ap₂ (λ ws others. cond (same_region region r) ws others) (ap make (so_far.regions_are region)) (so_far.regions_are r);
+    layout = made.layout ∙ so_far.layout;
+    laid = made.laid;
+    recorded = made.rest ∙ so_far.recorded;
+    left_is = omega (arith, made.few, so_far.left_is);
+  }
+
+  -- the same, said by other regions
+  pub under_way_alike : (others : Regions) → ((r : Region) → regions r ≡ others r) → IsUnderWay history left width event others writes old mid
+  under_way_alike others same = record {
+    regions_are = λ r. so_far.regions_are r ∙ same r;
+    layout = so_far.layout;
+    laid = so_far.laid;
+    recorded = so_far.recorded;
+    left_is = so_far.left_is;
+  }
+
+  pub recorded_so_far : Records history width event old mid
+  recorded_so_far = record { recorded = so_far.recorded; layout = so_far.layout; laid = so_far.laid }
+
+-- a step has ended that leaves such regions
+pub ends_well : {T : Type 0} (history : T → History) (left : T → ℕ) (width : ℕ) (compiled : CompiledProgram) (masked : Masked) (regions : Regions) (writes : ℕ) (old new : MachineWords T)
+    → IsUnderWay history left width undone.Step regions writes old new → GoesTo (program_of compiled) (variables_of compiled) width masked regions
+    → EndsAs history width compiled masked old (Ok tt) new
+ends_well history left width compiled masked regions writes old new done goes = (
+  (goes.0, goes.1, shows_alike (program_of compiled) (variables_of compiled) width regions (regions_in history width new) done.regions_are goes.0 goes.2),
+  recorded_so_far history left width undone.Step regions writes old new done,
+)
+
+-- ---- states
+
+-- words with the same regions show the same
+pub shown_alike : {T : Type 0} (history : T → History) (width : ℕ) (compiled : CompiledProgram) (old new : MachineWords T) (masked : Masked)
+    → ((r : Region) → regions_in history width new r ≡ regions_in history width old r) → IsShown history width compiled old masked → IsShown history width compiled new masked
+shown_alike history width compiled old new masked same shown = record {
+  shows = shows_alike (program_of compiled) (variables_of compiled) width (regions_in history width old) (regions_in history width new) same masked shown.shows;
+  declared = shown.declared;
+}
+
+module _ {T : Type 0} (history : T → History) (width : ℕ) (compiled : CompiledProgram) (event : Undone) (old new : MachineWords T)
+    (lie : AreFor history width compiled old) (records : Records history width event old new) where
+  -- the words lie so behind an event
+  pub lie_behind : AreFor history width compiled new
+  lie_behind =
+      let room : (history new.store.timeline).room ≡ (history old.store.timeline).room = ap (λ h. h.room) records.recorded in
+      record {
+        gang = lie.gang;
+        compiled_is = lie.compiled_is;
+        layout = subst (λ l. IsLayoutOf width compiled.program [] machine_sizes (head_sizes width) l) (sym records.layout) lie.layout;
+        laid = records.laid;
+        room = omega (arith, room, lie.room);
+      }
+
+  -- and show the masked state after a step
+  pub shown_behind : (masked : Masked) → IsShown history width compiled old masked → GoesTo (program_of compiled) (variables_of compiled) width masked (regions_in history width new)
+      → (next : Masked) × (masked_step (program_of compiled) masked ≡ Goes next) × IsShown history width compiled new next
+  shown_behind masked shown goes =
+      let runnable = lie.compiled_is.runnable in (
+        goes.0,
+        goes.1,
+        record {
+          shows = goes.2;
+          declared = step_declared (variables_of compiled) runnable.most (program_of compiled) runnable.plain runnable.lowerable.numbered
+              (regions_in history width old) width masked goes.0 shown.shows shown.declared goes.1;
+        },
+      )
+
+-- ---- how many words each region has
+
+found_mapped : {A B : Type 0} (g : A → B) (xs : List A) (k : ℕ) (y : B) → slice_get (map g xs) k ≡ Some y → (x : A) × (slice_get xs k ≡ Some x) × (g x ≡ y)
+found_mapped g [] k y e = absurd (none-some y e)
+found_mapped g (x ∷ xs) zero y e = (x, refl, same_some (g x) y e)
+found_mapped g (x ∷ xs) (suc k) y e = found_mapped g xs k y e
+
+mapped_at : {A B C : Type 0} (f : A → C) (g : B → C) (xs : List A) (ys : List B) (k : ℕ) (y : B) → map f xs ≡ map g ys → slice_get ys k ≡ Some y → slice_get (map f xs) k ≡ Some (g y)
+mapped_at f g xs ys k y same e = ap (λ zs. slice_get zs k) same ∙ slice_get-map g ys k ∙ ap (option_map g) e
+
+scalar_words : (width : ℕ) (g : FileVariable) → g.variable.is_array ≡ false → global_words width g ≡ words_for width g.variable.rate
+scalar_words width g e = ap (λ b. cond b g.length (words_for width g.variable.rate)) e
+
+-- a variable of a function is one of so many
+module _ (functions : List TypedFunction) (most : ℕ) (all : All (λ f. length f.variables.items ≤ most) functions) (n k : ℕ) (v : Variable) where
+  among : (o : Option (List Variable)) → slice_get (map own_variables functions) n ≡ o → slice_get (or_none o) k ≡ Some v → k < most
+  among None e is = absurd (none-some v is)
+  among (Some own) e is =
+      let found = found_mapped own_variables functions n own e in
+      let f = found.0 in
+      let within : k < length own = slice_get_within own k v is in
+      let long : length own ≡ length f.variables.items = sym (ap length found.2) ∙ length-map f.variables.items variable_view in
+      let most_of_all : length (slice_index_or functions n f).variables.items ≤ most = all n f (slice_get_within functions n f found.1) in
+      let few : length f.variables.items ≤ most =
+      subst (λ (g : TypedFunction). length g.variables.items ≤ most) (get_or_from_slice_get functions n f f found.1) most_of_all in
+      omega (arith, within, long, few)
+
+module _ {T : Type 0} (history : T → History) (width : ℕ) (compiled : CompiledProgram) (old new : MachineWords T)
+    (lie : AreFor history width compiled old) (layout : new.layout ≡ old.layout) (laid : AreLaid history width new) where
+  is_layout : IsLayoutOf width compiled.program [] machine_sizes (head_sizes width) new.layout
+  is_layout = subst (λ l. IsLayoutOf width compiled.program [] machine_sizes (head_sizes width) l) (sym layout) lie.layout
+
+  pub depth_sized : length (regions_in history width new Depth) ≡ 1
+  depth_sized = depth_words width new.layout (words_of history new) laid
+
+  -- 1 for the function, the lanes and the lanes that have returned; a word for each lane for the numbers and the result
+  pub head_sized : (i : ℕ) (part : Head) → i < 64 → length (regions_in history width new (OfHead i part)) ≡ slice_index (head_sizes width) (head_part part)
+  head_sized i part h = head_words width new.layout (words_of history new) laid i part (omega (arith, is_layout.frames, h))
+
+  pub file_sized : (k : ℕ) (v : Variable) → slice_get (variables_of compiled).file k ≡ Some v → length (regions_in history width new (OfFile k)) ≡ words_for width v.rate
+  file_sized k v is =
+      let globals = compiled.program.globals.items in
+      let view : FileVariable → Variable = λ g. variable_view g.variable in
+      let found = found_mapped view globals k v is in
+      let g = found.0 in
+      let part = found_mapped (λ (p : Part). p.len) new.layout.file.items k (global_words width g)
+      (mapped_at (λ (p : Part). p.len) (global_words width) new.layout.file.items globals k g is_layout.file found.1) in
+      file_words width new.layout (words_of history new) laid k part.0 part.1
+      ∙ part.2 ∙ scalar_words width g (ap (λ (u : Variable). u.is_array) found.2 ∙ (lie.compiled_is.runnable.plain.file k v is).1)
+      ∙ ap (λ (u : Variable). words_for width u.rate) found.2
+
+  pub own_sized : (i n k : ℕ) (v : Variable) → i < 64 → slice_get (own_of (variables_of compiled) n) k ≡ Some v → length (regions_in history width new (OfLocal i k)) ≡ width
+  own_sized i n k v h is =
+      let functions = compiled.program.functions.items in
+      local_words width new.layout (words_of history new) laid i k (omega (arith, is_layout.frames, h))
+      (among functions new.layout.frames.variables is_layout.variables n k v (slice_get (map own_variables functions) n) refl is)
+
+  pub sized : AreSized (variables_of compiled) width (regions_in history width new)
+  sized = record { file = file_sized; own = own_sized }
+
+-- ---- the next step
+
+pub lanes_long : (width : ℕ) (lanes : Mask) → length (lanes_of width lanes) ≡ width
+lanes_long width lanes = length-lanes_of_word width lanes.word
+
+-- a frame's function, of which the words of its head have the number
+pub record IsFunctionOf (p : Program) (regions : Regions) (i : ℕ) : Type 0 where
+  pub number : ℕ
+  pub function : Function
+  pub is_number : regions (OfHead i FunctionOf) ≡ number ∷ []
+  pub is_function : slice_get p.functions number ≡ Some function
+
+pub function_in : (p : Program) (variables : Variables) (width : ℕ) (regions : Regions) (i : ℕ) (frames : List Frame) (levels : List (List Level)) → i < length frames → ShowsFrames p variables width regions frames levels → IsFunctionOf p regions i
+function_in p variables width regions i [] levels h shown = absurd (omega (arith, h))
+function_in p variables width regions i (frame ∷ frames) [] h shown = absurd shown
+function_in p variables width regions i (frame ∷ frames) (ls ∷ levels) h shown =
+    elim (cases_lt i (length frames)) [
+      | inl below ↦ function_in p variables width regions i frames levels below shown.2
+      | inr last ↦
+          let same : i ≡ length frames = omega (arith, last, h) in
+          subst (λ j. IsFunctionOf p regions j) (sym same) (record {
+            number = frame.function;
+            function = shown.0.function;
+            is_number = shown.0.number;
+            is_function = shown.0.is_function;
+          })
+    ]
+
+module _ {T : Type 0} (history : T → History) (width : ℕ) (compiled : CompiledProgram) (words : MachineWords T) (sound : AreSound history width compiled words) (active : Active) (f : Function) where
+  pub frame_below : (point : Option Point) → IsActive width compiled (regions_in history width words) active f point → active.frame < 64
+  frame_below point is_active =
+      let masked = sound.masked in
+      let shows = sound.shown.shows in
+      let height : suc active.frame ≡ length masked.state.frames =
+      same_word (regions_in history width words Depth) (suc active.frame) (length masked.state.frames) is_active.next.depth shows.depth in
+      omega (arith, height, shows.few)
+
+  -- a step at a point is done by some lane
+  pub some_active : (point : Point) → IsActive width compiled (regions_in history width words) active f (Some point) → no_lane (lanes_of width active.lanes) ≡ false
+  some_active point is_active =
+      ap no_lane is_active.lanes
+      ∙ some_lane (program_of compiled) (variables_of compiled) width (regions_in history width words) sound.masked sound.shown.shows active.frame active.function f active.step point is_active.next
+
+-- ---- the expressions of the next step
+
+-- all expressions of a point find room
+abbrev pub PointHasRoom : Point → Type 0
+PointHasRoom (Put s next) = HaveRoom s
+PointHasRoom (Branch test yes' no') = HasRoom test
+PointHasRoom (Enter called args result_for next) = ArgsHaveRoom args
+PointHasRoom point = Unit {0}
+
+room_joined : (xs ys : List Point) → Each PointHasRoom xs → Each PointHasRoom ys → Each PointHasRoom (xs ++ ys)
+room_joined xs ys h k = each_join PointHasRoom xs ys h k
+
+points_room : (s : Stmt) (ways : Ways) → HaveRoom s → Each PointHasRoom (points_of s ways)
+points_room Empty ways h = tt
+points_room (Then first rest) ways h =
+    let before = before_step (entry_of rest ways.next) ways in
+    room_joined (points_of first before) (points_of rest ways) (points_room first before h.0) (points_room rest ways h.1)
+points_room (Declare number x e) ways h = (h, tt)
+points_room (Assign number target e) ways h = (h, tt)
+points_room (ModelChange number target type op in_type e) ways h = (h, tt)
+points_room (If number test first other) ways h =
+    (h.0, room_joined (points_of first ways) (points_of other ways) (points_room first ways h.1) (points_room other ways h.2))
+points_room (Loop number test update body) ways h =
+    let inside = body_ways (entry_of update number) ways in
+    let again = update_ways number ways in
+    let last = Branch test (entry_of body (entry_of update number)) ways.next ∷ [] in
+    room_joined (points_of body inside) (points_of update again ++ last) (points_room body inside h.2)
+    (room_joined (points_of update again) last (points_room update again h.1) (h.0, tt))
+points_room (BodyFirst number test body) ways h =
+    let inside = body_ways number ways in
+    room_joined (points_of body inside) (Branch test (entry_of body number) ways.next ∷ []) (points_room body inside h.1) (h.0, tt)
+points_room (Break number) ways h = (tt, tt)
+points_room (Continue number) ways h = (tt, tt)
+points_room (Return number e) ways h = (h, tt)
+points_room (Switch number e segments) ways h = (tt, points_room segments (record ways { on_break = Some ways.next }) h.1)
+points_room (Segment label body rest) ways h =
+    let before = before_step (entry_of rest ways.next) ways in
+    room_joined (points_of body before) (points_of rest ways) (points_room body before h.0) (points_room rest ways h.1)
+points_room (ForEach number form body) ways h =
+    let inside = round_ways (round_number number body) in
+    (tt, room_joined (points_of body inside) (Turn (entry_of body (round_number number body)) ∷ []) (points_room body inside h.1) (tt, tt))
+points_room (Call number called args result_for) ways h = (h, tt)
+points_room (Check number e) ways h = (h, tt)
+points_room (PackedStore number array from e result_for) ways h = (h, tt)
+points_room (PackedLoad number array from x result_for) ways h = (h, tt)
+
+each_at : {A : Type 0} (P : A → Type 0) (xs : List A) (k : ℕ) (x : A) → Each P xs → slice_get xs k ≡ Some x → P x
+each_at P [] k x h e = absurd (none-some x e)
+each_at P (y ∷ xs) zero x h e = subst P (same_some y x e) h.0
+each_at P (y ∷ xs) (suc k) x h e = each_at P xs k x h.1 e
+
+module _ (width : ℕ) (compiled : CompiledProgram) (is : IsCompiled compiled) (regions : Regions) (active : Active) (f : Function) (point : Point)
+    (is_active : IsActive width compiled regions active f (Some point)) where
+  pub active_plain : IsPlainPoint (variables_of compiled) active.function point
+  active_plain =
+      point_at (variables_of compiled) active.function (points_in f) active.step point
+      (points_in-plain (variables_of compiled) active.function f (is.runnable.plain.functions active.function f is_active.next.is_function)) is_active.next.is_point
+
+  -- what it names is declared before it
+  pub active_names : NamesBefore (declared_before (variables_of compiled) active.function f) active.step point
+  active_names =
+      next_names (variables_of compiled) is.runnable.most (program_of compiled) is.runnable.plain is.runnable.lowerable.numbered is.runnable.declared
+      regions active.frame active.function f active.step point is_active.next
+
+  pub active_room : PointHasRoom point
+  active_room =
+      each_at PointHasRoom (points_in f) active.step point
+      (points_room f.body (function_ways f) (is.runnable.room active.function f is_active.next.is_function)) is_active.next.is_point
+
+-- an expression is a value of a point
+abbrev pub IsValueOf : Point → Expr → Type 0
+IsValueOf (Put (Declare number x (Some v)) next) e = v ≡ e
+IsValueOf (Put (Assign number target v) next) e = v ≡ e
+IsValueOf (Put (ModelChange number target type op in_type v) next) e = v ≡ e
+IsValueOf (Put (Return number (Some v)) next) e = v ≡ e
+IsValueOf (Branch test yes' no') e = test ≡ e
+IsValueOf (Enter called args result_for next) e = (k : ℕ) × (x : ModelVar) × (slice_get args k ≡ Some (Value x e))
+IsValueOf point e = ⊥
+
+-- it reads scalars that are declared, and finds room
+record IsGood (variables : Variables) (n : ℕ) (d : List ℕ) (e : Expr) : Type 0 where
+  pub plain : IsPlainExpr variables n e
+  pub declared : NamesDeclared d e
+  pub room : HasRoom e
+
+module _ (variables : Variables) (n : ℕ) (d : List ℕ) where
+  good : (v e : Expr) → v ≡ e → IsPlainExpr variables n v → NamesDeclared d v → HasRoom v → IsGood variables n d e
+  good v e same plain declared room = subst (IsGood variables n d) same (record { plain = plain; declared = declared; room = room })
+
+  good_argument : (called first : ℕ) (args : List Arg) (k : ℕ) (x : ModelVar) (e : Expr) → slice_get args k ≡ Some (Value x e)
+      → ArgsPlain variables n called first args → ArgsDeclared d args → ArgsHaveRoom args → IsGood variables n d e
+  good_argument called first [] k x e is plain declared room = absurd (none-some (Value x e) is)
+  good_argument called first (Value y v ∷ args) zero x e is plain declared room = good v e (same_value y x v e is) plain.1 declared.0 room.0
+    where
+      same_value : (y x : ModelVar) (v e : Expr) → Some (Value y v) ≡ Some (Value x e) → v ≡ e
+      same_value y x v e is = cc
+  good_argument called first (Value y v ∷ args) (suc k) x e is plain declared room = good_argument called (suc first) args k x e is plain.2 declared.1 room.1
+  good_argument called first (Array parameter array from ∷ args) k x e is plain declared room = absurd plain
+
+module _ (variables : Variables) (n : ℕ) (before : StepNumber → List ℕ) (number : StepNumber) where
+  good_value : (point : Point) (e : Expr) → IsPlainPoint variables n point → NamesBefore before number point → PointHasRoom point → IsValueOf point e → IsGood variables n (before number) e
+  good_value (Put (Declare m x (Some v)) next) e plain names room same = good variables n (before number) v e same plain.1 names room
+  good_value (Put (Assign m (Scalar x) v) next) e plain names room same = good variables n (before number) v e same plain.1 names.1 room.1
+  good_value (Put (Assign m (ElementOf array rate index) v) next) e plain names room same = absurd plain
+  good_value (Put (ModelChange m (Scalar x) type op in_type v) next) e plain names room same = good variables n (before number) v e same plain.1 names.1 room.1
+  good_value (Put (ModelChange m (ElementOf array rate index) type op in_type v) next) e plain names room same = absurd plain
+  good_value (Put (Return m (Some v)) next) e plain names room same = good variables n (before number) v e same plain names room
+  good_value (Branch test yes' no') e plain names room same = good variables n (before number) test e same plain names room
+  good_value (Enter called args result_for next) e plain names room given =
+      good_argument variables n (before number) called 0 args given.0 given.1 e given.2 plain.0.args_plain names.0 room
+  good_value point e plain names room none = absurd none
+
+-- the code of a value of the next step's point
+pub value_at : (width : ℕ) (compiled : CompiledProgram) → IsCompiled compiled → (regions : Regions) (active : Active) (f : Function) (point : Point) → IsActive width compiled regions active f (Some point)
+    → (e : Expr) (code : List Instruction) → IsValueOf point e → IsValue e code → IsValueAt width compiled regions active e code
+value_at width compiled is regions active f point is_active e code of value =
+    let fits = good_value (variables_of compiled) active.function (declared_before (variables_of compiled) active.function f) active.step point e
+    (active_plain width compiled is regions active f point is_active) (active_names width compiled is regions active f point is_active) (active_room width compiled is regions active f point is_active) of in
+    record { f = f; point = Some point; active_is = is_active; value = value; plain = fits.plain; declared = fits.declared; room = fits.room }
+
+-- ---- what a step's code says of its point
+
+module _ (width : ℕ) (compiled : CompiledProgram) (regions : Regions) (active : Active) where
+  abbrev pub IsAt : Function → Point → Type 0
+  IsAt f point = IsActive width compiled regions active f (Some point)
+
+  module _ (next : ℕ) where
+    go_at : (f : Function) (point : Point) → Does (code.Go next) point → IsAt f point → IsAt f (Go next)
+    go_at f (Go then) does at = subst (λ m. IsAt f (Go m)) does at
+    go_at f point does at = absurd does
+
+    pub goes_at : DoesNext width compiled regions active (code.Go next) → (f : Function) × IsAt f (Go next)
+    goes_at does = (does.0, go_at does.0 does.1 does.2 does.3)
+
+  module _ (test : Vec Instruction Global) (yes' no' : ℕ) where
+    abbrev pub IsBranching : Function → Type 0
+    IsBranching f = (e : Expr) × IsValue e test.items × IsAt f (Branch e yes' no')
+
+    branch_at : (f : Function) (point : Point) → Does (code.Branch test yes' no') point → IsAt f point → IsBranching f
+    branch_at f (Branch e on off) does at = (e, does.0, subst (λ m. IsAt f (Branch e yes' m)) does.2 (subst (λ m. IsAt f (Branch e m off)) does.1 at))
+    branch_at f point does at = absurd does
+
+    pub branches_at : DoesNext width compiled regions active (code.Branch test yes' no') → (f : Function) × IsBranching f
+    branches_at does = (does.0, branch_at does.0 does.1 does.2 does.3)
+
+  module _ (variable : Var) (next : ℕ) where
+    module _ (value : Option (Vec Instruction Global)) where
+      abbrev pub IsDeclaring : Function → Type 0
+      IsDeclaring f = (number : StepNumber) × (e : Option Expr) × IsOptionValue e value × IsAt f (Put (Declare number (var_view variable) e) next)
+
+      declare_at : (f : Function) (point : Point) → Does (code.Declare variable value next) point → IsAt f point → IsDeclaring f
+      declare_at f (Put (Declare number x e) then) does at =
+          (number, e, does.1, subst (λ m. IsAt f (Put (Declare number (var_view variable) e) m)) does.2 (subst (λ y. IsAt f (Put (Declare number y e) then)) does.0 at))
+      declare_at f point does at = absurd does
+
+      pub declares_at : DoesNext width compiled regions active (code.Declare variable value next) → (f : Function) × IsDeclaring f
+      declares_at does = (does.0, declare_at does.0 does.1 does.2 does.3)
+
+    module _ (value : Vec Instruction Global) where
+      abbrev pub IsAssigning : Function → Type 0
+      IsAssigning f = (number : StepNumber) × (e : Expr) × IsValue e value.items × IsAt f (Put (Assign number (Scalar (var_view variable)) e) next)
+
+      assign_at : (f : Function) (point : Point) → Does (code.Assign variable value next) point → IsAt f point → IsAssigning f
+      assign_at f (Put (Assign number (Scalar x) e) then) does at =
+          (number, e, does.1, subst (λ m. IsAt f (Put (Assign number (Scalar (var_view variable)) e) m)) does.2 (subst (λ y. IsAt f (Put (Assign number (Scalar y) e) then)) does.0 at))
+      assign_at f point does at = absurd does
+
+      pub assigns_at : DoesNext width compiled regions active (code.Assign variable value next) → (f : Function) × IsAssigning f
+      assigns_at does = (does.0, assign_at does.0 does.1 does.2 does.3)
+
+      module _ (change : Change) where
+        abbrev changing : StepNumber → ModelVar → (made : Change) → Expr → StepNumber → Point
+        changing number x made e then = Put (ModelChange number (Scalar x) made.target_type made.operator made.value_type e) then
+
+        abbrev pub IsChanging : Function → Type 0
+        IsChanging f = (number : StepNumber) × (e : Expr) × IsValue e value.items × IsAt f (Put (ModelChange number (Scalar (var_view variable)) change.target_type change.operator change.value_type e) next)
+
+        change_at : (f : Function) (point : Point) → Does (code.Change variable change value next) point → IsAt f point → IsChanging f
+        change_at f (Put (ModelChange number (Scalar x) type op in_type e) then) does at = (
+          number,
+          e,
+          does.2,
+          subst (λ m. IsAt f (changing number (var_view variable) change e m)) does.3
+              (subst (λ made. IsAt f (changing number (var_view variable) made e then)) (sym does.1)
+              (subst (λ y. IsAt f (changing number y (record { operator = op; value_type = in_type; target_type = type }) e then)) does.0 at)),
+        )
+        change_at f point does at = absurd does
+
+        pub changes_at : DoesNext width compiled regions active (code.Change variable change value next) → (f : Function) × IsChanging f
+        changes_at does = (does.0, change_at does.0 does.1 does.2 does.3)
+
+  module _ (value : Option (Vec Instruction Global)) (next : ℕ) where
+    abbrev pub IsReturning : Function → Type 0
+    IsReturning f = (number : StepNumber) × (e : Option Expr) × IsOptionValue e value × IsAt f (Put (Return number e) next)
+
+    return_at : (f : Function) (point : Point) → Does (code.Return value next) point → IsAt f point → IsReturning f
+    return_at f (Put (Return number e) then) does at = (number, e, does.0, subst (λ m. IsAt f (Put (Return number e) m)) does.1 at)
+    return_at f point does at = absurd does
+
+    pub returns_at : DoesNext width compiled regions active (code.Return value next) → (f : Function) × IsReturning f
+    returns_at does = (does.0, return_at does.0 does.1 does.2 does.3)
+
+  module _ (function : ℕ) (args : Vec ArgCode Global) (result_for : ResultFor) (next : ℕ) where
+    abbrev pub IsEntering : Function → Type 0
+    IsEntering f = (given : List Arg) × Fit IsArg args.items given × IsAt f (Enter function given (result_view result_for) next)
+
+    enter_at : (f : Function) (point : Point) → Does (code.Enter function args result_for next) point → IsAt f point → IsEntering f
+    enter_at f (Enter called given for then) does at = (
+      given,
+      does.1,
+      subst (λ m. IsAt f (Enter function given (result_view result_for) m)) does.3
+          (subst (λ r. IsAt f (Enter function given r then)) does.2
+          (subst (λ m. IsAt f (Enter m given for then)) does.0 at)),
+    )
+    enter_at f point does at = absurd does
+
+    pub enters_at : DoesNext width compiled regions active (code.Enter function args result_for next) → (f : Function) × IsEntering f
+    enters_at does = (does.0, enter_at does.0 does.1 does.2 does.3)

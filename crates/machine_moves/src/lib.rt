@@ -1,0 +1,19 @@
+//! The step that comes next in the words of a machine, the values of its expressions, and the steps that stay in their frame: moves,
+//! and those that write a variable or a result. What they change is recorded.
+#![tactic(auto)]
+
+mod active;
+mod assignments;
+mod compiled;
+mod moves;
+mod reading;
+mod recording;
+mod values;
+
+pub use active::{Active, least, next_step, waiting_for};
+pub use assignments::{assign, change, declare, finish, give_result, region_of};
+pub use compiled::CompiledProgram;
+pub use moves::{branch, go};
+pub use reading::TopVariables;
+pub use recording::begin;
+pub use values::value_of;

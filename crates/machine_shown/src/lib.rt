@@ -1,0 +1,9 @@
+//! What a debugger sees of the words of a machine, and what it sets: where the program stands, the calls of its frames, and the words
+//! of its variables.
+#![tactic(auto)]
+
+mod positions;
+mod shown;
+
+pub use positions::{call, position};
+pub use shown::{poke, word};

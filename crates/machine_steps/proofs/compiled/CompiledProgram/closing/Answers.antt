@@ -1,5 +1,0 @@
-use Rattle.machine_steps.proofs.FunctionCode.{code_long}
-use Rattle.machine_steps.proofs.compiled.CompiledProgram.closing.Goals as goal
-
-pub returns : goal.returns
-returns c f found = code_long f c.steps.result.now (c.steps.ensures f found)
