@@ -4,7 +4,8 @@ import pathlib
 import shutil
 import tempfile
 
-from .tried import Result, called, shown
+from .calls import called
+from .tried import Result, shown
 
 WRITERS = {
     "tests_transcripts": ("transcripts", "write_rows.py"),

@@ -2,17 +2,12 @@
 
 import pathlib
 import re
-import signal
-import subprocess
 import tempfile
-import threading
+
+from .calls import called
 
 # A test or a run ends in far less; a busy machine may take longer than the tool's own limit of 60.
 SECONDS = "300"
-
-RUNNING = set()
-LOCK = threading.Lock()
-STOPPED = threading.Event()
 
 
 class Result:
@@ -53,43 +48,33 @@ def shown(text):
     return ["| " + line for line in text.decode(errors="backslashreplace").splitlines()]
 
 
-def called(words, folder):
-    """Standard output, standard error and the status of a command in a folder."""
-    if STOPPED.is_set():
-        raise InterruptedError("stopped")
-    with subprocess.Popen(
-        words, cwd=folder, stdin=subprocess.DEVNULL, stdout=subprocess.PIPE, stderr=subprocess.PIPE
-    ) as process:
-        with LOCK:
-            RUNNING.add(process)
-        try:
-            output, errors = process.communicate()
-        finally:
-            with LOCK:
-                RUNNING.discard(process)
-    return output, errors, process.returncode
-
-
-def stop_all():
-    """Ends what runs, and lets nothing more begin."""
-    STOPPED.set()
-    with LOCK:
-        for process in RUNNING:
-            process.send_signal(signal.SIGTERM)
-
-
 def tests(crate):
     """A result for each test of a crate."""
-    output, errors, status = called(["rt", "try", "--test", "--seconds", SECONDS], crate.folder)
-    said = (output + errors).decode(errors="replace")
-    ran = re.findall(r"^test (\S+) \.\.\. (\w+)", said, re.M)
-    results = [Result(name, how == "ok", lines_of(said, name)) for name, how in ran]
-    if len(ran) < crate.tests:
-        missing = crate.tests - len(ran)
-        results += all_failed([f"{missing} tests did not run"] * missing, said)
-    if status and all(result.passed for result in results):
-        results.append(Result(f"rt try ended with status {status}", False, said.strip().splitlines()[-12:]))
-    return results
+    said, status = said_of_tests(crate.folder)
+    found = results(crate, said)
+    return found + [ended_badly(status, said)] if status and all(it.passed for it in found) else found
+
+
+def said_of_tests(folder):
+    """What is said of the tests of the crate in a folder, and the status."""
+    output, errors, status = called(["rt", "try", "--test", "--seconds", SECONDS], folder)
+    return (output + errors).decode(errors="replace"), status
+
+
+def ran(said, before=""):
+    """The names of the tests that ran, of those that begin so, and how each ended."""
+    return re.findall(rf"^test {before}(\S+) \.\.\. (\w+)", said, re.M)
+
+
+def results(crate, said, before=""):
+    """A result for each test of a crate, whose names begin so."""
+    found = [Result(name, how == "ok", lines_of(said, before + name)) for name, how in ran(said, before)]
+    missing = crate.tests - len(found)
+    return found + all_failed([f"{missing} tests did not run"] * missing, said)
+
+
+def ended_badly(status, said):
+    return Result(f"rt try ended with status {status}", False, said.strip().splitlines()[-12:])
 
 
 def all_failed(names, said):
