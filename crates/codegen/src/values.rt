@@ -1,6 +1,6 @@
 //! The code of values.
 ghost use Rattle.std.specs.Prelude.{map, All, IfOk, option_map};
-ghost use Rattle.typed_tree.specs.Views.{arg_view, expr_view};
+ghost use Rattle.typed_tree.specs.Views.{arg_view, boxed_view, expr_view};
 ghost use Rattle.codegen.specs.Codes.{Fit, IsArg, IsOptionValue, IsPlainArg, IsPlainOptionValue, IsPlainValue, IsValue};
 
 use crate::code::ArgCode;
@@ -11,10 +11,10 @@ use typed_tree::{Arg, Expr};
 /// The code of a value, if there is one.
 pub(crate) fn optional(
     alloc: Global,
-    expression: &Option<Expr>,
+    expression: &Option<Box<Expr>>,
 ) -> Result<Option<Vec<Instruction>>, AllocError>
-    requires { IsPlainOptionValue (option_map expr_view expression.now) }
-    ensures { IfOk result (IsOptionValue (option_map expr_view expression.now)) }
+    requires { IsPlainOptionValue (option_map boxed_view expression.now) }
+    ensures { IfOk result (IsOptionValue (option_map boxed_view expression.now)) }
 {
     match expression {
         Some(expression) => Ok(Some(value(alloc, expression)?)),

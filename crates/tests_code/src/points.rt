@@ -34,20 +34,25 @@ fn numbers_of(point: &Point<'_>) -> Numbers {
     }
 }
 
+/// `x`
+fn read(alloc: Global) -> Result<Box<Expr>, AllocError> {
+    Ok(Box::new(alloc, Expr::Read(VARIABLE))?)
+}
+
 /// `x = 1;`
-fn assign(step: usize) -> Stmt {
-    Stmt::Assign {
+fn assign(alloc: Global, step: usize) -> Result<Stmt, AllocError> {
+    Ok(Stmt::Assign {
         step,
         target: Target::Scalar(VARIABLE),
-        value: Expr::Number(1),
-    }
+        value: Box::new(alloc, Expr::Number(1))?,
+    })
 }
 
 /// `if (x) first else other`
 fn choice(alloc: Global, step: usize, first: Stmt, other: Stmt) -> Result<Stmt, AllocError> {
     Ok(Stmt::If {
         step,
-        test: Expr::Read(VARIABLE),
+        test: read(alloc)?,
         first: Box::new(alloc, first)?,
         other: Box::new(alloc, other)?,
     })
@@ -56,28 +61,28 @@ fn choice(alloc: Global, step: usize, first: Stmt, other: Stmt) -> Result<Stmt, 
 /// `for (; x; x = 1) { if (x) continue; x = 1; }` from step 1 on.
 fn test_first(alloc: Global) -> Result<Stmt, AllocError> {
     let leaving = choice(alloc, 1, Stmt::Continue { step: 2 }, Stmt::Empty)?;
-    let body = Stmt::Block(vec![in alloc; leaving, assign(3)]?);
+    let body = Stmt::Block(vec![in alloc; leaving, assign(alloc, 3)?]?);
     Ok(Stmt::Loop {
         step: 5,
-        test: Expr::Read(VARIABLE),
-        update: Box::new(alloc, assign(4))?,
+        test: read(alloc)?,
+        update: Box::new(alloc, assign(alloc, 4)?)?,
         body: Box::new(alloc, body)?,
     })
 }
 
 /// `do if (x) break; else x = 1; while (x);` from step 6 on.
 fn body_first(alloc: Global) -> Result<Stmt, AllocError> {
-    let body = choice(alloc, 6, Stmt::Break { step: 7 }, assign(8))?;
+    let body = choice(alloc, 6, Stmt::Break { step: 7 }, assign(alloc, 8)?)?;
     Ok(Stmt::BodyFirst {
         step: 9,
-        test: Expr::Read(VARIABLE),
+        test: read(alloc)?,
         body: Box::new(alloc, body)?,
     })
 }
 
 /// `foreach_active (x) { x = 1; continue; }` from step 10 on.
 fn for_each(alloc: Global) -> Result<Stmt, AllocError> {
-    let body = Stmt::Block(vec![in alloc; assign(11), Stmt::Continue { step: 12 }]?);
+    let body = Stmt::Block(vec![in alloc; assign(alloc, 11)?, Stmt::Continue { step: 12 }]?);
     Ok(Stmt::ForEach {
         step: 10,
         rounds: Rounds::EachLane(VARIABLE),
@@ -98,9 +103,16 @@ fn body(alloc: Global) -> Result<Vec<Stmt>, AllocError> {
     };
     let check = Stmt::Check {
         step: 15,
-        test: Expr::Read(VARIABLE),
+        test: read(alloc)?,
     };
-    Ok(vec![in alloc; assign(0), test_first, body_first, for_each, call, check]?)
+    Ok(vec![in alloc;
+        assign(alloc, 0)?,
+        test_first,
+        body_first,
+        for_each,
+        call,
+        check,
+    ]?)
 }
 
 fn program(alloc: Global) -> Result<Program, AllocError> {

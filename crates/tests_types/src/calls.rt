@@ -43,7 +43,7 @@ fn meant(alloc: Global, source: &[u8]) -> Result<Option<usize>, SourceFault> {
     };
     let scope = TypeScope::new(alloc);
     call_of(alloc, &context, &scope, &call, ResultFor::Nothing, 0).map(|called| {
-        match &called.stmt {
+        match &*called.stmt {
             TypedStmt::Call { function, .. } => Some(*function),
             _ => None,
         }

@@ -27,11 +27,7 @@ fn given(alloc: Global, values: &[(IntType, Rate)]) -> Result<Vec<Passing<'stati
     for (value_type, rate) in values {
         passings.push(Passing::Scalar {
             place: at(col),
-            value: Typed {
-                expr: Expr::ProgramIndex,
-                value_type: *value_type,
-                rate: *rate,
-            },
+            value: Typed::new(alloc, Expr::ProgramIndex, *value_type, *rate)?,
         })?;
         col = col.wrapping_add(2);
     }
@@ -48,7 +44,7 @@ fn sums(alloc: Global) -> Result<bool, SourceFault> {
         sum.value_type == IntType::Int16
             && sum.rate == Rate::Uniform
             && matches!(
-                &sum.expr,
+                &*sum.expr,
                 Expr::Reduce {
                     function: Reduction::ReduceAdd,
                     value_type: IntType::Int8,
@@ -65,7 +61,7 @@ fn counts(alloc: Global) -> Result<bool, SourceFault> {
         lanes.rate == Rate::Uniform
             && bits.rate == Rate::Varying
             && matches!(
-                &bits.expr,
+                &*bits.expr,
                 Expr::OfOne {
                     function: OneCall::PopCount,
                     ..

@@ -6,12 +6,8 @@ use std::test::*;
 use type_check_values::{Typed, as_type, chosen_by, infixed, joined, literal_type, prefixed};
 use typed_tree::Expr;
 
-fn number(value_type: IntType, rate: Rate) -> Typed {
-    Typed {
-        expr: Expr::Number(1),
-        value_type,
-        rate,
-    }
+fn number(alloc: Global, value_type: IntType, rate: Rate) -> Result<Typed, AllocError> {
+    Typed::new(alloc, Expr::Number(1), value_type, rate)
 }
 
 /// The type and the rate of a value.
@@ -21,14 +17,17 @@ fn kind(made: Result<Typed, AllocError>) -> Result<(IntType, Rate), AllocError> 
 
 /// The type and the rate of a sum of a uniform and a varying value.
 fn sum(alloc: Global, left: IntType, right: IntType) -> Result<(IntType, Rate), AllocError> {
-    let left = number(left, Rate::Uniform);
-    let right = number(right, Rate::Varying);
+    let left = number(alloc, left, Rate::Uniform)?;
+    let right = number(alloc, right, Rate::Varying)?;
     kind(infixed(alloc, Infix::Op(BinaryOp::Add), left, right))
 }
 
 /// Whether a value of the first type is converted when it is given the second.
 fn is_converted(alloc: Global, from: IntType, to: IntType) -> Result<bool, AllocError> {
-    as_type(alloc, to, number(from, Rate::Uniform)).map(|made| matches!(made, Expr::Convert { .. }))
+    as_type(alloc, to, number(alloc, from, Rate::Uniform)?).map(|made| matches!(
+        &*made,
+        Expr::Convert { .. }
+    ))
 }
 
 #[test]
@@ -62,26 +61,28 @@ fn a_value_of_the_type_is_not_converted(rt: HostRuntime) {
 }
 
 #[test]
-fn operators_succeed_with_ample_memory(rt: HostRuntime) {
-    let truth = number(IntType::Bool, Rate::Uniform);
+fn operators_succeed_with_ample_memory(rt: HostRuntime) -> Result<(), AllocError> {
+    let truth = number(rt.alloc(), IntType::Bool, Rate::Uniform)?;
     let negated = prefixed(rt.alloc(), UnaryOp::Negate, truth);
     assert!(rt; kind(negated) == Ok((IntType::Int32, Rate::Uniform)));
-    let byte = number(IntType::Int8, Rate::Uniform);
-    let by = number(IntType::Int64, Rate::Uniform);
+    let byte = number(rt.alloc(), IntType::Int8, Rate::Uniform)?;
+    let by = number(rt.alloc(), IntType::Int64, Rate::Uniform)?;
     let shifted = infixed(rt.alloc(), Infix::Op(BinaryOp::Shl), byte, by);
     assert!(rt; kind(shifted) == Ok((IntType::Int8, Rate::Uniform)));
-    let left = number(IntType::Int8, Rate::Uniform);
-    let right = number(IntType::Int8, Rate::Varying);
+    let left = number(rt.alloc(), IntType::Int8, Rate::Uniform)?;
+    let right = number(rt.alloc(), IntType::Int8, Rate::Varying)?;
     let both = infixed(rt.alloc(), Infix::AndAlso, left, right);
     assert!(rt; kind(both) == Ok((IntType::Bool, Rate::Varying)));
+    Ok(())
 }
 
 #[test]
-fn a_choice_has_the_joined_type_of_its_arms(rt: HostRuntime) {
-    let test = number(IntType::Bool, Rate::Varying);
-    let first = number(IntType::Uint8, Rate::Uniform);
-    let second = number(IntType::Int16, Rate::Uniform);
+fn a_choice_has_the_joined_type_of_its_arms(rt: HostRuntime) -> Result<(), AllocError> {
+    let test = number(rt.alloc(), IntType::Bool, Rate::Varying)?;
+    let first = number(rt.alloc(), IntType::Uint8, Rate::Uniform)?;
+    let second = number(rt.alloc(), IntType::Int16, Rate::Uniform)?;
     let chosen = chosen_by(rt.alloc(), test, first, second);
     assert!(rt; kind(chosen) == Ok((IntType::Int16, Rate::Varying)));
     assert!(rt; joined(IntType::Uint32, IntType::Int32) == IntType::Uint32);
+    Ok(())
 }

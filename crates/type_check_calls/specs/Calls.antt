@@ -3,7 +3,7 @@ use Rattle.std.specs.Prelude.{map}
 use Rattle.gang_model.specs.Types.Calls as model
 use Rattle.ispc_parser_expressions.specs.Tree.{args_view}
 use Rattle.ispc_parser.specs.Tree.{function_view}
-use Rattle.typed_tree.specs.Views.{stmt_view}
+use Rattle.typed_tree.specs.Boxes.{boxed_stmt_view}
 use Rattle.type_check_calls.specs.declared.context.Context.{Context}
 use Rattle.type_check_calls.specs.declared.whole.WholeCall.{WholeCall}
 use Rattle.type_check_calls.specs.declared.calls.Called.{Called}
@@ -15,4 +15,4 @@ abbrev pub whole_call_view : WholeCall → model.WholeCall
 whole_call_view c = record { at = c.place; name = c.name.now; args = args_view c.args.now }
 
 abbrev pub called_view : Called → model.Called
-called_view c = model.called (stmt_view c.stmt) c.result
+called_view c = model.called (boxed_stmt_view c.stmt) c.result

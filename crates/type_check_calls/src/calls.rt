@@ -1,8 +1,9 @@
 //! Calls with their results.
-ghost use Rattle.std.specs.Prelude.{◌≡◌, map};
+ghost use Rattle.std.specs.Prelude.{◌≡◌, IfOk, map};
 ghost use Rattle.gang_model.specs.Types.Calls as calls;
 ghost use Rattle.gang_model.specs.Source.Judged.{least_fault};
 ghost use Rattle.ispc_names_scopes.specs.Names.{statement_call_view};
+ghost use Rattle.typed_tree.specs.Boxes.{boxed_stmt_view};
 ghost use Rattle.typed_tree.specs.Views.{result_view, stmt_view};
 ghost use Rattle.source_answers.specs.Answers.{Answers};
 ghost use Rattle.type_check_scopes.specs.Passings.{passing_view};
@@ -16,17 +17,34 @@ use gang_model::{RefusalNumber, SourceRefusal};
 use gang_types::{IntType, Place, Rate};
 use ispc_names_scopes::{StatementCall, statement_call};
 use source_answers::{SourceFault, fault_if, refuse};
-use std::alloc::Global;
+use std::alloc::{AllocError, Global};
 use type_check_expressions::arguments;
 use type_check_scopes::{Passing, TypeScope};
-use type_check_values::may_become;
+use type_check_values::{boxed_stmt, may_become};
 use typed_tree::{ResultFor, Stmt};
 
 /// A call as a statement, with the type and rate of its result.
 #[derive(Drop)]
 pub struct Called {
-    pub stmt: Stmt,
+    pub stmt: Box<Stmt>,
     pub result: Option<(IntType, Rate)>,
+}
+
+impl Called {
+    /// The statement in a box, with the type and rate of its result.
+    pub(crate) fn new(
+        alloc: Global,
+        stmt: Stmt,
+        given: Option<(IntType, Rate)>,
+    ) -> Result<Called, AllocError>
+        ensures called { IfOk result (λ it. called_view it ≡ calls.called (stmt_view stmt) given) }
+    {
+        let stmt = boxed_stmt(alloc, stmt)?;
+        Ok(Called {
+            stmt,
+            result: given,
+        })
+    }
 }
 
 /// What a call's result is given to: its rate, and the right side's first token.
@@ -112,8 +130,8 @@ pub fn right_call(
     call: &WholeCall,
     receiver: Receiver,
     step: usize,
-) -> Result<Stmt, SourceFault>
-    ensures { Answers stmt_view result (calls.right_call (context_view context.now) scope.now.entries receiver.place (whole_call_view call.now) receiver.rate (result_view receiver.result_for) step) }
+) -> Result<Box<Stmt>, SourceFault>
+    ensures { Answers boxed_stmt_view result (calls.right_call (context_view context.now) scope.now.entries receiver.place (whole_call_view call.now) receiver.rate (result_view receiver.result_for) step) }
 {
     let called = call_of(alloc, context, scope, call, receiver.result_for, step)?;
     refuse(result_fault(receiver.place, called.result, receiver.rate))?;

@@ -1,5 +1,5 @@
 //! Calls of `assert` and of the packed calls.
-ghost use Rattle.std.specs.Prelude.{◌≡◌, ◌∷◌, [], map};
+ghost use Rattle.std.specs.Prelude.{◌≡◌, ◌∷◌, [], IfOk, map};
 ghost use Rattle.gang_model.specs.Types.Calls as calls;
 ghost use Rattle.gang_model.specs.Types.LibraryTable.{Asserts, PackedLoads, PackedStores};
 ghost use Rattle.ispc_names_scopes.specs.Names.{call_view};
@@ -16,19 +16,16 @@ use gang_model::RefusalNumber;
 use gang_types::{IntType, Place, Rate};
 use ispc_names_scopes::StatementCall;
 use source_answers::{SourceFault, fault_if, refuse};
-use std::alloc::Global;
+use std::alloc::{AllocError, Global};
 use type_check_scopes::{Declared, Entry, Passing};
 use type_check_values::{as_bool, as_type, is_varying};
 use typed_tree::{ResultFor, Stmt, Var};
 
 /// A packed call gives how many elements were stored or loaded.
-fn packed(stmt: Stmt) -> Called
-    ensures { called_view result ≡ calls.packed (stmt_view stmt) }
+fn packed(alloc: Global, stmt: Stmt) -> Result<Called, AllocError>
+    ensures called { IfOk result (λ it. called_view it ≡ calls.packed (stmt_view stmt)) }
 {
-    Called {
-        stmt,
-        result: Some((IntType::Int32, Rate::Uniform)),
-    }
+    Called::new(alloc, stmt, Some((IntType::Int32, Rate::Uniform)))
 }
 
 /// `assert(bool)`.
@@ -42,13 +39,10 @@ fn asserted(
     ensures { Answers called_view result (calls.library_statement place Asserts (passing_view test.entry ∷ []) (result_view result_for) step) }
 {
     match test {
-        Passing::Scalar { value, .. } => Ok(Called {
-            stmt: Stmt::Check {
-                step,
-                test: as_bool(alloc, value)?,
-            },
-            result: None,
-        }),
+        Passing::Scalar { value, .. } => {
+            let test = as_bool(alloc, value)?;
+            Ok(Called::new(alloc, Stmt::Check { step, test }, None)?)
+        }
         _ => Err(refused(RefusalNumber::S9, place)),
     }
 }
@@ -75,13 +69,14 @@ fn packed_store(
             Passing::Scalar { value, .. },
         ) => {
             refuse(fault_if(entry.declared.is_constant, RefusalNumber::S8, at))?;
-            Ok(packed(Stmt::PackedStore {
+            let stmt = Stmt::PackedStore {
                 step,
                 array: entry.declared.id,
                 from,
                 value: as_type(alloc, entry.declared.value_type, value)?,
                 result_for,
-            }))
+            };
+            Ok(packed(alloc, stmt)?)
         }
         (Passing::View { .. }, Passing::View { .. }) => refusal,
         (Passing::View { .. }, Passing::Reference { .. }) => refusal,
@@ -102,6 +97,7 @@ fn takes_elements(variable: Entry, array: Entry) -> bool
 
 /// `packed_load_active(array, &x)`.
 fn packed_load(
+    alloc: Global,
     place: Place,
     array: Passing,
     loaded: Passing,
@@ -123,7 +119,7 @@ fn packed_load(
                 return refusal;
             }
             refuse(fault_if(variable.declared.is_constant, RefusalNumber::S8, at))?;
-            Ok(packed(Stmt::PackedLoad {
+            let stmt = Stmt::PackedLoad {
                 step,
                 array: entry.declared.id,
                 from,
@@ -133,7 +129,8 @@ fn packed_load(
                     rate: variable.declared.rate,
                 },
                 result_for,
-            }))
+            };
+            Ok(packed(alloc, stmt)?)
         }
         (Passing::View { .. }, Passing::Scalar { .. }) => refusal,
         (Passing::View { .. }, Passing::View { .. }) => refusal,
@@ -173,6 +170,7 @@ fn store_call(
 }
 
 fn load_call(
+    alloc: Global,
     place: Place,
     given: Vec<Passing>,
     result_for: ResultFor,
@@ -181,7 +179,7 @@ fn load_call(
     ensures { Answers called_view result (calls.library_statement place PackedLoads (map passing_view given.entry.items) (result_view result_for) step) }
 {
     match pair(given) {
-        Some((array, variable)) => packed_load(place, array, variable, result_for, step),
+        Some((array, variable)) => packed_load(alloc, place, array, variable, result_for, step),
         None => Err(refused(RefusalNumber::S9, place)),
     }
 }
@@ -204,6 +202,6 @@ pub(crate) fn library_statement(
     match call {
         StatementCall::Assert => assert_call(alloc, place, given, result_for, step),
         StatementCall::PackedStore => store_call(alloc, place, given, result_for, step),
-        StatementCall::PackedLoad => load_call(place, given, result_for, step),
+        StatementCall::PackedLoad => load_call(alloc, place, given, result_for, step),
     }
 }

@@ -41,15 +41,13 @@ fn meant_call(
     ensures called { IfOk result (λ called. called_view called ≡ called_function (map passing_view given.entry.items) (result_view result_for) step (candidate_view meant.now)) }
 {
     let args = passed_args(alloc, given, &meant.function.params)?;
-    Ok(Called {
-        stmt: Stmt::Call {
-            step,
-            function: meant.number,
-            args,
-            result_for,
-        },
-        result: result_of(meant.function.spec),
-    })
+    let stmt = Stmt::Call {
+        step,
+        function: meant.number,
+        args,
+        result_for,
+    };
+    Called::new(alloc, stmt, result_of(meant.function.spec))
 }
 
 /// A call of a function of the source.

@@ -12,7 +12,7 @@ use crate::values::refusal;
 use gang_model::{RefusalNumber, SourceRefusal};
 use gang_types::{IntType, Place, is_bool};
 use ispc_parser_expressions::Expr;
-use source_answers::{SourceFault, boxed, fault_if, least, refuse};
+use source_answers::{SourceFault, fault_if, least, refuse};
 use std::alloc::{AllocError, Global};
 use type_check_scopes::{Declared, TypeScope};
 use type_check_values::Typed;
@@ -54,15 +54,11 @@ fn element_value(
     ensures element { IfOk result (λ e. typed_view e ≡ typing.element (typed_view index) (Some (declared_view name.now declared))) }
 {
     let rate = index.rate;
-    let index = boxed(alloc, index.expr)?;
-    Ok(Typed {
-        expr: TypedExpr::Element {
-            array: declared.id,
-            index,
-        },
-        value_type: declared.value_type,
-        rate,
-    })
+    let expr = TypedExpr::Element {
+        array: declared.id,
+        index: index.expr,
+    };
+    Typed::new(alloc, expr, declared.value_type, rate)
 }
 
 /// The element of an array at an index with this value.

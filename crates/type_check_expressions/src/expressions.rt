@@ -35,9 +35,9 @@ pub fn expression(alloc: Global, expr: &Expr, scope: &TypeScope) -> Result<Typed
     ensures { Answers typed_view result (typing.expression (expr_view expr.now) scope.now.entries) }
 {
     match expr {
-        Expr::Number { number, .. } => Ok(number_value(*number)),
-        Expr::Truth { value, .. } => Ok(truth_value(*value)),
-        Expr::Name { place, name } => name_value(*place, name, scope),
+        Expr::Number { number, .. } => Ok(number_value(alloc, *number)?),
+        Expr::Truth { value, .. } => Ok(truth_value(alloc, *value)?),
+        Expr::Name { place, name } => name_value(alloc, *place, name, scope),
         Expr::Index { place, name, index } => {
             let value = expression(alloc, index, scope)?;
             element(alloc, *place, name, index, value, scope)
@@ -140,8 +140,8 @@ pub fn given_value(
     scope: &TypeScope,
     value_type: IntType,
     rate: Rate,
-) -> Result<TypedExpr, SourceFault>
-    ensures { Answers typed.expr_view result (typing.given_value (expr_view expr.now) scope.now.entries value_type rate) }
+) -> Result<Box<TypedExpr>, SourceFault>
+    ensures { Answers typed.boxed_view result (typing.given_value (expr_view expr.now) scope.now.entries value_type rate) }
 {
     let value = expression(alloc, expr, scope)?;
     refuse(fault_if(

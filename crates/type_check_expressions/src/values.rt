@@ -1,5 +1,5 @@
 //! The values of literals and names.
-ghost use Rattle.std.specs.Prelude.{◌≡◌, Some};
+ghost use Rattle.std.specs.Prelude.{◌≡◌, IfOk, Some};
 ghost use Rattle.gang_model.specs.Types.Conversions as model;
 ghost use Rattle.gang_model.specs.Types.Tree as tree;
 ghost use Rattle.gang_model.specs.Types.Typing as typing;
@@ -15,30 +15,33 @@ use gang_model::{RefusalNumber, SourceRefusal};
 use gang_types::{IntType, Place, Rate};
 use ispc_lexer::Number;
 use source_answers::{SourceFault, fault_if, refuse};
+use std::alloc::{AllocError, Global};
 use type_check_scopes::{Declared, TypeScope, built_in};
 use type_check_values::{Typed, literal_type};
 use typed_tree::{Expr, Var};
 
 /// The value of a number.
-pub(crate) fn number_value(number: Number) -> Typed
-    ensures { typed_view result ≡ model.typed (tree.Number number.value) (model.literal_type number.value number.is_unsigned number.is_long) Uniform }
+///
+/// # Errors
+///
+/// Out of memory.
+pub(crate) fn number_value(alloc: Global, number: Number) -> Result<Typed, AllocError>
+    ensures value { IfOk result (λ e. typed_view e ≡ model.typed (tree.Number number.value) (model.literal_type number.value number.is_unsigned number.is_long) Uniform) }
 {
-    Typed {
-        expr: Expr::Number(number.value),
-        value_type: literal_type(number.value, number.is_unsigned, number.is_long),
-        rate: Rate::Uniform,
-    }
+    let value_type = literal_type(number.value, number.is_unsigned, number.is_long);
+    Typed::new(alloc, Expr::Number(number.value), value_type, Rate::Uniform)
 }
 
 /// The value of a truth value.
-pub(crate) fn truth_value(truth: bool) -> Typed
-    ensures { typed_view result ≡ model.typed (tree.Number (typing.truth_value truth)) Bool Uniform }
+///
+/// # Errors
+///
+/// Out of memory.
+pub(crate) fn truth_value(alloc: Global, truth: bool) -> Result<Typed, AllocError>
+    ensures value { IfOk result (λ e. typed_view e ≡ model.typed (tree.Number (typing.truth_value truth)) Bool Uniform) }
 {
-    Typed {
-        expr: Expr::Number(u64::from(truth)),
-        value_type: IntType::Bool,
-        rate: Rate::Uniform,
-    }
+    let expr = Expr::Number(u64::from(truth));
+    Typed::new(alloc, expr, IntType::Bool, Rate::Uniform)
 }
 
 /// A fault with its place.
@@ -52,13 +55,13 @@ pub(crate) fn refusal(number: RefusalNumber, place: Place) -> SourceFault
 ///
 /// # Errors
 ///
-/// S5 at the name if nothing has this name.
-fn built_in_value(place: Place, name: &[u8]) -> Result<Typed, SourceFault>
+/// S5 at the name if nothing has this name. Out of memory.
+fn built_in_value(alloc: Global, place: Place, name: &[u8]) -> Result<Typed, SourceFault>
     ensures { Answers typed_view result (typing.built_in_value place (typing.built_in name.now)) }
 {
     match built_in(name) {
         None => Err(refusal(RefusalNumber::S5, place)),
-        Some(value) => Ok(value),
+        Some(value) => Ok(Typed::new(alloc, value.expr, IntType::Int32, value.rate)?),
     }
 }
 
@@ -66,32 +69,39 @@ fn built_in_value(place: Place, name: &[u8]) -> Result<Typed, SourceFault>
 ///
 /// # Errors
 ///
-/// S8 at the name of an array or of a `void` variable.
-fn declared_value(place: Place, name: &[u8], declared: Declared) -> Result<Typed, SourceFault>
+/// S8 at the name of an array or of a `void` variable. Out of memory.
+fn declared_value(
+    alloc: Global,
+    place: Place,
+    name: &[u8],
+    declared: Declared,
+) -> Result<Typed, SourceFault>
     ensures { Answers typed_view result (typing.name_value place name.now (Some (declared_view name.now declared))) }
 {
     refuse(fault_if(has_no_value(declared), RefusalNumber::S8, place))?;
-    Ok(Typed {
-        expr: Expr::Read(Var {
-            id: declared.id,
-            value_type: declared.value_type,
-            rate: declared.rate,
-        }),
+    let expr = Expr::Read(Var {
+        id: declared.id,
         value_type: declared.value_type,
         rate: declared.rate,
-    })
+    });
+    Ok(Typed::new(alloc, expr, declared.value_type, declared.rate)?)
 }
 
 /// The value of a name.
 ///
 /// # Errors
 ///
-/// S5 at a name that nothing has; S8 at that of an array or of a `void` variable.
-pub(crate) fn name_value(place: Place, name: &[u8], scope: &TypeScope) -> Result<Typed, SourceFault>
+/// S5 at a name that nothing has; S8 at that of an array or of a `void` variable. Out of memory.
+pub(crate) fn name_value(
+    alloc: Global,
+    place: Place,
+    name: &[u8],
+    scope: &TypeScope,
+) -> Result<Typed, SourceFault>
     ensures { Answers typed_view result (typing.name_value place name.now (typing.entry_of scope.now.entries name.now)) }
 {
     match scope.find(name) {
-        None => built_in_value(place, name),
-        Some(declared) => declared_value(place, name, declared),
+        None => built_in_value(alloc, place, name),
+        Some(declared) => declared_value(alloc, place, name, declared),
     }
 }

@@ -7,15 +7,12 @@ use Rattle.gang_model.specs.Types.Tree as tree
 use Rattle.gang_model.specs.Source.Judged.{both_answers, then_answer}
 use Rattle.gang_model.specs.Types.Conversions as model
 use Rattle.typed_tree.specs.declared.statements.Stmt.{Stmt}
+use Rattle.typed_tree.specs.Boxes.{BoxedStmt}
 use Rattle.type_check_values.specs.declared.typed.Typed.{Typed}
 
--- some items with one more after them
-abbrev pub one_longer : {A : Type 0} → Result (List A) SourceRefusal → Result A SourceRefusal → Result (List A) SourceRefusal
-one_longer first next = then_answer (both_answers first next) (λ parts. Ok (parts.0 ++ parts.1 ∷ []))
-
 -- some statements with one more after them
-abbrev pub one_more : Result (List Stmt) SourceRefusal → Result Stmt SourceRefusal → Result (List Stmt) SourceRefusal
-one_more first next = then_answer (both_answers first next) (λ parts. Ok (parts.0 ++ parts.1 ∷ []))
+abbrev pub one_more : Result (List Stmt) SourceRefusal → Result BoxedStmt SourceRefusal → Result (List Stmt) SourceRefusal
+one_more first next = then_answer (both_answers first next) (λ parts. Ok (parts.0 ++ parts.1.value ∷ []))
 
 -- the type of a value, or any where it has a fault
 abbrev pub type_or_int32 : Result Typed SourceRefusal → IntType

@@ -1,29 +1,17 @@
 //! Statements of their parts.
 ghost use Rattle.std.specs.Prelude.{◌≡◌, IfOk, Ok, if◌then◌else◌, map};
 ghost use Rattle.gang_model.specs.Types.Tree as tree;
-ghost use Rattle.typed_tree.specs.Views.{dimension_view, expr_view, rounds_view, stmt_view, stmts_view, var_view};
+ghost use Rattle.typed_tree.specs.Boxes.{boxed_stmt_view};
+ghost use Rattle.typed_tree.specs.Views.{boxed_view, dimension_view, rounds_view, stmts_view, var_view};
 ghost use Rattle.type_check_values.specs.Views.{typed_view};
 ghost use Rattle.source_answers.specs.Apart.{seen};
-ghost use Rattle.type_check_forms.specs.Sequences.{one_longer, one_more, type_or_int32, value_rounds};
+ghost use Rattle.type_check_forms.specs.Sequences.{one_more, type_or_int32, value_rounds};
 
 use gang_types::IntType;
-use source_answers::{Answer, both_answers, boxed, in_order};
+use source_answers::{Answer, both_answers, in_order};
 use std::alloc::{AllocError, Global};
-use type_check_values::Typed;
+use type_check_values::{Typed, boxed_stmt};
 use typed_tree::{Dimension, Expr, Rounds, Stmt, Var};
-
-/// The items with one more after them.
-fn one_longer<T: Drop>(first: Answer<Vec<T>>, next: Answer<T>) -> Result<Answer<Vec<T>>, AllocError>
-    ensures longer { IfOk result (λ answer. seen (λ list. list.items) answer ≡ one_longer (seen (λ list. list.items) first) next) }
-{
-    match both_answers(first, next) {
-        Ok((mut items, next)) => {
-            items.push(next)?;
-            Ok(Ok(items))
-        }
-        Err(fault) => Ok(Err(fault)),
-    }
-}
 
 /// The statements with one more after them.
 ///
@@ -32,61 +20,53 @@ fn one_longer<T: Drop>(first: Answer<Vec<T>>, next: Answer<T>) -> Result<Answer<
 /// Out of memory.
 pub fn more_statements(
     first: Answer<Vec<Stmt>>,
-    next: Answer<Stmt>,
+    next: Answer<Box<Stmt>>,
 ) -> Result<Answer<Vec<Stmt>>, AllocError>
     ensures more { IfOk result (λ answer. seen (λ stmts. stmts.items) answer ≡ one_more (seen (λ stmts. stmts.items) first) next) }
 {
-    one_longer(first, next)
-}
-
-/// The statements as one.
-pub fn block(stmts: Answer<Vec<Stmt>>) -> Answer<Stmt>
-    ensures { seen stmt_view result ≡ seen (λ stmts. stmts_view stmts.items) stmts }
-{
-    match stmts {
-        Ok(stmts) => Ok(Stmt::Block(stmts)),
-        Err(fault) => Err(fault),
+    match both_answers(first, next) {
+        Ok((mut stmts, next)) => {
+            stmts.push(Box::into_inner(next))?;
+            Ok(Ok(stmts))
+        }
+        Err(fault) => Ok(Err(fault)),
     }
 }
 
-/// A statement in a box.
-fn in_box(alloc: Global, stmt: Stmt) -> Result<Box<Stmt>, AllocError>
-    ensures value { IfOk result (λ place. place.value ≡ stmt) }
+/// The statements as one.
+///
+/// # Errors
+///
+/// Out of memory.
+pub fn block(alloc: Global, stmts: Answer<Vec<Stmt>>) -> Result<Answer<Box<Stmt>>, AllocError>
+    ensures form { IfOk result (λ answer. seen boxed_stmt_view answer ≡ seen (λ stmts. stmts_view stmts.items) stmts) }
 {
-    boxed(alloc, stmt)
-}
-
-/// Two statements in boxes.
-fn both_in_boxes(
-    alloc: Global,
-    first: Stmt,
-    second: Stmt,
-) -> Result<(Box<Stmt>, Box<Stmt>), AllocError>
-    ensures first { IfOk result (λ places. places.0.value ≡ first) }
-    ensures second { IfOk result (λ places. places.1.value ≡ second) }
-{
-    let first = in_box(alloc, first)?;
-    let second = in_box(alloc, second)?;
-    Ok((first, second))
+    match stmts {
+        Ok(stmts) => {
+            let block = boxed_stmt(alloc, Stmt::Block(stmts))?;
+            Ok(Ok(block))
+        }
+        Err(fault) => Ok(Err(fault)),
+    }
 }
 
 /// `if`, with both of its statements.
 fn if_of(
     alloc: Global,
     step: usize,
-    test: Expr,
-    first: Stmt,
-    other: Stmt,
-) -> Result<Answer<Stmt>, AllocError>
-    ensures form { IfOk result (λ answer. seen stmt_view answer ≡ Ok (tree.If step (expr_view test) (stmt_view first) (stmt_view other))) }
+    test: Box<Expr>,
+    first: Box<Stmt>,
+    other: Box<Stmt>,
+) -> Result<Answer<Box<Stmt>>, AllocError>
+    ensures form { IfOk result (λ answer. seen boxed_stmt_view answer ≡ Ok (tree.If step (boxed_view test) (boxed_stmt_view first) (boxed_stmt_view other))) }
 {
-    let (first, other) = both_in_boxes(alloc, first, other)?;
-    Ok(Ok(Stmt::If {
+    let stmt = Stmt::If {
         step,
         test,
         first,
         other,
-    }))
+    };
+    Ok(Ok(boxed_stmt(alloc, stmt)?))
 }
 
 /// `if` without `else`.
@@ -97,12 +77,15 @@ fn if_of(
 pub fn conditional(
     alloc: Global,
     step: usize,
-    parts: Answer<(Expr, Stmt)>,
-) -> Result<Answer<Stmt>, AllocError>
-    ensures form { IfOk result (λ answer. seen stmt_view answer ≡ seen (λ parts. tree.If step (expr_view parts.0) (stmt_view parts.1) tree.Empty) parts) }
+    parts: Answer<(Box<Expr>, Box<Stmt>)>,
+) -> Result<Answer<Box<Stmt>>, AllocError>
+    ensures form { IfOk result (λ answer. seen boxed_stmt_view answer ≡ seen (λ parts. tree.If step (boxed_view parts.0) (boxed_stmt_view parts.1) tree.Empty) parts) }
 {
     match parts {
-        Ok((test, first)) => if_of(alloc, step, test, first, Stmt::Empty),
+        Ok((test, first)) => {
+            let other = boxed_stmt(alloc, Stmt::Empty)?;
+            if_of(alloc, step, test, first, other)
+        }
         Err(fault) => Ok(Err(fault)),
     }
 }
@@ -115,9 +98,9 @@ pub fn conditional(
 pub fn choice(
     alloc: Global,
     step: usize,
-    parts: Answer<(Expr, (Stmt, Stmt))>,
-) -> Result<Answer<Stmt>, AllocError>
-    ensures form { IfOk result (λ answer. seen stmt_view answer ≡ seen (λ parts. tree.If step (expr_view parts.0) (stmt_view parts.1.0) (stmt_view parts.1.1)) parts) }
+    parts: Answer<(Box<Expr>, (Box<Stmt>, Box<Stmt>))>,
+) -> Result<Answer<Box<Stmt>>, AllocError>
+    ensures form { IfOk result (λ answer. seen boxed_stmt_view answer ≡ seen (λ parts. tree.If step (boxed_view parts.0) (boxed_stmt_view parts.1.0) (boxed_stmt_view parts.1.1)) parts) }
 {
     match parts {
         Ok((test, (first, other))) => if_of(alloc, step, test, first, other),
@@ -129,19 +112,19 @@ pub fn choice(
 fn loop_of(
     alloc: Global,
     step: usize,
-    test: Expr,
-    update: Stmt,
-    body: Stmt,
-) -> Result<Stmt, AllocError>
-    ensures form { IfOk result (λ stmt. stmt_view stmt ≡ tree.Loop step (expr_view test) (stmt_view update) (stmt_view body)) }
+    test: Box<Expr>,
+    update: Box<Stmt>,
+    body: Box<Stmt>,
+) -> Result<Box<Stmt>, AllocError>
+    ensures form { IfOk result (λ stmt. boxed_stmt_view stmt ≡ tree.Loop step (boxed_view test) (boxed_stmt_view update) (boxed_stmt_view body)) }
 {
-    let (update, body) = both_in_boxes(alloc, update, body)?;
-    Ok(Stmt::Loop {
+    let stmt = Stmt::Loop {
         step,
         test,
         update,
         body,
-    })
+    };
+    boxed_stmt(alloc, stmt)
 }
 
 /// `while`.
@@ -152,12 +135,15 @@ fn loop_of(
 pub fn repeated(
     alloc: Global,
     step: usize,
-    parts: Answer<(Expr, Stmt)>,
-) -> Result<Answer<Stmt>, AllocError>
-    ensures form { IfOk result (λ answer. seen stmt_view answer ≡ seen (λ parts. tree.Loop step (expr_view parts.0) tree.Empty (stmt_view parts.1)) parts) }
+    parts: Answer<(Box<Expr>, Box<Stmt>)>,
+) -> Result<Answer<Box<Stmt>>, AllocError>
+    ensures form { IfOk result (λ answer. seen boxed_stmt_view answer ≡ seen (λ parts. tree.Loop step (boxed_view parts.0) tree.Empty (boxed_stmt_view parts.1)) parts) }
 {
     match parts {
-        Ok((test, body)) => Ok(Ok(loop_of(alloc, step, test, Stmt::Empty, body)?)),
+        Ok((test, body)) => {
+            let update = boxed_stmt(alloc, Stmt::Empty)?;
+            Ok(Ok(loop_of(alloc, step, test, update, body)?))
+        }
         Err(fault) => Ok(Err(fault)),
     }
 }
@@ -170,25 +156,28 @@ pub fn repeated(
 pub fn body_first(
     alloc: Global,
     step: usize,
-    parts: Answer<(Stmt, Expr)>,
-) -> Result<Answer<Stmt>, AllocError>
-    ensures form { IfOk result (λ answer. seen stmt_view answer ≡ seen (λ parts. tree.BodyFirst step (expr_view parts.1) (stmt_view parts.0)) parts) }
+    parts: Answer<(Box<Stmt>, Box<Expr>)>,
+) -> Result<Answer<Box<Stmt>>, AllocError>
+    ensures form { IfOk result (λ answer. seen boxed_stmt_view answer ≡ seen (λ parts. tree.BodyFirst step (boxed_view parts.1) (boxed_stmt_view parts.0)) parts) }
 {
     match parts {
         Ok((body, test)) => {
-            let body = in_box(alloc, body)?;
-            Ok(Ok(Stmt::BodyFirst { step, test, body }))
+            let stmt = Stmt::BodyFirst { step, test, body };
+            Ok(Ok(boxed_stmt(alloc, stmt)?))
         }
         Err(fault) => Ok(Err(fault)),
     }
 }
 
 /// A statement, and the rest of what it begins.
-fn then_of(alloc: Global, first: Stmt, rest: Stmt) -> Result<Answer<Stmt>, AllocError>
-    ensures form { IfOk result (λ answer. seen stmt_view answer ≡ Ok (tree.Then (stmt_view first) (stmt_view rest))) }
+fn then_of(
+    alloc: Global,
+    first: Box<Stmt>,
+    rest: Box<Stmt>,
+) -> Result<Answer<Box<Stmt>>, AllocError>
+    ensures form { IfOk result (λ answer. seen boxed_stmt_view answer ≡ Ok (tree.Then (boxed_stmt_view first) (boxed_stmt_view rest))) }
 {
-    let (first, rest) = both_in_boxes(alloc, first, rest)?;
-    Ok(Ok(Stmt::Then { first, rest }))
+    Ok(Ok(boxed_stmt(alloc, Stmt::Then { first, rest })?))
 }
 
 /// `for`: its start and its test, its update and its body.
@@ -199,9 +188,9 @@ fn then_of(alloc: Global, first: Stmt, rest: Stmt) -> Result<Answer<Stmt>, Alloc
 pub fn started(
     alloc: Global,
     step: usize,
-    parts: Answer<((Stmt, Expr), (Stmt, Stmt))>,
-) -> Result<Answer<Stmt>, AllocError>
-    ensures form { IfOk result (λ answer. seen stmt_view answer ≡ seen (λ parts. tree.Then (stmt_view parts.0.0) (tree.Loop step (expr_view parts.0.1) (stmt_view parts.1.0) (stmt_view parts.1.1))) parts) }
+    parts: Answer<((Box<Stmt>, Box<Expr>), (Box<Stmt>, Box<Stmt>))>,
+) -> Result<Answer<Box<Stmt>>, AllocError>
+    ensures form { IfOk result (λ answer. seen boxed_stmt_view answer ≡ seen (λ parts. tree.Then (boxed_stmt_view parts.0.0) (tree.Loop step (boxed_view parts.0.1) (boxed_stmt_view parts.1.0) (boxed_stmt_view parts.1.1))) parts) }
 {
     match parts {
         Ok(((start, test), (update, body))) => {
@@ -228,12 +217,12 @@ fn rounds_of(
     alloc: Global,
     step: usize,
     rounds: Rounds,
-    body: Stmt,
-) -> Result<Answer<Stmt>, AllocError>
-    ensures form { IfOk result (λ answer. seen stmt_view answer ≡ Ok (tree.ForEach step (rounds_view rounds) (stmt_view body))) }
+    body: Box<Stmt>,
+) -> Result<Answer<Box<Stmt>>, AllocError>
+    ensures form { IfOk result (λ answer. seen boxed_stmt_view answer ≡ Ok (tree.ForEach step (rounds_view rounds) (boxed_stmt_view body))) }
 {
-    let body = in_box(alloc, body)?;
-    Ok(Ok(Stmt::ForEach { step, rounds, body }))
+    let stmt = Stmt::ForEach { step, rounds, body };
+    Ok(Ok(boxed_stmt(alloc, stmt)?))
 }
 
 /// `foreach` and `foreach_tiled`.
@@ -245,9 +234,9 @@ pub fn over_rows(
     alloc: Global,
     step: usize,
     is_tiled: bool,
-    parts: Answer<(Vec<Dimension>, Stmt)>,
-) -> Result<Answer<Stmt>, AllocError>
-    ensures form { IfOk result (λ answer. seen stmt_view answer ≡ seen (λ parts. tree.ForEach step (if is_tiled then tree.Tiles (map dimension_view parts.0.items) else tree.Rows (map dimension_view parts.0.items)) (stmt_view parts.1)) parts) }
+    parts: Answer<(Vec<Dimension>, Box<Stmt>)>,
+) -> Result<Answer<Box<Stmt>>, AllocError>
+    ensures form { IfOk result (λ answer. seen boxed_stmt_view answer ≡ seen (λ parts. tree.ForEach step (if is_tiled then tree.Tiles (map dimension_view parts.0.items) else tree.Rows (map dimension_view parts.0.items)) (boxed_stmt_view parts.1)) parts) }
 {
     match parts {
         Ok((dimensions, body)) => {
@@ -266,9 +255,9 @@ pub fn over_lanes(
     alloc: Global,
     step: usize,
     index: Var,
-    body: Answer<Stmt>,
-) -> Result<Answer<Stmt>, AllocError>
-    ensures form { IfOk result (λ answer. seen stmt_view answer ≡ seen (λ body. tree.ForEach step (tree.EachLane (var_view index)) (stmt_view body)) body) }
+    body: Answer<Box<Stmt>>,
+) -> Result<Answer<Box<Stmt>>, AllocError>
+    ensures form { IfOk result (λ answer. seen boxed_stmt_view answer ≡ seen (λ body. tree.ForEach step (tree.EachLane (var_view index)) (boxed_stmt_view body)) body) }
 {
     match body {
         Ok(body) => rounds_of(alloc, step, Rounds::EachLane(index), body),
@@ -297,9 +286,9 @@ pub fn over_values(
     step: usize,
     index: Var,
     value: Answer<Typed>,
-    body: Answer<Stmt>,
-) -> Result<Answer<Stmt>, AllocError>
-    ensures form { IfOk result (λ answer. seen stmt_view answer ≡ value_rounds step (var_view index) (seen typed_view value) (seen stmt_view body)) }
+    body: Answer<Box<Stmt>>,
+) -> Result<Answer<Box<Stmt>>, AllocError>
+    ensures form { IfOk result (λ answer. seen boxed_stmt_view answer ≡ value_rounds step (var_view index) (seen typed_view value) (seen boxed_stmt_view body)) }
 {
     match in_order(value, body) {
         Ok((value, body)) => {

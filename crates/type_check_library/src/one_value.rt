@@ -8,70 +8,73 @@ ghost use Rattle.type_check_library.specs.Calls.{call_of_one_view};
 use crate::calls::CallOfOne;
 use crate::types::{reduced_type, truths_type};
 use gang_types::{IntType, Rate, is_bool};
-use source_answers::boxed;
 use std::alloc::{AllocError, Global};
-use type_check_values::{Typed, boxed_as_type, promoted};
+use type_check_values::{Typed, as_type, promoted};
 use typed_tree::{Expr, OneCall, Reduction, Scan};
 
 fn truths_reduced(alloc: Global, function: Reduction, value: Typed) -> Result<Typed, AllocError>
     ensures reduced { IfOk result (λ e. typed_view e ≡ table.truths_reduced (reduction_view function) (typed_view value)) }
 {
-    let value = boxed_as_type(alloc, IntType::Bool, value)?;
-    Ok(Typed {
-        expr: Expr::Reduce {
+    let value = as_type(alloc, IntType::Bool, value)?;
+    Typed::new(
+        alloc,
+        Expr::Reduce {
             function,
             value_type: IntType::Bool,
             value,
         },
-        value_type: truths_type(function),
-        rate: Rate::Uniform,
-    })
+        truths_type(function),
+        Rate::Uniform,
+    )
 }
 
 fn numbers_reduced(alloc: Global, function: Reduction, value: Typed) -> Result<Typed, AllocError>
     ensures reduced { IfOk result (λ e. typed_view e ≡ table.numbers_reduced (reduction_view function) (typed_view value)) }
 {
     let value_type = promoted(value.value_type);
-    let value = boxed_as_type(alloc, value_type, value)?;
-    Ok(Typed {
-        expr: Expr::Reduce {
+    let value = as_type(alloc, value_type, value)?;
+    Typed::new(
+        alloc,
+        Expr::Reduce {
             function,
             value_type,
             value,
         },
-        value_type: reduced_type(function, value_type),
-        rate: Rate::Uniform,
-    })
+        reduced_type(function, value_type),
+        Rate::Uniform,
+    )
 }
 
 fn lanes_compared(alloc: Global, value: Typed) -> Result<Typed, AllocError>
     ensures compared { IfOk result (λ e. Some (typed_view e) ≡ table.library_value table.ComparesLanes (typed_view value ∷ [])) }
 {
-    Ok(Typed {
-        expr: Expr::Reduce {
+    Typed::new(
+        alloc,
+        Expr::Reduce {
             function: Reduction::ReduceEqual,
             value_type: value.value_type,
-            value: boxed(alloc, value.expr)?,
+            value: value.expr,
         },
-        value_type: IntType::Bool,
-        rate: Rate::Uniform,
-    })
+        IntType::Bool,
+        Rate::Uniform,
+    )
 }
 
 fn lanes_scanned(alloc: Global, function: Scan, value: Typed) -> Result<Typed, AllocError>
     ensures scanned { IfOk result (λ e. Some (typed_view e) ≡ table.library_value (table.Scans (scan_view function)) (typed_view value ∷ [])) }
 {
     let value_type = promoted(value.value_type);
-    let value = boxed_as_type(alloc, value_type, value)?;
-    Ok(Typed {
-        expr: Expr::ScanLanes {
+    let value = as_type(alloc, value_type, value)?;
+    Typed::new(
+        alloc,
+        Expr::ScanLanes {
             function,
             value_type,
             value,
         },
         value_type,
-        rate: Rate::Varying,
-    })
+        Rate::Varying,
+    )
 }
 
 fn ones_counted(alloc: Global, value: Typed) -> Result<Typed, AllocError>
@@ -80,15 +83,16 @@ fn ones_counted(alloc: Global, value: Typed) -> Result<Typed, AllocError>
     if is_bool(value.value_type) {
         return truths_reduced(alloc, Reduction::PopCountLanes, value);
     }
-    Ok(Typed {
-        expr: Expr::OfOne {
+    Typed::new(
+        alloc,
+        Expr::OfOne {
             function: OneCall::PopCount,
             value_type: value.value_type,
-            value: boxed(alloc, value.expr)?,
+            value: value.expr,
         },
-        value_type: IntType::Int32,
-        rate: value.rate,
-    })
+        IntType::Int32,
+        value.rate,
+    )
 }
 
 fn magnitude(alloc: Global, value: Typed) -> Result<Typed, AllocError>
@@ -96,16 +100,17 @@ fn magnitude(alloc: Global, value: Typed) -> Result<Typed, AllocError>
 {
     let value_type = promoted(value.value_type);
     let rate = value.rate;
-    let value = boxed_as_type(alloc, value_type, value)?;
-    Ok(Typed {
-        expr: Expr::OfOne {
+    let value = as_type(alloc, value_type, value)?;
+    Typed::new(
+        alloc,
+        Expr::OfOne {
             function: OneCall::Absolute,
             value_type,
             value,
         },
         value_type,
         rate,
-    })
+    )
 }
 
 /// The expression of a library call with this argument.

@@ -5,12 +5,11 @@ ghost use Rattle.type_check_values.specs.Views.{typed_view};
 ghost use Rattle.type_check_library.specs.Calls.{call_of_three_view};
 
 use crate::calls::CallOfThree;
-use crate::two_values::{as_index, both_as_type, one_of_two, with_index};
+use crate::two_values::{as_index, both_as_type, one_of_two};
 use crate::types::number_type;
 use gang_types::{IntType, Rate};
-use source_answers::boxed;
 use std::alloc::{AllocError, Global};
-use type_check_values::{Typed, boxed_as_type, joined, joined_rate, promoted};
+use type_check_values::{Typed, as_type, joined, joined_rate, promoted};
 use typed_tree::{Expr, TwoCall};
 
 fn inserted(
@@ -22,16 +21,14 @@ fn inserted(
     ensures inserted { IfOk result (λ e. Some (typed_view e) ≡ table.library_value table.Inserts (typed_view value ∷ typed_view index ∷ typed_view new_value ∷ [])) }
 {
     let value_type = value.value_type;
-    let (value, index) = with_index(alloc, value.expr, index)?;
-    boxed_as_type(alloc, value_type, new_value).map(|new_value| Typed {
-        expr: Expr::Insert {
-            value,
-            index,
-            new_value,
-        },
-        value_type,
-        rate: Rate::Varying,
-    })
+    let index = as_index(alloc, index)?;
+    let new_value = as_type(alloc, value_type, new_value)?;
+    let expr = Expr::Insert {
+        value: value.expr,
+        index,
+        new_value,
+    };
+    Typed::new(alloc, expr, value_type, Rate::Varying)
 }
 
 fn shuffled_two(
@@ -44,15 +41,13 @@ fn shuffled_two(
 {
     let value_type = promoted(joined(first.value_type, second.value_type));
     let (value, second) = both_as_type(alloc, value_type, first, second)?;
-    as_index(alloc, places).map(|places| Typed {
-        expr: Expr::ShuffleTwo {
-            value,
-            second,
-            places,
-        },
-        value_type,
-        rate: Rate::Varying,
-    })
+    let places = as_index(alloc, places)?;
+    let expr = Expr::ShuffleTwo {
+        value,
+        second,
+        places,
+    };
+    Typed::new(alloc, expr, value_type, Rate::Varying)
 }
 
 fn clamped(alloc: Global, value: Typed, low: Typed, high: Typed) -> Result<Typed, AllocError>
@@ -60,19 +55,8 @@ fn clamped(alloc: Global, value: Typed, low: Typed, high: Typed) -> Result<Typed
 {
     let value_type = joined(number_type(&value, &low), promoted(high.value_type));
     let rate = joined_rate(value.rate, joined_rate(low.rate, high.rate));
-    let at_least_low = one_of_two(alloc, TwoCall::Larger, value_type, value, low)?;
-    let left = boxed(alloc, at_least_low)?;
-    let right = boxed_as_type(alloc, value_type, high)?;
-    Ok(Typed {
-        expr: Expr::OfTwo {
-            function: TwoCall::Lesser,
-            value_type,
-            left,
-            right,
-        },
-        value_type,
-        rate,
-    })
+    let at_least_low = one_of_two(alloc, TwoCall::Larger, value_type, rate, value, low)?;
+    one_of_two(alloc, TwoCall::Lesser, value_type, rate, at_least_low, high)
 }
 
 fn selected(alloc: Global, test: Typed, first: Typed, second: Typed) -> Result<Typed, AllocError>
@@ -81,15 +65,13 @@ fn selected(alloc: Global, test: Typed, first: Typed, second: Typed) -> Result<T
     let value_type = joined(first.value_type, second.value_type);
     let rate = joined_rate(test.rate, joined_rate(first.rate, second.rate));
     let (first, second) = both_as_type(alloc, value_type, first, second)?;
-    boxed_as_type(alloc, IntType::Bool, test).map(|test| Typed {
-        expr: Expr::Select {
-            test,
-            first,
-            second,
-        },
-        value_type,
-        rate,
-    })
+    let test = as_type(alloc, IntType::Bool, test)?;
+    let expr = Expr::Select {
+        test,
+        first,
+        second,
+    };
+    Typed::new(alloc, expr, value_type, rate)
 }
 
 /// The expression of a library call with these arguments.

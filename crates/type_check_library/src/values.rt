@@ -30,11 +30,9 @@ pub(crate) fn library_value(
     ensures value { IfOk result (λ e. Some (typed_view e) ≡ table.library_value (call_view call) (typing.second_parts (map argument_view values.items))) }
 {
     match call {
-        LibraryCall::LaneMask => Ok(Typed {
-            expr: Expr::LaneMask,
-            value_type: IntType::Uint64,
-            rate: Rate::Uniform,
-        }),
+        LibraryCall::LaneMask => {
+            Typed::new(alloc, Expr::LaneMask, IntType::Uint64, Rate::Uniform)
+        }
         LibraryCall::OfOne(call) => {
             let first = values.remove(0);
             value_of_one(alloc, call, first.value)

@@ -10,8 +10,8 @@ use Rattle.gang_model.specs.Source.Judged.{Judged, Sound, ◌>>=◌, answer_of}
 use Rattle.gang_model.specs.Types.Statements as model
 use Rattle.gang_model.specs.Types.Statements.{Made, made}
 use Rattle.source_answers.specs.Apart.{seen}
-use Rattle.typed_tree.specs.declared.statements.Stmt as typed
-use Rattle.typed_tree.specs.Views.{stmt_view, target_view}
+use Rattle.typed_tree.specs.Boxes.{BoxedStmt, boxed_stmt_view}
+use Rattle.typed_tree.specs.Views.{target_view}
 use Rattle.type_check_parts.specs.declared.targets.Aimed.{Aimed}
 
 -- The answer is that for what is judged, and the function has so many more variables then: those that the statement declares.
@@ -22,8 +22,8 @@ pub record IsTyped {A : Type 0} (view : A → Stmt) (answer : Result A SourceRef
   pub answered : answer_of judged ≡ seen (λ s. made (view s) declared) answer
 
 -- the same of a statement of the language, with as many variables as stand in it
-abbrev pub IsTypedStatement : Result typed.Stmt SourceRefusal → ParsedStmt → Context → Scope → (before after : List Variable) → ℕ → Type 0
-IsTypedStatement answer s context scope before after step = IsTyped stmt_view answer (model.statement s context scope (length before) step) before after (locals_in s)
+abbrev pub IsTypedStatement : Result BoxedStmt SourceRefusal → ParsedStmt → Context → Scope → (before after : List Variable) → ℕ → Type 0
+IsTypedStatement answer s context scope before after step = IsTyped boxed_stmt_view answer (model.statement s context scope (length before) step) before after (locals_in s)
 
 -- what is judged in the scope of an index variable, with it among what is declared
 abbrev pub with_index : Entry → Judged Made → Judged Made

@@ -4,7 +4,7 @@ ghost use Rattle.ispc_parser_expressions.specs.Tree.{expr_view};
 ghost use Rattle.gang_model.specs.Source.Judged as judged;
 ghost use Rattle.gang_model.specs.Types.Statements as model;
 ghost use Rattle.ispc_parser.specs.Tree as parsed;
-ghost use Rattle.typed_tree.specs.Views.{stmt_view};
+ghost use Rattle.typed_tree.specs.Boxes.{boxed_stmt_view};
 ghost use Rattle.type_check_values.specs.Views.{typed_view};
 ghost use Rattle.source_answers.specs.Answers.{Answers};
 ghost use Rattle.type_check_calls.specs.Calls.{context_view, whole_call_view};
@@ -22,7 +22,7 @@ use std::alloc::Global;
 use type_check_calls::{Context, Receiver, WholeCall, right_call, whole_call};
 use type_check_expressions::{expression, first_of, given_value};
 use type_check_scopes::TypeScope;
-use type_check_values::{Typed, may_become, operation_type, right_operand};
+use type_check_values::{Typed, boxed_stmt, may_become, operation_type, right_operand};
 use typed_tree::{Expr as TypedExpr, ResultFor, Stmt, Var};
 
 /// The type that a value for a target gets and the rate that it may have, which is any where the target has a fault.
@@ -42,18 +42,19 @@ fn assigned_value(
     target: &ParsedTarget,
     value: &Expr,
     step: usize,
-) -> Result<Stmt, SourceFault>
-    ensures { Answers stmt_view result (model.assigned_value scope.now.entries (model.target_of scope.now.entries (parsed.target_view target.now).at (parsed.target_view target.now).name (parsed.target_view target.now).index) (expr_view value.now) step) }
+) -> Result<Box<Stmt>, SourceFault>
+    ensures { Answers boxed_stmt_view result (model.assigned_value scope.now.entries (model.target_of scope.now.entries (parsed.target_view target.now).at (parsed.target_view target.now).name (parsed.target_view target.now).index) (expr_view value.now) step) }
 {
     let aimed = target_of(alloc, scope, target);
     let (value_type, rate) = wanted(&aimed);
     let value = given_value(alloc, value, scope, value_type, rate);
     let (aimed, value) = both(aimed, value)?;
-    Ok(Stmt::Assign {
+    let stmt = Stmt::Assign {
         step,
         target: aimed.target,
         value,
-    })
+    };
+    Ok(boxed_stmt(alloc, stmt)?)
 }
 
 /// The variable that a call's result is given to, one of any rate where it has a fault.
@@ -79,8 +80,8 @@ fn assigned_call(
     place: Place,
     call: &WholeCall,
     step: usize,
-) -> Result<Stmt, SourceFault>
-    ensures { Answers stmt_view result (model.assigned_call (context_view context.now) scope.now.entries (model.scalar_target scope.now.entries (parsed.target_view target.now).at (parsed.target_view target.now).name) place (whole_call_view call.now) step) }
+) -> Result<Box<Stmt>, SourceFault>
+    ensures { Answers boxed_stmt_view result (model.assigned_call (context_view context.now) scope.now.entries (model.scalar_target scope.now.entries (parsed.target_view target.now).at (parsed.target_view target.now).name) place (whole_call_view call.now) step) }
 {
     let variable = scalar_target(scope, target.place, &target.name);
     let given_to = wanted_variable(&variable);
@@ -105,8 +106,8 @@ pub fn assignment(
     target: &ParsedTarget,
     value: &Expr,
     step: usize,
-) -> Result<Stmt, SourceFault>
-    ensures { Answers stmt_view result (model.assignment (context_view context.now) scope.now.entries (parsed.target_view target.now) (expr_view value.now) step) }
+) -> Result<Box<Stmt>, SourceFault>
+    ensures { Answers boxed_stmt_view result (model.assignment (context_view context.now) scope.now.entries (parsed.target_view target.now) (expr_view value.now) step) }
 {
     if target.index.is_some() {
         return assigned_value(alloc, scope, target, value, step);
@@ -142,18 +143,19 @@ fn changed(
     step: usize,
     aimed: Aimed,
     operand: Typed,
-) -> Result<Stmt, SourceFault>
-    ensures { Answers stmt_view result (judged.Sound (model.changed operator step (aimed_view aimed) (typed_view operand))) }
+) -> Result<Box<Stmt>, SourceFault>
+    ensures { Answers boxed_stmt_view result (judged.Sound (model.changed operator step (aimed_view aimed) (typed_view operand))) }
 {
     let value_type = operation_type(operator, aimed.value_type, operand.value_type);
-    Ok(Stmt::Change {
+    let stmt = Stmt::Change {
         step,
         target: aimed.target,
         target_type: aimed.value_type,
         operator,
         value_type,
         value: right_operand(alloc, operator, value_type, operand)?,
-    })
+    };
+    Ok(boxed_stmt(alloc, stmt)?)
 }
 
 /// An assignment with an operator: the target and the operand are judged each by itself.
@@ -168,8 +170,8 @@ pub fn change(
     operator: BinaryOp,
     value: &Expr,
     step: usize,
-) -> Result<Stmt, SourceFault>
-    ensures { Answers stmt_view result (change_of scope.now.entries (parsed.target_view target.now) operator (expr_view value.now) step) }
+) -> Result<Box<Stmt>, SourceFault>
+    ensures { Answers boxed_stmt_view result (change_of scope.now.entries (parsed.target_view target.now) operator (expr_view value.now) step) }
 {
     let aimed = target_of(alloc, scope, target);
     let (_, rate) = wanted(&aimed);
@@ -188,14 +190,10 @@ pub fn increment(
     target: &ParsedTarget,
     operator: BinaryOp,
     step: usize,
-) -> Result<Stmt, SourceFault>
-    ensures { Answers stmt_view result (increment_of scope.now.entries (parsed.target_view target.now) operator step) }
+) -> Result<Box<Stmt>, SourceFault>
+    ensures { Answers boxed_stmt_view result (increment_of scope.now.entries (parsed.target_view target.now) operator step) }
 {
     let aimed = target_of(alloc, scope, target)?;
-    let one = Typed {
-        expr: TypedExpr::Number(1),
-        value_type: IntType::Int32,
-        rate: Rate::Uniform,
-    };
+    let one = Typed::new(alloc, TypedExpr::Number(1), IntType::Int32, Rate::Uniform)?;
     changed(alloc, operator, step, aimed, one)
 }

@@ -1,5 +1,5 @@
 //! Calls that stand as statements.
-ghost use Rattle.typed_tree.specs.Views.{stmt_view};
+ghost use Rattle.typed_tree.specs.Boxes.{boxed_stmt_view};
 ghost use Rattle.source_answers.specs.Answers.{Answers};
 ghost use Rattle.type_check_calls.specs.Calls.{context_view, whole_call_view};
 ghost use Rattle.type_check_parts.specs.Beside.{call_statement};
@@ -21,8 +21,8 @@ pub fn called(
     scope: &TypeScope,
     call: &WholeCall,
     step: usize,
-) -> Result<Stmt, SourceFault>
-    ensures { Answers stmt_view result (call_statement (context_view context.now) scope.now.entries (whole_call_view call.now) step) }
+) -> Result<Box<Stmt>, SourceFault>
+    ensures { Answers boxed_stmt_view result (call_statement (context_view context.now) scope.now.entries (whole_call_view call.now) step) }
 {
     let called = call_of(alloc, context, scope, call, ResultFor::Nothing, step)?;
     Ok(called.stmt)

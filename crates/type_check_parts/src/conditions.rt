@@ -11,7 +11,7 @@ use source_answers::SourceFault;
 use std::alloc::Global;
 use type_check_expressions::expression;
 use type_check_scopes::TypeScope;
-use type_check_values::as_bool;
+use type_check_values::{as_bool, boxed_expr};
 use typed_tree::Expr as TypedExpr;
 
 /// A test, in bool.
@@ -19,8 +19,8 @@ use typed_tree::Expr as TypedExpr;
 /// # Errors
 ///
 /// Its first fault. Out of memory.
-pub fn test_of(alloc: Global, scope: &TypeScope, test: &Expr) -> Result<TypedExpr, SourceFault>
-    ensures { Answers typed.expr_view result (model.test_of scope.now.entries (Some (expr_view test.now))) }
+pub fn test_of(alloc: Global, scope: &TypeScope, test: &Expr) -> Result<Box<TypedExpr>, SourceFault>
+    ensures { Answers typed.boxed_view result (model.test_of scope.now.entries (Some (expr_view test.now))) }
 {
     let value = expression(alloc, test, scope)?;
     Ok(as_bool(alloc, value)?)
@@ -35,11 +35,11 @@ pub fn some_test(
     alloc: Global,
     scope: &TypeScope,
     test: &Option<Expr>,
-) -> Result<TypedExpr, SourceFault>
-    ensures { Answers typed.expr_view result (model.test_of scope.now.entries (option_map expr_view test.now)) }
+) -> Result<Box<TypedExpr>, SourceFault>
+    ensures { Answers typed.boxed_view result (model.test_of scope.now.entries (option_map expr_view test.now)) }
 {
     match test {
         Some(test) => test_of(alloc, scope, test),
-        None => Ok(TypedExpr::Number(1)),
+        None => Ok(boxed_expr(alloc, TypedExpr::Number(1))?),
     }
 }

@@ -8,7 +8,8 @@ ghost use Rattle.gang_model.specs.Types.Typing as typing;
 ghost use Rattle.gang_model.specs.Types.Calls as calls;
 ghost use Rattle.gang_model.specs.Types.Statements as model;
 ghost use Rattle.ispc_parser.specs.Tree as parsed;
-ghost use Rattle.typed_tree.specs.Views.{stmt_view, var_view};
+ghost use Rattle.typed_tree.specs.Boxes.{boxed_stmt_view};
+ghost use Rattle.typed_tree.specs.Views.{var_view};
 ghost use Rattle.source_answers.specs.Answers.{Answers};
 ghost use Rattle.source_answers.specs.Apart.{apart};
 ghost use Rattle.type_check_scopes.specs.Entries.{declared_view};
@@ -26,6 +27,7 @@ use std::alloc::{AllocError, Global};
 use type_check_calls::{Context, Receiver, right_call, whole_call};
 use type_check_expressions::{first_of, given_value};
 use type_check_scopes::{Declared, TypeScope, declared_with};
+use type_check_values::boxed_stmt;
 use typed_tree::{ResultFor, Stmt, Var};
 
 /// A declaration with a first value: a call's result, or a value.
@@ -36,8 +38,8 @@ fn first_value(
     variable: Var,
     value: &Expr,
     step: usize,
-) -> Result<Stmt, SourceFault>
-    ensures { Answers stmt_view result (model.first_value (calls.whole_call (context_view context.now).functions (expr_view value.now)) (context_view context.now) scope.now.entries (var_view variable) (expr_view value.now) step) }
+) -> Result<Box<Stmt>, SourceFault>
+    ensures { Answers boxed_stmt_view result (model.first_value (calls.whole_call (context_view context.now).functions (expr_view value.now)) (context_view context.now) scope.now.entries (var_view variable) (expr_view value.now) step) }
 {
     match whole_call(context.functions, value) {
         Some(call) => {
@@ -50,11 +52,12 @@ fn first_value(
         }
         None => {
             let value = given_value(alloc, value, scope, variable.value_type, variable.rate)?;
-            Ok(Stmt::Declare {
+            let stmt = Stmt::Declare {
                 step,
                 variable,
                 value: Some(value),
-            })
+            };
+            Ok(boxed_stmt(alloc, stmt)?)
         }
     }
 }
@@ -71,16 +74,19 @@ fn declaration(
     variable: Var,
     value: &Option<Expr>,
     step: usize,
-) -> Result<Stmt, SourceFault>
-    ensures { Answers stmt_view result (model.declaration (context_view context.now) scope.now.entries (var_view variable) (option_map expr_view value.now) step) }
+) -> Result<Box<Stmt>, SourceFault>
+    ensures { Answers boxed_stmt_view result (model.declaration (context_view context.now) scope.now.entries (var_view variable) (option_map expr_view value.now) step) }
 {
     match value {
         Some(value) => first_value(alloc, context, scope, variable, value, step),
-        None => Ok(Stmt::Declare {
-            step,
-            variable,
-            value: None,
-        }),
+        None => {
+            let stmt = Stmt::Declare {
+                step,
+                variable,
+                value: None,
+            };
+            Ok(boxed_stmt(alloc, stmt)?)
+        }
     }
 }
 
@@ -117,8 +123,8 @@ pub fn declare(
     context: &Context,
     scope: &mut TypeScope,
     step: &mut usize,
-) -> Result<Answer<Stmt>, AllocError>
-    ensures typed { IfOk result (λ answer. (p : Place) → IsTyped stmt_view answer (model.statement (ParsedDeclare p spec place name.now (option_map expr_view value.now)) (context_view context.now) scope.old.entries (length scope.old.locals) step.old)
+) -> Result<Answer<Box<Stmt>>, AllocError>
+    ensures typed { IfOk result (λ answer. (p : Place) → IsTyped boxed_stmt_view answer (model.statement (ParsedDeclare p spec place name.now (option_map expr_view value.now)) (context_view context.now) scope.old.entries (length scope.old.locals) step.old)
         scope.old.locals scope.new.locals 1) }
     ensures after { OnOk result (scope.new.entries ≡ typing.declared name.now (Local (length scope.old.locals)) spec false false ∷ scope.old.entries) }
     ensures steps { OnOk result (step.new ≡ step.old + 1) }

@@ -16,6 +16,6 @@ pub use calls::called;
 pub use conditions::{some_test, test_of};
 pub use declarations::declare;
 pub use numbering::{advanced, one_step, steps_in};
-pub use results::returning;
+pub use results::{returning, unjudged};
 pub use rounds::{declare_indices, dimensions};
 pub use targets::variable_of;

@@ -3,6 +3,8 @@ ghost use Rattle.std.specs.Prelude.{Some, option_map};
 ghost use Rattle.ispc_parser_expressions.specs.Tree.{expr_view};
 ghost use Rattle.gang_model.specs.Types.Statements as model;
 ghost use Rattle.ispc_parser.specs.Tree as parsed;
+ghost use Rattle.gang_model.specs.Source.Judged.{Sound};
+ghost use Rattle.typed_tree.specs.Boxes.{boxed_stmt_view};
 ghost use Rattle.typed_tree.specs.Views.{stmt_view};
 ghost use Rattle.source_answers.specs.Answers.{Answers};
 ghost use Rattle.type_check_calls.specs.Calls.{context_view};
@@ -15,6 +17,7 @@ use std::alloc::Global;
 use type_check_calls::{Context, Receiver, right_call, whole_call};
 use type_check_expressions::{first_of, given_value};
 use type_check_scopes::TypeScope;
+use type_check_values::boxed_stmt;
 use typed_tree::{ResultFor, Stmt};
 
 /// What is returned with a value of this type and rate: a call's result, or a value.
@@ -25,8 +28,8 @@ fn returned(
     value: &Expr,
     asked: (IntType, Rate),
     step: usize,
-) -> Result<Stmt, SourceFault>
-    ensures { Answers stmt_view result (model.returned (context_view context.now) scope.now.entries (expr_view value.now) asked step) }
+) -> Result<Box<Stmt>, SourceFault>
+    ensures { Answers boxed_stmt_view result (model.returned (context_view context.now) scope.now.entries (expr_view value.now) asked step) }
 {
     let (value_type, rate) = asked;
     match whole_call(context.functions, value) {
@@ -40,24 +43,41 @@ fn returned(
         }
         None => {
             let value = given_value(alloc, value, scope, value_type, rate)?;
-            Ok(Stmt::Return {
+            let stmt = Stmt::Return {
                 step,
                 value: Some(value),
-            })
+            };
+            Ok(boxed_stmt(alloc, stmt)?)
         }
     }
 }
 
+/// A statement of which nothing is judged.
+///
+/// # Errors
+///
+/// Out of memory.
+pub fn unjudged(alloc: Global, stmt: Stmt) -> Result<Box<Stmt>, SourceFault>
+    ensures { Answers boxed_stmt_view result (Sound (stmt_view stmt)) }
+{
+    Ok(boxed_stmt(alloc, stmt)?)
+}
+
 /// `return` without a value.
-fn empty_return(context: &Context, place: Place, step: usize) -> Result<Stmt, SourceFault>
-    ensures { Answers stmt_view result (model.empty_return place (context_view context.now).result step) }
+fn empty_return(
+    alloc: Global,
+    context: &Context,
+    place: Place,
+    step: usize,
+) -> Result<Box<Stmt>, SourceFault>
+    ensures { Answers boxed_stmt_view result (model.empty_return place (context_view context.now).result step) }
 {
     match context.result {
         Some(_) => Err(SourceFault::Refused(SourceRefusal {
             number: RefusalNumber::S8,
             place,
         })),
-        None => Ok(Stmt::Return { step, value: None }),
+        None => unjudged(alloc, Stmt::Return { step, value: None }),
     }
 }
 
@@ -68,8 +88,8 @@ fn value_return(
     scope: &TypeScope,
     value: &Expr,
     step: usize,
-) -> Result<Stmt, SourceFault>
-    ensures { Answers stmt_view result (model.value_return (context_view context.now) scope.now.entries (expr_view value.now) (context_view context.now).result step) }
+) -> Result<Box<Stmt>, SourceFault>
+    ensures { Answers boxed_stmt_view result (model.value_return (context_view context.now) scope.now.entries (expr_view value.now) (context_view context.now).result step) }
 {
     match context.result {
         Some(asked) => returned(alloc, context, scope, value, asked, step),
@@ -97,11 +117,11 @@ pub fn returning(
     place: Place,
     value: &Option<Expr>,
     step: usize,
-) -> Result<Stmt, SourceFault>
-    ensures { Answers stmt_view result (model.returning (context_view context.now) scope.now.entries place (option_map expr_view value.now) step) }
+) -> Result<Box<Stmt>, SourceFault>
+    ensures { Answers boxed_stmt_view result (model.returning (context_view context.now) scope.now.entries place (option_map expr_view value.now) step) }
 {
     match value {
         Some(value) => value_return(alloc, context, scope, value, step),
-        None => empty_return(context, place, step),
+        None => empty_return(alloc, context, place, step),
     }
 }

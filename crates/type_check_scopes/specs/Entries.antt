@@ -5,7 +5,7 @@ use Rattle.gang_model.specs.Source.Parsed.{Name}
 use Rattle.gang_model.specs.Types.Tree as tree
 use Rattle.gang_model.specs.Types.Typing as typing
 use Rattle.typed_tree.specs.Views.{expr_view}
-use Rattle.type_check_values.specs.declared.typed.Typed.{Typed}
+use Rattle.type_check_scopes.specs.declared.entries.BuiltIn.{BuiltIn}
 use Rattle.type_check_scopes.specs.declared.entries.Declared.{Declared}
 use Rattle.type_check_scopes.specs.declared.entries.Entry.{Entry}
 
@@ -20,7 +20,7 @@ abbrev pub entry_view : Entry → typing.Entry
 entry_view e = declared_view e.name.now e.declared
 
 -- the expression and the rate of a built-in name
-abbrev pub built_in_view : Option Typed → Option (tree.Expr × Rate)
+abbrev pub built_in_view : Option BuiltIn → Option (tree.Expr × Rate)
 built_in_view None = None
 built_in_view (Some e) = Some (expr_view e.expr, e.rate)
 

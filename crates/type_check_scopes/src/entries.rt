@@ -9,7 +9,7 @@ ghost use Rattle.type_check_scopes.specs.Entries.{built_in_view, declared_view};
 use gang_model::Spec;
 use gang_types::{IntType, Rate, VarId};
 use ispc_names_scopes::is_same;
-use type_check_values::{Typed, declared_rate, declared_type};
+use type_check_values::{declared_rate, declared_type};
 use typed_tree::Expr;
 
 /// What a name declares: its variable, of a type that nothing reads if it is declared `void`.
@@ -61,8 +61,15 @@ pub fn index_variable(id: VarId, value_type: IntType, rate: Rate) -> Declared
     }
 }
 
-/// `programIndex` and `programCount`, with their type and rate, which nothing assigns.
-pub fn built_in(name: &[u8]) -> Option<Typed>
+/// What a built-in name stands for, an int32: its expression and rate.
+#[derive(Drop)]
+pub struct BuiltIn {
+    pub expr: Expr,
+    pub rate: Rate,
+}
+
+/// `programIndex` and `programCount`, which nothing assigns.
+pub fn built_in(name: &[u8]) -> Option<BuiltIn>
     ensures named { built_in_view result ≡ typing.built_in name.now }
     ensures value { (place : Place) → built_in_value_view place result ≡ typing.built_in_value place (typing.built_in name.now) }
 {
@@ -73,9 +80,5 @@ pub fn built_in(name: &[u8]) -> Option<Typed>
     } else {
         return None;
     };
-    Some(Typed {
-        expr,
-        value_type: IntType::Int32,
-        rate,
-    })
+    Some(BuiltIn { expr, rate })
 }

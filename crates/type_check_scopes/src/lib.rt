@@ -6,6 +6,6 @@ mod entries;
 mod passings;
 mod scope;
 
-pub use entries::{Declared, Entry, built_in, declared_with, index_variable};
+pub use entries::{BuiltIn, Declared, Entry, built_in, declared_with, index_variable};
 pub use passings::Passing;
 pub use scope::{TypeMark, TypeScope};

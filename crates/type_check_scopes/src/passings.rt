@@ -15,7 +15,7 @@ pub enum Passing<'a> {
     View {
         place: Place,
         entry: Entry<'a>,
-        from: Option<Expr>,
+        from: Option<Box<Expr>>,
     },
     Reference {
         place: Place,

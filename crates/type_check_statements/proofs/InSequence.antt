@@ -14,6 +14,7 @@ use Rattle.gang_model.specs.Types.Statements.{Made, made, scope_after, statement
 use Rattle.gang_model.proofs.JudgedLaws.{lesser-assoc, answer_of-both, answer_of-then}
 use Rattle.source_answers.specs.declared.fault.SourceFault.{SourceFault}
 use Rattle.typed_tree.specs.declared.statements.Stmt.{Stmt}
+use Rattle.typed_tree.specs.Boxes.{BoxedStmt, boxed_stmt_view}
 use Rattle.typed_tree.specs.Views.{stmt_view, stmts_view}
 use Rattle.source_answers.specs.Apart.{seen, joined}
 use Rattle.type_check_parts.specs.Typed.{IsTyped}
@@ -45,12 +46,12 @@ begun declared (Ok ss) (Err fault) = Err fault
 begun declared (Err first) (Ok m) = Err first
 begun declared (Err first) (Err fault) = Err (lesser first fault)
 
-begun_next : (declared more : List Variable) (typed : Result (List Stmt) SourceRefusal) (answer : Result Stmt SourceRefusal) (later : Result Made SourceRefusal)
-    → begun declared typed (then_answer (both_answers (seen (λ s. made (stmt_view s) more) answer) later) (λ parts. Ok (in_order parts)))
+begun_next : (declared more : List Variable) (typed : Result (List Stmt) SourceRefusal) (answer : Result BoxedStmt SourceRefusal) (later : Result Made SourceRefusal)
+    → begun declared typed (then_answer (both_answers (seen (λ s. made (boxed_stmt_view s) more) answer) later) (λ parts. Ok (in_order parts)))
     ≡ begun (declared ++ more) (one_more typed answer) later
 begun_next declared more (Ok ss) (Ok s) (Ok m) =
-    ap (λ x. Ok (made x (declared ++ (more ++ m.variables)))) (chained_one ss s m.stmt)
-    ∙ ap (λ x. Ok (made (chained (ss ++ s ∷ []) m.stmt) x)) (sym (append_assoc declared more m.variables))
+    ap (λ x. Ok (made x (declared ++ (more ++ m.variables)))) (chained_one ss s.value m.stmt)
+    ∙ ap (λ x. Ok (made (chained (ss ++ s.value ∷ []) m.stmt) x)) (sym (append_assoc declared more m.variables))
 begun_next declared more (Ok ss) (Ok s) (Err g) = refl
 begun_next declared more (Ok ss) (Err f) (Ok m) = refl
 begun_next declared more (Ok ss) (Err f) (Err g) = refl
@@ -93,10 +94,10 @@ begun-none context ss typed outer before first e = record {
 }
 
 -- one more statement is typed
-pub begun-next : (context : Context) (ss rest later : ParsedStmts) (s : ParsedStmt) (typed typed' : Result (List Stmt) SourceRefusal) (answer : Result Stmt SourceRefusal)
+pub begun-next : (context : Context) (ss rest later : ParsedStmts) (s : ParsedStmt) (typed typed' : Result (List Stmt) SourceRefusal) (answer : Result BoxedStmt SourceRefusal)
     (outer entries entries' : Scope) (before locals locals' : List Variable) (first step step' : ℕ)
     → IsBegun context ss rest typed outer entries before locals first step → rest ≡ ParsedNext s later
-    → IsTyped stmt_view answer (statement s context entries (length locals) step) locals locals' (locals_in s)
+    → IsTyped boxed_stmt_view answer (statement s context entries (length locals) step) locals locals' (locals_in s)
     → entries' ≡ scope_after s entries (length locals) → step' ≡ step + steps_in s → typed' ≡ one_more typed answer
     → IsBegun context ss later typed' outer entries' before locals' first step'
 begun-next context ss rest later s typed typed' answer outer entries entries' before locals locals' first step step' h split x after number more = record {
@@ -149,19 +150,19 @@ begun-all context ss rest typed outer entries before locals first step h none = 
   answered = h.answered ∙ (ap (λ r. begun h.declared typed (answer_of (statements r context entries (length locals) step))) none ∙ begun_all h.declared typed);
 }
 
-seen_block : (declared : List Variable) (block : Result Stmt SourceRefusal) (typed : Result (Vec Stmt Global) SourceRefusal)
-    → seen stmt_view block ≡ seen (λ v. stmts_view v.items) typed
-    → seen (λ xs. made (stmts_view xs) declared) (seen (λ v. v.items) typed) ≡ seen (λ s. made (stmt_view s) declared) block
-seen_block declared (Ok s) (Ok v) e = let same : stmt_view s ≡ stmts_view v.items = cc in ap (λ x. Ok (made x declared)) (sym same)
+seen_block : (declared : List Variable) (block : Result BoxedStmt SourceRefusal) (typed : Result (Vec Stmt Global) SourceRefusal)
+    → seen boxed_stmt_view block ≡ seen (λ v. stmts_view v.items) typed
+    → seen (λ xs. made (stmts_view xs) declared) (seen (λ v. v.items) typed) ≡ seen (λ s. made (boxed_stmt_view s) declared) block
+seen_block declared (Ok s) (Ok v) e = let same : boxed_stmt_view s ≡ stmts_view v.items = cc in ap (λ x. Ok (made x declared)) (sym same)
 seen_block declared (Ok s) (Err f) e = let none : ⊥ = cc in absurd none
 seen_block declared (Err g) (Ok v) e = let none : ⊥ = cc in absurd none
 seen_block declared (Err g) (Err f) e = let same : g ≡ f = cc in ap Err (sym same)
 
 -- a block of the typed statements
-pub whole-block : (context : Context) (ss : ParsedStmts) (typed : Result (Vec Stmt Global) SourceRefusal) (block : Result Stmt SourceRefusal) (outer entries : Scope) (before locals : List Variable)
+pub whole-block : (context : Context) (ss : ParsedStmts) (typed : Result (Vec Stmt Global) SourceRefusal) (block : Result BoxedStmt SourceRefusal) (outer entries : Scope) (before locals : List Variable)
     (first step : ℕ)
-    → IsWhole context ss (seen (λ v. v.items) typed) outer entries before locals first step → seen stmt_view block ≡ seen (λ v. stmts_view v.items) typed
-    → IsTyped stmt_view block (statements ss context outer (length before) first) before locals (locals_in_all ss)
+    → IsWhole context ss (seen (λ v. v.items) typed) outer entries before locals first step → seen boxed_stmt_view block ≡ seen (λ v. stmts_view v.items) typed
+    → IsTyped boxed_stmt_view block (statements ss context outer (length before) first) before locals (locals_in_all ss)
 whole-block context ss typed block outer entries before locals first step h e = record {
   declared = h.declared;
   variables = h.variables;

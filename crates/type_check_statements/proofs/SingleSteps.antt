@@ -12,10 +12,11 @@ use Rattle.gang_model.specs.Names.Scope.{locals_in}
 use Rattle.gang_model.specs.Types.Calls.{Context}
 use Rattle.gang_model.specs.Types.Typing.{Scope}
 use Rattle.gang_model.specs.Source.Judged.{Judged, Sound, Faulty, ◌>>=◌}
-use Rattle.gang_model.specs.Types.Statements.{Made, alone, scope_after, statement}
+use Rattle.gang_model.specs.Types.Statements.{Made, made, alone, scope_after, statement}
 use Rattle.source_answers.specs.declared.fault.SourceFault.{SourceFault}
 use Rattle.source_answers.specs.declared.fault.SourceFault.TheVariants.{Memory, Refused}
-use Rattle.typed_tree.specs.declared.statements.Stmt.{Stmt, Empty}
+use Rattle.typed_tree.specs.declared.statements.Stmt.{Empty}
+use Rattle.typed_tree.specs.Boxes.{BoxedStmt, boxed_stmt_view}
 use Rattle.typed_tree.specs.Views.{stmt_view}
 use Rattle.source_answers.specs.Answers.{Answers}
 use Rattle.type_check_parts.specs.Makes.{IfAnswered}
@@ -29,13 +30,13 @@ then-alone (Sound x) form = refl
 then-alone (Faulty first others) form = refl
 
 -- the same statement, said in another way
-pub typed-as : (answer : Result Stmt SourceRefusal) (s t : ParsedStmt) (context : Context) (entries : Scope) (k step : ℕ) (before after : List Variable) → s ≡ t
-    → IsTyped stmt_view answer (statement t context entries k step) before after (locals_in t) → IsTyped stmt_view answer (statement s context entries k step) before after (locals_in s)
-typed-as answer s t context entries k step before after e h = subst (λ x. IsTyped stmt_view answer (statement x context entries k step) before after (locals_in x)) (sym e) h
+pub typed-as : (answer : Result BoxedStmt SourceRefusal) (s t : ParsedStmt) (context : Context) (entries : Scope) (k step : ℕ) (before after : List Variable) → s ≡ t
+    → IsTyped boxed_stmt_view answer (statement t context entries k step) before after (locals_in t) → IsTyped boxed_stmt_view answer (statement s context entries k step) before after (locals_in s)
+typed-as answer s t context entries k step before after e h = subst (λ x. IsTyped boxed_stmt_view answer (statement x context entries k step) before after (locals_in x)) (sym e) h
 
-pub typed-form : {E : Type 0} (result : Result (Result Stmt SourceRefusal) E) (s t : ParsedStmt) (context : Context) (entries : Scope) (k step : ℕ) (before after : List Variable) → s ≡ t
-    → IfOk result (λ answer. IsTyped stmt_view answer (statement t context entries k step) before after (locals_in t))
-    → IfOk result (λ answer. IsTyped stmt_view answer (statement s context entries k step) before after (locals_in s))
+pub typed-form : {E : Type 0} (result : Result (Result BoxedStmt SourceRefusal) E) (s t : ParsedStmt) (context : Context) (entries : Scope) (k step : ℕ) (before after : List Variable) → s ≡ t
+    → IfOk result (λ answer. IsTyped boxed_stmt_view answer (statement t context entries k step) before after (locals_in t))
+    → IfOk result (λ answer. IsTyped boxed_stmt_view answer (statement s context entries k step) before after (locals_in s))
 typed-form result s t context entries k step before after e h = IfOk-weaker result _ _ (λ answer x. typed-as answer s t context entries k step before after e x) h
 
 pub after-form : {A E : Type 0} (result : Result A E) (s t : ParsedStmt) (entries entries' : Scope) (k : ℕ) → s ≡ t
@@ -46,22 +47,22 @@ pub steps-form : {A E : Type 0} (result : Result A E) (s t : ParsedStmt) (step s
 steps-form result s t step step' e h = on_ok_weaker result (λ x. x ∙ sym (ap (λ y. step + steps_in y) e)) h
 
 -- a statement that is empty
-pub empty-statement : (s : ParsedStmt) (context : Context) (entries : Scope) (before : List Variable) (step : ℕ) → s ≡ ParsedEmpty
-    → IsTyped stmt_view (Ok Empty) (statement s context entries (length before) step) before before (locals_in s)
-empty-statement s context entries before step e = typed-as (Ok Empty) s ParsedEmpty context entries (length before) step before before e (record {
+pub empty-statement : (place : BoxedStmt) (s : ParsedStmt) (context : Context) (entries : Scope) (before : List Variable) (step : ℕ) → place.value ≡ Empty → s ≡ ParsedEmpty
+    → IsTyped boxed_stmt_view (Ok place) (statement s context entries (length before) step) before before (locals_in s)
+empty-statement place s context entries before step is e = typed-as (Ok place) s ParsedEmpty context entries (length before) step before before e (record {
   declared = [];
   variables = sym (append-nil before);
   counted = refl;
-  answered = refl;
+  answered = ap (λ x. Ok (made (stmt_view x) [])) (sym is);
 })
 
 -- the same number of variables, said in another way
-pub counted-as : (answer : Result Stmt SourceRefusal) (j : Judged Made) (before after : List Variable) (m n : ℕ) → m ≡ n → IsTyped stmt_view answer j before after m → IsTyped stmt_view answer j before after n
-counted-as answer j before after m n e h = subst (λ x. IsTyped stmt_view answer j before after x) e h
+pub counted-as : (answer : Result BoxedStmt SourceRefusal) (j : Judged Made) (before after : List Variable) (m n : ℕ) → m ≡ n → IsTyped boxed_stmt_view answer j before after m → IsTyped boxed_stmt_view answer j before after n
+counted-as answer j before after m n e h = subst (λ x. IsTyped boxed_stmt_view answer j before after x) e h
 
 -- the same variables, said in another way
-pub ends-at : (answer : Result Stmt SourceRefusal) (j : Judged Made) (before after after' : List Variable) (n : ℕ) → after' ≡ after → IsTyped stmt_view answer j before after n → IsTyped stmt_view answer j before after' n
-ends-at answer j before after after' n e h = subst (λ l. IsTyped stmt_view answer j before l n) (sym e) h
+pub ends-at : (answer : Result BoxedStmt SourceRefusal) (j : Judged Made) (before after after' : List Variable) (n : ℕ) → after' ≡ after → IsTyped boxed_stmt_view answer j before after n → IsTyped boxed_stmt_view answer j before after' n
+ends-at answer j before after after' n e h = subst (λ l. IsTyped boxed_stmt_view answer j before l n) (sym e) h
 
 -- what holds whatever is answered
 pub in-any-case : {A E P : Type 0} (result : Result A E) → P → OnOk result P
@@ -75,11 +76,11 @@ unless-memory (Err Memory) p = tt
 unless-memory (Err (Refused fault)) p = p
 
 -- a statement of one step
-pub single-step : (result : Result (Result Stmt SourceRefusal) AllocError) (part : Result Stmt SourceFault) (j : Judged tree.Stmt) (s t : ParsedStmt) (context : Context) (entries : Scope)
+pub single-step : (result : Result (Result BoxedStmt SourceRefusal) AllocError) (part : Result BoxedStmt SourceFault) (j : Judged tree.Stmt) (s t : ParsedStmt) (context : Context) (entries : Scope)
     (before : List Variable) (step : ℕ)
-    → s ≡ t → (j >>= (λ x. alone x)) ≡ statement t context entries (length before) step → locals_in t ≡ 0 → Answers stmt_view part j → OnOk result (result ≡ apart part)
-    → IfOk result (λ answer. IsTyped stmt_view answer (statement s context entries (length before) step) before before (locals_in s))
+    → s ≡ t → (j >>= (λ x. alone x)) ≡ statement t context entries (length before) step → locals_in t ≡ 0 → Answers boxed_stmt_view part j → OnOk result (result ≡ apart part)
+    → IfOk result (λ answer. IsTyped boxed_stmt_view answer (statement s context entries (length before) step) before before (locals_in s))
 single-step (Ok answer) part j s t context entries before step e is none a r =
     typed-as answer s t context entries (length before) step before before e
-    (subst (λ x. IsTyped stmt_view answer x before before (locals_in t)) is (subst (λ n. IsTyped stmt_view answer (j >>= (λ x. alone x)) before before n) (sym none) (typed-alone stmt_view part answer j before a r)))
+    (subst (λ x. IsTyped boxed_stmt_view answer x before before (locals_in t)) is (subst (λ n. IsTyped boxed_stmt_view answer (j >>= (λ x. alone x)) before before n) (sym none) (typed-alone boxed_stmt_view part answer j before a r)))
 single-step (Err fault) part j s t context entries before step e is none a r = tt

@@ -8,7 +8,7 @@ ghost use Rattle.gang_model.specs.Source.Parsed.{ParsedFor, ParsedForEach, Parse
 ghost use Rattle.gang_model.specs.Names.Scope.{locals_in};
 ghost use Rattle.gang_model.specs.Types.Statements as model;
 ghost use Rattle.ispc_parser.specs.Tree as parsed;
-ghost use Rattle.typed_tree.specs.Views.{stmt_view};
+ghost use Rattle.typed_tree.specs.Boxes.{boxed_stmt_view};
 ghost use Rattle.type_check_calls.specs.Calls.{context_view};
 ghost use Rattle.type_check_scopes.specs.Entries.{declared_view};
 ghost use Rattle.type_check_parts.specs.Typed.{IsTyped, IsTypedStatement, with_index};
@@ -26,9 +26,10 @@ use type_check_forms::{
 };
 use type_check_parts::{
     advanced, assignment, called, change, declare, declare_indices, dimensions, increment,
-    one_step, returning, some_test, steps_in, test_of, variable_of,
+    one_step, returning, some_test, steps_in, test_of, unjudged, variable_of,
 };
 use type_check_scopes::{Declared, TypeScope, index_variable};
+use type_check_values::boxed_stmt;
 use typed_tree::Stmt;
 
 /// The typed form of a statement. What it declares is in scope then, and the step is that of the next statement; so also where
@@ -40,13 +41,16 @@ pub(crate) fn statement(
     context: &Context,
     scope: &mut TypeScope,
     step: &mut usize,
-) -> Result<Answer<Stmt>, AllocError>
+) -> Result<Answer<Box<Stmt>>, AllocError>
     ensures typed { IfOk result (λ answer. IsTypedStatement answer (parsed.stmt_view stmt.now) (context_view context.now) scope.old.entries scope.old.locals scope.new.locals step.old) }
     ensures after { OnOk result (scope.new.entries ≡ model.scope_after (parsed.stmt_view stmt.now) scope.old.entries (length scope.old.locals)) }
     ensures steps { OnOk result (step.new ≡ step.old + steps_in (parsed.stmt_view stmt.now)) }
 {
     match stmt {
-        ParsedStmt::Empty => Ok(Ok(Stmt::Empty)),
+        ParsedStmt::Empty => {
+            let empty = boxed_stmt(alloc, Stmt::Empty)?;
+            Ok(Ok(empty))
+        }
         ParsedStmt::Block(stmts) => {
             let mark = scope.mark();
             let mut typed: Answer<Vec<Stmt>> = Ok(Vec::new(alloc));
@@ -55,7 +59,7 @@ pub(crate) fn statement(
                 typed = more_statements(typed, next)?;
             }
             scope.leave(mark);
-            Ok(block(typed))
+            block(alloc, typed)
         }
         ParsedStmt::Declare {
             spec,
@@ -87,8 +91,11 @@ pub(crate) fn statement(
             };
             one_step(called(alloc, context, scope, &call, *step), step)
         }
-        ParsedStmt::Break { .. } => one_step(Ok(Stmt::Break { step: *step }), step),
-        ParsedStmt::Continue { .. } => one_step(Ok(Stmt::Continue { step: *step }), step),
+        ParsedStmt::Break { .. } => one_step(unjudged(alloc, Stmt::Break { step: *step }), step),
+        ParsedStmt::Continue { .. } => one_step(
+            unjudged(alloc, Stmt::Continue { step: *step }),
+            step,
+        ),
         ParsedStmt::Return { place, value } => one_step(
             returning(alloc, context, scope, *place, value, *step),
             step,
@@ -139,7 +146,7 @@ fn inner(
     context: &Context,
     scope: &mut TypeScope,
     step: &mut usize,
-) -> Result<Answer<Stmt>, AllocError>
+) -> Result<Answer<Box<Stmt>>, AllocError>
     ensures typed { IfOk result (λ answer. IsTypedStatement answer (parsed.stmt_view stmt.now) (context_view context.now) scope.old.entries scope.old.locals scope.new.locals step.old) }
     ensures after { OnOk result (scope.new.entries ≡ scope.old.entries) }
     ensures steps { OnOk result (step.new ≡ step.old + steps_in (parsed.stmt_view stmt.now)) }
@@ -159,8 +166,8 @@ fn if_only(
     context: &Context,
     scope: &mut TypeScope,
     step: &mut usize,
-) -> Result<Answer<Stmt>, AllocError>
-    ensures typed { IfOk result (λ answer. (p : Place) → IsTyped stmt_view answer (model.statement (ParsedIf p (expr_view test.now) (parsed.stmt_view first.now)) (context_view context.now) scope.old.entries (length scope.old.locals) step.old)
+) -> Result<Answer<Box<Stmt>>, AllocError>
+    ensures typed { IfOk result (λ answer. (p : Place) → IsTyped boxed_stmt_view answer (model.statement (ParsedIf p (expr_view test.now) (parsed.stmt_view first.now)) (context_view context.now) scope.old.entries (length scope.old.locals) step.old)
         scope.old.locals scope.new.locals (locals_in (parsed.stmt_view first.now))) }
     ensures after { OnOk result (scope.new.entries ≡ scope.old.entries) }
     ensures steps { OnOk result (step.new ≡ step.old + (1 + steps_in (parsed.stmt_view first.now))) }
@@ -182,8 +189,8 @@ fn if_else(
     context: &Context,
     scope: &mut TypeScope,
     step: &mut usize,
-) -> Result<Answer<Stmt>, AllocError>
-    ensures typed { IfOk result (λ answer. (p : Place) → IsTyped stmt_view answer (model.statement (ParsedIfElse p (expr_view test.now) (parsed.stmt_view first.now) (parsed.stmt_view other.now)) (context_view context.now) scope.old.entries (length scope.old.locals) step.old)
+) -> Result<Answer<Box<Stmt>>, AllocError>
+    ensures typed { IfOk result (λ answer. (p : Place) → IsTyped boxed_stmt_view answer (model.statement (ParsedIfElse p (expr_view test.now) (parsed.stmt_view first.now) (parsed.stmt_view other.now)) (context_view context.now) scope.old.entries (length scope.old.locals) step.old)
         scope.old.locals scope.new.locals (locals_in (parsed.stmt_view first.now) + locals_in (parsed.stmt_view other.now))) }
     ensures after { OnOk result (scope.new.entries ≡ scope.old.entries) }
     ensures steps { OnOk result (step.new ≡ step.old + (1 + steps_in (parsed.stmt_view first.now) + steps_in (parsed.stmt_view other.now))) }
@@ -205,8 +212,8 @@ fn while_loop(
     context: &Context,
     scope: &mut TypeScope,
     step: &mut usize,
-) -> Result<Answer<Stmt>, AllocError>
-    ensures typed { IfOk result (λ answer. (p : Place) → IsTyped stmt_view answer (model.statement (ParsedWhile p (expr_view test.now) (parsed.stmt_view body.now)) (context_view context.now) scope.old.entries (length scope.old.locals) step.old)
+) -> Result<Answer<Box<Stmt>>, AllocError>
+    ensures typed { IfOk result (λ answer. (p : Place) → IsTyped boxed_stmt_view answer (model.statement (ParsedWhile p (expr_view test.now) (parsed.stmt_view body.now)) (context_view context.now) scope.old.entries (length scope.old.locals) step.old)
         scope.old.locals scope.new.locals (locals_in (parsed.stmt_view body.now))) }
     ensures after { OnOk result (scope.new.entries ≡ scope.old.entries) }
     ensures steps { OnOk result (step.new ≡ step.old + (steps_in (parsed.stmt_view body.now) + 1)) }
@@ -227,8 +234,8 @@ fn do_loop(
     context: &Context,
     scope: &mut TypeScope,
     step: &mut usize,
-) -> Result<Answer<Stmt>, AllocError>
-    ensures typed { IfOk result (λ answer. (p : Place) → IsTyped stmt_view answer (model.statement (ParsedDo (parsed.stmt_view body.now) p (expr_view test.now)) (context_view context.now) scope.old.entries (length scope.old.locals) step.old)
+) -> Result<Answer<Box<Stmt>>, AllocError>
+    ensures typed { IfOk result (λ answer. (p : Place) → IsTyped boxed_stmt_view answer (model.statement (ParsedDo (parsed.stmt_view body.now) p (expr_view test.now)) (context_view context.now) scope.old.entries (length scope.old.locals) step.old)
         scope.old.locals scope.new.locals (locals_in (parsed.stmt_view body.now))) }
     ensures after { OnOk result (scope.new.entries ≡ scope.old.entries) }
     ensures steps { OnOk result (step.new ≡ step.old + (steps_in (parsed.stmt_view body.now) + 1)) }
@@ -251,8 +258,8 @@ fn for_loop(
     context: &Context,
     scope: &mut TypeScope,
     step: &mut usize,
-) -> Result<Answer<Stmt>, AllocError>
-    ensures typed { IfOk result (λ answer. (p : Place) → IsTyped stmt_view answer (model.statement (ParsedFor p (parsed.stmt_view start.now) (option_map expr_view test.now) (parsed.stmt_view update.now) (parsed.stmt_view body.now)) (context_view context.now) scope.old.entries (length scope.old.locals) step.old)
+) -> Result<Answer<Box<Stmt>>, AllocError>
+    ensures typed { IfOk result (λ answer. (p : Place) → IsTyped boxed_stmt_view answer (model.statement (ParsedFor p (parsed.stmt_view start.now) (option_map expr_view test.now) (parsed.stmt_view update.now) (parsed.stmt_view body.now)) (context_view context.now) scope.old.entries (length scope.old.locals) step.old)
         scope.old.locals scope.new.locals (locals_in (parsed.stmt_view start.now) + locals_in (parsed.stmt_view update.now) + locals_in (parsed.stmt_view body.now))) }
     ensures after { OnOk result (scope.new.entries ≡ scope.old.entries) }
     ensures steps { OnOk result (step.new ≡ step.old + (steps_in (parsed.stmt_view start.now) + steps_in (parsed.stmt_view body.now) + steps_in (parsed.stmt_view update.now) + 1)) }
@@ -279,8 +286,8 @@ fn for_each(
     context: &Context,
     scope: &mut TypeScope,
     step: &mut usize,
-) -> Result<Answer<Stmt>, AllocError>
-    ensures typed { IfOk result (λ answer. (p : Place) → IsTyped stmt_view answer (model.statement (ParsedForEach p is_tiled (map parsed.dim_view dims.now) (parsed.stmt_view body.now)) (context_view context.now) scope.old.entries (length scope.old.locals) step.old)
+) -> Result<Answer<Box<Stmt>>, AllocError>
+    ensures typed { IfOk result (λ answer. (p : Place) → IsTyped boxed_stmt_view answer (model.statement (ParsedForEach p is_tiled (map parsed.dim_view dims.now) (parsed.stmt_view body.now)) (context_view context.now) scope.old.entries (length scope.old.locals) step.old)
         scope.old.locals scope.new.locals (length dims.now + locals_in (parsed.stmt_view body.now))) }
     ensures after { OnOk result (scope.new.entries ≡ scope.old.entries) }
     ensures steps { OnOk result (step.new ≡ step.old + (steps_in (parsed.stmt_view body.now) + 2)) }
@@ -306,9 +313,9 @@ fn rounds(
     context: &Context,
     scope: &mut TypeScope,
     step: &mut usize,
-) -> Result<Answer<Stmt>, AllocError>
+) -> Result<Answer<Box<Stmt>>, AllocError>
     requires next { index.id ≡ Local (length scope.old.locals) }
-    ensures typed { IfOk result (λ answer. IsTyped stmt_view answer (with_index (declared_view name.now index) (model.statement (parsed.stmt_view body.now) (context_view context.now) (declared_view name.now index ∷ scope.old.entries) (suc (length scope.old.locals)) (step.old + 1)))
+    ensures typed { IfOk result (λ answer. IsTyped boxed_stmt_view answer (with_index (declared_view name.now index) (model.statement (parsed.stmt_view body.now) (context_view context.now) (declared_view name.now index ∷ scope.old.entries) (suc (length scope.old.locals)) (step.old + 1)))
         scope.old.locals scope.new.locals (1 + locals_in (parsed.stmt_view body.now))) }
     ensures after { OnOk result (scope.new.entries ≡ scope.old.entries) }
     ensures steps { OnOk result (step.new ≡ step.old + (steps_in (parsed.stmt_view body.now) + 2)) }
@@ -331,8 +338,8 @@ fn for_each_active(
     context: &Context,
     scope: &mut TypeScope,
     step: &mut usize,
-) -> Result<Answer<Stmt>, AllocError>
-    ensures typed { IfOk result (λ answer. (p at : Place) → IsTyped stmt_view answer (model.statement (ParsedForEachActive p at name.now (parsed.stmt_view body.now)) (context_view context.now) scope.old.entries (length scope.old.locals) step.old)
+) -> Result<Answer<Box<Stmt>>, AllocError>
+    ensures typed { IfOk result (λ answer. (p at : Place) → IsTyped boxed_stmt_view answer (model.statement (ParsedForEachActive p at name.now (parsed.stmt_view body.now)) (context_view context.now) scope.old.entries (length scope.old.locals) step.old)
         scope.old.locals scope.new.locals (1 + locals_in (parsed.stmt_view body.now))) }
     ensures after { OnOk result (scope.new.entries ≡ scope.old.entries) }
     ensures steps { OnOk result (step.new ≡ step.old + (steps_in (parsed.stmt_view body.now) + 2)) }
@@ -354,8 +361,8 @@ fn for_each_unique(
     context: &Context,
     scope: &mut TypeScope,
     step: &mut usize,
-) -> Result<Answer<Stmt>, AllocError>
-    ensures typed { IfOk result (λ answer. (p at : Place) → IsTyped stmt_view answer (model.statement (ParsedForEachUnique p at name.now (expr_view value.now) (parsed.stmt_view body.now)) (context_view context.now) scope.old.entries (length scope.old.locals) step.old)
+) -> Result<Answer<Box<Stmt>>, AllocError>
+    ensures typed { IfOk result (λ answer. (p at : Place) → IsTyped boxed_stmt_view answer (model.statement (ParsedForEachUnique p at name.now (expr_view value.now) (parsed.stmt_view body.now)) (context_view context.now) scope.old.entries (length scope.old.locals) step.old)
         scope.old.locals scope.new.locals (1 + locals_in (parsed.stmt_view body.now))) }
     ensures after { OnOk result (scope.new.entries ≡ scope.old.entries) }
     ensures steps { OnOk result (step.new ≡ step.old + (steps_in (parsed.stmt_view body.now) + 2)) }

@@ -1,12 +1,12 @@
 //! Conversions that are written out.
 ghost use Rattle.std.specs.Prelude.{◌≡◌, IfOk};
 ghost use Rattle.gang_model.specs.Types.Conversions as model;
-ghost use Rattle.typed_tree.specs.Views.{expr_view};
+ghost use Rattle.typed_tree.specs.Views.{boxed_view};
 ghost use Rattle.type_check_values.specs.Views.{typed_view};
 
+use crate::boxes::boxed_expr;
 use crate::typed::Typed;
 use gang_types::{BinaryOp, IntType};
-use source_answers::boxed;
 use std::alloc::{AllocError, Global};
 use typed_tree::Expr;
 
@@ -15,29 +15,18 @@ use typed_tree::Expr;
 /// # Errors
 ///
 /// Out of memory.
-pub fn as_type(alloc: Global, to: IntType, value: Typed) -> Result<Expr, AllocError>
-    ensures converted { IfOk result (λ e. expr_view e ≡ model.as_type to (typed_view value)) }
+pub fn as_type(alloc: Global, to: IntType, value: Typed) -> Result<Box<Expr>, AllocError>
+    ensures converted { IfOk result (λ e. boxed_view e ≡ model.as_type to (typed_view value)) }
 {
     if value.value_type == to {
         return Ok(value.expr);
     }
-    let operand = boxed(alloc, value.expr)?;
-    Ok(Expr::Convert {
+    let converted = Expr::Convert {
         from: value.value_type,
         to,
-        operand,
-    })
-}
-
-/// The expression, converted to a type, in a box.
-///
-/// # Errors
-///
-/// Out of memory.
-pub fn boxed_as_type(alloc: Global, to: IntType, value: Typed) -> Result<Box<Expr>, AllocError>
-    ensures converted { IfOk result (λ e. expr_view e.value ≡ model.as_type to (typed_view value)) }
-{
-    boxed(alloc, as_type(alloc, to, value)?)
+        operand: value.expr,
+    };
+    boxed_expr(alloc, converted)
 }
 
 /// The expression, converted to bool.
@@ -45,8 +34,8 @@ pub fn boxed_as_type(alloc: Global, to: IntType, value: Typed) -> Result<Box<Exp
 /// # Errors
 ///
 /// Out of memory.
-pub fn as_bool(alloc: Global, value: Typed) -> Result<Expr, AllocError>
-    ensures converted { IfOk result (λ e. expr_view e ≡ model.as_bool (typed_view value)) }
+pub fn as_bool(alloc: Global, value: Typed) -> Result<Box<Expr>, AllocError>
+    ensures converted { IfOk result (λ e. boxed_view e ≡ model.as_bool (typed_view value)) }
 {
     as_type(alloc, IntType::Bool, value)
 }
@@ -61,8 +50,8 @@ pub fn right_operand(
     operator: BinaryOp,
     made_in: IntType,
     value: Typed,
-) -> Result<Expr, AllocError>
-    ensures operand { IfOk result (λ e. expr_view e ≡ model.right_operand operator made_in (typed_view value)) }
+) -> Result<Box<Expr>, AllocError>
+    ensures operand { IfOk result (λ e. boxed_view e ≡ model.right_operand operator made_in (typed_view value)) }
 {
     match operator {
         BinaryOp::Shl | BinaryOp::Shr => Ok(value.expr),

@@ -3,13 +3,12 @@ ghost use Rattle.std.specs.Prelude.{◌≡◌, IfOk};
 ghost use Rattle.gang_model.specs.Types.Conversions as model;
 ghost use Rattle.type_check_values.specs.Views.{typed_view};
 
-use crate::conversions::{boxed_as_type, right_operand};
+use crate::conversions::{as_type, right_operand};
 use crate::rates::joined_rate;
 use crate::typed::Typed;
 use crate::types::{given_type, joined, operation_type, promoted};
 use gang_model::Infix;
 use gang_types::{BinaryOp, IntType, UnaryOp};
-use source_answers::boxed;
 use std::alloc::{AllocError, Global};
 use typed_tree::Expr;
 
@@ -23,19 +22,19 @@ fn operated(
 {
     let made_in = operation_type(operator, left.value_type, right.value_type);
     let rate = joined_rate(left.rate, right.rate);
-    let left = boxed_as_type(alloc, made_in, left)?;
+    let left = as_type(alloc, made_in, left)?;
     let right = right_operand(alloc, operator, made_in, right)?;
-    let right = boxed(alloc, right)?;
-    Ok(Typed {
-        expr: Expr::Binary {
+    Typed::new(
+        alloc,
+        Expr::Binary {
             operator,
             value_type: made_in,
             left,
             right,
         },
-        value_type: given_type(operator, made_in),
+        given_type(operator, made_in),
         rate,
-    })
+    )
 }
 
 /// Two operands with what stands between them; `&&` and `||` work in bool.
@@ -55,17 +54,13 @@ pub fn infixed(
         return operated(alloc, operator, left, right);
     }
     let rate = joined_rate(left.rate, right.rate);
-    let left = boxed_as_type(alloc, IntType::Bool, left)?;
-    let right = boxed_as_type(alloc, IntType::Bool, right)?;
+    let left = as_type(alloc, IntType::Bool, left)?;
+    let right = as_type(alloc, IntType::Bool, right)?;
     let expr = match operator {
         Infix::OrElse => Expr::OrElse { left, right },
         _ => Expr::AndAlso { left, right },
     };
-    Ok(Typed {
-        expr,
-        value_type: IntType::Bool,
-        rate,
-    })
+    Typed::new(alloc, expr, IntType::Bool, rate)
 }
 
 /// `!` is made on bool, the others on an integer type.
@@ -81,16 +76,17 @@ pub fn prefixed(alloc: Global, operator: UnaryOp, value: Typed) -> Result<Typed,
         _ => promoted(value.value_type),
     };
     let rate = value.rate;
-    let operand = boxed_as_type(alloc, value_type, value)?;
-    Ok(Typed {
-        expr: Expr::Unary {
+    let operand = as_type(alloc, value_type, value)?;
+    Typed::new(
+        alloc,
+        Expr::Unary {
             operator,
             value_type,
             operand,
         },
         value_type,
         rate,
-    })
+    )
 }
 
 /// `test ? first : second`, in the joined type of its arms.
@@ -108,16 +104,17 @@ pub fn chosen_by(
 {
     let value_type = joined(first.value_type, second.value_type);
     let rate = joined_rate(test.rate, joined_rate(first.rate, second.rate));
-    let test = boxed_as_type(alloc, IntType::Bool, test)?;
-    let first = boxed_as_type(alloc, value_type, first)?;
-    let second = boxed_as_type(alloc, value_type, second)?;
-    Ok(Typed {
-        expr: Expr::Choice {
+    let test = as_type(alloc, IntType::Bool, test)?;
+    let first = as_type(alloc, value_type, first)?;
+    let second = as_type(alloc, value_type, second)?;
+    Typed::new(
+        alloc,
+        Expr::Choice {
             test,
             first,
             second,
         },
         value_type,
         rate,
-    })
+    )
 }

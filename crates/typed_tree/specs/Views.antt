@@ -1,5 +1,6 @@
 -- Programs, without where they lie in memory.
-use Rattle.std.specs.Prelude.{List, [], ◌∷◌, ◌++◌, Option, Some, None, map, option_map}
+use Rattle.std.specs.Prelude.{Box, List, [], ◌∷◌, ◌++◌, Option, Some, None, map, option_map}
+use Rattle.std.specs.declared.alloc.Global.{Global as Allocator}
 use Rattle.gang_types.specs.declared.types.Rate.{Rate}
 use Rattle.gang_types.specs.declared.types.Rate.TheVariants.{Varying}
 use Rattle.gang_model.specs.Types.Tree as t
@@ -82,13 +83,17 @@ expr_view (Shuffle' p e q i) = t.Shuffle (expr_view e) (expr_view i)
 expr_view (ShuffleTwo' p e q x r i) = t.ShuffleTwo (expr_view e) (expr_view x) (expr_view i)
 expr_view (Select' p c q a r b) = t.Select (expr_view c) (expr_view a) (expr_view b)
 
+-- an expression in a box
+abbrev pub boxed_view : Box Expr Allocator → t.Expr
+boxed_view place = expr_view place.value
+
 abbrev pub target_view : Target → t.Target
 target_view (target.Scalar v) = t.Scalar (var_view v)
-target_view (target.Element array rate e) = t.ElementOf array rate (expr_view e)
+target_view (target.Element array rate e) = t.ElementOf array rate (boxed_view e)
 
 abbrev pub arg_view : Arg → t.Arg
-arg_view (arg.Value v e) = t.Value (var_view v) (expr_view e)
-arg_view (arg.Array parameter array from) = t.Array parameter array (option_map expr_view from)
+arg_view (arg.Value v e) = t.Value (var_view v) (boxed_view e)
+arg_view (arg.Array parameter array from) = t.Array parameter array (option_map boxed_view from)
 
 abbrev pub result_view : ResultFor → t.ResultFor
 result_view result.Nothing = t.Nothing
@@ -97,33 +102,33 @@ result_view (result.Assigns v) = t.Assigns (var_view v)
 result_view result.Returns = t.Returns
 
 abbrev pub dimension_view : Dimension → t.Dimension
-dimension_view d = record { index = var_view d.index; low = expr_view d.low; high = expr_view d.high }
+dimension_view d = record { index = var_view d.index; low = boxed_view d.low; high = boxed_view d.high }
 
 abbrev pub rounds_view : Rounds → t.RoundsOf
 rounds_view (rounds.Rows dims) = t.Rows (map dimension_view dims.items)
 rounds_view (rounds.Tiles dims) = t.Tiles (map dimension_view dims.items)
 rounds_view (rounds.EachLane v) = t.EachLane (var_view v)
-rounds_view (rounds.EachValue v e) = t.EachValue (var_view v) (expr_view e)
+rounds_view (rounds.EachValue v e) = t.EachValue (var_view v) (boxed_view e)
 
 abbrev mutual
   pub stmt_view : Stmt → t.Stmt
   stmt_view Empty = t.Empty
   stmt_view (Block' shape ss) = row_view ss
   stmt_view (Then' p first q rest) = t.Then (stmt_view first) (stmt_view rest)
-  stmt_view (Declare n v e) = t.Declare n (var_view v) (option_map expr_view e)
-  stmt_view (Assign n target e) = t.Assign n (target_view target) (expr_view e)
-  stmt_view (Change n target ty op value_ty e) = t.Change n (target_view target) ty op value_ty (expr_view e)
-  stmt_view (If' n e p x q y) = t.If n (expr_view e) (stmt_view x) (stmt_view y)
-  stmt_view (Loop' n e p update q body) = t.Loop n (expr_view e) (stmt_view update) (stmt_view body)
-  stmt_view (BodyFirst' n e p body) = t.BodyFirst n (expr_view e) (stmt_view body)
+  stmt_view (Declare n v e) = t.Declare n (var_view v) (option_map boxed_view e)
+  stmt_view (Assign n target e) = t.Assign n (target_view target) (boxed_view e)
+  stmt_view (Change n target ty op value_ty e) = t.Change n (target_view target) ty op value_ty (boxed_view e)
+  stmt_view (If' n e p x q y) = t.If n (boxed_view e) (stmt_view x) (stmt_view y)
+  stmt_view (Loop' n e p update q body) = t.Loop n (boxed_view e) (stmt_view update) (stmt_view body)
+  stmt_view (BodyFirst' n e p body) = t.BodyFirst n (boxed_view e) (stmt_view body)
   stmt_view (Break n) = t.Break n
   stmt_view (Continue n) = t.Continue n
-  stmt_view (Return n e) = t.Return n (option_map expr_view e)
+  stmt_view (Return n e) = t.Return n (option_map boxed_view e)
   stmt_view (ForEach' n r p body) = t.ForEach n (rounds_view r) (stmt_view body)
   stmt_view (Call n f args r) = t.Call n f (map arg_view args.items) (result_view r)
-  stmt_view (Check n e) = t.Check n (expr_view e)
-  stmt_view (PackedStore n array from e r) = t.PackedStore n array (option_map expr_view from) (expr_view e) (result_view r)
-  stmt_view (PackedLoad n array from v r) = t.PackedLoad n array (option_map expr_view from) (var_view v) (result_view r)
+  stmt_view (Check n e) = t.Check n (boxed_view e)
+  stmt_view (PackedStore n array from e r) = t.PackedStore n array (option_map boxed_view from) (boxed_view e) (result_view r)
+  stmt_view (PackedLoad n array from v r) = t.PackedLoad n array (option_map boxed_view from) (var_view v) (result_view r)
 
   pub row_view : {n : _} → Row_of-Stmt n → t.Stmt
   row_view end_of-Stmt = t.Empty

@@ -9,7 +9,7 @@ pub enum Target {
     Element {
         array: VarId,
         rate: Rate,
-        index: Expr,
+        index: Box<Expr>,
     },
 }
 
@@ -30,12 +30,12 @@ impl Drop for Target {
 pub enum Arg {
     Value {
         parameter: Var,
-        value: Expr,
+        value: Box<Expr>,
     },
     Array {
         parameter: VarId,
         array: VarId,
-        from: Option<Expr>,
+        from: Option<Box<Expr>>,
     },
 }
 
@@ -67,8 +67,8 @@ pub enum ResultFor {
 /// An index variable with its bounds.
 pub struct Dimension {
     pub index: Var,
-    pub low: Expr,
-    pub high: Expr,
+    pub low: Box<Expr>,
+    pub high: Box<Expr>,
 }
 
 impl Drop for Dimension {
@@ -86,7 +86,7 @@ pub enum Rounds {
     Rows(Vec<Dimension>),
     Tiles(Vec<Dimension>),
     EachLane(Var),
-    EachValue { index: Var, value: Expr },
+    EachValue { index: Var, value: Box<Expr> },
 }
 
 impl Drop for Rounds {
@@ -113,12 +113,12 @@ pub enum Stmt {
     Declare {
         step: usize,
         variable: Var,
-        value: Option<Expr>,
+        value: Option<Box<Expr>>,
     },
     Assign {
         step: usize,
         target: Target,
-        value: Expr,
+        value: Box<Expr>,
     },
     /// `target op= value`: the target's type, the operation and its type.
     Change {
@@ -127,25 +127,25 @@ pub enum Stmt {
         target_type: IntType,
         operator: BinaryOp,
         value_type: IntType,
-        value: Expr,
+        value: Box<Expr>,
     },
     If {
         step: usize,
-        test: Expr,
+        test: Box<Expr>,
         first: Box<Stmt>,
         other: Box<Stmt>,
     },
     /// `while`, and `for` after its start.
     Loop {
         step: usize,
-        test: Expr,
+        test: Box<Expr>,
         update: Box<Stmt>,
         body: Box<Stmt>,
     },
     /// `do`.
     BodyFirst {
         step: usize,
-        test: Expr,
+        test: Box<Expr>,
         body: Box<Stmt>,
     },
     Break {
@@ -156,7 +156,7 @@ pub enum Stmt {
     },
     Return {
         step: usize,
-        value: Option<Expr>,
+        value: Option<Box<Expr>>,
     },
     ForEach {
         step: usize,
@@ -172,19 +172,19 @@ pub enum Stmt {
     /// `assert`.
     Check {
         step: usize,
-        test: Expr,
+        test: Box<Expr>,
     },
     PackedStore {
         step: usize,
         array: VarId,
-        from: Option<Expr>,
-        value: Expr,
+        from: Option<Box<Expr>>,
+        value: Box<Expr>,
         result_for: ResultFor,
     },
     PackedLoad {
         step: usize,
         array: VarId,
-        from: Option<Expr>,
+        from: Option<Box<Expr>>,
         into: Var,
         result_for: ResultFor,
     },

@@ -1,19 +1,19 @@
 use Rattle.std.proofs.Common.{ap, subst}
 use Rattle.mask_states.specs.Points.{Put}
-use Rattle.typed_tree.specs.Views.{expr_view, stmt_view, target_view}
+use Rattle.typed_tree.specs.Views.{boxed_view, stmt_view, target_view}
 use Rattle.machine_states.specs.Plain.{IsPlainPoint}
 use Rattle.codegen.proofs.PlainStatements.{one_of_four, scalar_assigned, scalar_changed}
 use Rattle.codegen.proofs.steps.put.Goals as goal
 
 pub scalar-requires : goal.scalar-requires
 scalar-requires c =
-    scalar_assigned c.requires.0 c.requires.1 c.in-Assign.step c.args.next (target_view c.in-Assign.target) (expr_view c.in-Assign.assigned)
+    scalar_assigned c.requires.0 c.requires.1 c.in-Assign.step c.args.next (target_view c.in-Assign.target) (boxed_view c.in-Assign.assigned)
     (subst (λ s. IsPlainPoint c.requires.0 c.requires.1 (Put (stmt_view s) c.args.next)) c.in-Assign.is c.requires.2)
 
 pub scalar-requires-in-Change : goal.scalar-requires-in-Change
 scalar-requires-in-Change c =
     scalar_changed c.requires.0 c.requires.1 c.in-Change.step c.args.next (target_view c.in-Change.target) c.in-Change.target_type c.in-Change.operator c.in-Change.value_type
-    (expr_view c.in-Change.operand)
+    (boxed_view c.in-Change.operand)
     (subst (λ s. IsPlainPoint c.requires.0 c.requires.1 (Put (stmt_view s) c.args.next)) c.in-Change.is c.requires.2)
 
 pub unreachable-requires : goal.unreachable-requires

@@ -3,8 +3,9 @@ use Rattle.std.specs.Prelude.{IfOk}
 use Rattle.std.proofs.lemmas.List.{drop_all}
 use Rattle.std.proofs.lemmas.Result.{IfOk-weaker}
 use Rattle.gang_model.specs.Running.Step.{steps_of}
+use Rattle.mask_states.specs.Points as points
 use Rattle.typed_tree.specs.declared.statements.Stmt.{the_lemmas}
-use Rattle.typed_tree.specs.Views.{expr_view, rounds_view, stmt_view, stmts_view}
+use Rattle.typed_tree.specs.Views.{boxed_view, expr_view, rounds_view, stmt_view, stmts_view}
 use Rattle.mask_states.specs.Points.{body_ways, update_ways, round_ways}
 use Rattle.mask_lowering.specs.Lowering.{Lowered, ways_view}
 use Rattle.mask_lowering.proofs.Rows.{block_is, stmts_from, steps_from, steps_within}
@@ -39,9 +40,10 @@ lower_statement-returns-in_ok-yes-in-BodyFirst t c =
     (ways_view c.of_body.result) (body_ways c.in-BodyFirst.step (ways_view c.args.ways)) c.in_ok-yes-in-BodyFirst.yes (ap stmt_view c.deref-in-BodyFirst.ensures) c.of_body.ensures
     c.in_ok-yes-in-BodyFirst.ensures in
     lowered_body_first c.args.steps c.args.points.now.items c.put-in-BodyFirst.new.points.items c.lower_statement-in-BodyFirst.new.points.items
-    (stmt_view c.args.statement.now) c.in-BodyFirst.step (expr_view c.in-BodyFirst.test) (stmt_view c.in-BodyFirst.body.value) (ways_view c.args.ways) c.len-place.result
+    (stmt_view c.args.statement.now) c.in-BodyFirst.step (boxed_view c.in-BodyFirst.test) (stmt_view c.in-BodyFirst.body.value) (ways_view c.args.ways) c.len-place.result
     c.in_ok-yes-in-BodyFirst.yes _ _
-    (ap stmt_view c.in-BodyFirst.is) (c.len-place.ensures ∙ c.args.points.now.ok.0) c.in_ok-put-in-BodyFirst.ensures inner refl
+    (ap stmt_view c.in-BodyFirst.is) (c.len-place.ensures ∙ c.args.points.now.ok.0) c.in_ok-put-in-BodyFirst.ensures inner
+    (ap (λ e. points.Branch (expr_view e) c.in_ok-yes-in-BodyFirst.yes c.args.ways.next) c.deref-in-BodyFirst-2.ensures)
 
 pub lower_for_each-returns : goal.lower_for_each-returns
 lower_for_each-returns t c =

@@ -11,7 +11,7 @@ use Rattle.type_check_parts.proofs.rounds.dimension.Goals as goal
 pub returns-in_err-low : goal.returns-in_err-low
 returns-in_err-low c =
     let entries = c.args.scope.now.entries in
-    pair-refused typed.expr_view typed.expr_view typed.dimension_view c.given_value-low.result c.given_value-high.result
+    pair-refused typed.boxed_view typed.boxed_view typed.dimension_view c.given_value-low.result c.given_value-high.result
     (given_value (expr_view c.args.dim.now.low) entries t.Int32 Uniform) (given_value (expr_view c.args.dim.now.high) entries t.Int32 Uniform)
     (λ bounds. Sound (record { index = record { id = Local c.args.number; type = t.Int32; rate = Varying }; low = bounds.0; high = bounds.1 }))
     c.in_err-low.field-0.0 c.from_residual.result c.from_residual.ensures.1 c.in_err-low.ensures c.given_value-low.ensures c.given_value-high.ensures
@@ -19,7 +19,7 @@ returns-in_err-low c =
 pub returns : goal.returns
 returns c =
     let entries = c.args.scope.now.entries in
-    pair-stands typed.expr_view typed.expr_view c.given_value-low.result c.given_value-high.result
+    pair-stands typed.boxed_view typed.boxed_view c.given_value-low.result c.given_value-high.result
     (given_value (expr_view c.args.dim.now.low) entries t.Int32 Uniform) (given_value (expr_view c.args.dim.now.high) entries t.Int32 Uniform)
     (λ bounds. Sound (record { index = record { id = Local c.args.number; type = t.Int32; rate = Varying }; low = bounds.0; high = bounds.1 }))
     c.in_ok-low.low c.in_ok-low.high c.in_ok-low.ensures c.given_value-low.ensures c.given_value-high.ensures

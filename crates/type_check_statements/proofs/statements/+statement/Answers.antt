@@ -19,9 +19,9 @@ use Rattle.gang_model.proofs.WalkedLists.{next_item}
 use Rattle.ispc_parser.specs.declared.tree.Stmt.{If}
 use Rattle.ispc_parser.specs.Tree as parsed
 use Rattle.ispc_parser.proofs.Rows.{view_block}
+use Rattle.typed_tree.specs.Boxes.{boxed_stmt_view}
 use Rattle.typed_tree.specs.Views as typed
 use Rattle.type_check_values.specs.Views.{typed_view}
-use Rattle.typed_tree.specs.declared.statements.Stmt.{Break, Continue}
 use Rattle.source_answers.specs.Answers.{Answers}
 use Rattle.type_check_scopes.specs.Entries.{declared_view}
 use Rattle.type_check_calls.specs.Calls.{context_view, whole_call_view}
@@ -67,7 +67,7 @@ if_only-returns-clause-typed t c =
     IfOk-weaker c.conditional.result _ _ (λ answer form p.
     if-only p e (parsed.stmt_view c.args.first.now) (context_view c.args.context.now) scope.entries scope.entries scope.locals c.inner.new.scope.locals c.args.step.now _
     c.in_ok-test.test c.in_ok-first.first answer c.both_answers.result
-    (answers-apart typed.expr_view c.test_of.result c.in_ok-test.test (test_of scope.entries (Some e)) c.test_of.ensures c.in_ok-test.ensures)
+    (answers-apart typed.boxed_view c.test_of.result c.in_ok-test.test (test_of scope.entries (Some e)) c.test_of.ensures c.in_ok-test.ensures)
     c.in_ok-first.ensures.typed refl c.in_ok-step.ensures.number c.both_answers.ensures form)
     c.conditional.ensures.form
 
@@ -79,7 +79,7 @@ if_else-returns-clause-typed t c =
     if-else p e (parsed.stmt_view c.args.first.now) (parsed.stmt_view c.args.other.now) (context_view c.args.context.now) scope.entries scope.entries c.inner.new.scope.entries
     scope.locals c.inner.new.scope.locals c.inner-2.new.scope.locals c.args.step.now _ _
     c.in_ok-test.test c.in_ok-first.first c.in_ok-other.other answer c.both_answers.result c.both_answers-2.result
-    (answers-apart typed.expr_view c.test_of.result c.in_ok-test.test (test_of scope.entries (Some e)) c.test_of.ensures c.in_ok-test.ensures)
+    (answers-apart typed.boxed_view c.test_of.result c.in_ok-test.test (test_of scope.entries (Some e)) c.test_of.ensures c.in_ok-test.ensures)
     c.in_ok-first.ensures.typed refl c.in_ok-step.ensures.number c.in_ok-other.ensures.typed c.in_ok-first.ensures.after c.in_ok-first.ensures.steps
     c.both_answers.ensures c.both_answers-2.ensures form)
     c.choice.ensures.form
@@ -93,7 +93,7 @@ while_loop-returns-clause-typed t c =
     IfOk-weaker c.repeated.result _ _ (λ answer form p.
     while-loop p e (parsed.stmt_view c.args.body.now) (context_view c.args.context.now) scope.entries scope.entries scope.locals c.inner.new.scope.locals c.args.step.now c.inner.new.step
     c.in_ok-test.test c.in_ok-body.body answer c.both_answers.result
-    (answers-apart typed.expr_view c.test_of.result c.in_ok-test.test (test_of scope.entries (Some e)) c.test_of.ensures c.in_ok-test.ensures)
+    (answers-apart typed.boxed_view c.test_of.result c.in_ok-test.test (test_of scope.entries (Some e)) c.test_of.ensures c.in_ok-test.ensures)
     c.in_ok-body.ensures.typed refl c.in_ok-body.ensures.steps c.both_answers.ensures form)
     c.repeated.ensures.form
 
@@ -105,7 +105,7 @@ do_loop-returns-clause-typed t c =
     IfOk-weaker c.body_first.result _ _ (λ answer form p.
     do-loop p e (parsed.stmt_view c.args.body.now) (context_view c.args.context.now) scope.entries entries scope.locals c.inner.new.scope.locals c.args.step.now c.inner.new.step
     c.in_ok-test.test c.in_ok-body.body answer c.both_answers.result c.in_ok-body.ensures.typed
-    (answers-apart typed.expr_view c.test_of.result c.in_ok-test.test (test_of entries (Some e)) c.test_of.ensures c.in_ok-test.ensures)
+    (answers-apart typed.boxed_view c.test_of.result c.in_ok-test.test (test_of entries (Some e)) c.test_of.ensures c.in_ok-test.ensures)
     c.in_ok-body.ensures.after c.in_ok-body.ensures.steps c.both_answers.ensures form)
     c.body_first.ensures.form
 
@@ -122,7 +122,7 @@ for_loop-returns-clause-typed t c =
     c.args.step.now c.statement.new.step _ _ c.inner.new.step
     c.in_ok-test.test c.in_ok-start.start c.in_ok-update.update c.in_ok-body.body answer c.both_answers.result c.both_answers-2.result c.both_answers-parts.result
     c.in_ok-start.ensures.typed c.in_ok-start.ensures.after c.in_ok-start.ensures.steps
-    (answers-apart typed.expr_view c.some_test.result c.in_ok-test.test (test_of entries e) c.some_test.ensures c.in_ok-test.ensures)
+    (answers-apart typed.boxed_view c.some_test.result c.in_ok-test.test (test_of entries e) c.some_test.ensures c.in_ok-test.ensures)
     c.in_ok-steps_in.ensures.steps c.in_ok-at.ensures.number
     c.in_ok-update.ensures.typed c.in_ok-update.ensures.after c.in_ok-update.ensures.steps c.in_ok-body.ensures.typed
     c.both_answers.ensures c.both_answers-2.ensures c.both_answers-parts.ensures form))
@@ -255,10 +255,10 @@ statement-loop-inner-preserved t c =
 
 -- ---- the forms of a statement
 
-pub statement-returns-in-Empty-clause-typed : goal.statement-returns-in-Empty-clause-typed
-statement-returns-in-Empty-clause-typed t c =
+pub statement-returns-in_ok-empty-in-Empty-clause-typed : goal.statement-returns-in_ok-empty-in-Empty-clause-typed
+statement-returns-in_ok-empty-in-Empty-clause-typed t c =
     let scope = c.args.scope.now in
-    empty-statement (parsed.stmt_view c.args.stmt.now) (context_view c.args.context.now) scope.entries scope.locals c.args.step.now (ap parsed.stmt_view c.in-Empty.is)
+    empty-statement c.in_ok-empty-in-Empty.empty (parsed.stmt_view c.args.stmt.now) (context_view c.args.context.now) scope.entries scope.locals c.args.step.now c.in_ok-empty-in-Empty.ensures.value (ap parsed.stmt_view c.in-Empty.is)
 
 pub statement-returns-in-Assign-clause-typed : goal.statement-returns-in-Assign-clause-typed
 statement-returns-in-Assign-clause-typed t c =
@@ -298,23 +298,23 @@ statement-returns-in-Call-clause-typed t c =
     ap (λ name. record { at = c.in-Call.place; name = name; args = args_view c.deref-in-Call-2.result.now }) c.deref-in-Call.ensures.value
     ∙ ap (λ args. record { at = c.in-Call.place; name = c.in-Call.name.items; args = args_view args }) c.deref-in-Call-2.ensures.value in
     single-step c.one_step-in-Call.result c.called.result (call_statement context scope.entries call c.args.step.now) s (ParsedDoCall c.in-Call.place c.in-Call.name.items (args_view c.in-Call.args.items))
-    context scope.entries scope.locals c.args.step.now (ap parsed.stmt_view c.in-Call.is) (then-alone (call_of context scope.entries c.in-Call.place c.in-Call.name.items (args_view c.in-Call.args.items) tree.Nothing c.args.step.now) (λ x. x.stmt)) refl (subst (λ x. Answers typed.stmt_view c.called.result (call_statement context scope.entries x c.args.step.now)) same c.called.ensures) c.one_step-in-Call.ensures.answer
+    context scope.entries scope.locals c.args.step.now (ap parsed.stmt_view c.in-Call.is) (then-alone (call_of context scope.entries c.in-Call.place c.in-Call.name.items (args_view c.in-Call.args.items) tree.Nothing c.args.step.now) (λ x. x.stmt)) refl (subst (λ x. Answers boxed_stmt_view c.called.result (call_statement context scope.entries x c.args.step.now)) same c.called.ensures) c.one_step-in-Call.ensures.answer
 
 pub statement-returns-in-Break-clause-typed : goal.statement-returns-in-Break-clause-typed
 statement-returns-in-Break-clause-typed t c =
     let scope = c.args.scope.now in
     let context = context_view c.args.context.now in
     let s = parsed.stmt_view c.args.stmt.now in
-    single-step c.one_step-in-Break.result (Ok (Break c.args.step.now)) (Sound (tree.Break c.args.step.now)) s (ParsedBreak c.in-Break.place)
-    context scope.entries scope.locals c.args.step.now (ap parsed.stmt_view c.in-Break.is) (refl) refl refl c.one_step-in-Break.ensures.answer
+    single-step c.one_step-in-Break.result c.unjudged.result (Sound (tree.Break c.args.step.now)) s (ParsedBreak c.in-Break.place)
+    context scope.entries scope.locals c.args.step.now (ap parsed.stmt_view c.in-Break.is) (refl) refl c.unjudged.ensures c.one_step-in-Break.ensures.answer
 
 pub statement-returns-in-Continue-clause-typed : goal.statement-returns-in-Continue-clause-typed
 statement-returns-in-Continue-clause-typed t c =
     let scope = c.args.scope.now in
     let context = context_view c.args.context.now in
     let s = parsed.stmt_view c.args.stmt.now in
-    single-step c.one_step-in-Continue.result (Ok (Continue c.args.step.now)) (Sound (tree.Continue c.args.step.now)) s (ParsedContinue c.in-Continue.place)
-    context scope.entries scope.locals c.args.step.now (ap parsed.stmt_view c.in-Continue.is) (refl) refl refl c.one_step-in-Continue.ensures.answer
+    single-step c.one_step-in-Continue.result c.unjudged-in-Continue.result (Sound (tree.Continue c.args.step.now)) s (ParsedContinue c.in-Continue.place)
+    context scope.entries scope.locals c.args.step.now (ap parsed.stmt_view c.in-Continue.is) (refl) refl c.unjudged-in-Continue.ensures c.one_step-in-Continue.ensures.answer
 
 pub statement-returns-in-Return-clause-typed : goal.statement-returns-in-Return-clause-typed
 statement-returns-in-Return-clause-typed t c =
@@ -445,9 +445,11 @@ statement-returns-after-loop-inner-clause-typed t c =
     scope.locals c.loop-inner.scope.locals c.args.step.now c.loop-inner.step c.loop-inner.invariant (ap parsed.stmts_view (drop_all i items c.loop-inner-test.false)) in
     let e : parsed.stmt_view c.args.stmt.now ≡ ParsedBlock (parsed.stmts_view items) =
     ap parsed.stmt_view c.in-Block.is ∙ (view_block c.in-Block.stmts ∙ ap (λ xs. ParsedBlock (parsed.stmts_view xs)) (sym c.deref-inner-items.ensures.value)) in
-    typed-as c.block.result (parsed.stmt_view c.args.stmt.now) (ParsedBlock (parsed.stmts_view items)) context scope.entries (length scope.locals) c.args.step.now scope.locals c.leave.new.self.locals e
-    (ends-at c.block.result _ scope.locals c.loop-inner.scope.locals c.leave.new.self.locals _ c.leave.ensures.locals
-    (whole-block context (parsed.stmts_view items) c.loop-inner.typed c.block.result scope.entries c.loop-inner.scope.entries scope.locals c.loop-inner.scope.locals c.args.step.now c.loop-inner.step whole c.block.ensures))
+    IfOk-weaker c.block.result _ _ (λ answer form.
+    typed-as answer (parsed.stmt_view c.args.stmt.now) (ParsedBlock (parsed.stmts_view items)) context scope.entries (length scope.locals) c.args.step.now scope.locals c.leave.new.self.locals e
+    (ends-at answer _ scope.locals c.loop-inner.scope.locals c.leave.new.self.locals _ c.leave.ensures.locals
+    (whole-block context (parsed.stmts_view items) c.loop-inner.typed answer scope.entries c.loop-inner.scope.entries scope.locals c.loop-inner.scope.locals c.args.step.now c.loop-inner.step whole form)))
+    c.block.ensures.form
 
 pub statement-returns-after-loop-inner-clause-after : goal.statement-returns-after-loop-inner-clause-after
 statement-returns-after-loop-inner-clause-after t c =
@@ -459,8 +461,8 @@ statement-returns-after-loop-inner-clause-after t c =
     scope.locals c.loop-inner.scope.locals c.args.step.now c.loop-inner.step c.loop-inner.invariant (ap parsed.stmts_view (drop_all i items c.loop-inner-test.false)) in
     let e : parsed.stmt_view c.args.stmt.now ≡ ParsedBlock (parsed.stmts_view items) =
     ap parsed.stmt_view c.in-Block.is ∙ (view_block c.in-Block.stmts ∙ ap (λ xs. ParsedBlock (parsed.stmts_view xs)) (sym c.deref-inner-items.ensures.value)) in
-    extends-left scope.entries c.loop-inner.scope.entries c.leave.new.self.entries c.mark-mark.result.declared c.mark-mark.ensures whole.extends c.leave.ensures.entries
-    ∙ sym (ap (λ s. model.scope_after s scope.entries k) e)
+    in-any-case c.block.result (extends-left scope.entries c.loop-inner.scope.entries c.leave.new.self.entries c.mark-mark.result.declared c.mark-mark.ensures whole.extends c.leave.ensures.entries
+    ∙ sym (ap (λ s. model.scope_after s scope.entries k) e))
 
 pub statement-returns-after-loop-inner-clause-steps : goal.statement-returns-after-loop-inner-clause-steps
 statement-returns-after-loop-inner-clause-steps t c =
@@ -471,4 +473,4 @@ statement-returns-after-loop-inner-clause-steps t c =
     scope.locals c.loop-inner.scope.locals c.args.step.now c.loop-inner.step c.loop-inner.invariant (ap parsed.stmts_view (drop_all i items c.loop-inner-test.false)) in
     let e : parsed.stmt_view c.args.stmt.now ≡ ParsedBlock (parsed.stmts_view items) =
     ap parsed.stmt_view c.in-Block.is ∙ (view_block c.in-Block.stmts ∙ ap (λ xs. ParsedBlock (parsed.stmts_view xs)) (sym c.deref-inner-items.ensures.value)) in
-    whole.numbered ∙ sym (ap (λ s. c.args.step.now + steps_in s) e)
+    in-any-case c.block.result (whole.numbered ∙ sym (ap (λ s. c.args.step.now + steps_in s) e))
