@@ -18,6 +18,8 @@ WENT = "has no field|is not in scope|has no `|was not admitted"
 NAMES_WHAT_WENT = rf"(\./)?proofs/.*({WENT})"
 ONLY_A_NAME = "only because a proof file names what the edit took away"
 GAP = r"(?: |\n +)"
+# What the toolchain answers of an edit that is refused: a word, or in some of its versions that it is so.
+REFUSED = getattr(rt, "REFUSED", True)
 SPREAD = re.compile(rf"^((?:\./)?proofs/.*?){GAP}({WENT.replace(' ', GAP)})", re.M)
 
 checked_by_the_gate = rt.checked
@@ -157,5 +159,5 @@ def tried(crate, batch, jobs, kept):
             answers.append((edit, True, f"must-fail {crate.name}/{os.path.basename(edit)}: refused beside others: {told[:160]}"))
         else:
             comes_to, said = rt.must_fail(crate, edit, jobs, kept)
-            answers.append((edit, comes_to == rt.REFUSED and ONLY_A_NAME not in said, said))
+            answers.append((edit, comes_to == REFUSED and ONLY_A_NAME not in said, said))
     return answers
