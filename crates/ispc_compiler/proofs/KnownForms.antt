@@ -5,15 +5,15 @@ use Rattle.std.specs.List.{list_all}
 use Rattle.std.specs.Prelude.{not}
 use Rattle.gang_types.specs.declared.places.Place.{Place}
 use Rattle.gang_model.specs.Source.Known.{known_args, known_call, known_expr, known_params, known_stmt, known_stmts}
-use Rattle.ispc_parser_expressions.specs.declared.tree.Arg.{Arg}
-use Rattle.ispc_parser_expressions.specs.declared.tree.Expr.{Expr, Call}
-use Rattle.ispc_parser_expressions.specs.Tree.{args_view, expr_view}
-use Rattle.ispc_parser_expressions.proofs.Rows.{view_call}
-use Rattle.ispc_parser.specs.declared.tree.Param.{Param}
+use Rattle.source_tree.specs.declared.expressions.Arg.{Arg}
+use Rattle.source_tree.specs.declared.expressions.Expr.{Expr, Call}
+use Rattle.source_tree.specs.Expressions.{args_view, expr_view}
+use Rattle.source_tree.proofs.ArgumentRows.{view_call}
+use Rattle.source_tree.specs.declared.tree.Param.{Param}
 use Rattle.plain_programs.specs.Sources.{plain_forms}
-use Rattle.ispc_parser.specs.declared.tree.Stmt.{Stmt, Block}
-use Rattle.ispc_parser.specs.Tree.{param_view, stmt_view, stmts_view}
-use Rattle.ispc_parser.proofs.Rows.{view_block}
+use Rattle.source_tree.specs.declared.tree.Stmt.{Stmt, Block}
+use Rattle.source_tree.specs.Tree.{param_view, stmt_view, stmts_view}
+use Rattle.source_tree.proofs.StatementRows.{view_block}
 
 -- a block has the forms of its statements
 pub in_block : (s : Stmt) (stmts : Vec Stmt Global) (items : List Stmt) (known : Bool) → s ≡ Block stmts → items ≡ stmts.items → known ≡ known_stmts (stmts_view items) plain_forms

@@ -1,16 +1,15 @@
 //! Forms of the language that are let through, and those that are not there yet.
 ghost use Rattle.std.specs.List.{list_all};
 ghost use Rattle.std.specs.Prelude.{◌≡◌, ◌&&◌, is_ok, map, not, option_map};
-ghost use Rattle.ispc_parser_expressions.specs.Tree.{args_view, expr_view};
+ghost use Rattle.source_tree.specs.Expressions.{args_view, expr_view};
 ghost use Rattle.gang_model.specs.Source.Known.{is_known, known_args, known_call, known_expr, known_form, known_function, known_item, known_params, known_some, known_stmt, known_stmts, known_target};
 ghost use Rattle.plain_programs.specs.Sources.{plain_forms};
-ghost use Rattle.ispc_parser.specs.Tree.{function_view, item_view, param_view, stmt_view, stmts_view, target_view, tree_view};
+ghost use Rattle.source_tree.specs.Tree.{function_view, item_view, param_view, stmt_view, stmts_view, target_view, tree_view};
 
 use gang_model::GlobalForm;
 use gang_types::Place;
 use ispc_names_scopes::{is_library_name, statement_call};
-use ispc_parser::{Function, GlobalVariable, Item, Param, Stmt, Target, Tree};
-use ispc_parser_expressions::{Arg, Expr};
+use source_tree::{Arg, Expr, Function, GlobalVariable, Item, Param, Stmt, Target, Tree};
 
 /// Whether all forms of a source are let through.
 ///

@@ -2,7 +2,7 @@
 ghost use Rattle.std.specs.Prelude.{◌≡◌, ℕ, List, None, IfErr, IfOk, OnOk, option_map};
 ghost use Rattle.gang_model.specs.Source.Limits as limits;
 ghost use Rattle.gang_model.specs.Texts.Run.{source_refusal};
-ghost use Rattle.ispc_parser.specs.Tree.{tree_view};
+ghost use Rattle.source_tree.specs.Tree.{tree_view};
 ghost use Rattle.ispc_compiler.specs.Front.{Compiles, GivesTree, IsFault, IsRefused, ReadsKnown};
 
 use crate::forms::check_forms;
@@ -10,9 +10,10 @@ use gang_model::{RefusalNumber, SourceRefusal};
 use gang_types::{FuncId, Place};
 use ispc_lexer::{source_end, tokens};
 use ispc_names::resolve;
-use ispc_parser::{Tree, parse};
+use ispc_parser::parse;
 use source_answers::SourceFault;
 use source_limits::limit_refusal;
+use source_tree::Tree;
 use std::alloc::Global;
 use type_check::{check, entry_of};
 use typed_tree::Program;

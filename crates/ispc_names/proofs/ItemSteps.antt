@@ -6,11 +6,11 @@ use Rattle.gang_types.specs.declared.places.VarId.TheVariants.{File}
 use Rattle.gang_model.specs.Source.Names.{same_text}
 use Rattle.gang_model.specs.Source.Parsed.{Name, ParsedFunction, functions_in, globals_in}
 use Rattle.gang_model.specs.Names.Scope.{Binding, declaration, file_bindings}
-use Rattle.ispc_parser.specs.declared.tree.Function.{Function}
-use Rattle.ispc_parser.specs.declared.tree.GlobalVariable.{GlobalVariable}
-use Rattle.ispc_parser.specs.declared.tree.Item.{Item}
-use Rattle.ispc_parser.specs.declared.tree.Item.TheVariants as item
-use Rattle.ispc_parser.specs.Tree.{item_view, function_view}
+use Rattle.source_tree.specs.declared.tree.Function.{Function}
+use Rattle.source_tree.specs.declared.tree.GlobalVariable.{GlobalVariable}
+use Rattle.source_tree.specs.declared.tree.Item.{Item}
+use Rattle.source_tree.specs.declared.tree.Item.TheVariants as item
+use Rattle.source_tree.specs.Tree.{item_view, function_view}
 
 -- the functions among items
 abbrev pub functions : List Item → List ParsedFunction

@@ -2,9 +2,9 @@
 ghost use Rattle.std.specs.Prelude.{◌≡◌, option_map};
 ghost use Rattle.gang_types.specs.declared.places.VarId.TheVariants.{File};
 ghost use Rattle.gang_model.specs.Names.Scope.{declaration, file_scope};
-ghost use Rattle.ispc_parser.specs.Tree.{tree_view};
+ghost use Rattle.source_tree.specs.Tree.{tree_view};
 
-use ispc_parser::{Item, Tree};
+use source_tree::{Item, Tree};
 
 /// The number of the first file-scope variable of a name: the time is that of a walk over the items of the tree.
 pub(crate) fn file_variable(tree: &Tree, name: &[u8]) -> Option<usize>

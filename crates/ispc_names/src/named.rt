@@ -4,13 +4,13 @@ ghost use Rattle.gang_types.specs.declared.places.VarId.TheVariants.{Local};
 ghost use Rattle.gang_model.specs.Source.Parsed.{ParsedSource};
 ghost use Rattle.gang_model.specs.Names.Scope as scope;
 ghost use Rattle.gang_model.specs.Types.SourceRefusals.{names_refusal};
-ghost use Rattle.ispc_parser.specs.Tree.{tree_view};
+ghost use Rattle.source_tree.specs.Tree.{tree_view};
 ghost use Rattle.ispc_names.specs.Tables.{AreTablesOf};
 
 use crate::file_variables::file_variable;
 use gang_types::{Spot, VarId};
 use ispc_names_table::StepScopes;
-use ispc_parser::Tree;
+use source_tree::Tree;
 use std::marker::Model;
 
 /// A tree without faults of names, with the steps of its functions and what is in scope at each. Its value is
@@ -25,9 +25,9 @@ impl Model for Named {
     ghost use Rattle.std.specs.Prelude.{◌≡◌, None};
     ghost use Rattle.std.specs.Coded.{codes};
     ghost use Rattle.gang_model.specs.Types.SourceRefusals.{names_refusal};
-    ghost use Rattle.ispc_parser.specs.contracts.tree.Item as item;
-    ghost use Rattle.ispc_parser.specs.declared.tree.Tree as declared;
-    ghost use Rattle.ispc_parser.specs.Tree.{tree_view};
+    ghost use Rattle.source_tree.specs.contracts.tree.Item as item;
+    ghost use Rattle.source_tree.specs.declared.tree.Tree as declared;
+    ghost use Rattle.source_tree.specs.Tree.{tree_view};
     ghost use Rattle.ispc_names.specs.Tables.{AreTablesOf};
 
     ghost Value = { declared.Tree };

@@ -5,15 +5,15 @@ ghost use Rattle.gang_model.specs.Source.Parsed.{ParsedSource, functions_in};
 ghost use Rattle.gang_model.specs.Names.Scope.{file_scope, standings_of};
 ghost use Rattle.gang_model.specs.Types.SourceRefusals.{names_refusal};
 ghost use Rattle.source_answers.specs.declared.fault.SourceFault.TheVariants.{Memory, Refused};
-ghost use Rattle.ispc_parser.specs.Tree.{tree_view};
+ghost use Rattle.source_tree.specs.Tree.{tree_view};
 ghost use Rattle.ispc_names_table.specs.Scopes.{standings_view};
 
 use crate::named::Named;
 use ispc_names_faults::names_fault;
 use ispc_names_steps::steps_of;
 use ispc_names_table::StepScopes;
-use ispc_parser::{Item, Tree};
 use source_answers::SourceFault;
+use source_tree::{Item, Tree};
 use std::alloc::{AllocError, Global};
 
 /// The steps of the functions of a tree, in order, with what is in scope at each.

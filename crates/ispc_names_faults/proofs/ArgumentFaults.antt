@@ -7,10 +7,10 @@ use Rattle.gang_model.specs.Source.Parsed.{Name, ParsedExpr, ParsedArgs, ParsedE
 use Rattle.gang_model.specs.Names.Scope.{Environment}
 use Rattle.gang_model.specs.Names.NameFaults.{names_in, names_of_args, unknown_name, inner_call}
 use Rattle.gang_model.proofs.JudgedLaws.{merged-none, merged-assoc, least_fault-append, least_fault-or_own}
-use Rattle.ispc_parser_expressions.specs.declared.tree.Expr.{Expr, Call}
-use Rattle.ispc_parser_expressions.specs.declared.tree.Arg.{Arg}
-use Rattle.ispc_parser_expressions.specs.Tree.{ParsedArg, OfValue, OfPart, OfPartFrom, with_arg, arg_view, expr_view, args_view}
-use Rattle.ispc_parser_expressions.proofs.Rows.{view_call}
+use Rattle.source_tree.specs.declared.expressions.Expr.{Expr, Call}
+use Rattle.source_tree.specs.declared.expressions.Arg.{Arg}
+use Rattle.source_tree.specs.Expressions.{ParsedArg, OfValue, OfPart, OfPartFrom, with_arg, arg_view, expr_view, args_view}
+use Rattle.source_tree.proofs.ArgumentRows.{view_call}
 
 abbrev Fault : Type 0
 Fault = Option SourceRefusal

@@ -12,8 +12,8 @@ use Rattle.gang_model.specs.Source.Names.{same_text}
 use Rattle.gang_model.specs.Source.Parsed.{Name, ParsedGlobal, ParsedFunction, ParsedItem, ParsedFunctionItem, ParsedGlobalItem, functions_in, globals_in}
 use Rattle.gang_model.specs.Names.Scope.{is_built_in}
 use Rattle.gang_model.specs.Types.Signatures.{same_signature}
-use Rattle.ispc_parser.specs.declared.tree.Item.{Item}
-use Rattle.ispc_parser.specs.Tree.{item_view}
+use Rattle.source_tree.specs.declared.tree.Item.{Item}
+use Rattle.source_tree.specs.Tree.{item_view}
 use Rattle.ispc_names_faults.specs.NamesBefore.{later_globals, later_functions}
 use Rattle.ispc_names_faults.specs.SignatureKeys.{signature_key}
 use Rattle.gang_model.proofs.JudgedLaws.{least_fault-append}

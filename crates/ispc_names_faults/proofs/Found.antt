@@ -13,8 +13,8 @@ use Rattle.gang_model.specs.Names.Scope.{Environment, Site, with_name, with_dims
 use Rattle.gang_model.specs.Types.SourceRefusals.{names_refusal}
 use Rattle.gang_model.proofs.JudgedLaws.{least_fault-append}
 use Rattle.ispc_names_scopes.specs.Scopes.{Scoped, site}
-use Rattle.ispc_parser.specs.declared.tree.Stmt.{Stmt}
-use Rattle.ispc_parser.specs.Tree.{stmt_view, stmts_view}
+use Rattle.source_tree.specs.declared.tree.Stmt.{Stmt}
+use Rattle.source_tree.specs.Tree.{stmt_view, stmts_view}
 use Rattle.ispc_names_faults.specs.IndexVariables.{dims_twice, bounds_names}
 use Rattle.ispc_names_faults.specs.Moved.{moved}
 use Rattle.ispc_names_faults.specs.NamesBefore.{names_of_all}

@@ -6,8 +6,8 @@ use Rattle.gang_model.specs.Source.Names.{same_text}
 use Rattle.gang_model.specs.Source.Parsed.{Name, ParsedParam, ParsedFunction}
 use Rattle.gang_model.specs.Types.Conversions.{same_bool, same_rate, is_varying}
 use Rattle.gang_model.specs.Types.Signatures.{declared_type, declared_rate, same_params, same_signature}
-use Rattle.ispc_parser.specs.declared.tree.Param.{Param}
-use Rattle.ispc_parser.specs.Tree.{param_view}
+use Rattle.source_tree.specs.declared.tree.Param.{Param}
+use Rattle.source_tree.specs.Tree.{param_view}
 use Rattle.ispc_names_faults.specs.SignatureKeys.{digit, key_with, param_key, signature_key}
 
 same_digit : (a b : Bool) → (digit a == digit b) ≡ same_bool a b

@@ -4,15 +4,15 @@ ghost use Rattle.gang_model.specs.Source.Judged.{least_fault};
 ghost use Rattle.gang_model.specs.Names.NameFaults as names;
 ghost use Rattle.gang_model.specs.Names.Scope as scope;
 ghost use Rattle.ispc_names_scopes.specs.Scopes.{site};
-ghost use Rattle.ispc_parser.specs.Tree.{dim_view, param_view};
+ghost use Rattle.source_tree.specs.Tree.{dim_view, param_view};
 ghost use Rattle.ispc_names_faults.specs.IndexVariables.{bounds_names, dims_twice};
 
 use crate::expressions::{expression_fault, is_built_in};
 use gang_model::{RefusalNumber, SourceRefusal};
 use gang_types::Place;
 use ispc_names_scopes::{FunctionNames, Scopes};
-use ispc_parser::{Dim, Param};
 use source_answers::{fault_if, least};
+use source_tree::{Dim, Param};
 use std::alloc::{AllocError, Global};
 
 /// The fault of a name that its scope has already or that nothing may declare, and its declaration in that scope.

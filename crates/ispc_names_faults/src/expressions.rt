@@ -5,13 +5,13 @@ ghost use Rattle.gang_model.specs.Source.Judged.{least_fault};
 ghost use Rattle.gang_model.specs.Names.NameFaults as names;
 ghost use Rattle.gang_model.specs.Source.Parsed.{ParsedEnd};
 ghost use Rattle.gang_model.specs.Names.Scope as scope;
-ghost use Rattle.ispc_parser_expressions.specs.Tree.{expr_view, arg_view, args_view, with_arg};
+ghost use Rattle.source_tree.specs.Expressions.{expr_view, arg_view, args_view, with_arg};
 
 use gang_model::{RefusalNumber, SourceRefusal};
 use gang_types::Place;
 use ispc_names_scopes::{FunctionNames, Scopes, is_library_name, is_same, statement_call};
-use ispc_parser_expressions::{Arg, Expr};
 use source_answers::{fault_if, least, least_inside};
+use source_tree::{Arg, Expr};
 
 /// Whether a name is built in: it is known everywhere, though nothing declares it.
 pub fn is_built_in(name: &[u8]) -> bool

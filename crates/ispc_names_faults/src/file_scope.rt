@@ -5,14 +5,14 @@ ghost use Rattle.gang_model.specs.Types.LibraryTable.{is_among};
 ghost use Rattle.gang_model.specs.Names.NameFaults as names;
 ghost use Rattle.gang_model.specs.Source.Parsed.{functions_in, globals_in};
 ghost use Rattle.gang_model.specs.Names.Scope.{file_bindings, is_built_in};
-ghost use Rattle.ispc_parser.specs.Tree.{function_view, global_view, item_view, tree_view};
+ghost use Rattle.source_tree.specs.Tree.{function_view, global_view, item_view, tree_view};
 ghost use Rattle.ispc_names_faults.specs.NamesBefore.{later_globals};
 
 use crate::expressions::is_built_in;
 use gang_model::{RefusalNumber, SourceRefusal};
 use ispc_names_scopes::{FunctionNames, Scopes};
-use ispc_parser::{Function, GlobalVariable, Item, Tree};
 use source_answers::{fault_if, least};
+use source_tree::{Function, GlobalVariable, Item, Tree};
 use std::alloc::{AllocError, Global};
 
 /// Takes in an item that is a function.

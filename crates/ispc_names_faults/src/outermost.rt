@@ -6,7 +6,7 @@ ghost use Rattle.gang_model.specs.Types.LibraryTable as table;
 ghost use Rattle.gang_model.specs.Names.NameFaults as names;
 ghost use Rattle.gang_model.specs.Names.Scope as scope;
 ghost use Rattle.ispc_names_scopes.specs.Scopes.{site};
-ghost use Rattle.ispc_parser.specs.Tree.{function_view, stmts_view};
+ghost use Rattle.source_tree.specs.Tree.{function_view, stmts_view};
 ghost use Rattle.ispc_names_faults.specs.MayStand.{allowed_view};
 
 use crate::allowed::{Allowed, in_function};
@@ -14,8 +14,8 @@ use crate::declarations::params_fault;
 use crate::statements::statement_fault;
 use gang_model::{RefusalNumber, SourceRefusal};
 use ispc_names_scopes::{FunctionNames, Scopes, is_library_name, statement_call};
-use ispc_parser::{Function, Stmt};
 use source_answers::{fault_if, least};
+use source_tree::{Function, Stmt};
 use std::alloc::{AllocError, Global};
 
 /// The first fault of names in statements, each after those before it, in the present scope.

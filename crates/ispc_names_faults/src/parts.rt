@@ -5,9 +5,9 @@ ghost use Rattle.gang_model.specs.Source.Judged.{least_fault};
 ghost use Rattle.gang_model.specs.declared.refusals.RefusalNumber.TheVariants as number;
 ghost use Rattle.gang_model.specs.Names.NameFaults as names;
 ghost use Rattle.gang_model.specs.Names.Scope as scope;
-ghost use Rattle.ispc_parser_expressions.specs.Tree.{expr_view};
+ghost use Rattle.source_tree.specs.Expressions.{expr_view};
 ghost use Rattle.ispc_names_scopes.specs.Scopes.{site};
-ghost use Rattle.ispc_parser.specs.Tree.{stmt_view, target_view};
+ghost use Rattle.source_tree.specs.Tree.{stmt_view, target_view};
 ghost use Rattle.ispc_names_faults.specs.MayStand.{allowed_view};
 ghost use Rattle.ispc_names_faults.specs.HeldStatements.{holds_others};
 
@@ -18,9 +18,8 @@ use crate::right_sides::{call_fault, right_fault, some_expression_fault, some_ri
 use gang_model::{RefusalNumber, SourceRefusal};
 use gang_types::Place;
 use ispc_names_scopes::{FunctionNames, Scopes};
-use ispc_parser::{Stmt, Target};
-use ispc_parser_expressions::Expr;
 use source_answers::{fault_if, least};
+use source_tree::{Expr, Stmt, Target};
 use std::alloc::{AllocError, Global};
 
 /// The fault of names in what is assigned.

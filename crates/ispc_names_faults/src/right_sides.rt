@@ -5,15 +5,15 @@ ghost use Rattle.gang_model.specs.Source.Judged.{least_fault};
 ghost use Rattle.gang_model.specs.Types.LibraryTable.{is_library_name};
 ghost use Rattle.gang_model.specs.declared.refusals.RefusalNumber.TheVariants as number;
 ghost use Rattle.gang_model.specs.Names.NameFaults as names;
-ghost use Rattle.ispc_parser_expressions.specs.Tree.{expr_view, args_view};
+ghost use Rattle.source_tree.specs.Expressions.{expr_view, args_view};
 ghost use Rattle.ispc_names_scopes.specs.Names.{statement_call_view};
 
 use crate::expressions::{arguments_fault, expression_fault, stands_whole};
 use gang_model::{RefusalNumber, SourceRefusal};
 use gang_types::Place;
 use ispc_names_scopes::{FunctionNames, Scopes, StatementCall, is_library_name, statement_call};
-use ispc_parser_expressions::{Arg, Expr};
 use source_answers::{fault_if, least_inside};
+use source_tree::{Arg, Expr};
 
 /// The fault of a call that stands whole after `=` or `return`: `assert` gives nothing.
 fn whole_call_fault(

@@ -8,7 +8,7 @@ ghost use Rattle.gang_model.specs.declared.refusals.RefusalNumber.TheVariants as
 ghost use Rattle.gang_model.specs.Types.LibraryTable.{is_among};
 ghost use Rattle.gang_model.specs.Names.NameFaults as names;
 ghost use Rattle.gang_model.specs.Types.Signatures.{declared_rate, declared_type};
-ghost use Rattle.ispc_parser.specs.Tree.{function_view, param_view};
+ghost use Rattle.source_tree.specs.Tree.{function_view, param_view};
 ghost use Rattle.ispc_names_faults.specs.NamesBefore.{later_functions};
 ghost use Rattle.ispc_names_faults.specs.SignatureKeys as keys;
 ghost use Rattle.ispc_names_faults.specs.SignatureKeys.{digit, param_key};
@@ -16,8 +16,8 @@ ghost use Rattle.ispc_names_faults.specs.SignatureKeys.{digit, param_key};
 use gang_model::{RefusalNumber, SourceRefusal, Spec};
 use gang_types::{IntType, Rate, is_signed, width};
 use ispc_names_scopes::FunctionNames;
-use ispc_parser::{Function, Param};
 use source_answers::{fault_if, least};
+use source_tree::{Function, Param};
 use std::alloc::{AllocError, Global};
 
 /// The type of a declaration; `void` counts as `int32`.

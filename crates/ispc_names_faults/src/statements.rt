@@ -5,9 +5,9 @@ ghost use Rattle.gang_model.specs.Source.Judged.{least_fault};
 ghost use Rattle.gang_model.specs.Names.NameFaults as names;
 ghost use Rattle.gang_model.specs.Source.Parsed.{ParsedFor, ParsedForEach, ParsedIfElse};
 ghost use Rattle.gang_model.specs.Names.Scope as scope;
-ghost use Rattle.ispc_parser_expressions.specs.Tree.{expr_view};
+ghost use Rattle.source_tree.specs.Expressions.{expr_view};
 ghost use Rattle.ispc_names_scopes.specs.Scopes.{site};
-ghost use Rattle.ispc_parser.specs.Tree.{dim_view, stmt_view, stmts_view};
+ghost use Rattle.source_tree.specs.Tree.{dim_view, stmt_view, stmts_view};
 ghost use Rattle.ispc_names_faults.specs.MayStand.{allowed_view};
 ghost use Rattle.ispc_names_faults.specs.Moved.{moved};
 
@@ -19,9 +19,8 @@ use crate::right_sides::some_expression_fault;
 use gang_model::{RefusalNumber, SourceRefusal};
 use gang_types::Place;
 use ispc_names_scopes::{FunctionNames, Scopes};
-use ispc_parser::{Dim, Stmt};
-use ispc_parser_expressions::Expr;
 use source_answers::{fault_if, least};
+use source_tree::{Dim, Expr, Stmt};
 use std::alloc::{AllocError, Global};
 
 type Found = Result<Option<SourceRefusal>, AllocError>;

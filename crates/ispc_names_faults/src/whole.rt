@@ -5,7 +5,7 @@ ghost use Rattle.gang_model.specs.Source.Judged.{least_fault};
 ghost use Rattle.gang_model.specs.Names.NameFaults as names;
 ghost use Rattle.gang_model.specs.Names.Scope.{file_bindings};
 ghost use Rattle.gang_model.specs.Types.SourceRefusals.{names_refusal};
-ghost use Rattle.ispc_parser.specs.Tree.{function_view, global_view, tree_view};
+ghost use Rattle.source_tree.specs.Tree.{function_view, global_view, tree_view};
 ghost use Rattle.ispc_names_faults.specs.NamesBefore.{names_of_all};
 
 use crate::file_scope::{
@@ -15,8 +15,8 @@ use crate::outermost::functions_fault;
 use crate::signatures::functions_twice_fault;
 use gang_model::SourceRefusal;
 use ispc_names_scopes::{FunctionNames, Scopes};
-use ispc_parser::{Function, GlobalVariable, Tree};
 use source_answers::least;
+use source_tree::{Function, GlobalVariable, Tree};
 use std::alloc::{AllocError, Global};
 
 /// The first fault of names inside functions, where all functions and the file-scope variables are made known.

@@ -5,9 +5,9 @@ use Rattle.gang_types.specs.declared.places.VarId.TheVariants.{Local}
 use Rattle.gang_model.specs.Source.Parsed.{Name, ParsedDim}
 use Rattle.gang_model.specs.Names.Bindings.{dim_bindings, param_bindings}
 use Rattle.gang_model.specs.Names.Scope.{Binding, bound, Site, with_name, with_dims, with_params}
-use Rattle.ispc_parser.specs.declared.tree.Dim.{Dim}
-use Rattle.ispc_parser.specs.declared.tree.Param.{Param}
-use Rattle.ispc_parser.specs.Tree.{dim_view, param_view}
+use Rattle.source_tree.specs.declared.tree.Dim.{Dim}
+use Rattle.source_tree.specs.declared.tree.Param.{Param}
+use Rattle.source_tree.specs.Tree.{dim_view, param_view}
 use Rattle.ispc_names_table.specs.declared.table.Declaration.{Declaration}
 use Rattle.ispc_names_steps.specs.Sites.{Declares}
 use Rattle.ispc_names_steps.proofs.Growth.{declares-join, declares-length}

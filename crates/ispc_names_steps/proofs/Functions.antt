@@ -5,10 +5,10 @@ use Rattle.gang_model.specs.Source.Parsed.{ParsedGlobal, ParsedParam, ParsedSour
 use Rattle.gang_model.specs.Names.Bindings.{bindings_in_all, param_bindings, function_bindings}
 use Rattle.gang_model.specs.Names.Scope.{Binding, Environment, is_local, locals_in_all, after_all, before_return, standing, standings_in_all, function_site, standings_of, file_bindings, file_scope}
 use Rattle.gang_model.proofs.VariableLaws.{bindings_numbers_all}
-use Rattle.ispc_parser.specs.declared.tree.Function.{Function}
-use Rattle.ispc_parser.specs.declared.tree.Param.{Param}
-use Rattle.ispc_parser.specs.declared.tree.Stmt.{Stmt}
-use Rattle.ispc_parser.specs.Tree.{stmts_view, param_view, function_view}
+use Rattle.source_tree.specs.declared.tree.Function.{Function}
+use Rattle.source_tree.specs.declared.tree.Param.{Param}
+use Rattle.source_tree.specs.declared.tree.Stmt.{Stmt}
+use Rattle.source_tree.specs.Tree.{stmts_view, param_view, function_view}
 use Rattle.ispc_names_table.specs.declared.table.Declaration.{Declaration}
 use Rattle.ispc_names_table.specs.declared.table.Standing.{Standing}
 use Rattle.ispc_names_steps.specs.Sites.{numbered, Declares, StandsIn}

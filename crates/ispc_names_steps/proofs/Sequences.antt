@@ -11,8 +11,8 @@ use Rattle.ispc_names_table.specs.declared.table.Standing.{Standing}
 use Rattle.ispc_names_steps.specs.declared.declared.Declared.{Declared}
 use Rattle.ispc_names_steps.specs.Sites.{Declares, Stands}
 use Rattle.ispc_names_steps.proofs.Growth.{declares-join, declares-length}
-use Rattle.ispc_parser.specs.declared.tree.Stmt.{Stmt}
-use Rattle.ispc_parser.specs.Tree.{stmt_view, stmts_view}
+use Rattle.source_tree.specs.declared.tree.Stmt.{Stmt}
+use Rattle.source_tree.specs.Tree.{stmt_view, stmts_view}
 
 pub after_all-append : (xs ys : List Stmt) (site : Site) → after_all (stmts_view (xs ++ ys)) site ≡ after_all (stmts_view ys) (after_all (stmts_view xs) site)
 after_all-append [] ys site = refl

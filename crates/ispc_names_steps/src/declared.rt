@@ -3,12 +3,12 @@ ghost use Rattle.std.specs.Prelude.{◌≡◌, [], ◌∷◌, ◌++◌, List, On
 ghost use Rattle.gang_types.specs.declared.places.VarId.TheVariants.{Local};
 ghost use Rattle.gang_model.specs.Names.Bindings.{dim_bindings, param_bindings};
 ghost use Rattle.gang_model.specs.Names.Scope.{NameStanding, Site, bound, standing, with_dims, with_name, with_params};
-ghost use Rattle.ispc_parser.specs.Tree.{dim_view, param_view};
+ghost use Rattle.source_tree.specs.Tree.{dim_view, param_view};
 ghost use Rattle.ispc_names_steps.specs.Sites.{Declares, Stands};
 
 use gang_types::Place;
 use ispc_names_table::{Declaration, Standing};
-use ispc_parser::{Dim, Param};
+use source_tree::{Dim, Param};
 use std::alloc::{AllocError, Global};
 
 /// The variables declared so far, and the number of the innermost one in scope.

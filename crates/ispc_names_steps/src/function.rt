@@ -3,7 +3,7 @@ ghost use Rattle.std.specs.Prelude.{◌≡◌, IfOk};
 ghost use Rattle.gang_model.specs.Names.Bindings.{function_bindings};
 ghost use Rattle.gang_model.specs.Source.Parsed.{ParsedSource};
 ghost use Rattle.gang_model.specs.Names.Scope.{file_scope, standings_of};
-ghost use Rattle.ispc_parser.specs.Tree.{function_view};
+ghost use Rattle.source_tree.specs.Tree.{function_view};
 ghost use Rattle.ispc_names_table.specs.Scopes.{standings_view};
 ghost use Rattle.ispc_names_steps.specs.Sites.{numbered};
 
@@ -11,7 +11,7 @@ use crate::declared::{Declared, declare_params};
 use crate::returns::len_before_return;
 use crate::statements::list_steps;
 use ispc_names_table::{Standing, StepScopes};
-use ispc_parser::Function;
+use source_tree::Function;
 use std::alloc::{AllocError, Global};
 
 /// The steps of a function with what is in scope at each, and its variables: the parameters, then those of the body in the

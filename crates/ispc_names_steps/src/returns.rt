@@ -1,9 +1,9 @@
 //! The statements that hold a `return`.
 ghost use Rattle.std.specs.Prelude.{◌≡◌, ◌≤◌, length, take};
 ghost use Rattle.gang_model.specs.Names.Scope as scope;
-ghost use Rattle.ispc_parser.specs.Tree.{stmt_view, stmts_view};
+ghost use Rattle.source_tree.specs.Tree.{stmt_view, stmts_view};
 
-use ispc_parser::Stmt;
+use source_tree::Stmt;
 
 /// Whether a statement holds a `return`.
 #[cycle(returning)]

@@ -4,13 +4,13 @@ ghost use Rattle.gang_types.specs.declared.places.Place.{Place};
 ghost use Rattle.gang_model.specs.Names.Bindings.{bindings_in, bindings_in_all};
 ghost use Rattle.gang_model.specs.Source.Parsed.{ParsedBlock, ParsedExpr, ParsedFor, ParsedForEach, ParsedForEachActive, ParsedIf, ParsedIfElse};
 ghost use Rattle.gang_model.specs.Names.Scope.{NameStanding, Site, after, after_all, locals_in, past, standings_in, standings_in_all};
-ghost use Rattle.ispc_parser.specs.Tree.{dim_view, stmt_view, stmts_view};
+ghost use Rattle.source_tree.specs.Tree.{dim_view, stmt_view, stmts_view};
 ghost use Rattle.ispc_names_steps.specs.Sites.{Declares, Passes, Stands};
 
 use crate::declared::{Declared, declare, declare_dims, step};
 use gang_types::Place;
 use ispc_names_table::Standing;
-use ispc_parser::{Dim, Stmt};
+use source_tree::{Dim, Stmt};
 use std::alloc::{AllocError, Global};
 
 /// The steps of a statement, by their numbers. What it declares is then what the next statement finds.

@@ -1,6 +1,5 @@
 pub mod Fails
 pub mod Lists
-pub mod Rows
 pub mod Sequences
 pub mod Items
 pub mod Tokens

@@ -5,8 +5,8 @@ use Rattle.gang_model.specs.Source.Parsed.{ParsedStmt, ParsedStmts, ParsedLast, 
 use Rattle.source_answers.specs.declared.fault.SourceFault.{SourceFault}
 use Rattle.ispc_lexer.specs.Options.{◌>>=◌}
 use Rattle.ispc_parser_expressions.specs.Parse.{Fails}
-use Rattle.ispc_parser.specs.declared.tree.Stmt.{Stmt}
-use Rattle.ispc_parser.specs.Tree.{stmt_view, stmts_view}
+use Rattle.source_tree.specs.declared.tree.Stmt.{Stmt}
+use Rattle.source_tree.specs.Tree.{stmt_view, stmts_view}
 use Rattle.ispc_parser.specs.Parts.{Reader}
 use Rattle.ispc_parser.specs.Statements.{ends_block, stmts_of}
 use Rattle.ispc_parser.proofs.Fails.{fails_when}

@@ -6,14 +6,14 @@ use Rattle.gang_model.specs.Source.Parsed.{Name, ParsedExpr, ParsedDim, ParsedSt
 use Rattle.gang_model.specs.Source.SpellsStatements.{max_dims}
 use Rattle.ispc_lexer.specs.Options.{◌>>=◌}
 use Rattle.ispc_parser_expressions.specs.Parse.{begins, begins_word, take, is_mark, whole_expr}
-use Rattle.ispc_parser_expressions.specs.Tree.{expr_view}
+use Rattle.source_tree.specs.Expressions.{expr_view}
 use Rattle.ispc_parser.specs.declared.words.Loop.{Loop}
 use Rattle.ispc_parser.specs.declared.words.Loop.TheVariants as loop
 use Rattle.ispc_parser.specs.declared.heads.Rounds.{Rounds}
 use Rattle.ispc_parser.specs.declared.heads.Distinct.{Distinct}
 use Rattle.ispc_parser.specs.declared.heads.Head.{Head}
 use Rattle.ispc_parser.specs.declared.heads.Head.TheVariants as head
-use Rattle.ispc_parser.specs.Tree.{dim_view, stmt_view}
+use Rattle.source_tree.specs.Tree.{dim_view, stmt_view}
 use Rattle.ispc_parser.specs.Parts.{Reader, name_of, in_parens, behind, list_of, declaration_of, simple_of}
 
 -- an expression, which may be missing, before a `;`

@@ -1,4 +1,3 @@
-pub mod Tree
 pub mod Parts
 pub mod Heads
 pub mod Statements

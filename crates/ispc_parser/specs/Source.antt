@@ -14,7 +14,7 @@ use Rattle.ispc_lexer.specs.Options.{◌>>=◌, if_some}
 use Rattle.ispc_parser_expressions.specs.Parse.{begins, take, spec_at}
 use Rattle.ispc_lexer.specs.declared.token.Number.{Number}
 use Rattle.ispc_parser.specs.declared.source.Body.{Body as WrittenBody}
-use Rattle.ispc_parser.specs.Tree.{stmts_view}
+use Rattle.source_tree.specs.Tree.{stmts_view}
 use Rattle.ispc_parser.specs.Parts.{Reader, take_at, name_of, list_of, local_spec_of}
 use Rattle.ispc_parser.specs.Statements.{within, parsers}
 

@@ -1,9 +1,9 @@
 //! What stands between the word of a loop or a foreach form and its body.
 ghost use Rattle.std.specs.Prelude.{◌≡◌, map, option_map};
 ghost use Rattle.ispc_lexer.specs.Views.{lexemes_of};
-ghost use Rattle.ispc_parser_expressions.specs.Tree.{expr_view};
+ghost use Rattle.source_tree.specs.Expressions.{expr_view};
 ghost use Rattle.ispc_parser_expressions.specs.Parse.{Gives, whole_expr};
-ghost use Rattle.ispc_parser.specs.Tree.{dim_view, stmt_view};
+ghost use Rattle.source_tree.specs.Tree.{dim_view, stmt_view};
 ghost use Rattle.ispc_parser.specs.Parts.{name_view, name_of, in_parens};
 ghost use Rattle.ispc_parser.specs.Refusals.{IsRefusal};
 ghost use Rattle.ispc_parser.specs.Heads as spec;
@@ -12,13 +12,13 @@ ghost use Rattle.ispc_parser.specs.Heads.{ForHead, UniqueHead, rounds_view, dist
 use crate::front::{Context, Identifier, Read, enter, name, refused_at};
 use crate::nodes::with_rest;
 use crate::parts::{behind, between, declaration, simple};
-use crate::tree::{Dim, Stmt};
 use crate::words::Loop;
 use gang_model::{Mark, RefusalNumber};
 use gang_types::Place;
 use ispc_lexer::{Kind, Token};
-use ispc_parser_expressions::{Expr, after, begins, begins_word, expression, take, unexpected};
+use ispc_parser_expressions::{after, begins, begins_word, expression, take, unexpected};
 use source_answers::SourceFault;
+use source_tree::{Dim, Expr, Stmt};
 
 /// How many dimensions a `foreach` may have.
 const MAX_DIMS: usize = 3;

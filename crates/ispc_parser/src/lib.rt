@@ -1,4 +1,4 @@
-//! The tree of a source, and the parser that reads it from tokens.
+//! The parser that reads the tree of a source from tokens.
 #![tactic(auto)]
 
 mod front;
@@ -9,8 +9,6 @@ mod parser;
 mod parts;
 mod source;
 mod statements;
-mod tree;
 mod words;
 
 pub use parser::parse;
-pub use tree::{Dim, Function, GlobalVariable, Item, Param, Stmt, Target, Tree};

@@ -3,17 +3,17 @@ ghost use Rattle.std.specs.Prelude.{◌≡◌, [], ◌∷◌, ◌++◌, IfOk, On
 ghost use Rattle.gang_model.specs.Source.Parsed.{ParsedBlock, ParsedIf, ParsedIfElse, ParsedDo};
 ghost use Rattle.ispc_lexer.specs.Views.{lexemes_of};
 ghost use Rattle.ispc_parser_expressions.specs.Parse.{Gives};
-ghost use Rattle.ispc_parser_expressions.specs.Tree.{expr_view};
+ghost use Rattle.source_tree.specs.Expressions.{expr_view};
 ghost use Rattle.ispc_parser.specs.Parts.{just, closed_by};
-ghost use Rattle.ispc_parser.specs.Tree.{stmt_view, stmts_view};
+ghost use Rattle.source_tree.specs.Tree.{stmt_view, stmts_view};
 
 use crate::front::{Context, Read};
-use crate::tree::Stmt;
 use gang_model::Mark;
 use gang_types::Place;
 use ispc_lexer::Token;
-use ispc_parser_expressions::{Expr, take};
+use ispc_parser_expressions::take;
 use source_answers::boxed;
+use source_tree::{Expr, Stmt};
 use std::alloc::{AllocError, Global};
 
 /// A statement in a box. Statements are large, so what reads them hands on boxes.

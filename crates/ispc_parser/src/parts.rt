@@ -2,21 +2,21 @@
 ghost use Rattle.std.specs.Prelude.{◌≡◌, option_map};
 ghost use Rattle.ispc_lexer.specs.Views.{sort_of, lexemes_of};
 ghost use Rattle.gang_model.specs.Source.SpellsStatements as grammar;
-ghost use Rattle.ispc_parser_expressions.specs.Tree.{expr_view};
+ghost use Rattle.source_tree.specs.Expressions.{expr_view};
 ghost use Rattle.ispc_parser_expressions.specs.Parse.{Gives};
-ghost use Rattle.ispc_parser.specs.Tree.{target_view, stmt_view};
+ghost use Rattle.source_tree.specs.Tree.{target_view, stmt_view};
 ghost use Rattle.ispc_parser.specs.Parts as spec;
 ghost use Rattle.ispc_parser.specs.Parts.{name_view};
 
 use crate::front::{Context, Identifier, Read, copied_name, enter, name};
 use crate::misfits::local_spec;
 use crate::nodes::{closed, with_rest};
-use crate::tree::{Stmt, Target};
 use gang_model::Mark;
 use gang_types::{BinaryOp, Place};
 use ispc_lexer::{Kind, Token};
-use ispc_parser_expressions::{Expr, arguments, begins, expression, take, unexpected};
+use ispc_parser_expressions::{arguments, begins, expression, take, unexpected};
 use source_answers::SourceFault;
+use source_tree::{Expr, Stmt, Target};
 
 /// What `op=` does, for such a mark.
 fn change_of(mark: Mark) -> Option<BinaryOp>

@@ -2,7 +2,7 @@
 ghost use Rattle.std.specs.Prelude.{◌≡◌, map, option_map};
 ghost use Rattle.ispc_lexer.specs.Views.{sort_of, lexemes_of};
 ghost use Rattle.ispc_parser_expressions.specs.Parse.{Gives};
-ghost use Rattle.ispc_parser.specs.Tree.{param_view, item_view};
+ghost use Rattle.source_tree.specs.Tree.{param_view, item_view};
 ghost use Rattle.ispc_parser.specs.Parts.{name_view};
 ghost use Rattle.ispc_parser.specs.Source as spec;
 ghost use Rattle.ispc_parser.specs.Source.{body_view, digits_view, function_of, global_of, declared_of};
@@ -11,12 +11,12 @@ ghost use Rattle.ispc_parser.specs.Refusals.{IsRefusal};
 use crate::front::{Context, Identifier, Read, name, refused_at, take_at};
 use crate::misfits::{local_spec, outer_spec};
 use crate::statements::stmts;
-use crate::tree::{Function, GlobalVariable, Item, Param, Stmt};
 use gang_model::{GlobalForm, Literal, Mark, RefusalNumber, Spec};
 use gang_types::Place;
 use ispc_lexer::{Kind, Number, Token};
 use ispc_parser_expressions::{after, begins, begins_word, take, unexpected};
 use source_answers::SourceFault;
+use source_tree::{Function, GlobalVariable, Item, Param, Stmt};
 
 /// How many nestings are left inside a function's braces, of 64.
 const INSIDE_FUNCTION: u32 = 63;

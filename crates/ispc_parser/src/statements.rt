@@ -2,8 +2,8 @@
 ghost use Rattle.std.specs.Prelude.{◌≡◌, ◌+◌, IfOk};
 ghost use Rattle.ispc_lexer.specs.Views.{sort_of, lexemes_of};
 ghost use Rattle.ispc_parser_expressions.specs.Parse.{Gives};
-ghost use Rattle.ispc_parser_expressions.specs.Tree.{expr_view};
-ghost use Rattle.ispc_parser.specs.Tree.{stmt_view, stmts_view};
+ghost use Rattle.source_tree.specs.Expressions.{expr_view};
+ghost use Rattle.source_tree.specs.Tree.{stmt_view, stmts_view};
 ghost use Rattle.ispc_parser.specs.Parts.{declaration_of, simple_of};
 ghost use Rattle.ispc_parser.specs.Statements as spec;
 ghost use Rattle.ispc_parser.specs.Statements.{within, parsers};
@@ -12,13 +12,13 @@ use crate::front::{Context, Read, refused_at, take_at};
 use crate::heads::{head_of, optional, test};
 use crate::nodes::{self, closed, ended, push, with_rest};
 use crate::parts::{declaration, simple};
-use crate::tree::Stmt;
 use crate::words::{Loop, Opening, Plain, opening_of};
 use gang_model::{Mark, RefusalNumber};
 use gang_types::Place;
 use ispc_lexer::{Kind, Token};
-use ispc_parser_expressions::{Expr, begins, begins_word, take, unexpected};
+use ispc_parser_expressions::{begins, begins_word, take, unexpected};
 use source_answers::SourceFault;
+use source_tree::{Expr, Stmt};
 
 // ---- statements that hold no other one
 

@@ -6,7 +6,7 @@ use Rattle.gang_model.specs.Source.Parsed.{ParsedArgs, ParsedEnd, ParsedValue, P
 use Rattle.gang_model.specs.Source.Spells.{Takes, TakesAt, Opens, Separates, any_level, SpellsExpr, SpellsItems, weight, args_weight, max_weight, AreLight}
 use Rattle.ispc_parser_expressions.specs.declared.budget.Budget.{Budget}
 use Rattle.ispc_parser_expressions.specs.declared.budget.Budget.TheVariants as budget
-use Rattle.ispc_parser_expressions.specs.Tree.{ParsedArg, OfValue, OfPart, OfPartFrom, with_arg}
+use Rattle.source_tree.specs.Expressions.{ParsedArg, OfValue, OfPart, OfPartFrom, with_arg}
 use Rattle.gang_model.proofs.NestingLaws.{opened}
 use Rattle.ispc_parser_expressions.proofs.Starts.{takes_shorter, at_shorter, spelled_shorter}
 

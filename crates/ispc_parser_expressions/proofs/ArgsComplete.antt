@@ -7,7 +7,7 @@ use Rattle.gang_model.specs.Source.Parsed.{Name, ParsedExpr, ParsedArgs, ParsedE
 use Rattle.gang_model.specs.Source.Spells.{Takes, TakesAt, any_level, SpellsExpr, SpellsItems, SpellsArgs, weight, max_weight, Stops}
 use Rattle.ispc_parser_expressions.specs.declared.budget.Budget.{Budget}
 use Rattle.ispc_parser_expressions.specs.declared.budget.Budget.TheVariants as budget
-use Rattle.ispc_parser_expressions.specs.Tree.{ParsedArg, OfValue, OfPart, OfPartFrom, with_arg}
+use Rattle.source_tree.specs.Expressions.{ParsedArg, OfValue, OfPart, OfPartFrom, with_arg}
 use Rattle.ispc_parser_expressions.specs.Parse.{begins, take, Below, bracket_of, part_of, arg_of, own_arg, counted, more_of, args_of, within, parsers}
 use Rattle.ispc_parser_expressions.proofs.Tools.{take_again, begins_again}
 use Rattle.ispc_parser_expressions.proofs.Args.{SpellsArg, arg_weight, items_split, Counts, CountsAll, counts_split, counts_end, arg_shorter}

@@ -6,7 +6,7 @@ use Rattle.gang_model.specs.Source.Parsed.{ParsedArgs, ParsedEnd}
 use Rattle.gang_model.specs.Source.Spells.{Takes, SpellsItems, SpellsArgs, max_weight}
 use Rattle.ispc_parser_expressions.specs.declared.budget.Budget.{Budget}
 use Rattle.ispc_parser_expressions.specs.declared.budget.Budget.TheVariants as budget
-use Rattle.ispc_parser_expressions.specs.Tree.{ParsedArg, OfValue, OfPart, OfPartFrom, with_arg}
+use Rattle.source_tree.specs.Expressions.{ParsedArg, OfValue, OfPart, OfPartFrom, with_arg}
 use Rattle.ispc_parser_expressions.specs.Parse.{begins, take, spend, Below, bracket_of, expr_of, part_at, part_of, arg_of, own_arg, counted, more_of, args_of, within, parsers}
 use Rattle.ispc_parser_expressions.proofs.Tools.{spend_is, take_takes}
 use Rattle.ispc_parser_expressions.proofs.Args.{SpellsArg, arg_weight, items_spelled, Counts, CountsAll, counts_none, counts_more}

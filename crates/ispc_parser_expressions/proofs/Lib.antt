@@ -1,4 +1,3 @@
-pub mod Rows
 pub mod Tools
 pub mod SpecWords
 pub mod Sound

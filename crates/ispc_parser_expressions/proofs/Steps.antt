@@ -6,9 +6,9 @@ use Rattle.gang_model.specs.Source.Tokens.{Lexeme}
 use Rattle.gang_model.specs.Source.Parsed.{ParsedExpr, ParsedBinary, ParsedArgs, ParsedEnd, ParsedValue, ParsedPart, ParsedPartFrom}
 use Rattle.source_answers.specs.declared.fault.SourceFault.{SourceFault}
 use Rattle.source_answers.specs.declared.fault.SourceFault.TheVariants as faults
-use Rattle.ispc_parser_expressions.specs.declared.tree.Arg.{Arg}
+use Rattle.source_tree.specs.declared.expressions.Arg.{Arg}
 use Rattle.ispc_parser_expressions.specs.declared.budget.Budget.{Budget}
-use Rattle.ispc_parser_expressions.specs.Tree.{ParsedArg, OfValue, OfPart, OfPartFrom, with_arg, arg_view, args_view}
+use Rattle.source_tree.specs.Expressions.{ParsedArg, OfValue, OfPart, OfPartFrom, with_arg, arg_view, args_view}
 use Rattle.ispc_lexer.specs.Options.{◌>>=◌}
 use Rattle.ispc_parser_expressions.specs.Parse.{Fails, begins, take, operator_at, spend, Parser, Below, operand_of, chain_of, binary_of, counted, more_of, args_of, parsers}
 use Rattle.ispc_parser_expressions.proofs.Tools.{take_takes, operator_takes}

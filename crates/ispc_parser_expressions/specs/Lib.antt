@@ -1,3 +1,2 @@
-pub mod Tree
 pub mod Parse
 pub mod Words

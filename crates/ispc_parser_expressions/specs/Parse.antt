@@ -24,7 +24,7 @@ use Rattle.gang_model.specs.declared.refusals.RefusalNumber.TheVariants as numbe
 use Rattle.ispc_lexer.specs.Options.{◌>>=◌, if_some}
 use Rattle.ispc_parser_expressions.specs.declared.budget.Budget.{Budget}
 use Rattle.ispc_parser_expressions.specs.declared.budget.Budget.TheVariants as budget
-use Rattle.ispc_parser_expressions.specs.Tree.{ParsedArg, OfValue, OfPart, OfPartFrom, with_arg}
+use Rattle.source_tree.specs.Expressions.{ParsedArg, OfValue, OfPart, OfPartFrom, with_arg}
 
 -- the numbers of a parser's refusals
 abbrev pub IsParserNumber : RefusalNumber → Type 0

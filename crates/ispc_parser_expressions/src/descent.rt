@@ -2,7 +2,7 @@
 //! and gives back how many are left after what it read.
 ghost use Rattle.std.specs.Prelude.{◌≡◌, ◌≤◌};
 ghost use Rattle.ispc_lexer.specs.Views.{sort_of, lexemes_of};
-ghost use Rattle.ispc_parser_expressions.specs.Tree.{expr_view, arg_view, args_view};
+ghost use Rattle.source_tree.specs.Expressions.{expr_view, arg_view, args_view};
 ghost use Rattle.ispc_parser_expressions.specs.Parse as spec;
 ghost use Rattle.ispc_parser_expressions.specs.Parse.{Gives, within, parsers};
 
@@ -12,12 +12,12 @@ use crate::front::{
 };
 use crate::nodes;
 use crate::operators::{operator_at, truth_of, unary_op};
-use crate::tree::{Arg, Expr};
 use crate::words::{begins_word, take_cast_spec};
 use gang_model::{Mark, RefusalNumber};
 use gang_types::{Place, UnaryOp};
 use ispc_lexer::{Kind, Token};
 use source_answers::SourceFault;
+use source_tree::{Arg, Expr};
 
 /// What was read, how many operators are left, and the tokens after it.
 type Read<'a, T> = Result<(T, u32, &'a [Token]), SourceFault>;

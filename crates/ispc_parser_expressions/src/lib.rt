@@ -1,4 +1,4 @@
-//! Expressions: their trees, and the parser that reads them from tokens.
+//! The parser that reads expressions from tokens.
 #![tactic(auto)]
 
 mod budget;
@@ -7,10 +7,8 @@ mod front;
 mod nodes;
 mod operators;
 mod outermost;
-mod tree;
 mod words;
 
 pub use front::{after, begins, take, unexpected};
 pub use outermost::{arguments, expression};
-pub use tree::{Arg, Expr};
 pub use words::{begins_word, spec_words, take_spec};

@@ -1,12 +1,12 @@
 //! Nodes of the tree, with their children in boxes.
 ghost use Rattle.std.specs.Prelude.{◌≡◌, IfOk};
 ghost use Rattle.gang_model.specs.Source.Parsed.{ParsedName, ParsedIndex, ParsedCall, ParsedParen, ParsedUnary, ParsedCast, ParsedBinary, ParsedChoice};
-ghost use Rattle.ispc_parser_expressions.specs.Tree.{expr_view, arg_view, args_view, OfPart, OfPartFrom};
+ghost use Rattle.source_tree.specs.Expressions.{expr_view, arg_view, args_view, OfPart, OfPartFrom};
 
-use crate::tree::{Arg, Expr};
 use gang_model::Infix;
 use gang_types::{IntType, Place, Rate, UnaryOp};
 use source_answers::boxed;
+use source_tree::{Arg, Expr};
 use std::alloc::{AllocError, Global};
 
 pub(crate) fn name(alloc: Global, place: Place, name: &[u8]) -> Result<Expr, AllocError>

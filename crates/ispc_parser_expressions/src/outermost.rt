@@ -1,17 +1,17 @@
 //! Expressions that stand in no other one.
 ghost use Rattle.std.specs.Prelude.{◌≡◌, ◌≤◌};
 ghost use Rattle.ispc_lexer.specs.Views.{sort_of, lexemes_of};
-ghost use Rattle.ispc_parser_expressions.specs.Tree.{expr_view, arg_view, args_view};
+ghost use Rattle.source_tree.specs.Expressions.{expr_view, arg_view, args_view};
 ghost use Rattle.ispc_parser_expressions.specs.Parse as spec;
 ghost use Rattle.ispc_parser_expressions.specs.Parse.{Gives, within, parsers, whole_expr, whole_args};
 
 use crate::budget::Budget;
 use crate::descent::{args, expr};
 use crate::front::{MAX_OPERATORS, Reader};
-use crate::tree::{Arg, Expr};
 use gang_types::Place;
 use ispc_lexer::Token;
 use source_answers::SourceFault;
+use source_tree::{Arg, Expr};
 use std::alloc::Global;
 
 /// The expression at the front of the tokens, which stands in no other one, with so many nestings left, and the

@@ -3,11 +3,11 @@ use Rattle.std.proofs.Common.{◌≡◌, ℕ, List, [], ◌∷◌, ◌++◌, ref
 use Rattle.std.specs.Prelude.{Result, Ok, Err, Option, Some, map}
 use Rattle.gang_types.specs.declared.places.Place.{Place}
 use Rattle.gang_model.specs.Source.Limits.{declared_in, declared_in_all}
-use Rattle.ispc_parser_expressions.specs.declared.tree.Expr.{Expr}
-use Rattle.ispc_parser.specs.declared.tree.Dim.{Dim}
-use Rattle.ispc_parser.specs.declared.tree.Stmt.{Stmt, Block, If, For, ForEach}
-use Rattle.ispc_parser.specs.Tree.{stmt_view, stmts_view, dim_view}
-use Rattle.ispc_parser.proofs.Rows.{view_block}
+use Rattle.source_tree.specs.declared.expressions.Expr.{Expr}
+use Rattle.source_tree.specs.declared.tree.Dim.{Dim}
+use Rattle.source_tree.specs.declared.tree.Stmt.{Stmt, Block, If, For, ForEach}
+use Rattle.source_tree.specs.Tree.{stmt_view, stmts_view, dim_view}
+use Rattle.source_tree.proofs.StatementRows.{view_block}
 use Rattle.source_limits.specs.Room.{room_after}
 use Rattle.source_limits.proofs.RoomLaws.{room_two, room_stop}
 

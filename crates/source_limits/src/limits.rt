@@ -2,14 +2,14 @@
 ghost use Rattle.std.specs.Prelude.{◌≡◌, ◌+◌, ◌≤◌, [], ◌∷◌, IfOk, IfErr, Some, slice_get};
 ghost use Rattle.gang_model.specs.Source.Limits as limits;
 ghost use Rattle.gang_model.specs.Source.Limits.{most_variables, most_array_words, limits_passed, past_limit, first_fault};
-ghost use Rattle.ispc_parser.specs.Tree.{tree_view, item_view, function_view};
-ghost use Rattle.ispc_parser.specs.declared.tree.Item.TheVariants as item;
+ghost use Rattle.source_tree.specs.Tree.{tree_view, item_view, function_view};
+ghost use Rattle.source_tree.specs.declared.tree.Item.TheVariants as item;
 ghost use Rattle.source_limits.specs.Room.{words_in};
 
 use crate::room::after_function;
 use gang_model::{GlobalForm, RefusalNumber, SourceRefusal};
 use gang_types::Place;
-use ispc_parser::{Function, GlobalVariable, Item, Tree};
+use source_tree::{Function, GlobalVariable, Item, Tree};
 
 const MOST_VARIABLES: usize = 256;
 

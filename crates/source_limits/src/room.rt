@@ -1,11 +1,11 @@
 //! How many variables a function has room for, walked in the order of the source.
 ghost use Rattle.std.specs.Prelude.{◌≡◌, [], ◌∷◌, map};
 ghost use Rattle.gang_model.specs.Source.Limits as limits;
-ghost use Rattle.ispc_parser.specs.Tree.{stmt_view, stmts_view, function_view, dim_view, param_view};
+ghost use Rattle.source_tree.specs.Tree.{stmt_view, stmts_view, function_view, dim_view, param_view};
 ghost use Rattle.source_limits.specs.Room.{room_after};
 
 use gang_types::Place;
-use ispc_parser::{Dim, Function, Param, Stmt};
+use source_tree::{Dim, Function, Param, Stmt};
 
 /// The room after one variable.
 fn after_name(place: Place, room: usize) -> Result<usize, Place>

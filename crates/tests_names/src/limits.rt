@@ -1,9 +1,9 @@
 //! Limits that a tree passes.
 use gang_model::{GlobalForm, RefusalNumber, SourceRefusal, Spec};
 use gang_types::{IntType, Place};
-use ispc_parser::{Function, GlobalVariable, Item, Param, Stmt, Tree};
 use source_answers::SourceFault;
 use source_limits::limit_refusal;
+use source_tree::{Function, GlobalVariable, Item, Param, Stmt, Tree};
 use std::alloc::Global;
 use std::test::*;
 

@@ -3,8 +3,8 @@ use gang_model::{Infix, RefusalNumber, SourceRefusal};
 use gang_types::{BinaryOp, Place, VarId};
 use ispc_names_faults::{arguments_fault, expression_fault};
 use ispc_names_scopes::{FunctionNames, Scopes, StatementCall, is_library_name, statement_call};
-use ispc_parser_expressions::{Arg, Expr};
 use source_answers::SourceFault;
+use source_tree::{Arg, Expr};
 use std::alloc::Global;
 use std::test::*;
 

@@ -2,8 +2,9 @@
 use ispc_lexer::{source_end, tokens};
 use ispc_names_steps::steps_of;
 use ispc_names_table::StepScopes;
-use ispc_parser::{Item, parse};
+use ispc_parser::parse;
 use source_answers::SourceFault;
+use source_tree::Item;
 use std::alloc::Global;
 use std::test::*;
 

@@ -4,8 +4,9 @@ use gang_model::Mark::*;
 use gang_model::{Infix, Mark, RefusalNumber, SourceRefusal, Spec};
 use gang_types::{BinaryOp, IntType, Place, Rate, UnaryOp};
 use ispc_lexer::{Kind, Number, Token};
-use ispc_parser_expressions::{Arg, Expr, arguments, expression, take_spec};
+use ispc_parser_expressions::{arguments, expression, take_spec};
 use source_answers::SourceFault;
+use source_tree::{Arg, Expr};
 use std::alloc::Global;
 use std::test::Fail;
 

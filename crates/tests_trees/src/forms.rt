@@ -3,7 +3,7 @@
 use crate::reading::{body, read};
 use gang_model::{GlobalForm, Literal, Spec};
 use gang_types::{BinaryOp, IntType, Place, Rate};
-use ispc_parser::{Item, Stmt};
+use source_tree::{Item, Stmt};
 use std::test::*;
 
 #[test]

@@ -3,8 +3,9 @@
 use gang_model::{RefusalNumber, SourceRefusal};
 use gang_types::Place;
 use ispc_lexer::{source_end, tokens};
-use ispc_parser::{Item, Stmt, Tree, parse};
+use ispc_parser::parse;
 use source_answers::SourceFault;
+use source_tree::{Item, Stmt, Tree};
 use std::alloc::Global;
 
 /// The tree of a source.

@@ -2,9 +2,9 @@
 use gang_model::{RefusalNumber, SourceRefusal};
 use gang_types::Place;
 use ispc_lexer::{source_end, tokens};
-use ispc_parser::{Function, Item, Stmt, Tree, parse};
-use ispc_parser_expressions::Expr;
+use ispc_parser::parse;
 use source_answers::SourceFault;
+use source_tree::{Expr, Function, Item, Stmt, Tree};
 use std::alloc::Global;
 use std::test::*;
 use type_check_calls::{Context, WholeCall, call_of, whole_call};

@@ -2,8 +2,9 @@
 use gang_model::{RefusalNumber, SourceRefusal};
 use gang_types::{IntType, Place, Rate, VarId};
 use ispc_lexer::{source_end, tokens};
-use ispc_parser_expressions::{Expr, arguments as read_arguments, expression as read_expression};
+use ispc_parser_expressions::{arguments as read_arguments, expression as read_expression};
 use source_answers::SourceFault;
+use source_tree::Expr;
 use std::alloc::Global;
 use std::test::*;
 use type_check_expressions::{arguments, expression, given_value};

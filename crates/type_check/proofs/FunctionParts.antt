@@ -16,8 +16,8 @@ use Rattle.gang_model.specs.Types.Typing.{Scope}
 use Rattle.gang_model.specs.Types.Statements.{Made, statements}
 use Rattle.gang_model.specs.Types.TypeFaults.{signature_faults}
 use Rattle.gang_model.specs.Types.Resolved.{global_entries, judged_function, judged_functions, param_entries, param_variables}
-use Rattle.ispc_parser.specs.declared.tree.Function.{Function}
-use Rattle.ispc_parser.specs.Tree.{function_view}
+use Rattle.source_tree.specs.declared.tree.Function.{Function}
+use Rattle.source_tree.specs.Tree.{function_view}
 use Rattle.ispc_names.specs.Tables.{AreTablesOf}
 use Rattle.ispc_names_table.specs.declared.table.StepScopes.{StepScopes}
 use Rattle.ispc_names_table.specs.Scopes.{standings_view}

@@ -11,8 +11,8 @@ use Rattle.gang_model.specs.Source.Judged.{Judged, Sound, unless, both, â—Œ>>=â—
 use Rattle.gang_model.specs.Types.TypeFaults.{global_faults, is_array_form}
 use Rattle.gang_model.specs.Types.Resolved.{global_entries, global_entry, global_of, judged_globals}
 use Rattle.gang_model.proofs.JudgedLaws.{answer_unless, answer_of-unless}
-use Rattle.ispc_parser.specs.declared.tree.GlobalVariable.{GlobalVariable}
-use Rattle.ispc_parser.specs.Tree as parsed
+use Rattle.source_tree.specs.declared.tree.GlobalVariable.{GlobalVariable}
+use Rattle.source_tree.specs.Tree as parsed
 use Rattle.typed_tree.specs.declared.program.Global.{Global as TypedGlobal}
 use Rattle.typed_tree.specs.Views as typed
 use Rattle.type_check_scopes.specs.declared.entries.Declared.{Declared}

@@ -10,8 +10,8 @@ use Rattle.gang_model.specs.Source.Parsed.{Name, ParsedParam}
 use Rattle.gang_model.specs.Types.Tree.{Variable}
 use Rattle.gang_model.specs.Types.Typing.{Entry, Scope, declared}
 use Rattle.gang_model.specs.Types.Resolved.{param_entries, param_variables}
-use Rattle.ispc_parser.specs.declared.tree.Param.{Param}
-use Rattle.ispc_parser.specs.Tree.{param_view}
+use Rattle.source_tree.specs.declared.tree.Param.{Param}
+use Rattle.source_tree.specs.Tree.{param_view}
 use Rattle.type_check_scopes.specs.declared.entries.Declared.{Declared}
 use Rattle.type_check_scopes.specs.Entries.{declared_view}
 

@@ -4,14 +4,14 @@ ghost use Rattle.gang_model.specs.declared.refusals.SourceRefusal.{SourceRefusal
 ghost use Rattle.gang_model.specs.Types.Resolved.{program_of};
 ghost use Rattle.gang_model.specs.Types.SourceRefusals.{names_refusal, types_refusal};
 ghost use Rattle.source_answers.specs.declared.fault.SourceFault.TheVariants.{Memory, Refused};
-ghost use Rattle.ispc_parser.specs.Tree.{tree_view};
+ghost use Rattle.source_tree.specs.Tree.{tree_view};
 ghost use Rattle.typed_tree.specs.Views.{program_view};
 ghost use Rattle.type_check.specs.Bodies.{AreVariablesOf};
 
 use crate::typed::typed_program;
 use ispc_names::Named;
-use ispc_parser::Tree;
 use source_answers::SourceFault;
+use source_tree::Tree;
 use std::alloc::Global;
 use std::marker::Model;
 use typed_tree::Program;
@@ -28,9 +28,9 @@ impl Model for Checked {
     ghost use Rattle.std.specs.Coded.{codes};
     ghost use Rattle.gang_model.specs.Types.Resolved.{program_of};
     ghost use Rattle.gang_model.specs.Types.SourceRefusals.{names_refusal};
-    ghost use Rattle.ispc_parser.specs.contracts.tree.Item as item;
-    ghost use Rattle.ispc_parser.specs.declared.tree.Tree as declared;
-    ghost use Rattle.ispc_parser.specs.Tree.{tree_view};
+    ghost use Rattle.source_tree.specs.contracts.tree.Item as item;
+    ghost use Rattle.source_tree.specs.declared.tree.Tree as declared;
+    ghost use Rattle.source_tree.specs.Tree.{tree_view};
     ghost use Rattle.typed_tree.specs.Views.{program_view};
     ghost use Rattle.type_check.specs.Bodies.{AreVariablesOf};
 

@@ -1,12 +1,12 @@
 //! The function that a run begins with.
 ghost use Rattle.std.specs.Prelude.{◌≡◌, option_map};
 ghost use Rattle.gang_model.specs.Running.Entry as entry;
-ghost use Rattle.ispc_parser.specs.Tree.{function_view, tree_view};
+ghost use Rattle.source_tree.specs.Tree.{function_view, tree_view};
 
 use crate::checked::Checked;
 use gang_types::FuncId;
 use ispc_names_scopes::is_same;
-use ispc_parser::{Function, Item};
+use source_tree::{Function, Item};
 
 /// Whether a function has the name that is asked for, if one is.
 fn is_asked(function: &Function, name: Option<&[u8]>) -> bool

@@ -3,7 +3,7 @@ ghost use Rattle.std.specs.Prelude.{◌≡◌, [], OnOk, IfOk, map};
 ghost use Rattle.gang_model.specs.Source.Parsed.{ParsedSource, functions_in, globals_in};
 ghost use Rattle.gang_model.specs.Types.Resolved as model;
 ghost use Rattle.gang_model.specs.Names.Scope.{file_scope, standings_of};
-ghost use Rattle.ispc_parser.specs.Tree as parsed;
+ghost use Rattle.source_tree.specs.Tree as parsed;
 ghost use Rattle.ispc_names.specs.Tables.{AreTablesOf};
 ghost use Rattle.ispc_names_table.specs.Scopes.{standings_view};
 ghost use Rattle.typed_tree.specs.Views as typed;
@@ -14,8 +14,8 @@ ghost use Rattle.type_check.specs.Bodies.{AreVariablesOf, body_view, declared_va
 use crate::signatures::{result_of, signature_fault};
 use gang_types::{IntType, Rate, VarId};
 use ispc_names_table::StepScopes;
-use ispc_parser::{Function as ParsedFunction, Param};
 use source_answers::{SourceFault, both, least, refuse};
+use source_tree::{Function as ParsedFunction, Param};
 use std::alloc::{AllocError, Global};
 use type_check_calls::Context;
 use type_check_scopes::{TypeScope, declared_with};

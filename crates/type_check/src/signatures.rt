@@ -3,12 +3,12 @@ ghost use Rattle.std.specs.Prelude.{◌≡◌, ◌||◌};
 ghost use Rattle.gang_model.specs.Source.Judged.{least_fault};
 ghost use Rattle.gang_model.specs.Types.Signatures as model;
 ghost use Rattle.gang_model.specs.Types.TypeFaults as faults;
-ghost use Rattle.ispc_parser.specs.Tree.{function_view, param_view};
+ghost use Rattle.source_tree.specs.Tree.{function_view, param_view};
 
 use gang_model::{RefusalNumber, SourceRefusal, Spec};
 use gang_types::{IntType, Place, Rate};
-use ispc_parser::{Function, Param};
 use source_answers::{fault_if, least};
+use source_tree::{Function, Param};
 use type_check_values::{declared_rate, is_varying};
 
 /// Whether what is declared with a spec is varying.

@@ -1,7 +1,7 @@
 //! The typed program of a tree.
 ghost use Rattle.std.specs.Prelude.{IfOk};
 ghost use Rattle.gang_model.specs.Types.Resolved.{judged_program};
-ghost use Rattle.ispc_parser.specs.Tree.{tree_view};
+ghost use Rattle.source_tree.specs.Tree.{tree_view};
 ghost use Rattle.ispc_names.specs.Tables.{AreTablesOf};
 ghost use Rattle.typed_tree.specs.Views.{program_view};
 ghost use Rattle.source_answers.specs.Answers.{Answers};
@@ -11,8 +11,8 @@ use crate::functions::typed_functions;
 use crate::globals::{declared_globals, typed_globals};
 use ispc_names_faults::{functions_of, globals_of};
 use ispc_names_table::StepScopes;
-use ispc_parser::Tree;
 use source_answers::{SourceFault, both};
+use source_tree::Tree;
 use std::alloc::Global;
 use typed_tree::Program;
 

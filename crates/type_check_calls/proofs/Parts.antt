@@ -3,8 +3,8 @@ use Rattle.std.proofs.Common.{ℕ, ◌≡◌, ◌∙◌, ◌+◌, ◌<◌, ◌�
 use Rattle.std.proofs.Math.Numerals.{add-one}
 use Rattle.std.proofs.lemmas.List.{at_drop_all}
 use Rattle.std.specs.List.{enumerate_from, zip}
-use Rattle.ispc_parser.specs.declared.tree.Param.{Param}
-use Rattle.ispc_parser.specs.Tree.{param_view}
+use Rattle.source_tree.specs.declared.tree.Param.{Param}
+use Rattle.source_tree.specs.Tree.{param_view}
 use Rattle.type_check_scopes.specs.declared.passings.Passing.{Passing}
 use Rattle.type_check_scopes.specs.Passings.{passing_view}
 use Rattle.gang_model.specs.Source.Parsed.{ParsedParam}

@@ -1,8 +1,8 @@
 -- Calls, without where they lie in memory.
 use Rattle.std.specs.Prelude.{map}
 use Rattle.gang_model.specs.Types.Calls as model
-use Rattle.ispc_parser_expressions.specs.Tree.{args_view}
-use Rattle.ispc_parser.specs.Tree.{function_view}
+use Rattle.source_tree.specs.Expressions.{args_view}
+use Rattle.source_tree.specs.Tree.{function_view}
 use Rattle.typed_tree.specs.Boxes.{boxed_stmt_view}
 use Rattle.type_check_calls.specs.declared.context.Context.{Context}
 use Rattle.type_check_calls.specs.declared.whole.WholeCall.{WholeCall}

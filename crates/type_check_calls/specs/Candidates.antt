@@ -6,7 +6,7 @@ use Rattle.gang_model.specs.Types.Signatures.{result_of}
 use Rattle.gang_model.specs.Types.Typing.{Passing}
 use Rattle.gang_model.specs.Types.Overloads as overloads
 use Rattle.gang_model.specs.Types.Overloads.{passed_args}
-use Rattle.ispc_parser.specs.Tree.{function_view}
+use Rattle.source_tree.specs.Tree.{function_view}
 use Rattle.type_check_calls.specs.declared.overloads.Candidate.{Candidate}
 
 abbrev pub candidate_view : Candidate → overloads.Candidate

@@ -1,7 +1,7 @@
 //! What a call may mean.
 
 use gang_types::{IntType, Rate};
-use ispc_parser::Function;
+use source_tree::Function;
 
 /// The functions of the source, and the result of the function that a statement stands in, `None` being `void`.
 #[derive(Clone, Copy, Drop)]

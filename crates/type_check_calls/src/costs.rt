@@ -1,13 +1,13 @@
 //! What it costs to pass arguments.
 ghost use Rattle.std.specs.Prelude.{◌≡◌, ◌&&◌, ◌||◌, IfOk, None, Some, if◌then◌else◌, map, not, option_map};
 ghost use Rattle.gang_model.specs.Types.Overloads as overloads;
-ghost use Rattle.ispc_parser.specs.Tree.{param_view};
+ghost use Rattle.source_tree.specs.Tree.{param_view};
 ghost use Rattle.type_check_scopes.specs.Entries.{entry_view};
 ghost use Rattle.type_check_scopes.specs.Passings.{passing_view};
 ghost use Rattle.type_check_values.specs.Views.{typed_view};
 
 use gang_types::{IntType, is_bool, is_signed, width};
-use ispc_parser::Param;
+use source_tree::Param;
 use std::alloc::{AllocError, Global};
 use type_check_scopes::{Entry, Passing};
 use type_check_values::{Typed, declared_rate, declared_type, may_become};

@@ -3,7 +3,7 @@ ghost use Rattle.std.specs.Prelude.{◌≡◌, ◌++◌, [], IfOk, None, OnOk, i
 ghost use Rattle.std.specs.List.{list_all};
 ghost use Rattle.gang_model.specs.Source.Names.{same_text};
 ghost use Rattle.gang_model.specs.Types.Overloads as overloads;
-ghost use Rattle.ispc_parser.specs.Tree.{function_view, param_view};
+ghost use Rattle.source_tree.specs.Tree.{function_view, param_view};
 ghost use Rattle.source_answers.specs.Answers.{Answers};
 ghost use Rattle.type_check_scopes.specs.Passings.{passing_view};
 ghost use Rattle.type_check_calls.specs.Candidates.{candidate_view};
@@ -13,8 +13,8 @@ use crate::faults::refused;
 use gang_model::RefusalNumber;
 use gang_types::Place;
 use ispc_names_scopes::is_same;
-use ispc_parser::Function;
 use source_answers::SourceFault;
+use source_tree::Function;
 use std::alloc::{AllocError, Global};
 use type_check_scopes::Passing;
 

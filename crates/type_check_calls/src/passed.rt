@@ -1,13 +1,13 @@
 //! What calls pass.
 ghost use Rattle.std.specs.Prelude.{◌≡◌, ◌++◌, [], IfOk, OnOk, map, option_map};
 ghost use Rattle.gang_model.specs.Types.Overloads as overloads;
-ghost use Rattle.ispc_parser.specs.Tree.{param_view};
+ghost use Rattle.source_tree.specs.Tree.{param_view};
 ghost use Rattle.type_check_scopes.specs.Passings.{passing_view};
 ghost use Rattle.typed_tree.specs.Views.{arg_view};
 ghost use Rattle.type_check_calls.specs.Parts as parts;
 
 use gang_types::VarId;
-use ispc_parser::Param;
+use source_tree::Param;
 use std::alloc::{AllocError, Global};
 use type_check_scopes::Passing;
 use type_check_values::{as_type, declared_rate, declared_type};

@@ -1,16 +1,15 @@
 //! Calls that stand whole.
 ghost use Rattle.std.specs.Prelude.{◌≡◌, map, option_map};
-ghost use Rattle.ispc_parser_expressions.specs.Tree.{expr_view};
+ghost use Rattle.source_tree.specs.Expressions.{expr_view};
 ghost use Rattle.std.specs.List.{list_any};
 ghost use Rattle.gang_model.specs.Types.Calls as calls;
 ghost use Rattle.gang_model.specs.Source.Names.{same_text};
-ghost use Rattle.ispc_parser.specs.Tree.{function_view};
+ghost use Rattle.source_tree.specs.Tree.{function_view};
 ghost use Rattle.type_check_calls.specs.Calls.{whole_call_view};
 
 use gang_types::Place;
 use ispc_names_scopes::{is_same, statement_call};
-use ispc_parser::Function;
-use ispc_parser_expressions::{Arg, Expr};
+use source_tree::{Arg, Expr, Function};
 
 /// A call with its name's place.
 #[derive(Clone, Copy, Drop)]

@@ -6,8 +6,8 @@ use Rattle.gang_model.specs.Types.Conversions.{Typed}
 use Rattle.gang_model.specs.Source.Judged.{Judged, Sound, Faulty, both, ◌>>=◌}
 use Rattle.gang_model.specs.Source.Parsed.{ParsedArgs, ParsedEnd}
 use Rattle.gang_model.specs.Types.Typing as typing
-use Rattle.ispc_parser_expressions.specs.declared.tree.Arg.{Arg}
-use Rattle.ispc_parser_expressions.specs.Tree.{ParsedArg, OfValue, OfPart, OfPartFrom, with_arg, arg_view, args_view}
+use Rattle.source_tree.specs.declared.expressions.Arg.{Arg}
+use Rattle.source_tree.specs.Expressions.{ParsedArg, OfValue, OfPart, OfPartFrom, with_arg, arg_view, args_view}
 use Rattle.type_check_expressions.specs.Arguments.{argument, followed, view_indexed}
 
 -- one argument before others

@@ -5,10 +5,10 @@ use Rattle.std.specs.Result.{IsErrAnd}
 use Rattle.gang_types.specs.declared.places.Place.{Place}
 use Rattle.gang_model.specs.Source.Judged.{◌>>=◌}
 use Rattle.gang_model.specs.Types.Typing as typing
-use Rattle.ispc_parser_expressions.specs.declared.tree.Expr.{Expr, Call}
-use Rattle.ispc_parser_expressions.specs.declared.tree.Arg.{Arg}
-use Rattle.ispc_parser_expressions.specs.Tree.{expr_view, args_view}
-use Rattle.ispc_parser_expressions.proofs.Rows.{view_call}
+use Rattle.source_tree.specs.declared.expressions.Expr.{Expr, Call}
+use Rattle.source_tree.specs.declared.expressions.Arg.{Arg}
+use Rattle.source_tree.specs.Expressions.{expr_view, args_view}
+use Rattle.source_tree.proofs.ArgumentRows.{view_call}
 use Rattle.source_answers.specs.declared.fault.SourceFault.{SourceFault}
 use Rattle.source_answers.specs.Answers.{Answers}
 use Rattle.type_check_values.specs.declared.typed.Typed.{Typed}

@@ -9,7 +9,7 @@ use Rattle.gang_model.specs.Types.Conversions.{Typed, is_varying}
 use Rattle.gang_model.specs.Source.Judged.{Judged, Sound, both, ◌>>=◌, fault_if}
 use Rattle.gang_model.specs.Source.Parsed.{ParsedExpr}
 use Rattle.gang_model.specs.Types.Typing as typing
-use Rattle.ispc_parser_expressions.specs.Tree.{ParsedArg, OfValue, OfPart, OfPartFrom}
+use Rattle.source_tree.specs.Expressions.{ParsedArg, OfValue, OfPart, OfPartFrom}
 use Rattle.type_check_scopes.specs.declared.passings.Passing.{Passing}
 use Rattle.type_check_scopes.specs.Passings.{passing_view}
 

@@ -1,6 +1,6 @@
 //! Elements of arrays.
 ghost use Rattle.std.specs.Prelude.{◌≡◌, ◌||◌, IfOk, Some, not};
-ghost use Rattle.ispc_parser_expressions.specs.Tree.{expr_view};
+ghost use Rattle.source_tree.specs.Expressions.{expr_view};
 ghost use Rattle.gang_model.specs.Source.Judged.{least_fault, unless};
 ghost use Rattle.gang_model.specs.Types.Typing as typing;
 ghost use Rattle.source_answers.specs.Answers.{Answers};
@@ -11,8 +11,8 @@ use crate::places::first_of;
 use crate::values::refusal;
 use gang_model::{RefusalNumber, SourceRefusal};
 use gang_types::{IntType, Place, is_bool};
-use ispc_parser_expressions::Expr;
 use source_answers::{SourceFault, fault_if, least, refuse};
+use source_tree::Expr;
 use std::alloc::{AllocError, Global};
 use type_check_scopes::{Declared, TypeScope};
 use type_check_values::Typed;

@@ -1,6 +1,6 @@
 //! Expressions.
 ghost use Rattle.std.specs.Prelude.{map};
-ghost use Rattle.ispc_parser_expressions.specs.Tree.{arg_view, args_view, expr_view};
+ghost use Rattle.source_tree.specs.Expressions.{arg_view, args_view, expr_view};
 ghost use Rattle.type_check_expressions.specs.Arguments.{argument};
 ghost use Rattle.gang_model.specs.Types.Typing as typing;
 ghost use Rattle.typed_tree.specs.Views as typed;
@@ -17,8 +17,8 @@ use crate::places::first_of;
 use crate::values::{name_value, number_value, refusal, truth_value};
 use gang_model::RefusalNumber;
 use gang_types::{IntType, Rate};
-use ispc_parser_expressions::{Arg, Expr};
 use source_answers::{SourceFault, fault_if, refuse};
+use source_tree::{Arg, Expr};
 use std::alloc::Global;
 use type_check_library::called_value;
 use type_check_scopes::{Passing, TypeScope};

@@ -1,10 +1,10 @@
 //! What the names in expressions declare.
 ghost use Rattle.std.specs.Prelude.{◌≡◌, [], option_map};
-ghost use Rattle.ispc_parser_expressions.specs.Tree.{expr_view};
+ghost use Rattle.source_tree.specs.Expressions.{expr_view};
 ghost use Rattle.gang_model.specs.Types.Typing as typing;
 ghost use Rattle.type_check_scopes.specs.Entries.{declared_view, entry_view};
 
-use ispc_parser_expressions::Expr;
+use source_tree::Expr;
 use type_check_scopes::{Declared, Entry, TypeScope};
 
 /// The innermost declaration of a name.

@@ -1,6 +1,6 @@
 //! What the arguments of calls pass.
 ghost use Rattle.std.specs.Prelude.{◌≡◌, List, option_map};
-ghost use Rattle.ispc_parser_expressions.specs.Tree.{expr_view};
+ghost use Rattle.source_tree.specs.Expressions.{expr_view};
 ghost use Rattle.gang_model.specs.Types.Conversions as model;
 ghost use Rattle.gang_model.specs.Source.Judged.{Judged, least_fault};
 ghost use Rattle.gang_model.specs.Types.Typing as typing;
@@ -15,8 +15,8 @@ use crate::places::{first_of, name_of};
 use crate::values::refusal;
 use gang_model::{RefusalNumber, SourceRefusal};
 use gang_types::{IntType, Place, VarId, is_bool};
-use ispc_parser_expressions::Expr;
 use source_answers::{SourceFault, both, fault_if, least, refuse};
+use source_tree::Expr;
 use type_check_scopes::{Entry, Passing, TypeScope, built_in, index_variable};
 use type_check_values::{Typed, is_varying};
 

@@ -1,10 +1,10 @@
 //! Where expressions stand.
 ghost use Rattle.std.specs.Prelude.{◌≡◌};
-ghost use Rattle.ispc_parser_expressions.specs.Tree.{expr_view};
+ghost use Rattle.source_tree.specs.Expressions.{expr_view};
 ghost use Rattle.gang_model.specs.Types.Typing as typing;
 
 use gang_types::Place;
-use ispc_parser_expressions::Expr;
+use source_tree::Expr;
 
 /// An expression's first token.
 pub fn first_of(expr: &Expr) -> Place

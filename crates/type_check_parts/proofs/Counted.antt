@@ -3,9 +3,9 @@ use Rattle.std.proofs.Common.{◌≡◌, ℕ, ◌+◌, ◌<◌, ◌≤◌, List,
 use Rattle.std.proofs.lemmas.List.{drop_all}
 use Rattle.gang_model.specs.Running.Numbering.{steps_in, steps_in_all}
 use Rattle.gang_model.proofs.WalkedLists.{next_item}
-use Rattle.ispc_parser.specs.declared.tree.Stmt.{Stmt, Block}
-use Rattle.ispc_parser.specs.Tree.{stmt_view, stmts_view}
-use Rattle.ispc_parser.proofs.Rows.{view_block}
+use Rattle.source_tree.specs.declared.tree.Stmt.{Stmt, Block}
+use Rattle.source_tree.specs.Tree.{stmt_view, stmts_view}
+use Rattle.source_tree.proofs.StatementRows.{view_block}
 
 pub counted-next : (items : List Stmt) (i total steps n steps' : ℕ) (x : Stmt) → i < length items → x ≡ get_or items i x
     → steps + steps_in_all (stmts_view (drop i items)) ≡ total → n ≡ steps_in (stmt_view x) → steps' ≡ steps + n

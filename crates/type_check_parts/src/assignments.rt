@@ -1,9 +1,9 @@
 //! Assignments.
 ghost use Rattle.std.specs.Prelude.{◌≡◌, Some};
-ghost use Rattle.ispc_parser_expressions.specs.Tree.{expr_view};
+ghost use Rattle.source_tree.specs.Expressions.{expr_view};
 ghost use Rattle.gang_model.specs.Source.Judged as judged;
 ghost use Rattle.gang_model.specs.Types.Statements as model;
-ghost use Rattle.ispc_parser.specs.Tree as parsed;
+ghost use Rattle.source_tree.specs.Tree as parsed;
 ghost use Rattle.typed_tree.specs.Boxes.{boxed_stmt_view};
 ghost use Rattle.type_check_values.specs.Views.{typed_view};
 ghost use Rattle.source_answers.specs.Answers.{Answers};
@@ -15,9 +15,8 @@ use crate::beside::second_of;
 use crate::targets::{Aimed, scalar_target, target_of};
 use gang_model::RefusalNumber;
 use gang_types::{BinaryOp, IntType, Place, Rate, VarId};
-use ispc_parser::Target as ParsedTarget;
-use ispc_parser_expressions::Expr;
 use source_answers::{SourceFault, both, fault_if, refuse};
+use source_tree::{Expr, Target as ParsedTarget};
 use std::alloc::Global;
 use type_check_calls::{Context, Receiver, WholeCall, right_call, whole_call};
 use type_check_expressions::{expression, first_of, given_value};

@@ -1,13 +1,13 @@
 //! Tests.
 ghost use Rattle.std.specs.Prelude.{Some, option_map};
-ghost use Rattle.ispc_parser_expressions.specs.Tree.{expr_view};
+ghost use Rattle.source_tree.specs.Expressions.{expr_view};
 ghost use Rattle.gang_model.specs.Types.Statements as model;
-ghost use Rattle.ispc_parser.specs.Tree as parsed;
+ghost use Rattle.source_tree.specs.Tree as parsed;
 ghost use Rattle.typed_tree.specs.Views as typed;
 ghost use Rattle.source_answers.specs.Answers.{Answers};
 
-use ispc_parser_expressions::Expr;
 use source_answers::SourceFault;
+use source_tree::Expr;
 use std::alloc::Global;
 use type_check_expressions::expression;
 use type_check_scopes::TypeScope;

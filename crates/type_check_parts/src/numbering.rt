@@ -1,11 +1,11 @@
 //! The numbers of steps.
 ghost use Rattle.std.specs.Prelude.{◌≡◌, ◌+◌, IfOk, OnOk};
 ghost use Rattle.gang_model.specs.Running.Numbering as model;
-ghost use Rattle.ispc_parser.specs.Tree.{stmt_view};
+ghost use Rattle.source_tree.specs.Tree.{stmt_view};
 ghost use Rattle.source_answers.specs.Apart.{apart};
 
-use ispc_parser::Stmt;
 use source_answers::{Answer, SourceFault, set_apart};
+use source_tree::Stmt;
 use std::alloc::AllocError;
 
 /// The number that comes so many steps later.

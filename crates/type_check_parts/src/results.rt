@@ -1,8 +1,8 @@
 //! What a function gives back.
 ghost use Rattle.std.specs.Prelude.{Some, option_map};
-ghost use Rattle.ispc_parser_expressions.specs.Tree.{expr_view};
+ghost use Rattle.source_tree.specs.Expressions.{expr_view};
 ghost use Rattle.gang_model.specs.Types.Statements as model;
-ghost use Rattle.ispc_parser.specs.Tree as parsed;
+ghost use Rattle.source_tree.specs.Tree as parsed;
 ghost use Rattle.gang_model.specs.Source.Judged.{Sound};
 ghost use Rattle.typed_tree.specs.Boxes.{boxed_stmt_view};
 ghost use Rattle.typed_tree.specs.Views.{stmt_view};
@@ -11,8 +11,8 @@ ghost use Rattle.type_check_calls.specs.Calls.{context_view};
 
 use gang_model::{RefusalNumber, SourceRefusal};
 use gang_types::{IntType, Place, Rate};
-use ispc_parser_expressions::Expr;
 use source_answers::SourceFault;
+use source_tree::Expr;
 use std::alloc::Global;
 use type_check_calls::{Context, Receiver, right_call, whole_call};
 use type_check_expressions::{first_of, given_value};

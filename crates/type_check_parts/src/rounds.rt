@@ -2,12 +2,12 @@
 ghost use Rattle.std.specs.Prelude.{◌≡◌, ◌++◌, IfOk, OnErr, OnOk, length, map};
 ghost use Rattle.gang_types.specs.declared.types.IntType.TheVariants as int_type;
 ghost use Rattle.gang_types.specs.declared.types.Rate.TheVariants.{Uniform};
-ghost use Rattle.ispc_parser_expressions.specs.Tree.{expr_view};
+ghost use Rattle.source_tree.specs.Expressions.{expr_view};
 ghost use Rattle.gang_model.specs.Source.Judged as judged;
 ghost use Rattle.gang_model.specs.Source.Judged.{answer_of};
 ghost use Rattle.gang_model.specs.Types.Statements as model;
 ghost use Rattle.gang_model.specs.Types.Typing as typing;
-ghost use Rattle.ispc_parser.specs.Tree.{dim_view};
+ghost use Rattle.source_tree.specs.Tree.{dim_view};
 ghost use Rattle.typed_tree.specs.Views.{dimension_view};
 ghost use Rattle.source_answers.specs.Answers.{Answers};
 ghost use Rattle.source_answers.specs.Apart.{seen};
@@ -16,8 +16,8 @@ ghost use Rattle.type_check_parts.specs.Rows.{dimension_of, first_dimensions};
 
 use crate::numbering::advanced;
 use gang_types::{IntType, Rate, VarId};
-use ispc_parser::Dim;
 use source_answers::{Answer, SourceFault, both, both_answers, set_apart};
+use source_tree::Dim;
 use std::alloc::{AllocError, Global};
 use type_check_expressions::given_value;
 use type_check_scopes::{TypeScope, index_variable};

@@ -1,9 +1,9 @@
 //! What is assigned.
 ghost use Rattle.std.specs.Prelude.{◌≡◌, ◌||◌, [], not, Some, if◌then◌else◌};
-ghost use Rattle.ispc_parser_expressions.specs.Tree.{expr_view};
+ghost use Rattle.source_tree.specs.Expressions.{expr_view};
 ghost use Rattle.gang_model.specs.Types.Statements as model;
 ghost use Rattle.gang_model.specs.Types.Typing as typing;
-ghost use Rattle.ispc_parser.specs.Tree as parsed;
+ghost use Rattle.source_tree.specs.Tree as parsed;
 ghost use Rattle.typed_tree.specs.Views.{var_view};
 ghost use Rattle.type_check_values.specs.Views.{typed_view};
 ghost use Rattle.source_answers.specs.Answers.{Answers};
@@ -12,9 +12,8 @@ ghost use Rattle.type_check_parts.specs.Typed.{aimed_view};
 
 use gang_model::{RefusalNumber, SourceRefusal};
 use gang_types::{IntType, Place, Rate, is_bool};
-use ispc_parser::Target as ParsedTarget;
-use ispc_parser_expressions::Expr;
 use source_answers::{SourceFault, both, fault_if, refuse};
+use source_tree::{Expr, Target as ParsedTarget};
 use std::alloc::Global;
 use type_check_expressions::{expression, first_of};
 use type_check_scopes::{Declared, TypeScope};

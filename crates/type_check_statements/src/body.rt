@@ -1,14 +1,14 @@
 //! The body of a function.
 ghost use Rattle.std.specs.Prelude.{◌≡◌, length};
 ghost use Rattle.gang_model.specs.Types.Statements as model;
-ghost use Rattle.ispc_parser.specs.Tree as parsed;
+ghost use Rattle.source_tree.specs.Tree as parsed;
 ghost use Rattle.typed_tree.specs.Views.{stmts_view};
 ghost use Rattle.type_check_calls.specs.Calls.{context_view};
 ghost use Rattle.type_check_parts.specs.Makes.{IfAnswered, Makes};
 
 use crate::statements::statement;
-use ispc_parser::Stmt as ParsedStmt;
 use source_answers::{SourceFault, joined};
+use source_tree::Stmt as ParsedStmt;
 use std::alloc::Global;
 use type_check_calls::Context;
 use type_check_forms::more_statements;

@@ -2,21 +2,20 @@
 ghost use Rattle.std.specs.Prelude.{◌≡◌, ◌+◌, ◌∷◌, IfOk, OnOk, length, map, suc, option_map};
 ghost use Rattle.gang_types.specs.declared.places.Place.{Place};
 ghost use Rattle.gang_types.specs.declared.places.VarId.TheVariants.{Local};
-ghost use Rattle.ispc_parser_expressions.specs.Tree.{expr_view};
+ghost use Rattle.source_tree.specs.Expressions.{expr_view};
 ghost use Rattle.gang_model.specs.Running.Numbering.{steps_in};
 ghost use Rattle.gang_model.specs.Source.Parsed.{ParsedFor, ParsedForEach, ParsedForEachActive, ParsedForEachUnique, ParsedIf, ParsedIfElse, ParsedWhile, ParsedDo};
 ghost use Rattle.gang_model.specs.Names.Scope.{locals_in};
 ghost use Rattle.gang_model.specs.Types.Statements as model;
-ghost use Rattle.ispc_parser.specs.Tree as parsed;
+ghost use Rattle.source_tree.specs.Tree as parsed;
 ghost use Rattle.typed_tree.specs.Boxes.{boxed_stmt_view};
 ghost use Rattle.type_check_calls.specs.Calls.{context_view};
 ghost use Rattle.type_check_scopes.specs.Entries.{declared_view};
 ghost use Rattle.type_check_parts.specs.Typed.{IsTyped, IsTypedStatement, with_index};
 
 use gang_types::{IntType, Rate, VarId};
-use ispc_parser::{Dim, Stmt as ParsedStmt};
-use ispc_parser_expressions::Expr;
 use source_answers::{Answer, both_answers, set_apart};
+use source_tree::{Dim, Expr, Stmt as ParsedStmt};
 use std::alloc::{AllocError, Global};
 use type_check_calls::{Context, WholeCall};
 use type_check_expressions::expression;

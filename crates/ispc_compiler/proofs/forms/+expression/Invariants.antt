@@ -2,7 +2,7 @@
 use Rattle.std.proofs.Common.{◌≡◌, drop}
 use Rattle.gang_model.specs.Source.Known.{known_args}
 use Rattle.plain_programs.specs.Sources.{plain_forms}
-use Rattle.ispc_parser_expressions.specs.Tree.{args_view}
+use Rattle.source_tree.specs.Expressions.{args_view}
 use Rattle.ispc_compiler.proofs.forms.+expression.Given as goal
 
 abbrev pub invariant-check_args-loop-arg : goal.invariant-check_args-loop-arg

@@ -2,7 +2,7 @@
 use Rattle.std.proofs.Common.{◌≡◌, drop}
 use Rattle.gang_model.specs.Source.Known.{known_stmts}
 use Rattle.plain_programs.specs.Sources.{plain_forms}
-use Rattle.ispc_parser.specs.Tree.{stmts_view}
+use Rattle.source_tree.specs.Tree.{stmts_view}
 use Rattle.ispc_compiler.proofs.forms.+statement.Given as goal
 
 abbrev pub invariant-check_statements-loop-statement : goal.invariant-check_statements-loop-statement

@@ -2,7 +2,7 @@
 use Rattle.std.proofs.Common.{◌≡◌, drop, map}
 use Rattle.gang_model.specs.Source.Known.{is_known}
 use Rattle.plain_programs.specs.Sources.{plain_forms}
-use Rattle.ispc_parser.specs.Tree.{item_view, tree_view}
+use Rattle.source_tree.specs.Tree.{item_view, tree_view}
 use Rattle.ispc_compiler.proofs.forms.check_forms.Given as goal
 
 abbrev pub invariant-loop-item : goal.invariant-loop-item

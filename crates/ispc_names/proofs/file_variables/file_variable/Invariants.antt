@@ -1,6 +1,6 @@
 use Rattle.std.proofs.Common.{◌≡◌, ◌≤◌, drop}
 use Rattle.gang_model.specs.Names.Scope.{declaration, file_scope}
-use Rattle.ispc_parser.specs.Tree.{tree_view}
+use Rattle.source_tree.specs.Tree.{tree_view}
 use Rattle.ispc_names.proofs.ItemSteps.{file_from}
 use Rattle.ispc_names.proofs.file_variables.file_variable.Given as goal
 

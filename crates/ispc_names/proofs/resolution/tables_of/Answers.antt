@@ -1,7 +1,7 @@
 use Rattle.std.proofs.Common.{◌∷◌, ◌++◌, [], sym, ap, ◌∙◌, map, take}
 use Rattle.std.proofs.lemmas.List.{map-append}
 use Rattle.gang_model.specs.Names.Scope.{file_scope, standings_of}
-use Rattle.ispc_parser.specs.Tree.{function_view}
+use Rattle.source_tree.specs.Tree.{function_view}
 use Rattle.ispc_names_table.specs.Scopes.{standings_view}
 use Rattle.ispc_names.proofs.ItemSteps.{functions, functions-more, functions-same}
 use Rattle.ispc_names.proofs.resolution.tables_of.Goals as goal

@@ -3,7 +3,7 @@ use Rattle.gang_model.specs.Source.Judged.{least_fault}
 use Rattle.gang_model.specs.Names.NameFaults.{names_in}
 use Rattle.gang_model.proofs.JudgedLaws.{least_fault-append}
 use Rattle.gang_model.proofs.WalkedLists.{next_item}
-use Rattle.ispc_parser.specs.Tree.{dim_view}
+use Rattle.source_tree.specs.Tree.{dim_view}
 use Rattle.ispc_names_faults.specs.IndexVariables.{bounds_names}
 use Rattle.ispc_names_faults.proofs.Merging.{one_more, pair_fault}
 use Rattle.ispc_names_faults.proofs.declarations.bounds_fault.Goals as goal

@@ -1,6 +1,6 @@
 use Rattle.std.proofs.Common.{◌≡◌, drop, map}
 use Rattle.gang_model.specs.Source.Judged.{least_fault, merged}
-use Rattle.ispc_parser.specs.Tree.{dim_view}
+use Rattle.source_tree.specs.Tree.{dim_view}
 use Rattle.ispc_names_faults.specs.IndexVariables.{bounds_names}
 use Rattle.ispc_names_faults.proofs.declarations.bounds_fault.Given as goal
 

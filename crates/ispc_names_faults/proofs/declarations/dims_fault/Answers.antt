@@ -4,7 +4,7 @@ use Rattle.gang_model.specs.Source.Judged.{least_fault}
 use Rattle.gang_model.specs.Names.Scope.{with_dims}
 use Rattle.gang_model.proofs.WalkedLists.{next_item}
 use Rattle.ispc_names_scopes.specs.Scopes.{site}
-use Rattle.ispc_parser.specs.Tree.{dim_view}
+use Rattle.source_tree.specs.Tree.{dim_view}
 use Rattle.ispc_names_faults.specs.IndexVariables.{dims_twice}
 use Rattle.ispc_names_faults.proofs.Merging.{all_found}
 use Rattle.ispc_names_faults.proofs.Found.{dims_step, dims_declared}

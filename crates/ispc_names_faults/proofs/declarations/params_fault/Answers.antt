@@ -5,7 +5,7 @@ use Rattle.gang_model.specs.Names.NameFaults.{params_twice}
 use Rattle.gang_model.specs.Names.Scope.{with_params}
 use Rattle.gang_model.proofs.WalkedLists.{next_item}
 use Rattle.ispc_names_scopes.specs.Scopes.{site}
-use Rattle.ispc_parser.specs.Tree.{param_view}
+use Rattle.source_tree.specs.Tree.{param_view}
 use Rattle.ispc_names_faults.proofs.Merging.{all_found}
 use Rattle.ispc_names_faults.proofs.Found.{params_step, params_declared}
 use Rattle.ispc_names_faults.proofs.declarations.params_fault.Goals as goal

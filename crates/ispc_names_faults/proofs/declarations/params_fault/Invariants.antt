@@ -3,7 +3,7 @@ use Rattle.gang_model.specs.Source.Judged.{least_fault, merged}
 use Rattle.gang_model.specs.Names.NameFaults.{params_twice}
 use Rattle.gang_model.specs.Names.Scope.{with_params}
 use Rattle.ispc_names_scopes.specs.Scopes.{site}
-use Rattle.ispc_parser.specs.Tree.{param_view}
+use Rattle.source_tree.specs.Tree.{param_view}
 use Rattle.ispc_names_faults.proofs.declarations.params_fault.Given as goal
 
 abbrev pub invariant-loop-param : goal.invariant-loop-param

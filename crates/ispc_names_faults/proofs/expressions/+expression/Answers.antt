@@ -3,7 +3,7 @@ use Rattle.std.proofs.lemmas.List.{drop_more}
 use Rattle.gang_model.specs.Source.Judged.{least_fault, or_later}
 use Rattle.gang_model.specs.Names.NameFaults.{names_in, names_of_args, inner_call}
 use Rattle.gang_model.specs.Source.Parsed.{ParsedEnd}
-use Rattle.ispc_parser_expressions.specs.Tree.{expr_view, arg_view, with_arg}
+use Rattle.source_tree.specs.Expressions.{expr_view, arg_view, with_arg}
 use Rattle.gang_model.proofs.JudgedLaws.{in_pair}
 use Rattle.ispc_names_faults.proofs.ArgumentFaults.{in_args, in_call, in_part_from, in_part, next_arg}
 use Rattle.ispc_names_faults.proofs.expressions.+expression.Goals as goal

@@ -1,7 +1,7 @@
 use Rattle.std.proofs.Common.{◌≡◌, drop}
 use Rattle.gang_model.specs.Source.Judged.{least_fault, merged, or_later}
 use Rattle.gang_model.specs.Names.NameFaults.{names_in, inner_call}
-use Rattle.ispc_parser_expressions.specs.Tree.{expr_view}
+use Rattle.source_tree.specs.Expressions.{expr_view}
 use Rattle.ispc_names_faults.proofs.ArgumentFaults.{in_args}
 use Rattle.ispc_names_faults.proofs.expressions.+expression.Given as goal
 

@@ -1,5 +1,5 @@
 use Rattle.std.proofs.Common.{◌≡◌, ◌++◌, drop, map}
-use Rattle.ispc_parser.specs.Tree.{function_view}
+use Rattle.source_tree.specs.Tree.{function_view}
 use Rattle.ispc_names_faults.proofs.file_scope.add_names.Given as goal
 
 -- what is collected so far and what is left

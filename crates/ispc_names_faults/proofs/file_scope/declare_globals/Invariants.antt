@@ -1,6 +1,6 @@
 use Rattle.std.proofs.Common.{◌≡◌, ◌++◌, ◌-◌, drop, map, length}
 use Rattle.gang_model.specs.Names.Scope.{file_bindings}
-use Rattle.ispc_parser.specs.Tree.{global_view}
+use Rattle.source_tree.specs.Tree.{global_view}
 use Rattle.ispc_names_faults.proofs.file_scope.declare_globals.Given as goal
 
 -- the last variables of the file are declared

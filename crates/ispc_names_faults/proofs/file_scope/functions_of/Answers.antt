@@ -1,7 +1,7 @@
 use Rattle.std.proofs.Common.{◌+◌, drop, map}
 use Rattle.std.proofs.lemmas.List.{drop_all}
 use Rattle.gang_model.proofs.WalkedLists.{next_item}
-use Rattle.ispc_parser.specs.Tree.{function_view}
+use Rattle.source_tree.specs.Tree.{function_view}
 use Rattle.ispc_names_faults.proofs.Collected.{functions_passed, functions_all}
 use Rattle.ispc_names_faults.proofs.file_scope.functions_of.Goals as goal
 

@@ -1,6 +1,6 @@
 use Rattle.std.proofs.Common.{◌≡◌, ◌++◌, drop, map}
 use Rattle.gang_model.specs.Source.Parsed.{functions_in}
-use Rattle.ispc_parser.specs.Tree.{function_view, item_view, tree_view}
+use Rattle.source_tree.specs.Tree.{function_view, item_view, tree_view}
 use Rattle.ispc_names_faults.proofs.file_scope.functions_of.Given as goal
 
 -- what is collected so far and what is left

@@ -1,6 +1,6 @@
 use Rattle.std.proofs.Common.{◌≡◌, ◌++◌, drop, map}
 use Rattle.gang_model.specs.Source.Parsed.{globals_in}
-use Rattle.ispc_parser.specs.Tree.{global_view, item_view, tree_view}
+use Rattle.source_tree.specs.Tree.{global_view, item_view, tree_view}
 use Rattle.ispc_names_faults.proofs.file_scope.globals_of.Given as goal
 
 -- what is collected so far and what is left

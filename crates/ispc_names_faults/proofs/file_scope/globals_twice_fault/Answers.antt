@@ -1,5 +1,5 @@
 use Rattle.std.proofs.Common.{map}
-use Rattle.ispc_parser.specs.Tree.{global_view}
+use Rattle.source_tree.specs.Tree.{global_view}
 use Rattle.ispc_names_faults.proofs.Collected.{globals_found}
 use Rattle.ispc_names_faults.proofs.file_scope.globals_twice_fault.Goals as goal
 

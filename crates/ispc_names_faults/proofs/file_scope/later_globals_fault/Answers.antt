@@ -1,6 +1,6 @@
 use Rattle.std.proofs.Common.{◌∙◌, ◌+◌, ◌++◌, ◌∷◌, [], drop, map, ap}
 use Rattle.gang_model.proofs.WalkedLists.{next_item}
-use Rattle.ispc_parser.specs.Tree.{global_view}
+use Rattle.source_tree.specs.Tree.{global_view}
 use Rattle.ispc_names_faults.proofs.Collected.{globals_step}
 use Rattle.ispc_names_faults.proofs.file_scope.later_globals_fault.Goals as goal
 

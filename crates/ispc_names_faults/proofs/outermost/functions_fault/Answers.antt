@@ -5,7 +5,7 @@ use Rattle.gang_model.specs.Source.Judged.{least_fault}
 use Rattle.gang_model.specs.Names.NameFaults.{function_names}
 use Rattle.gang_model.proofs.JudgedLaws.{least_fault-append}
 use Rattle.gang_model.proofs.WalkedLists.{next_item}
-use Rattle.ispc_parser.specs.Tree.{function_view}
+use Rattle.source_tree.specs.Tree.{function_view}
 use Rattle.ispc_names_faults.proofs.Merging.{one_more}
 use Rattle.ispc_names_faults.proofs.outermost.functions_fault.Goals as goal
 

@@ -2,9 +2,9 @@ use Rattle.std.specs.Prelude.{option_map}
 use Rattle.std.proofs.Common.{◌∙◌, sym, ap}
 use Rattle.gang_model.specs.Source.Judged.{least_fault}
 use Rattle.gang_model.specs.Names.NameFaults.{right_names_of, stmt_names, twice}
-use Rattle.ispc_parser_expressions.specs.Tree.{expr_view}
+use Rattle.source_tree.specs.Expressions.{expr_view}
 use Rattle.ispc_names_scopes.specs.Scopes.{site}
-use Rattle.ispc_parser.specs.Tree.{stmt_view}
+use Rattle.source_tree.specs.Tree.{stmt_view}
 use Rattle.ispc_names_faults.specs.MayStand.{allowed_view}
 use Rattle.ispc_names_faults.proofs.Merging.{pair_fault}
 use Rattle.ispc_names_faults.proofs.parts.simple_fault.Goals as goal

@@ -6,10 +6,10 @@ use Rattle.gang_model.specs.Types.LibraryTable.{statement_call}
 use Rattle.gang_model.specs.Names.NameFaults.{right_names, whole_call_names, names_in, stands_whole}
 use Rattle.gang_model.specs.Source.Parsed.{Name, ParsedCall}
 use Rattle.gang_model.specs.Names.Scope.{Environment}
-use Rattle.ispc_parser_expressions.specs.declared.tree.Expr.{Expr, Call}
-use Rattle.ispc_parser_expressions.specs.declared.tree.Arg.{Arg}
-use Rattle.ispc_parser_expressions.specs.Tree.{expr_view, args_view}
-use Rattle.ispc_parser_expressions.proofs.Rows.{view_call}
+use Rattle.source_tree.specs.declared.expressions.Expr.{Expr, Call}
+use Rattle.source_tree.specs.declared.expressions.Arg.{Arg}
+use Rattle.source_tree.specs.Expressions.{expr_view, args_view}
+use Rattle.source_tree.proofs.ArgumentRows.{view_call}
 use Rattle.ispc_names_faults.proofs.right_sides.+right_fault.Goals as goal
 
 right_call : (e : Expr) (at : Place) (n : Vec ℕ Global) (v : Vec Arg Global) (functions : List Name) (env : Environment)

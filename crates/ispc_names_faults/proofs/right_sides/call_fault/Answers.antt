@@ -5,7 +5,7 @@ use Rattle.gang_model.specs.Source.Judged.{fault_if, least_fault, or_later}
 use Rattle.gang_model.specs.Types.LibraryTable.{is_library_name}
 use Rattle.gang_model.specs.Names.NameFaults.{names_of_args, stands_whole}
 use Rattle.gang_model.proofs.JudgedLaws.{least_fault-or_own}
-use Rattle.ispc_parser_expressions.specs.Tree.{args_view}
+use Rattle.source_tree.specs.Expressions.{args_view}
 use Rattle.ispc_names_faults.proofs.right_sides.call_fault.Goals as goal
 
 pub returns : goal.returns

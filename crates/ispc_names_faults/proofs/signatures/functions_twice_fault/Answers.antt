@@ -1,5 +1,5 @@
 use Rattle.std.proofs.Common.{map}
-use Rattle.ispc_parser.specs.Tree.{function_view}
+use Rattle.source_tree.specs.Tree.{function_view}
 use Rattle.ispc_names_faults.proofs.Collected.{functions_found}
 use Rattle.ispc_names_faults.proofs.signatures.functions_twice_fault.Goals as goal
 

@@ -1,6 +1,6 @@
 use Rattle.std.proofs.Common.{◌≡◌, drop, map}
 use Rattle.gang_model.specs.Source.Judged.{least_fault, merged}
-use Rattle.ispc_parser.specs.Tree.{function_view}
+use Rattle.source_tree.specs.Tree.{function_view}
 use Rattle.ispc_names_faults.specs.NamesBefore.{later_functions}
 use Rattle.ispc_names_faults.proofs.signatures.later_functions_fault.Given as goal
 

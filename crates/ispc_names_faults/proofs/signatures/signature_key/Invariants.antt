@@ -1,5 +1,5 @@
 use Rattle.std.proofs.Common.{◌≡◌, ◌++◌, drop, map}
-use Rattle.ispc_parser.specs.Tree.{function_view, param_view}
+use Rattle.source_tree.specs.Tree.{function_view, param_view}
 use Rattle.ispc_names_faults.specs.SignatureKeys.{key_with, signature_key}
 use Rattle.ispc_names_faults.proofs.signatures.signature_key.Given as goal
 

@@ -7,10 +7,10 @@ use Rattle.gang_model.specs.Source.Parsed.{ParsedBlock, ParsedIf, ParsedIfElse, 
 use Rattle.gang_model.specs.Names.Scope.{after_all, enclosed, locals_in, locals_in_all}
 use Rattle.gang_model.proofs.WalkedLists.{next_item}
 use Rattle.ispc_names_scopes.specs.Scopes.{site}
-use Rattle.ispc_parser_expressions.specs.Tree.{expr_view}
-use Rattle.ispc_parser.specs.declared.tree.Stmt.{If}
-use Rattle.ispc_parser.specs.Tree.{dim_view, stmt_view, stmts_view}
-use Rattle.ispc_parser.proofs.Rows.{view_block}
+use Rattle.source_tree.specs.Expressions.{expr_view}
+use Rattle.source_tree.specs.declared.tree.Stmt.{If}
+use Rattle.source_tree.specs.Tree.{dim_view, stmt_view, stmts_view}
+use Rattle.source_tree.proofs.StatementRows.{view_block}
 use Rattle.ispc_names_faults.specs.MayStand.{allowed_view}
 use Rattle.ispc_names_faults.proofs.Merging.{pair_fault}
 use Rattle.ispc_names_faults.proofs.ScopeSteps.{marked_within, left_for, reach_entered, reach_after, reach_moved, reach_dims, reach_block, reach_here, reach_inner, reach_rounds, reach_same, moved_twice}

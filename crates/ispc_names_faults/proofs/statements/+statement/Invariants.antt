@@ -4,8 +4,8 @@ use Rattle.gang_model.specs.Source.Judged.{least_fault, merged}
 use Rattle.gang_model.specs.Names.NameFaults.{stmts_names}
 use Rattle.gang_model.specs.Names.Scope.{after_all, enclosed}
 use Rattle.ispc_names_scopes.specs.Scopes.{site}
-use Rattle.ispc_parser.specs.declared.tree.Stmt.{size-Stmt}
-use Rattle.ispc_parser.specs.Tree.{stmts_view}
+use Rattle.source_tree.specs.declared.tree.Stmt.{size-Stmt}
+use Rattle.source_tree.specs.Tree.{stmts_view}
 use Rattle.ispc_names_faults.specs.MayStand.{allowed_view}
 use Rattle.ispc_names_faults.proofs.statements.+statement.Given as goal
 

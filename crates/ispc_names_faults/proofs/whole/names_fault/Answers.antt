@@ -1,5 +1,5 @@
 use Rattle.std.proofs.Common.{◌∙◌, map, ap}
-use Rattle.ispc_parser.specs.Tree.{function_view, global_view, tree_view}
+use Rattle.source_tree.specs.Tree.{function_view, global_view, tree_view}
 use Rattle.ispc_names_faults.proofs.Found.{source_found}
 use Rattle.ispc_names_faults.proofs.whole.names_fault.Goals as goal
 

@@ -1,7 +1,7 @@
 use Rattle.std.proofs.Common.{subst, arith, take, map}
 use Rattle.std.proofs.lemmas.List.{take_all}
 use Rattle.gang_model.specs.Names.Scope.{with_dims}
-use Rattle.ispc_parser.specs.Tree.{dim_view}
+use Rattle.source_tree.specs.Tree.{dim_view}
 use Rattle.ispc_names_steps.specs.Sites.{Stands}
 use Rattle.ispc_names_steps.proofs.DeclaredLists.{with_dims-more, dims_declared}
 use Rattle.ispc_names_steps.proofs.declared.declare_dims.Goals as goal

@@ -1,7 +1,7 @@
 use Rattle.std.proofs.Common.{List, length, take, map}
 use Rattle.gang_model.specs.Names.Bindings.{dim_bindings}
 use Rattle.gang_model.specs.Names.Scope.{NameStanding, Site, with_dims}
-use Rattle.ispc_parser.specs.Tree.{dim_view}
+use Rattle.source_tree.specs.Tree.{dim_view}
 use Rattle.ispc_names_table.specs.declared.table.Standing.{Standing}
 use Rattle.ispc_names_steps.specs.Sites.{Declares, Stands}
 use Rattle.ispc_names_steps.proofs.declared.declare_dims.Given as goal

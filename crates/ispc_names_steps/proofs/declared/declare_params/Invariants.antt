@@ -1,7 +1,7 @@
 use Rattle.std.proofs.Common.{List, length, take, map}
 use Rattle.gang_model.specs.Names.Bindings.{param_bindings}
 use Rattle.gang_model.specs.Names.Scope.{NameStanding, Site, with_params}
-use Rattle.ispc_parser.specs.Tree.{param_view}
+use Rattle.source_tree.specs.Tree.{param_view}
 use Rattle.ispc_names_table.specs.declared.table.Standing.{Standing}
 use Rattle.ispc_names_steps.specs.Sites.{Declares, Stands}
 use Rattle.ispc_names_steps.proofs.declared.declare_params.Given as goal

@@ -1,7 +1,7 @@
 use Rattle.std.proofs.Common.{◌≡◌, [], ◌++◌, sym, ap, ◌∙◌, map, take}
 use Rattle.std.proofs.lemmas.List.{take-append-drop}
 use Rattle.gang_model.specs.Names.Scope.{after_all, before_return, file_scope, function_site, standings_in_all}
-use Rattle.ispc_parser.specs.Tree.{stmts_view, param_view}
+use Rattle.source_tree.specs.Tree.{stmts_view, param_view}
 use Rattle.ispc_names_table.specs.Scopes.{standing_view}
 use Rattle.ispc_names_steps.proofs.Functions.{nothing_stands, whole_declared, whole_standings}
 use Rattle.ispc_names_steps.proofs.Growth.{lists-one, reaches-more}

@@ -1,7 +1,7 @@
 use Rattle.std.proofs.Common.{ap, sym, ◌∙◌}
 use Rattle.gang_model.specs.Names.Scope.{has_return, one_returns}
-use Rattle.ispc_parser.specs.Tree.{stmt_view, stmts_view}
-use Rattle.ispc_parser.proofs.Rows.{view_block}
+use Rattle.source_tree.specs.Tree.{stmt_view, stmts_view}
+use Rattle.source_tree.proofs.StatementRows.{view_block}
 use Rattle.ispc_names_steps.proofs.Sequences.{return_here}
 use Rattle.ispc_names_steps.proofs.returns.+returning.Goals as goal
 

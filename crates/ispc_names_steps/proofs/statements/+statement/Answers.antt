@@ -6,10 +6,10 @@ use Rattle.gang_model.specs.Source.Parsed.{ParsedBlock, ParsedDeclare, ParsedExp
 use Rattle.gang_model.specs.Names.Bindings.{bindings_in}
 use Rattle.gang_model.specs.Names.Scope.{bound, after_all, enclosed, past, at_test, in_for, in_rounds, in_domain, locals_in, standings_in, standings_in_all, standing}
 use Rattle.gang_model.proofs.ScopeLaws.{after-next, after_all-next}
-use Rattle.ispc_parser_expressions.specs.Tree.{expr_view}
-use Rattle.ispc_parser.specs.declared.tree.Stmt.{If}
-use Rattle.ispc_parser.specs.Tree.{stmt_view, stmts_view, dim_view}
-use Rattle.ispc_parser.proofs.Rows.{view_block}
+use Rattle.source_tree.specs.Expressions.{expr_view}
+use Rattle.source_tree.specs.declared.tree.Stmt.{If}
+use Rattle.source_tree.specs.Tree.{stmt_view, stmts_view, dim_view}
+use Rattle.source_tree.proofs.StatementRows.{view_block}
 use Rattle.ispc_names_steps.specs.Sites.{Declares, Lists, Passes, Stands}
 use Rattle.ispc_names_steps.proofs.DeclaredLists.{dims-length}
 use Rattle.ispc_names_steps.proofs.Growth.{lists-none, lists-more, lists-append}

@@ -2,8 +2,8 @@ use Rattle.std.proofs.Common.{List, ◌++◌, ◌+◌, ◌*◌, length, take}
 use Rattle.std.specs.Prelude.{max}
 use Rattle.gang_model.specs.Names.Bindings.{bindings_in_all}
 use Rattle.gang_model.specs.Names.Scope.{NameStanding, Site, after_all, standings_in_all}
-use Rattle.ispc_parser.specs.declared.tree.Stmt.{size-Stmt}
-use Rattle.ispc_parser.specs.Tree.{stmts_view}
+use Rattle.source_tree.specs.declared.tree.Stmt.{size-Stmt}
+use Rattle.source_tree.specs.Tree.{stmts_view}
 use Rattle.ispc_names_steps.specs.Sites.{Declares, Stands}
 use Rattle.ispc_names_steps.proofs.statements.+statement.Given as goal
 

@@ -1,7 +1,7 @@
 use Rattle.std.proofs.Common.{◌≡◌, ◌-◌, map}
 use Rattle.gang_model.specs.Source.SpellsStatements.{max_dims}
 use Rattle.ispc_lexer.specs.Views.{lexemes_of}
-use Rattle.ispc_parser.specs.Tree.{dim_view}
+use Rattle.source_tree.specs.Tree.{dim_view}
 use Rattle.ispc_parser.specs.Parts.{list_of}
 use Rattle.ispc_parser.specs.Heads.{dim_of, dims_of}
 use Rattle.ispc_parser.proofs.Lists.{with_front}

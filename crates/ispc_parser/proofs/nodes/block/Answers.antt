@@ -1,4 +1,4 @@
-use Rattle.ispc_parser.proofs.Rows.{view_block}
+use Rattle.source_tree.proofs.StatementRows.{view_block}
 use Rattle.ispc_parser.proofs.nodes.block.Goals as goal
 
 pub returns : goal.returns

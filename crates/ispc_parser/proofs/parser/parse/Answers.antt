@@ -1,5 +1,5 @@
 use Rattle.ispc_lexer.specs.Views.{lexemes_of}
-use Rattle.ispc_parser.specs.Tree.{tree_view}
+use Rattle.source_tree.specs.Tree.{tree_view}
 use Rattle.ispc_parser.proofs.Whole.{is_found, is_one, is_none}
 use Rattle.ispc_parser.proofs.parser.parse.Goals as goal
 

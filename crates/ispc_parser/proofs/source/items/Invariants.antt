@@ -1,6 +1,6 @@
 use Rattle.std.proofs.Common.{◌≡◌, ◌-◌, length, map}
 use Rattle.ispc_lexer.specs.Views.{lexemes_of}
-use Rattle.ispc_parser.specs.Tree.{item_view}
+use Rattle.source_tree.specs.Tree.{item_view}
 use Rattle.ispc_parser.specs.Source.{items_of, tree_of}
 use Rattle.ispc_parser.proofs.Items.{with_items}
 use Rattle.ispc_parser.proofs.source.items.Given as goal

@@ -1,7 +1,7 @@
 use Rattle.std.proofs.Common.{◌≡◌, ◌-◌, map}
 use Rattle.gang_model.specs.Source.SpellsSource.{max_params}
 use Rattle.ispc_lexer.specs.Views.{lexemes_of}
-use Rattle.ispc_parser.specs.Tree.{param_view}
+use Rattle.source_tree.specs.Tree.{param_view}
 use Rattle.ispc_parser.specs.Parts.{list_of}
 use Rattle.ispc_parser.specs.Source.{param_of, some_params_of}
 use Rattle.ispc_parser.proofs.Lists.{with_front}

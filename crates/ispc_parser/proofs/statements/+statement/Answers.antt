@@ -3,7 +3,7 @@ use Rattle.std.proofs.lemmas.Result.{err_from_is_err_and}
 use Rattle.gang_model.specs.Source.Parsed.{ParsedLast, ParsedNext}
 use Rattle.ispc_parser_expressions.proofs.SpecWords.{length-lexemes_of}
 use Rattle.ispc_lexer.specs.Views.{lexemes_of}
-use Rattle.ispc_parser.specs.Tree.{stmt_view, stmts_view}
+use Rattle.source_tree.specs.Tree.{stmt_view, stmts_view}
 use Rattle.ispc_parser.specs.Statements.{parsers, stmt_of}
 use Rattle.ispc_parser.proofs.Sequences.{append, stmts_view-push, starts_last, stmts_done, stmts_spent, stmts_fail, stmts_go_on}
 use Rattle.ispc_parser.proofs.statements.+statement.Goals as goal

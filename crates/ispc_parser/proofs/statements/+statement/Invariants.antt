@@ -1,6 +1,6 @@
 use Rattle.std.proofs.Common.{◌≡◌, ◌+◌, ◌-◌, ◌*◌, length}
 use Rattle.ispc_lexer.specs.Views.{lexemes_of}
-use Rattle.ispc_parser.specs.Tree.{stmts_view}
+use Rattle.source_tree.specs.Tree.{stmts_view}
 use Rattle.ispc_parser.specs.Statements.{parsers, stmt_of, stmts_of}
 use Rattle.ispc_parser.proofs.Sequences.{after_front}
 use Rattle.ispc_parser.proofs.statements.+statement.Given as goal

@@ -2,7 +2,7 @@ use Rattle.std.proofs.Common.{◌≡◌, ◌-◌, ◌∙◌, sym, refl, arith}
 use Rattle.std.proofs.lemmas.Result.{err_from_is_err_and}
 use Rattle.ispc_lexer.specs.Views.{lexemes_of}
 use Rattle.gang_model.specs.declared.marks.Mark.TheVariants as mark
-use Rattle.ispc_parser_expressions.specs.Tree.{expr_view, arg_view, args_view}
+use Rattle.source_tree.specs.Expressions.{expr_view, arg_view, args_view}
 use Rattle.ispc_parser_expressions.specs.Parse.{parsers, counted}
 use Rattle.ispc_parser_expressions.proofs.SpecWords.{length-lexemes_of}
 use Rattle.ispc_parser_expressions.proofs.Tools.{operator_takes, take_takes}

@@ -1,6 +1,6 @@
 use Rattle.std.proofs.Common.{◌+◌, ◌-◌, ◌*◌, length}
 use Rattle.ispc_lexer.specs.Views.{lexemes_of}
-use Rattle.ispc_parser_expressions.specs.Tree.{expr_view, args_view}
+use Rattle.source_tree.specs.Expressions.{expr_view, args_view}
 use Rattle.ispc_parser_expressions.specs.Parse.{parsers, binary_of, counted, args_of}
 use Rattle.ispc_parser_expressions.proofs.Steps.{Chains, Lists}
 use Rattle.ispc_parser_expressions.proofs.descent.+expression.Given as goal

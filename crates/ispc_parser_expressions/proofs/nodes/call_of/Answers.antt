@@ -1,4 +1,4 @@
-use Rattle.ispc_parser_expressions.proofs.Rows.{view_call}
+use Rattle.source_tree.proofs.ArgumentRows.{view_call}
 use Rattle.ispc_parser_expressions.proofs.nodes.call_of.Goals as goal
 
 pub returns : goal.returns

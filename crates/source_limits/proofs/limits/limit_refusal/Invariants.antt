@@ -1,6 +1,6 @@
 use Rattle.std.proofs.Common.{◌≡◌, ◌≤◌, drop, map}
 use Rattle.gang_model.specs.Source.Limits.{limit_refusal, limits_passed, first_fault, most_array_words}
-use Rattle.ispc_parser.specs.Tree.{tree_view, item_view}
+use Rattle.source_tree.specs.Tree.{tree_view, item_view}
 use Rattle.source_limits.proofs.limits.limit_refusal.Given as goal
 
 -- what is left decides, after arrays of so many words

@@ -1,7 +1,7 @@
 use Rattle.std.proofs.Common.{◌∙◌, ◌+◌, ◌∷◌, drop, sym, ap}
 use Rattle.std.proofs.lemmas.List.{drop_more}
 use Rattle.std.proofs.lemmas.Result.{err_from_is_err_and}
-use Rattle.ispc_parser.specs.declared.tree.Stmt.{If}
+use Rattle.source_tree.specs.declared.tree.Stmt.{If}
 use Rattle.source_limits.proofs.StmtRooms.{in_block, in_if, in_for, in_for_each, next_room, stop_room}
 use Rattle.source_limits.proofs.room.+statement.Goals as goal
 

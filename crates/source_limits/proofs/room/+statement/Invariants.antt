@@ -1,6 +1,6 @@
 use Rattle.std.proofs.Common.{◌≡◌, drop}
 use Rattle.gang_model.specs.Source.Limits.{declared_in_all}
-use Rattle.ispc_parser.specs.Tree.{stmts_view}
+use Rattle.source_tree.specs.Tree.{stmts_view}
 use Rattle.source_limits.specs.Room.{room_after}
 use Rattle.source_limits.proofs.room.+statement.Given as goal
 

@@ -1,6 +1,6 @@
 use Rattle.std.proofs.Common.{◌∙◌, sym, ap, arith}
 use Rattle.gang_model.specs.Source.Parsed.{ParsedDim}
-use Rattle.ispc_parser.specs.Tree.{dim_view}
+use Rattle.source_tree.specs.Tree.{dim_view}
 use Rattle.source_limits.specs.Room.{room_after}
 use Rattle.source_limits.proofs.RoomLaws.{room_past, room_all, places-map}
 use Rattle.source_limits.proofs.room.after_dims.Goals as goal

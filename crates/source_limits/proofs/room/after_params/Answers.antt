@@ -1,6 +1,6 @@
 use Rattle.std.proofs.Common.{◌∙◌, sym, ap, arith}
 use Rattle.gang_model.specs.Source.Parsed.{ParsedParam}
-use Rattle.ispc_parser.specs.Tree.{param_view}
+use Rattle.source_tree.specs.Tree.{param_view}
 use Rattle.source_limits.specs.Room.{room_after}
 use Rattle.source_limits.proofs.RoomLaws.{room_past, room_all, places-map}
 use Rattle.source_limits.proofs.room.after_params.Goals as goal

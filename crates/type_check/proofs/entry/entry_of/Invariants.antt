@@ -2,7 +2,7 @@ use Rattle.std.proofs.Common.{◌≡◌, ◌≤◌, drop, map}
 use Rattle.std.specs.Prelude.{option_map}
 use Rattle.gang_model.specs.Source.Parsed.{functions_in}
 use Rattle.gang_model.specs.Running.Entry.{entry_from, entry_of}
-use Rattle.ispc_parser.specs.Tree.{tree_view, item_view}
+use Rattle.source_tree.specs.Tree.{tree_view, item_view}
 use Rattle.type_check.proofs.entry.entry_of.Given as goal
 
 -- what is left decides, where so many functions stand before it

@@ -4,7 +4,7 @@ use Rattle.gang_model.specs.Types.Calls.{Context}
 use Rattle.gang_model.specs.Types.Signatures.{ResultType}
 use Rattle.gang_model.specs.Types.Resolved.{param_variables}
 use Rattle.gang_model.specs.Types.Statements.{statements}
-use Rattle.ispc_parser.specs.Tree as parsed
+use Rattle.source_tree.specs.Tree as parsed
 use Rattle.typed_tree.specs.Views as typed
 use Rattle.type_check.specs.Bodies.{body_view}
 use Rattle.type_check.proofs.FunctionBodies.{statements-of_body, body-made, body-refused}

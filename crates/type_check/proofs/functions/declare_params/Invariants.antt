@@ -1,5 +1,5 @@
 use Rattle.std.proofs.Common.{drop, map}
-use Rattle.ispc_parser.specs.Tree.{param_view}
+use Rattle.source_tree.specs.Tree.{param_view}
 use Rattle.type_check.proofs.Parameters.{AreDeclared}
 use Rattle.type_check.proofs.functions.declare_params.Given as goal
 

@@ -1,7 +1,7 @@
 use Rattle.gang_model.specs.Source.Judged.{Sound, unless}
 use Rattle.gang_model.specs.Types.TypeFaults.{signature_faults}
 use Rattle.gang_model.specs.Types.Resolved.{judged_function}
-use Rattle.ispc_parser.specs.Tree as parsed
+use Rattle.source_tree.specs.Tree as parsed
 use Rattle.ispc_names_table.specs.Scopes.{standings_view}
 use Rattle.typed_tree.specs.Views as typed
 use Rattle.source_answers.proofs.Answered.{answers-at, answers-refusal}

@@ -1,6 +1,6 @@
 use Rattle.std.proofs.Common.{◌≡◌, ◌-◌, length, drop, map}
 use Rattle.gang_model.specs.Types.Resolved.{global_entries}
-use Rattle.ispc_parser.specs.Tree as parsed
+use Rattle.source_tree.specs.Tree as parsed
 use Rattle.type_check.proofs.globals.declared_globals.Given as goal
 
 -- the last variables of the file are declared

@@ -4,7 +4,7 @@ use Rattle.gang_model.specs.Source.Judged.{least_fault, merged}
 use Rattle.gang_model.specs.Types.TypeFaults.{param_faults, result_rate_faults, signature_faults}
 use Rattle.gang_model.proofs.JudgedLaws.{least_fault-append}
 use Rattle.gang_model.proofs.WalkedLists.{next_item}
-use Rattle.ispc_parser.specs.Tree.{function_view, param_view}
+use Rattle.source_tree.specs.Tree.{function_view, param_view}
 use Rattle.ispc_names_faults.proofs.Merging.{one_more}
 use Rattle.type_check.proofs.signatures.signature_fault.Goals as goal
 

@@ -2,7 +2,7 @@ use Rattle.std.proofs.Common.{◌≡◌, drop, map}
 use Rattle.std.specs.List.{flat_map}
 use Rattle.gang_model.specs.Source.Judged.{least_fault, merged}
 use Rattle.gang_model.specs.Types.TypeFaults.{param_faults, signature_faults}
-use Rattle.ispc_parser.specs.Tree.{function_view, param_view}
+use Rattle.source_tree.specs.Tree.{function_view, param_view}
 use Rattle.type_check.proofs.signatures.signature_fault.Given as goal
 
 -- what is found so far and what is left decide

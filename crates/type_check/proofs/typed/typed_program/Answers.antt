@@ -3,7 +3,7 @@ use Rattle.gang_model.specs.Source.Judged.{Sound}
 use Rattle.gang_model.specs.Source.Parsed.{functions_in, globals_in}
 use Rattle.gang_model.specs.Types.Resolved.{global_entries, judged_functions, judged_globals}
 use Rattle.gang_model.specs.Types.Tree as tree
-use Rattle.ispc_parser.specs.Tree.{tree_view}
+use Rattle.source_tree.specs.Tree.{tree_view}
 use Rattle.typed_tree.specs.Views as typed
 use Rattle.source_answers.proofs.Answered.{answers-at}
 use Rattle.type_check.proofs.FunctionParts as functions

@@ -2,7 +2,7 @@ use Rattle.std.proofs.Common.{Vec, Global, map, ap}
 use Rattle.type_check_scopes.specs.declared.passings.Passing.{Passing}
 use Rattle.gang_model.specs.Types.Calls.{call_of_kind}
 use Rattle.gang_model.specs.Types.Typing.{arguments}
-use Rattle.ispc_parser_expressions.specs.Tree.{args_view}
+use Rattle.source_tree.specs.Expressions.{args_view}
 use Rattle.typed_tree.specs.Views.{result_view}
 use Rattle.type_check_scopes.specs.Passings.{passing_view}
 use Rattle.source_answers.proofs.Answered.{answers-at, answers-then}

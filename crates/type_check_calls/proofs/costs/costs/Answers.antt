@@ -2,7 +2,7 @@ use Rattle.std.proofs.Common.{◌+◌, drop, map, sym, ap, arith}
 use Rattle.std.proofs.lemmas.List.{at_drop_all}
 use Rattle.gang_model.specs.Types.Overloads.{costs}
 use Rattle.gang_model.proofs.WalkedLists.{next_item}
-use Rattle.ispc_parser.specs.Tree.{param_view}
+use Rattle.source_tree.specs.Tree.{param_view}
 use Rattle.type_check_scopes.specs.Passings.{passing_view}
 use Rattle.type_check_calls.proofs.Prices.{other_length, costs_init, costs_step, costs_stop, costs_end}
 use Rattle.type_check_calls.proofs.costs.costs.Goals as goal

@@ -1,6 +1,6 @@
 use Rattle.std.proofs.Common.{◌≡◌, drop, map}
 use Rattle.gang_model.specs.Types.Overloads.{costs}
-use Rattle.ispc_parser.specs.Tree.{param_view}
+use Rattle.source_tree.specs.Tree.{param_view}
 use Rattle.type_check_scopes.specs.Passings.{passing_view}
 use Rattle.type_check_calls.proofs.Prices.{before}
 use Rattle.type_check_calls.proofs.costs.costs.Given as goal

@@ -1,7 +1,7 @@
 use Rattle.std.proofs.Common.{◌+◌, drop, map, ap, arith}
 use Rattle.std.proofs.lemmas.List.{at_drop_all}
 use Rattle.gang_model.proofs.WalkedLists.{next_item}
-use Rattle.ispc_parser.specs.Tree.{function_view}
+use Rattle.source_tree.specs.Tree.{function_view}
 use Rattle.type_check_scopes.specs.Passings.{passing_view}
 use Rattle.type_check_calls.specs.Candidates.{candidate_view}
 use Rattle.type_check_calls.proofs.Possible.{candidates_step, candidates_end}

@@ -1,6 +1,6 @@
 use Rattle.std.proofs.Common.{◌≡◌, ◌++◌, drop, map}
 use Rattle.gang_model.specs.Types.Overloads.{candidates}
-use Rattle.ispc_parser.specs.Tree.{function_view}
+use Rattle.source_tree.specs.Tree.{function_view}
 use Rattle.type_check_scopes.specs.Passings.{passing_view}
 use Rattle.type_check_calls.specs.Candidates.{candidate_view}
 use Rattle.type_check_calls.proofs.overloads.candidates.Given as goal

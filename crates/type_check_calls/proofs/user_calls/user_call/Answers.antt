@@ -1,7 +1,7 @@
 use Rattle.std.proofs.Common.{◌∙◌, map, ap, sym}
 use Rattle.gang_model.specs.Source.Judged.{Sound}
 use Rattle.gang_model.specs.Types.Overloads.{candidates, overload}
-use Rattle.ispc_parser.specs.Tree.{function_view}
+use Rattle.source_tree.specs.Tree.{function_view}
 use Rattle.typed_tree.specs.Views.{result_view}
 use Rattle.type_check_scopes.specs.Passings.{passing_view}
 use Rattle.source_answers.proofs.Answered.{answers-at, answers-then}

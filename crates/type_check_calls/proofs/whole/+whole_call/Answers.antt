@@ -3,11 +3,11 @@ use Rattle.std.specs.Prelude.{if◌then◌else◌}
 use Rattle.gang_types.specs.declared.places.Place.{Place}
 use Rattle.gang_model.specs.Types.Calls.{WholeCall, gives_value, whole_call}
 use Rattle.gang_model.specs.Source.Parsed.{Name, ParsedArgs, ParsedFunction}
-use Rattle.ispc_parser_expressions.specs.declared.tree.Expr.{Expr, Call}
-use Rattle.ispc_parser_expressions.specs.declared.tree.Arg.{Arg}
-use Rattle.ispc_parser_expressions.specs.Tree.{expr_view, args_view}
-use Rattle.ispc_parser_expressions.proofs.Rows.{view_call}
-use Rattle.ispc_parser.specs.Tree.{function_view}
+use Rattle.source_tree.specs.declared.expressions.Expr.{Expr, Call}
+use Rattle.source_tree.specs.declared.expressions.Arg.{Arg}
+use Rattle.source_tree.specs.Expressions.{expr_view, args_view}
+use Rattle.source_tree.proofs.ArgumentRows.{view_call}
+use Rattle.source_tree.specs.Tree.{function_view}
 use Rattle.type_check_calls.proofs.whole.+whole_call.Goals as goal
 
 -- a call that stands whole

@@ -4,7 +4,7 @@ use Rattle.gang_model.specs.Source.Names.{same_text}
 use Rattle.gang_model.specs.Types.LibraryTable.{statement_call}
 use Rattle.ispc_names_scopes.specs.Names.{statement_call_view}
 use Rattle.ispc_names_scopes.specs.declared.library.StatementCall.{StatementCall as Call}
-use Rattle.ispc_parser.specs.Tree.{function_view}
+use Rattle.source_tree.specs.Tree.{function_view}
 use Rattle.type_check_calls.proofs.FunctionNames.{found_any}
 use Rattle.type_check_calls.proofs.whole.gives_value.Goals as goal
 

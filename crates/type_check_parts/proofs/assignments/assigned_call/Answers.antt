@@ -4,7 +4,7 @@ use Rattle.gang_model.specs.Types.Tree.{Assigns}
 use Rattle.gang_model.specs.Source.Judged.{Judged, both}
 use Rattle.gang_model.specs.Types.Calls.{right_call}
 use Rattle.gang_model.specs.Types.Statements as model
-use Rattle.ispc_parser.specs.Tree as parsed
+use Rattle.source_tree.specs.Tree as parsed
 use Rattle.typed_tree.specs.Boxes.{boxed_stmt_view}
 use Rattle.typed_tree.specs.Views as typed
 use Rattle.source_answers.specs.Answers.{Answers, both_answers}

@@ -1,10 +1,10 @@
 use Rattle.std.proofs.Common.{◌∙◌, ap, sym}
-use Rattle.ispc_parser_expressions.specs.Tree.{expr_view}
+use Rattle.source_tree.specs.Expressions.{expr_view}
 use Rattle.gang_model.specs.Types.Tree.{Assign}
 use Rattle.gang_model.specs.Source.Judged.{Sound}
 use Rattle.gang_model.specs.Types.Statements as model
 use Rattle.gang_model.specs.Types.Typing.{given_value}
-use Rattle.ispc_parser.specs.Tree as parsed
+use Rattle.source_tree.specs.Tree as parsed
 use Rattle.typed_tree.specs.Boxes.{boxed_stmt_view}
 use Rattle.typed_tree.specs.Views as typed
 use Rattle.typed_tree.specs.Views.{stmt_view}

@@ -1,7 +1,7 @@
-use Rattle.ispc_parser_expressions.specs.Tree.{expr_view}
+use Rattle.source_tree.specs.Expressions.{expr_view}
 use Rattle.gang_model.specs.Source.Judged.{Sound}
 use Rattle.gang_model.specs.Types.Statements as model
-use Rattle.ispc_parser.specs.Tree as parsed
+use Rattle.source_tree.specs.Tree as parsed
 use Rattle.typed_tree.specs.Boxes.{boxed_stmt_view}
 use Rattle.type_check_values.specs.Views.{typed_view}
 use Rattle.type_check_parts.proofs.Wanted.{wanted-refused, wanted-sound}

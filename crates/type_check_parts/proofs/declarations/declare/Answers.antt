@@ -2,7 +2,7 @@ use Rattle.std.specs.Prelude.{option_map}
 use Rattle.std.proofs.Common.{◌∙◌, ◌∷◌, ap, false}
 use Rattle.std.proofs.lemmas.Result.{IfOk-weaker, on_ok_weaker}
 use Rattle.gang_types.specs.declared.places.VarId.TheVariants.{Local}
-use Rattle.ispc_parser_expressions.specs.Tree.{expr_view}
+use Rattle.source_tree.specs.Expressions.{expr_view}
 use Rattle.type_check_calls.specs.Calls.{context_view}
 use Rattle.type_check_parts.proofs.Declaring.{declared-next_variable, declared-typed}
 use Rattle.type_check_parts.proofs.Named.{declared-id}

@@ -1,6 +1,6 @@
 use Rattle.std.proofs.Common.{◌≡◌, ◌+◌, drop}
 use Rattle.gang_model.specs.Running.Numbering.{steps_in_all}
-use Rattle.ispc_parser.specs.Tree.{stmts_view}
+use Rattle.source_tree.specs.Tree.{stmts_view}
 use Rattle.type_check_parts.proofs.numbering.+steps_in.Given as goal
 
 -- what is counted so far and what is left come to the whole

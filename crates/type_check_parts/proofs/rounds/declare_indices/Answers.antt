@@ -3,7 +3,7 @@ use Rattle.gang_types.specs.declared.types.IntType.TheVariants as t
 use Rattle.gang_types.specs.declared.types.Rate.TheVariants.{Varying}
 use Rattle.gang_types.specs.declared.places.VarId.TheVariants.{Local}
 use Rattle.gang_model.specs.Types.Typing.{index_entry}
-use Rattle.ispc_parser.specs.Tree.{dim_view}
+use Rattle.source_tree.specs.Tree.{dim_view}
 use Rattle.type_check_scopes.specs.Entries.{declared_view}
 use Rattle.type_check_parts.proofs.Named.{index-named, index-id}
 use Rattle.type_check_parts.proofs.Indices.{AreDeclared, declared-none, declared-next, declared-as, one-more, all-taken, first-declared, at-error}

@@ -1,5 +1,5 @@
 use Rattle.std.proofs.Common.{map, take}
-use Rattle.ispc_parser.specs.Tree.{dim_view}
+use Rattle.source_tree.specs.Tree.{dim_view}
 use Rattle.type_check_parts.proofs.Indices.{AreDeclared}
 use Rattle.type_check_parts.proofs.rounds.declare_indices.Given as goal
 

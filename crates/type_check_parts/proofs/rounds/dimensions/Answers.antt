@@ -2,7 +2,7 @@ use Rattle.std.proofs.Common.{◌+◌, length, drop, map, ap}
 use Rattle.std.proofs.lemmas.List.{drop_all}
 use Rattle.std.specs.Prelude.{Ok}
 use Rattle.gang_model.proofs.WalkedLists.{next_item}
-use Rattle.ispc_parser.specs.Tree.{dim_view}
+use Rattle.source_tree.specs.Tree.{dim_view}
 use Rattle.typed_tree.specs.Views.{dimension_view}
 use Rattle.type_check_parts.specs.Rows.{dimension_of}
 use Rattle.source_answers.specs.Apart.{seen}

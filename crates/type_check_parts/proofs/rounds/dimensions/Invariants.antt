@@ -1,5 +1,5 @@
 use Rattle.std.proofs.Common.{drop, length, map}
-use Rattle.ispc_parser.specs.Tree.{dim_view}
+use Rattle.source_tree.specs.Tree.{dim_view}
 use Rattle.typed_tree.specs.Views.{dimension_view}
 use Rattle.source_answers.specs.Apart.{seen}
 use Rattle.type_check_parts.proofs.InRows.{AreBegun}

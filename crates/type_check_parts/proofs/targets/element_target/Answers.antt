@@ -1,5 +1,5 @@
 use Rattle.std.proofs.Common.{true}
-use Rattle.ispc_parser_expressions.specs.Tree.{expr_view}
+use Rattle.source_tree.specs.Expressions.{expr_view}
 use Rattle.gang_model.specs.Types.Tree.{ElementOf}
 use Rattle.gang_model.specs.Source.Judged.{Sound}
 use Rattle.gang_model.specs.Types.Statements as model

@@ -5,7 +5,7 @@ use Rattle.gang_model.specs.Types.Statements.{statements}
 use Rattle.gang_model.proofs.WalkedLists.{next_item}
 use Rattle.typed_tree.specs.Views as typed
 use Rattle.type_check_parts.specs.Makes.{Makes}
-use Rattle.ispc_parser.specs.Tree.{stmt_view, stmts_view}
+use Rattle.source_tree.specs.Tree.{stmt_view, stmts_view}
 use Rattle.type_check_calls.specs.Calls.{context_view}
 use Rattle.source_answers.specs.Apart.{seen}
 use Rattle.type_check_statements.proofs.InSequence.{begun-none, begun-next, begun-all, whole-body}

@@ -5,7 +5,7 @@ use Rattle.std.specs.Prelude.{Some, Ok, option_map}
 use Rattle.gang_types.specs.declared.places.VarId.TheVariants.{Local}
 use Rattle.gang_types.specs.declared.types.IntType.TheVariants as int_type
 use Rattle.gang_types.specs.declared.types.Rate.TheVariants.{Uniform}
-use Rattle.ispc_parser_expressions.specs.Tree.{expr_view, args_view}
+use Rattle.source_tree.specs.Expressions.{expr_view, args_view}
 use Rattle.gang_model.specs.Source.Judged.{Sound, both}
 use Rattle.gang_model.specs.Running.Numbering.{steps_in}
 use Rattle.gang_model.specs.Names.Scope.{locals_in}
@@ -16,9 +16,9 @@ use Rattle.gang_model.specs.Types.Statements as model
 use Rattle.gang_model.specs.Types.Statements.{test_of}
 use Rattle.gang_model.specs.Types.Typing.{expression, index_entry}
 use Rattle.gang_model.proofs.WalkedLists.{next_item}
-use Rattle.ispc_parser.specs.declared.tree.Stmt.{If}
-use Rattle.ispc_parser.specs.Tree as parsed
-use Rattle.ispc_parser.proofs.Rows.{view_block}
+use Rattle.source_tree.specs.declared.tree.Stmt.{If}
+use Rattle.source_tree.specs.Tree as parsed
+use Rattle.source_tree.proofs.StatementRows.{view_block}
 use Rattle.typed_tree.specs.Boxes.{boxed_stmt_view}
 use Rattle.typed_tree.specs.Views as typed
 use Rattle.type_check_values.specs.Views.{typed_view}

@@ -1,7 +1,7 @@
 use Rattle.std.proofs.Common.{◌+◌, ◌*◌, drop}
 use Rattle.std.specs.Prelude.{max}
-use Rattle.ispc_parser.specs.declared.tree.Stmt.{size-Stmt}
-use Rattle.ispc_parser.specs.Tree.{stmts_view}
+use Rattle.source_tree.specs.declared.tree.Stmt.{size-Stmt}
+use Rattle.source_tree.specs.Tree.{stmts_view}
 use Rattle.type_check_calls.specs.Calls.{context_view}
 use Rattle.source_answers.specs.Apart.{seen}
 use Rattle.type_check_statements.proofs.InSequence.{IsBegun}

@@ -2,7 +2,7 @@ use Rattle.std.proofs.Common.{◌∙◌, sym, ap, subst}
 use Rattle.std.specs.Prelude.{option_map}
 use Rattle.gang_types.specs.declared.places.VarId.TheVariants.{File, Local}
 use Rattle.gang_model.specs.Names.Scope.{declaration, file_scope}
-use Rattle.ispc_parser.specs.Tree.{tree_view}
+use Rattle.source_tree.specs.Tree.{tree_view}
 use Rattle.ispc_names_table.proofs.InnerNames.{or_else}
 use Rattle.ispc_names.specs.Tables.{AreTablesOf}
 use Rattle.ispc_names.proofs.TableSteps.{found-local, found-outside, found-nowhere}

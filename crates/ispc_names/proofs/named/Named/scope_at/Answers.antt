@@ -2,7 +2,7 @@ use Rattle.std.proofs.Common.{◌∙◌, sym, ap, subst}
 use Rattle.std.specs.Prelude.{option_map, slice_get}
 use Rattle.gang_types.specs.declared.places.VarId.TheVariants.{Local}
 use Rattle.gang_model.specs.Names.Scope.{Binding, names_at}
-use Rattle.ispc_parser.specs.Tree.{tree_view}
+use Rattle.source_tree.specs.Tree.{tree_view}
 use Rattle.ispc_names.specs.Tables.{AreTablesOf}
 use Rattle.ispc_names.proofs.TableSteps.{scope-in}
 use Rattle.ispc_names.proofs.named.Named.scope_at.Goals as goal

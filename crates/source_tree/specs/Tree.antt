@@ -2,16 +2,16 @@
 use Rattle.std.specs.Prelude.{List, [], ◌∷◌, map, option_map}
 use Rattle.gang_types.specs.declared.places.Place.{Place}
 use Rattle.gang_model.specs.Source.Parsed.{ParsedExpr, ParsedDim, ParsedTarget, ParsedStmt, ParsedEmpty, ParsedBlock, ParsedDeclare, ParsedAssign, ParsedChange, ParsedIncrement, ParsedDoCall, ParsedBreak, ParsedContinue, ParsedReturn, ParsedIf, ParsedIfElse, ParsedWhile, ParsedDo, ParsedFor, ParsedForEach, ParsedForEachActive, ParsedForEachUnique, ParsedStmts, ParsedLast, ParsedNext, ParsedParam, ParsedFunction, ParsedGlobal, ParsedItem, ParsedFunctionItem, ParsedGlobalItem, ParsedSource}
-use Rattle.ispc_parser_expressions.specs.Tree.{expr_view, args_view}
-use Rattle.ispc_parser.specs.declared.tree.Tree.{Tree}
-use Rattle.ispc_parser.specs.declared.tree.Item.{Item}
-use Rattle.ispc_parser.specs.declared.tree.Item.TheVariants as item
-use Rattle.ispc_parser.specs.declared.tree.Function.{Function}
-use Rattle.ispc_parser.specs.declared.tree.Param.{Param}
-use Rattle.ispc_parser.specs.declared.tree.GlobalVariable.{GlobalVariable}
-use Rattle.ispc_parser.specs.declared.tree.Target.{Target}
-use Rattle.ispc_parser.specs.declared.tree.Dim.{Dim}
-use Rattle.ispc_parser.specs.declared.tree.Stmt.{Stmt, Empty, Block', Declare, Assign, Change, Increment, Call, Break, Continue, Return, If', While', Do', For', ForEach', ForEachActive', ForEachUnique', Held-Stmt-If-3, None', Some', Row_of-Stmt, end_of-Stmt, more_of-Stmt}
+use Rattle.source_tree.specs.Expressions.{expr_view, args_view}
+use Rattle.source_tree.specs.declared.tree.Tree.{Tree}
+use Rattle.source_tree.specs.declared.tree.Item.{Item}
+use Rattle.source_tree.specs.declared.tree.Item.TheVariants as item
+use Rattle.source_tree.specs.declared.tree.Function.{Function}
+use Rattle.source_tree.specs.declared.tree.Param.{Param}
+use Rattle.source_tree.specs.declared.tree.GlobalVariable.{GlobalVariable}
+use Rattle.source_tree.specs.declared.tree.Target.{Target}
+use Rattle.source_tree.specs.declared.tree.Dim.{Dim}
+use Rattle.source_tree.specs.declared.tree.Stmt.{Stmt, Empty, Block', Declare, Assign, Change, Increment, Call, Break, Continue, Return, If', While', Do', For', ForEach', ForEachActive', ForEachUnique', Held-Stmt-If-3, None', Some', Row_of-Stmt, end_of-Stmt, more_of-Stmt}
 
 abbrev pub target_view : Target → ParsedTarget
 target_view t = record { at = t.place; name = t.name.items; index = option_map expr_view t.index }

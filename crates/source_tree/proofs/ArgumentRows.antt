@@ -3,9 +3,9 @@ use Rattle.std.proofs.Common.{◌≡◌, ℕ, refl, ap, ◌∙◌, Vec, Global}
 use mathlib.Core.Former.{Count}
 use Rattle.gang_types.specs.declared.places.Place.{Place}
 use Rattle.gang_model.specs.Source.Parsed.{ParsedCall}
-use Rattle.ispc_parser_expressions.specs.declared.tree.Expr.{Expr, Call, Call', Row_of-Arg, end_of-Arg, more_of-Arg, items-the_row-Arg, items_hidden-the_row-Arg-0}
-use Rattle.ispc_parser_expressions.specs.declared.tree.Arg.{Arg}
-use Rattle.ispc_parser_expressions.specs.Tree.{with_arg, expr_view, arg_view, row_view, args_view}
+use Rattle.source_tree.specs.declared.expressions.Expr.{Expr, Call, Call', Row_of-Arg, end_of-Arg, more_of-Arg, items-the_row-Arg, items_hidden-the_row-Arg-0}
+use Rattle.source_tree.specs.declared.expressions.Arg.{Arg}
+use Rattle.source_tree.specs.Expressions.{with_arg, expr_view, arg_view, row_view, args_view}
 
 row_view_items : (n : _) (row : Row_of-Arg n) → row_view row ≡ args_view (items-the_row-Arg n row)
 row_view_items n end_of-Arg = refl

@@ -2,8 +2,8 @@
 use Rattle.std.specs.Prelude.{List, [], ◌∷◌}
 use Rattle.gang_types.specs.declared.places.Place.{Place}
 use Rattle.gang_model.specs.Source.Parsed.{Name as Text, ParsedExpr, ParsedNumber, ParsedBool, ParsedName, ParsedIndex, ParsedCall, ParsedParen, ParsedUnary, ParsedCast, ParsedBinary, ParsedChoice, ParsedArgs, ParsedEnd, ParsedValue, ParsedPart, ParsedPartFrom}
-use Rattle.ispc_parser_expressions.specs.declared.tree.Expr.{Expr, Number, Truth, Name, Index', Call', Paren', Unary', Cast', Binary', Choice', Row_of-Arg, end_of-Arg, more_of-Arg}
-use Rattle.ispc_parser_expressions.specs.declared.tree.Arg.{Arg, Value, Part, PartFrom}
+use Rattle.source_tree.specs.declared.expressions.Expr.{Expr, Number, Truth, Name, Index', Call', Paren', Unary', Cast', Binary', Choice', Row_of-Arg, end_of-Arg, more_of-Arg}
+use Rattle.source_tree.specs.declared.expressions.Arg.{Arg, Value, Part, PartFrom}
 
 -- one argument
 pub data ParsedArg : Type 0 where

@@ -1,8 +1,8 @@
 -- Statements that lie in a Vec.
 use Rattle.std.proofs.Common.{◌≡◌, List, refl, ap, ◌∙◌, Vec, Global}
 use Rattle.gang_model.specs.Source.Parsed.{ParsedStmt, ParsedBlock, ParsedNext}
-use Rattle.ispc_parser.specs.declared.tree.Stmt.{Stmt, Block, Block', Row_of-Stmt, end_of-Stmt, more_of-Stmt, items-the_row-Stmt, items_hidden-the_row-Stmt-0}
-use Rattle.ispc_parser.specs.Tree.{stmt_view, row_view, stmts_view}
+use Rattle.source_tree.specs.declared.tree.Stmt.{Stmt, Block, Block', Row_of-Stmt, end_of-Stmt, more_of-Stmt, items-the_row-Stmt, items_hidden-the_row-Stmt-0}
+use Rattle.source_tree.specs.Tree.{stmt_view, row_view, stmts_view}
 
 row_view_items : (n : _) (row : Row_of-Stmt n) → row_view row ≡ stmts_view (items-the_row-Stmt n row)
 row_view_items n end_of-Stmt = refl

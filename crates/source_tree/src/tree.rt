@@ -1,8 +1,8 @@
 //! The tree of a source.
 
+use crate::expressions::{Arg, Expr};
 use gang_model::{GlobalForm, Spec};
 use gang_types::{BinaryOp, Place};
-use ispc_parser_expressions::{Arg, Expr};
 
 /// The functions and file-scope variables of a source, in order.
 pub struct Tree {

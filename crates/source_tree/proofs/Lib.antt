@@ -1,0 +1,2 @@
+pub mod ArgumentRows
+pub mod StatementRows
