@@ -100,20 +100,29 @@ def bodies_changed(folder, texts):
 
 def batches(crate, edits):
     """Returns the edits in lists that may be tried in one check, each with the bodies that it changes; one alone has none."""
-    made, alone = [], []
+    changes, alone = {}, []
     for edit in edits:
         texts, why = rt.read_edit(edit, crate.folder)
         bodies = None if why else bodies_changed(crate.folder, texts)
         if bodies is None:
             alone.append([(edit, set())])
-            continue
-        keys = {it.key() for it in bodies}
-        fit = next((it for it in made if not any(keys & {body.key() for body in other} for _, other in it)), None)
-        if fit is None:
-            made.append([(edit, bodies)])
         else:
-            fit.append((edit, bodies))
-    return made + alone
+            changes[edit] = bodies
+    return together(changes) + alone
+
+
+def together(changes):
+    """Spreads edits evenly over as few lists as it finds, so that no two of a list change one body: first those that meet the most others."""
+    keys = {edit: {it.key() for it in bodies} for edit, bodies in changes.items()}
+    meets = {edit: sum(not mine.isdisjoint(it) for it in keys.values()) for edit, mine in keys.items()}
+    made = []
+    for edit in sorted(changes, key=lambda it: -meets[it]):
+        fits = [it for it in made if all(keys[edit].isdisjoint(keys[other]) for other, _ in it)]
+        if not fits:
+            fits = [[]]
+            made += fits
+        min(fits, key=len).append((edit, changes[edit]))
+    return made
 
 
 def applied(crate, batch):

@@ -5,6 +5,7 @@
 #![tactic(auto)]
 
 mod measures;
+mod operations;
 
 use gang_types::IntType;
 use std::{env, io};
