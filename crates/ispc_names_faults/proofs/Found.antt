@@ -1,5 +1,5 @@
--- The least fault of a declaration, a statement or a function, from those of its parts.
-use Rattle.std.proofs.Common.{◌≡◌, ℕ, List, [], ◌∷◌, ◌++◌, Bool, not, refl, sym, ap, ◌∙◌, Option}
+-- The least fault of a statement, a function or a source, from those of its parts.
+use Rattle.std.proofs.Common.{◌≡◌, ℕ, List, [], ◌∷◌, ◌++◌, Bool, not, sym, ap, ◌∙◌, append_assoc, Option}
 use Rattle.std.specs.Prelude.{◌||◌, IfOk, OnOk, Result, is_some}
 use Rattle.std.proofs.lemmas.Result.{IfOk-weaker, on_ok_weaker}
 use Rattle.gang_types.specs.declared.places.Place.{Place}
@@ -8,100 +8,42 @@ use Rattle.gang_model.specs.declared.refusals.SourceRefusal.{SourceRefusal}
 use Rattle.gang_model.specs.Source.Judged.{fault_if, least_fault, merged}
 use Rattle.gang_model.specs.Types.LibraryTable.{is_library_name, statement_call}
 use Rattle.gang_model.specs.Names.NameFaults.{Allowed, in_loop, in_round, in_domain_round, in_function, names_in, names_in_some, twice, dims_names, params_twice, stmt_names, stmts_names, function_names}
-use Rattle.gang_model.specs.Source.Parsed.{Name, ParsedExpr, ParsedDim, ParsedParam, ParsedStmt, ParsedIfElse, ParsedWhile, ParsedDo, ParsedFor, ParsedForEach, ParsedForEachUnique, ParsedGlobal, ParsedFunction, ParsedSource, functions_in, globals_in}
-use Rattle.gang_model.specs.Names.Scope.{Environment, Site, with_name, with_dims, with_params, enclosed, past, after, after_all, at_test, in_for, in_rounds, in_domain, locals_in, function_site}
+use Rattle.gang_model.specs.Source.Parsed.{Name, ParsedExpr, ParsedDim, ParsedStmt, ParsedIfElse, ParsedWhile, ParsedDo, ParsedFor, ParsedForEach, ParsedForEachUnique, ParsedGlobal, ParsedFunction, ParsedSource, functions_in, globals_in}
+use Rattle.gang_model.specs.Names.Scope.{Site, with_name, with_dims, with_params, enclosed, past, after, after_all, at_test, in_for, in_rounds, in_domain, locals_in, function_site}
 use Rattle.gang_model.specs.Types.SourceRefusals.{names_refusal}
 use Rattle.gang_model.proofs.JudgedLaws.{least_fault-append}
 use Rattle.ispc_names_scopes.specs.Scopes.{Scoped, site}
 use Rattle.source_tree.specs.declared.tree.Stmt.{Stmt}
 use Rattle.source_tree.specs.Tree.{stmt_view, stmts_view}
-use Rattle.ispc_names_faults.specs.IndexVariables.{dims_twice, bounds_names}
 use Rattle.ispc_names_faults.specs.Moved.{moved}
-use Rattle.ispc_names_faults.specs.NamesBefore.{names_of_all}
-use Rattle.ispc_names_faults.proofs.Merging.{Fault, pair_fault, either_order, one_more, all_found, second_first, two_pairs}
-
--- ---- declarations
-
--- one more index variable
-pub dims_step : (rest later : List ParsedDim) (d : ParsedDim) (s s' : Scoped) (name : Name) (total found fault more : Fault)
-    → rest ≡ d ∷ later → total ≡ merged found (least_fault (dims_twice rest (site s))) → name ≡ d.name → fault ≡ least_fault (twice (site s) d.at name)
-    → site s' ≡ with_name name (site s) → more ≡ merged found fault → total ≡ merged more (least_fault (dims_twice later (site s')))
-dims_step rest later d s s' name total found fault more split t same f after_name m =
-    one_more total found fault more (least_fault (twice (site s) d.at d.name)) (least_fault (dims_twice rest (site s))) (least_fault (dims_twice later (site s'))) t
-    (ap (λ ds. least_fault (dims_twice ds (site s))) split
-    ∙ (least_fault-append (twice (site s) d.at d.name) (dims_twice later (with_name d.name (site s)))
-    ∙ ap (λ u. merged (least_fault (twice (site s) d.at d.name)) (least_fault (dims_twice later u))) (sym (after_name ∙ ap (λ n. with_name n (site s)) same))))
-    (f ∙ ap (λ n. least_fault (twice (site s) d.at n)) same)
-    m
-
-pub dims_declared : (rest later : List ParsedDim) (d : ParsedDim) (s s' : Scoped) (name : Name) (end : Site)
-    → rest ≡ d ∷ later → end ≡ with_dims rest (site s) → name ≡ d.name → site s' ≡ with_name name (site s) → end ≡ with_dims later (site s')
-dims_declared rest later d s s' name end split e same after_name =
-    e ∙ (ap (λ ds. with_dims ds (site s)) split ∙ ap (with_dims later) (sym (after_name ∙ ap (λ n. with_name n (site s)) same)))
-
--- one more parameter
-pub params_step : (rest later : List ParsedParam) (p : ParsedParam) (s s' : Scoped) (name : Name) (total found fault more : Fault)
-    → rest ≡ p ∷ later → total ≡ merged found (least_fault (params_twice rest (site s))) → name ≡ p.name → fault ≡ least_fault (twice (site s) p.at name)
-    → site s' ≡ with_name name (site s) → more ≡ merged found fault → total ≡ merged more (least_fault (params_twice later (site s')))
-params_step rest later p s s' name total found fault more split t same f after_name m =
-    one_more total found fault more (least_fault (twice (site s) p.at p.name)) (least_fault (params_twice rest (site s))) (least_fault (params_twice later (site s'))) t
-    (ap (λ ps. least_fault (params_twice ps (site s))) split
-    ∙ (least_fault-append (twice (site s) p.at p.name) (params_twice later (with_name p.name (site s)))
-    ∙ ap (λ u. merged (least_fault (twice (site s) p.at p.name)) (least_fault (params_twice later u))) (sym (after_name ∙ ap (λ n. with_name n (site s)) same))))
-    (f ∙ ap (λ n. least_fault (twice (site s) p.at n)) same)
-    m
-
-pub params_declared : (rest later : List ParsedParam) (p : ParsedParam) (s s' : Scoped) (name : Name) (end : Site)
-    → rest ≡ p ∷ later → end ≡ with_params rest (site s) → name ≡ p.name → site s' ≡ with_name name (site s) → end ≡ with_params later (site s')
-params_declared rest later p s s' name end split e same after_name =
-    e ∙ (ap (λ ps. with_params ps (site s)) split ∙ ap (with_params later) (sym (after_name ∙ ap (λ n. with_name n (site s)) same)))
-
--- the head of a `foreach`: its index variables, and its bounds
-dims_apart : (dims : List ParsedDim) (functions : List Name) (outside : Environment) (t : Site)
-    → least_fault (dims_names dims functions outside t) ≡ merged (least_fault (dims_twice dims t)) (least_fault (bounds_names dims functions outside))
-dims_apart [] functions outside t = refl
-dims_apart (d ∷ dims) functions outside t =
-    let own = twice t d.at d.name in
-    let bounds = names_in d.low functions outside ++ names_in d.high functions outside in
-    let later = with_name d.name t in
-    least_fault-append (own ++ bounds) (dims_names dims functions outside later)
-    ∙ (ap (λ x. merged x (least_fault (dims_names dims functions outside later))) (least_fault-append own bounds)
-    ∙ (ap (merged (merged (least_fault own) (least_fault bounds))) (dims_apart dims functions outside later)
-    ∙ (two_pairs (least_fault own) (least_fault bounds) (least_fault (dims_twice dims later)) (least_fault (bounds_names dims functions outside))
-    ∙ (ap (λ x. merged x (merged (least_fault bounds) (least_fault (bounds_names dims functions outside)))) (sym (least_fault-append own (dims_twice dims later)))
-    ∙ ap (merged (least_fault (own ++ dims_twice dims later))) (sym (least_fault-append bounds (bounds_names dims functions outside)))))))
+use Rattle.ispc_names_faults.specs.NamesOfAll.{names_of_all}
+use Rattle.ispc_names_declarations.proofs.Merging.{Fault, pair_fault, either_order, one_more, all_found, second_first}
 
 -- ---- statements
 
-pub domain_found : (s0 s1 s2 : Scoped) (p : Place) (is_tiled : Bool) (dims : List ParsedDim) (body : ParsedStmt) (may round : Allowed) (own in_names in_bounds head in_body inside r : Fault)
-    → own ≡ least_fault (fault_if (not may.domains) S11 p) → site s1 ≡ enclosed (site s0) → site s2 ≡ with_dims dims (site s1)
-    → in_names ≡ least_fault (dims_twice dims (site s1)) → in_bounds ≡ least_fault (bounds_names dims may.functions s0.environment)
-    → round ≡ in_domain_round may → in_body ≡ least_fault (stmt_names body round (enclosed (site s2)))
-    → head ≡ merged in_names in_bounds → inside ≡ merged head in_body → r ≡ merged own inside
-    → r ≡ least_fault (stmt_names (ParsedForEach p is_tiled dims body) may (site s0))
-domain_found s0 s1 s2 p is_tiled dims body may round own in_names in_bounds head in_body inside r o entered declared n b rounds f h i whole =
-    let functions = may.functions in
-    let inner : site s2 ≡ with_dims dims (enclosed (site s0)) = declared ∙ ap (with_dims dims) entered in
-    let heads = dims_names dims functions s0.environment (enclosed (site s0)) in
+-- the head of a `foreach`, then its body
+pub domain_found : (s0 s1 : Scoped) (p : Place) (is_tiled : Bool) (dims : List ParsedDim) (body : ParsedStmt) (may round : Allowed) (in_head in_body r : Fault)
+    → in_head ≡ least_fault (fault_if (not may.domains) S11 p ++ dims_names dims may.functions s0.environment (enclosed (site s0)))
+    → site s1 ≡ with_dims dims (enclosed (site s0)) → round ≡ in_domain_round may → in_body ≡ least_fault (stmt_names body round (enclosed (site s1)))
+    → r ≡ merged in_head in_body → r ≡ least_fault (stmt_names (ParsedForEach p is_tiled dims body) may (site s0))
+domain_found s0 s1 p is_tiled dims body may round in_head in_body r h declared rounds f whole =
+    let own = fault_if (not may.domains) S11 p in
+    let heads = dims_names dims may.functions s0.environment (enclosed (site s0)) in
     let bodies = stmt_names body (in_domain_round may) (in_domain dims (site s0)) in
-    pair_fault (fault_if (not may.domains) S11 p) (heads ++ bodies) own inside r o
-    (pair_fault heads bodies head in_body inside
-    (h ∙ (ap (λ x. merged x in_bounds) (n ∙ ap (λ t. least_fault (dims_twice dims t)) entered)
-    ∙ (ap (merged (least_fault (dims_twice dims (enclosed (site s0))))) b ∙ sym (dims_apart dims functions s0.environment (enclosed (site s0))))))
-    (f ∙ (ap (λ m. least_fault (stmt_names body m (enclosed (site s2)))) rounds ∙ ap (λ t. least_fault (stmt_names body (in_domain_round may) (enclosed t))) inner))
-    i)
+    pair_fault (own ++ heads) bodies in_head in_body r h
+    (f ∙ (ap (λ m. least_fault (stmt_names body m (enclosed (site s1)))) rounds ∙ ap (λ t. least_fault (stmt_names body (in_domain_round may) (enclosed t))) declared))
     whole
+    ∙ ap least_fault (append_assoc own heads bodies)
 
-pub rounds_found : (s0 s1 s2 : Scoped) (name : Name) (place : Place) (body : ParsedStmt) (may round : Allowed) (in_name in_body r : Fault)
-    → site s1 ≡ enclosed (site s0) → site s2 ≡ with_name name (site s1)
-    → in_name ≡ least_fault (twice (site s1) place name) → round ≡ in_round may → in_body ≡ least_fault (stmt_names body round (enclosed (site s2)))
-    → r ≡ merged in_name in_body
+-- the head of a `foreach_active` or `foreach_unique`, then its body
+pub rounds_found : (s0 s1 : Scoped) (name : Name) (place : Place) (body : ParsedStmt) (may round : Allowed) (in_head in_body r : Fault)
+    → in_head ≡ least_fault (twice (enclosed (site s0)) place name) → site s1 ≡ with_name name (enclosed (site s0))
+    → round ≡ in_round may → in_body ≡ least_fault (stmt_names body round (enclosed (site s1)))
+    → r ≡ merged in_head in_body
     → r ≡ least_fault (twice (enclosed (site s0)) place name ++ stmt_names body (in_round may) (in_rounds name (site s0)))
-rounds_found s0 s1 s2 name place body may round in_name in_body r entered declared n rounds inside whole =
-    let inner : site s2 ≡ with_name name (enclosed (site s0)) = declared ∙ ap (with_name name) entered in
-    pair_fault (twice (enclosed (site s0)) place name) (stmt_names body (in_round may) (in_rounds name (site s0))) in_name in_body r
-    (n ∙ ap (λ t. least_fault (twice t place name)) entered)
-    (inside ∙ (ap (λ m. least_fault (stmt_names body m (enclosed (site s2)))) rounds ∙ ap (λ t. least_fault (stmt_names body (in_round may) (enclosed t))) inner))
+rounds_found s0 s1 name place body may round in_head in_body r h declared rounds inside whole =
+    pair_fault (twice (enclosed (site s0)) place name) (stmt_names body (in_round may) (in_rounds name (site s0))) in_head in_body r h
+    (inside ∙ (ap (λ m. least_fault (stmt_names body m (enclosed (site s1)))) rounds ∙ ap (λ t. least_fault (stmt_names body (in_round may) (enclosed t))) declared))
     whole
 
 -- one more of some statements

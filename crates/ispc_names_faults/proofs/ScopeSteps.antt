@@ -140,19 +140,14 @@ reach_moved s t u m n r e = record {
   next_is = omega (arith, ap (λ y. y.next) e, r.next_is);
 }
 
-pub reach_name : (s t u : Scoped) (name : Name) (n : ℕ) → Reaches s t n → site u ≡ with_name name (site t) → Reaches s u (n + 1)
-reach_name s t u name n r e = record {
-  extends = extends_trans s.environment t.environment u.environment r.extends
-      (extends_by t.environment (with_name name (site t)).environment u.environment (extends_name name (site t)) (ap (λ y. y.environment) e));
-  next_is = omega (arith, ap (λ y. y.next) e, r.next_is);
-}
-
-pub reach_dims : (s t u : Scoped) (dims : List ParsedDim) (n : ℕ) → Reaches s t n → site u ≡ with_dims dims (site t) → Reaches s u (n + length dims)
-reach_dims s t u dims n r e = record {
-  extends = extends_trans s.environment t.environment u.environment r.extends
-      (extends_by t.environment (with_dims dims (site t)).environment u.environment (extends_dims dims (site t)) (ap (λ y. y.environment) e));
-  next_is = omega (arith, ap (λ y. y.next) e, with_dims-next dims (site t), r.next_is);
-}
+pub reach_dims : (s u v : Scoped) (dims : List ParsedDim) (x : ParsedStmt) → site u ≡ with_dims dims (enclosed (site s)) → v ≡ moved (locals_in x) u
+    → Reaches s v (length dims + locals_in x)
+reach_dims s u v dims x declared e =
+    reach_moved s u v (locals_in x) (length dims)
+    (record {
+      extends = extends_by s.environment (with_dims dims (enclosed (site s))).environment u.environment (extends_dims dims (enclosed (site s))) (ap (λ y. y.environment) declared);
+      next_is = ap (λ y. y.next) declared ∙ with_dims-next dims (enclosed (site s));
+    }) e
 
 pub reach_params : (s t u : Scoped) (params : List ParsedParam) → Extends s.environment t.environment → site u ≡ with_params params (site t) → Extends s.environment u.environment
 reach_params s t u params r e =
@@ -182,11 +177,14 @@ reach_here s t x e = record {
 pub reach_inner : (s t u : Scoped) (x : ParsedStmt) → site t ≡ enclosed (site s) → site u ≡ after x (site t) → Reaches s u (locals_in x)
 reach_inner s t u x entered e = reach_same s u (0 + locals_in x) (locals_in x) (omega arith) (reach_after s t u x 0 (reach_entered s t entered) e)
 
-pub reach_rounds : (s t u v : Scoped) (name : Name) (x : ParsedStmt) → site t ≡ enclosed (site s) → site u ≡ with_name name (site t) → v ≡ moved (locals_in x) u
+pub reach_rounds : (s u v : Scoped) (name : Name) (x : ParsedStmt) → site u ≡ with_name name (enclosed (site s)) → v ≡ moved (locals_in x) u
     → Reaches s v (1 + locals_in x)
-reach_rounds s t u v name x entered declared e =
-    reach_same s v ((0 + 1) + locals_in x) (1 + locals_in x) (omega arith)
-    (reach_moved s u v (locals_in x) (0 + 1) (reach_name s t u name 0 (reach_entered s t entered) declared) e)
+reach_rounds s u v name x declared e =
+    reach_moved s u v (locals_in x) 1
+    (record {
+      extends = extends_by s.environment (with_name name (enclosed (site s))).environment u.environment (extends_name name (enclosed (site s))) (ap (λ y. y.environment) declared);
+      next_is = omega (arith, ap (λ y. y.next) declared);
+    }) e
 
 pub moved_twice : (s t u : Scoped) (m n : ℕ) → t ≡ moved m s → u ≡ moved n t → u ≡ moved (m + n) s
 moved_twice s t u m n e f =

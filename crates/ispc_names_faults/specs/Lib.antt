@@ -1,6 +1,2 @@
-pub mod HeldStatements
-pub mod IndexVariables
-pub mod MayStand
 pub mod Moved
-pub mod NamesBefore
-pub mod SignatureKeys
+pub mod NamesOfAll

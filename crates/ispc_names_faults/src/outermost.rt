@@ -7,12 +7,12 @@ ghost use Rattle.gang_model.specs.Names.NameFaults as names;
 ghost use Rattle.gang_model.specs.Names.Scope as scope;
 ghost use Rattle.ispc_names_scopes.specs.Scopes.{site};
 ghost use Rattle.source_tree.specs.Tree.{function_view, stmts_view};
-ghost use Rattle.ispc_names_faults.specs.MayStand.{allowed_view};
+ghost use Rattle.ispc_names_parts.specs.MayStand.{allowed_view};
 
-use crate::allowed::{Allowed, in_function};
-use crate::declarations::params_fault;
 use crate::statements::statement_fault;
 use gang_model::{RefusalNumber, SourceRefusal};
+use ispc_names_declarations::params_fault;
+use ispc_names_parts::{Allowed, in_function};
 use ispc_names_scopes::{FunctionNames, Scopes, is_library_name, statement_call};
 use source_answers::{fault_if, least};
 use source_tree::{Function, Stmt};

@@ -8,18 +8,17 @@ ghost use Rattle.gang_model.specs.Names.Scope as scope;
 ghost use Rattle.source_tree.specs.Expressions.{expr_view};
 ghost use Rattle.ispc_names_scopes.specs.Scopes.{site};
 ghost use Rattle.source_tree.specs.Tree.{dim_view, stmt_view, stmts_view};
-ghost use Rattle.ispc_names_faults.specs.MayStand.{allowed_view};
+ghost use Rattle.ispc_names_parts.specs.MayStand.{allowed_view};
 ghost use Rattle.ispc_names_faults.specs.Moved.{moved};
 
-use crate::allowed::Allowed;
-use crate::declarations::{bounds_fault, declaration_fault, dims_fault};
-use crate::expressions::expression_fault;
-use crate::parts::simple_fault;
-use crate::right_sides::some_expression_fault;
-use gang_model::{RefusalNumber, SourceRefusal};
+use gang_model::SourceRefusal;
 use gang_types::Place;
+use ispc_names_parts::{
+    Allowed, domain_head_fault, expression_fault, round_head_fault, simple_fault,
+    some_expression_fault,
+};
 use ispc_names_scopes::{FunctionNames, Scopes};
-use source_answers::{fault_if, least};
+use source_answers::least;
 use source_tree::{Dim, Expr, Stmt};
 use std::alloc::{AllocError, Global};
 
@@ -210,7 +209,7 @@ fn for_fault(
     Ok(least(least(in_start, in_test), least(in_update, in_body)))
 }
 
-/// The first fault of names in a `foreach`: its index variables, its bounds, which are outside their scope, and its body.
+/// The first fault of names in a `foreach`: its head and its body.
 #[cycle(statement)]
 fn domain_fault(
     alloc: Global,
@@ -225,13 +224,11 @@ fn domain_fault(
         (allowed_view functions.now may) (site scopes.old))) }
     ensures after { OnOk result (scopes.new ≡ moved (length dims.now + scope.locals_in (stmt_view body.now)) scopes.old) }
 {
-    let own = fault_if(!may.domains, RefusalNumber::S11, place);
-    let in_bounds = bounds_fault(dims, functions, scopes);
-    let mark = scopes.enter();
-    let in_names = dims_fault(alloc, dims, scopes)?;
+    let mark = scopes.mark();
+    let in_head = domain_head_fault(alloc, place, dims, may, functions, scopes)?;
     let in_body = inner_fault(alloc, body, may.in_domain_round(), functions, scopes)?;
     scopes.leave(mark);
-    Ok(least(own, least(least(in_names, in_bounds), in_body)))
+    Ok(least(in_head, in_body))
 }
 
 /// The first fault of names in a `foreach_active` or `foreach_unique`, but for the values that it goes over.
@@ -249,9 +246,9 @@ fn rounds_fault(
         ++ names.stmt_names (stmt_view body.now) (names.in_round (allowed_view functions.now may)) (scope.in_rounds name.now (site scopes.old)))) }
     ensures after { OnOk result (scopes.new ≡ moved (1 + scope.locals_in (stmt_view body.now)) scopes.old) }
 {
-    let mark = scopes.enter();
-    let in_name = declaration_fault(alloc, place, name, scopes)?;
+    let mark = scopes.mark();
+    let in_head = round_head_fault(alloc, place, name, scopes)?;
     let in_body = inner_fault(alloc, body, may.in_round(), functions, scopes)?;
     scopes.leave(mark);
-    Ok(least(in_name, in_body))
+    Ok(least(in_head, in_body))
 }

@@ -6,14 +6,14 @@ ghost use Rattle.gang_model.specs.Names.NameFaults as names;
 ghost use Rattle.gang_model.specs.Names.Scope.{file_bindings};
 ghost use Rattle.gang_model.specs.Types.SourceRefusals.{names_refusal};
 ghost use Rattle.source_tree.specs.Tree.{function_view, global_view, tree_view};
-ghost use Rattle.ispc_names_faults.specs.NamesBefore.{names_of_all};
+ghost use Rattle.ispc_names_faults.specs.NamesOfAll.{names_of_all};
 
-use crate::file_scope::{
-    add_names, declare_globals, functions_of, globals_of, globals_twice_fault,
-};
 use crate::outermost::functions_fault;
-use crate::signatures::functions_twice_fault;
 use gang_model::SourceRefusal;
+use ispc_names_declarations::{
+    add_names, declare_globals, functions_of, functions_twice_fault, globals_of,
+    globals_twice_fault,
+};
 use ispc_names_scopes::{FunctionNames, Scopes};
 use source_answers::least;
 use source_tree::{Function, GlobalVariable, Tree};

@@ -9,7 +9,7 @@ ghost use Rattle.type_check.specs.Bodies.{AreVariablesOf};
 
 use crate::functions::typed_functions;
 use crate::globals::{declared_globals, typed_globals};
-use ispc_names_faults::{functions_of, globals_of};
+use ispc_names_declarations::{functions_of, globals_of};
 use ispc_names_table::StepScopes;
 use source_answers::{SourceFault, both};
 use source_tree::Tree;

@@ -4,7 +4,7 @@ use Rattle.gang_model.specs.Names.Scope.{after_all}
 use Rattle.gang_model.proofs.WalkedLists.{next_item}
 use Rattle.ispc_names_scopes.specs.Scopes.{site}
 use Rattle.source_tree.specs.Tree.{stmts_view}
-use Rattle.ispc_names_faults.specs.MayStand.{allowed_view}
+use Rattle.ispc_names_parts.specs.MayStand.{allowed_view}
 use Rattle.ispc_names_faults.proofs.Found.{stmts_step, stmts_passed, stmts_found}
 use Rattle.ispc_names_faults.proofs.outermost.body_fault.Goals as goal
 

@@ -6,7 +6,7 @@ use Rattle.gang_model.specs.Names.NameFaults.{function_names}
 use Rattle.gang_model.proofs.JudgedLaws.{least_fault-append}
 use Rattle.gang_model.proofs.WalkedLists.{next_item}
 use Rattle.source_tree.specs.Tree.{function_view}
-use Rattle.ispc_names_faults.proofs.Merging.{one_more}
+use Rattle.ispc_names_declarations.proofs.Merging.{one_more}
 use Rattle.ispc_names_faults.proofs.outermost.functions_fault.Goals as goal
 
 pub loop-function-preserved : goal.loop-function-preserved

@@ -11,61 +11,56 @@ use Rattle.source_tree.specs.Expressions.{expr_view}
 use Rattle.source_tree.specs.declared.tree.Stmt.{If}
 use Rattle.source_tree.specs.Tree.{dim_view, stmt_view, stmts_view}
 use Rattle.source_tree.proofs.StatementRows.{view_block}
-use Rattle.ispc_names_faults.specs.MayStand.{allowed_view}
-use Rattle.ispc_names_faults.proofs.Merging.{pair_fault}
+use Rattle.ispc_names_parts.specs.MayStand.{allowed_view}
+use Rattle.ispc_names_declarations.proofs.Merging.{pair_fault}
 use Rattle.ispc_names_faults.proofs.ScopeSteps.{marked_within, left_for, reach_entered, reach_after, reach_moved, reach_dims, reach_block, reach_here, reach_inner, reach_rounds, reach_same, moved_twice}
 use Rattle.ispc_names_faults.proofs.Found.{domain_found, rounds_found, stmts_step, stmts_passed, stmts_found, if_else_found, for_found, for_each_unique_found, found_as, found_at, after_as, while_found, do_found}
 use Rattle.ispc_names_faults.proofs.statements.+statement.Goals as goal
 
--- ---- `foreach`
+-- ---- the foreach forms
 
 pub domain_fault-leave-requires-clause-declared : goal.domain_fault-leave-requires-clause-declared
 domain_fault-leave-requires-clause-declared t c =
-    marked_within c.args.scopes.now c.inner_fault.new.scopes _ c.enter-mark.result.declared c.enter-mark.result.outside (record { declared_is = c.enter-mark.ensures.declared; outside_is = c.enter-mark.ensures.before })
-    (reach_moved c.args.scopes.now c.dims_fault.new.scopes c.inner_fault.new.scopes (locals_in (stmt_view c.args.body.now)) (0 + length (map dim_view c.args.dims.now))
-    (reach_dims c.args.scopes.now c.enter-mark.new.self c.dims_fault.new.scopes (map dim_view c.args.dims.now) 0
-    (reach_entered c.args.scopes.now c.enter-mark.new.self c.enter-mark.ensures.inside) c.in_ok-in_names.ensures.declared) c.in_ok-in_body.ensures.after)
+    marked_within c.args.scopes.now c.inner_fault.new.scopes _ c.mark-mark.result.declared c.mark-mark.result.outside (record { declared_is = c.mark-mark.ensures.declared; outside_is = c.mark-mark.ensures.outside })
+    (reach_dims c.args.scopes.now c.domain_head_fault.new.scopes c.inner_fault.new.scopes (map dim_view c.args.dims.now) (stmt_view c.args.body.now)
+    c.in_ok-in_head.ensures.declared c.in_ok-in_body.ensures.after)
 
 pub domain_fault-returns-clause-fault : goal.domain_fault-returns-clause-fault
 domain_fault-returns-clause-fault t c = λ is_tiled.
     let functions = c.args.functions.now in
-    domain_found c.args.scopes.now c.enter-mark.new.self c.dims_fault.new.scopes c.args.place is_tiled (map dim_view c.args.dims.now) (stmt_view c.args.body.now)
-    (allowed_view functions c.args.may) (allowed_view functions c.in_domain_round.result) _ _ _ _ _ _ _
-    c.fault_if-own.ensures c.enter-mark.ensures.inside c.in_ok-in_names.ensures.declared c.in_ok-in_names.ensures.fault c.bounds_fault-in_bounds.ensures
-    (c.in_domain_round.ensures functions) c.in_ok-in_body.ensures.fault c.least.ensures c.least-2.ensures c.least-3.ensures
+    domain_found c.args.scopes.now c.domain_head_fault.new.scopes c.args.place is_tiled (map dim_view c.args.dims.now) (stmt_view c.args.body.now)
+    (allowed_view functions c.args.may) (allowed_view functions c.in_domain_round.result) _ _ _
+    c.in_ok-in_head.ensures.fault c.in_ok-in_head.ensures.declared (c.in_domain_round.ensures functions) c.in_ok-in_body.ensures.fault c.least.ensures
 
 pub domain_fault-returns-clause-after : goal.domain_fault-returns-clause-after
 domain_fault-returns-clause-after t c =
     let m = locals_in (stmt_view c.args.body.now) in
-    let count : (0 + length (map dim_view c.args.dims.now)) + m ≡ length c.args.dims.now + m = omega (arith, length-map c.args.dims.now dim_view) in
-    left_for c.args.scopes.now c.inner_fault.new.scopes c.leave.new.self (length c.args.dims.now + m) c.enter-mark.result.declared c.enter-mark.result.outside
-    (record { declared_is = c.enter-mark.ensures.declared; outside_is = c.enter-mark.ensures.before })
-    (reach_same c.args.scopes.now c.inner_fault.new.scopes _ _ count
-    (reach_moved c.args.scopes.now c.dims_fault.new.scopes c.inner_fault.new.scopes (locals_in (stmt_view c.args.body.now)) (0 + length (map dim_view c.args.dims.now))
-    (reach_dims c.args.scopes.now c.enter-mark.new.self c.dims_fault.new.scopes (map dim_view c.args.dims.now) 0
-    (reach_entered c.args.scopes.now c.enter-mark.new.self c.enter-mark.ensures.inside) c.in_ok-in_names.ensures.declared) c.in_ok-in_body.ensures.after))
+    left_for c.args.scopes.now c.inner_fault.new.scopes c.leave.new.self (length c.args.dims.now + m) c.mark-mark.result.declared c.mark-mark.result.outside
+    (record { declared_is = c.mark-mark.ensures.declared; outside_is = c.mark-mark.ensures.outside })
+    (reach_same c.args.scopes.now c.inner_fault.new.scopes _ _ (ap (λ n. n + m) (length-map c.args.dims.now dim_view))
+    (reach_dims c.args.scopes.now c.domain_head_fault.new.scopes c.inner_fault.new.scopes (map dim_view c.args.dims.now) (stmt_view c.args.body.now)
+    c.in_ok-in_head.ensures.declared c.in_ok-in_body.ensures.after))
     (record { environment_is = c.leave.ensures.environment; outside_is = c.leave.ensures.outside; next_is = c.leave.ensures.next })
 
 pub rounds_fault-returns-clause-fault : goal.rounds_fault-returns-clause-fault
 rounds_fault-returns-clause-fault t c =
     let functions = c.args.functions.now in
-    rounds_found c.args.scopes.now c.enter-mark.new.self c.declaration_fault.new.scopes c.args.name.now c.args.place (stmt_view c.args.body.now)
+    rounds_found c.args.scopes.now c.round_head_fault.new.scopes c.args.name.now c.args.place (stmt_view c.args.body.now)
     (allowed_view functions c.args.may) (allowed_view functions c.in_round.result) _ _ _
-    c.enter-mark.ensures.inside c.in_ok-in_name.ensures.declared c.in_ok-in_name.ensures.fault
-    (c.in_round.ensures functions) c.in_ok-in_body.ensures.fault c.least.ensures
+    c.in_ok-in_head.ensures.fault c.in_ok-in_head.ensures.declared (c.in_round.ensures functions) c.in_ok-in_body.ensures.fault c.least.ensures
 
 pub rounds_fault-leave-requires-clause-declared : goal.rounds_fault-leave-requires-clause-declared
 rounds_fault-leave-requires-clause-declared t c =
-    marked_within c.args.scopes.now c.inner_fault.new.scopes _ c.enter-mark.result.declared c.enter-mark.result.outside (record { declared_is = c.enter-mark.ensures.declared; outside_is = c.enter-mark.ensures.before })
-    (reach_rounds c.args.scopes.now c.enter-mark.new.self c.declaration_fault.new.scopes c.inner_fault.new.scopes c.args.name.now (stmt_view c.args.body.now)
-    c.enter-mark.ensures.inside c.in_ok-in_name.ensures.declared c.in_ok-in_body.ensures.after)
+    marked_within c.args.scopes.now c.inner_fault.new.scopes _ c.mark-mark.result.declared c.mark-mark.result.outside (record { declared_is = c.mark-mark.ensures.declared; outside_is = c.mark-mark.ensures.outside })
+    (reach_rounds c.args.scopes.now c.round_head_fault.new.scopes c.inner_fault.new.scopes c.args.name.now (stmt_view c.args.body.now)
+    c.in_ok-in_head.ensures.declared c.in_ok-in_body.ensures.after)
 
 pub rounds_fault-returns-clause-after : goal.rounds_fault-returns-clause-after
 rounds_fault-returns-clause-after t c =
-    left_for c.args.scopes.now c.inner_fault.new.scopes c.leave.new.self _ c.enter-mark.result.declared c.enter-mark.result.outside
-    (record { declared_is = c.enter-mark.ensures.declared; outside_is = c.enter-mark.ensures.before })
-    (reach_rounds c.args.scopes.now c.enter-mark.new.self c.declaration_fault.new.scopes c.inner_fault.new.scopes c.args.name.now (stmt_view c.args.body.now)
-    c.enter-mark.ensures.inside c.in_ok-in_name.ensures.declared c.in_ok-in_body.ensures.after)
+    left_for c.args.scopes.now c.inner_fault.new.scopes c.leave.new.self _ c.mark-mark.result.declared c.mark-mark.result.outside
+    (record { declared_is = c.mark-mark.ensures.declared; outside_is = c.mark-mark.ensures.outside })
+    (reach_rounds c.args.scopes.now c.round_head_fault.new.scopes c.inner_fault.new.scopes c.args.name.now (stmt_view c.args.body.now)
+    c.in_ok-in_head.ensures.declared c.in_ok-in_body.ensures.after)
     (record { environment_is = c.leave.ensures.environment; outside_is = c.leave.ensures.outside; next_is = c.leave.ensures.next })
 
 -- ---- statements in a scope of their own, and the update of a `for`

@@ -6,7 +6,7 @@ use Rattle.gang_model.specs.Names.Scope.{after_all, enclosed}
 use Rattle.ispc_names_scopes.specs.Scopes.{site}
 use Rattle.source_tree.specs.declared.tree.Stmt.{size-Stmt}
 use Rattle.source_tree.specs.Tree.{stmts_view}
-use Rattle.ispc_names_faults.specs.MayStand.{allowed_view}
+use Rattle.ispc_names_parts.specs.MayStand.{allowed_view}
 use Rattle.ispc_names_faults.proofs.statements.+statement.Given as goal
 
 -- how deep the statements are, and behind that the calls that pass a statement on as it is

@@ -3,7 +3,7 @@ use Rattle.std.specs.List.{flat_map}
 use Rattle.gang_model.specs.Names.NameFaults.{function_names, globals_twice, functions_twice}
 use Rattle.gang_model.specs.Names.Scope.{file_bindings}
 use Rattle.source_tree.specs.Tree.{function_view, global_view}
-use Rattle.ispc_names_faults.proofs.Merging.{pair_fault}
+use Rattle.ispc_names_declarations.proofs.Merging.{pair_fault}
 use Rattle.ispc_names_faults.proofs.whole.least_of_all.Goals as goal
 
 pub returns : goal.returns

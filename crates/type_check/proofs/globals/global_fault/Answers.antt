@@ -1,7 +1,7 @@
 use Rattle.std.proofs.Common.{◌∙◌, ap}
 use Rattle.gang_model.specs.Source.Judged.{least_fault}
 use Rattle.gang_model.specs.Types.TypeFaults.{array_faults, is_array_form, variable_faults}
-use Rattle.ispc_names_faults.proofs.Merging.{pair_fault}
+use Rattle.ispc_names_declarations.proofs.Merging.{pair_fault}
 use Rattle.type_check.proofs.globals.global_fault.Goals as goal
 
 pub returns : goal.returns

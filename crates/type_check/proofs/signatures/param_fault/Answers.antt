@@ -2,7 +2,7 @@ use Rattle.std.proofs.Common.{◌∙◌, ap}
 use Rattle.std.specs.Prelude.{◌||◌}
 use Rattle.gang_model.specs.Source.Judged.{least_fault}
 use Rattle.gang_model.specs.Types.TypeFaults.{array_faults, variable_faults}
-use Rattle.ispc_names_faults.proofs.Merging.{pair_fault}
+use Rattle.ispc_names_declarations.proofs.Merging.{pair_fault}
 use Rattle.type_check.proofs.signatures.param_fault.Goals as goal
 
 pub returns : goal.returns

@@ -1,0 +1,4 @@
+pub mod Merging
+pub mod Declared
+pub mod Keys
+pub mod Collected

@@ -1,0 +1,3 @@
+pub mod IndexVariables
+pub mod NamesBefore
+pub mod SignatureKeys
