@@ -7,7 +7,7 @@ use Rattle.gang_model.specs.Source.Judged.{refused}
 use Rattle.gang_model.specs.Types.LibraryTable.{Asserts, PackedStores, PackedLoads}
 use Rattle.gang_model.specs.Types.Typing.{Passing, Scalar, View, Reference}
 use Rattle.gang_model.specs.Types.Calls.{library_statement}
-use Rattle.type_check_calls.specs.Parts.{only, pair}
+use Rattle.type_check_calls.specs.Arguments.{only, pair}
 
 pub only_one : {A : Type 0} (xs : List A) (a : A) → Some a ≡ only xs → xs ≡ a ∷ []
 only_one [] a e = cc

@@ -1,3 +1,3 @@
+pub mod Arguments
 pub mod Calls
-pub mod Candidates
-pub mod Parts
+pub mod Meant

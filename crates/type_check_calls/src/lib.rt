@@ -1,13 +1,11 @@
 //! Calls that are statements or stand whole after `=` or `return`: of a user's function, `assert` and the packed calls.
 #![tactic(auto)]
 
+mod arguments;
 mod calls;
 mod context;
-mod costs;
 mod faults;
 mod library;
-mod overloads;
-mod passed;
 mod user_calls;
 mod whole;
 

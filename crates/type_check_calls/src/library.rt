@@ -9,9 +9,9 @@ ghost use Rattle.type_check_scopes.specs.Passings.{passing_view};
 ghost use Rattle.typed_tree.specs.Views.{result_view, stmt_view};
 ghost use Rattle.type_check_calls.specs.Calls.{called_view};
 
+use crate::arguments::{only, pair};
 use crate::calls::Called;
 use crate::faults::refused;
-use crate::passed::{only, pair};
 use gang_model::RefusalNumber;
 use gang_types::{IntType, Place, Rate};
 use ispc_names_scopes::StatementCall;

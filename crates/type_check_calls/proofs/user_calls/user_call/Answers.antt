@@ -6,12 +6,13 @@ use Rattle.typed_tree.specs.Views.{result_view}
 use Rattle.type_check_scopes.specs.Passings.{passing_view}
 use Rattle.source_answers.proofs.Answered.{answers-at, answers-then}
 use Rattle.type_check_calls.specs.Calls.{called_view}
-use Rattle.type_check_calls.specs.Candidates.{candidate_view, called_function}
+use Rattle.type_check_calls.specs.Meant.{called_function}
+use Rattle.type_check_overloads.specs.Candidates.{candidate_view}
 use Rattle.type_check_expressions.proofs.Residuals.{inside-refused}
 use Rattle.type_check_calls.proofs.user_calls.user_call.Goals as goal
 use Rattle.std.specs.Borrow.{Bor}
 use Rattle.std.specs.Prelude.{Err, Ok}
-use Rattle.type_check_calls.specs.declared.overloads.Candidate.{Candidate}
+use Rattle.type_check_overloads.specs.declared.overloads.Candidate.{Candidate}
 
 pub returns-in_err-meant : goal.returns-in_err-meant
 returns-in_err-meant c =
