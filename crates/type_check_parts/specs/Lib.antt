@@ -4,3 +4,4 @@ pub mod Changes
 pub mod Indices
 pub mod Rows
 pub mod Beside
+pub mod Steps

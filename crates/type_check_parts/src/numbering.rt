@@ -3,6 +3,7 @@ ghost use Rattle.std.specs.Prelude.{◌≡◌, ◌+◌, IfOk, OnOk};
 ghost use Rattle.gang_model.specs.Running.Numbering as model;
 ghost use Rattle.source_tree.specs.Tree.{stmt_view};
 ghost use Rattle.source_answers.specs.Apart.{apart};
+ghost use Rattle.type_check_parts.specs.Steps as steps;
 
 use source_answers::{Answer, SourceFault, set_apart};
 use source_tree::Stmt;
@@ -35,6 +36,70 @@ pub fn one_step<A: Drop>(
     set_apart(made)
 }
 
+/// How many steps a statement has beside those of the statements in it.
+fn own_steps(stmt: &Stmt) -> usize
+    ensures { result ≡ steps.own_steps stmt.now }
+{
+    match stmt {
+        Stmt::Empty | Stmt::Block(_) => 0,
+        Stmt::ForEach { .. } | Stmt::ForEachActive { .. } | Stmt::ForEachUnique { .. } => 2,
+        Stmt::Declare { .. }
+        | Stmt::Assign { .. }
+        | Stmt::Change { .. }
+        | Stmt::Increment { .. }
+        | Stmt::Call { .. }
+        | Stmt::Break { .. }
+        | Stmt::Continue { .. }
+        | Stmt::Return { .. }
+        | Stmt::If { .. }
+        | Stmt::While { .. }
+        | Stmt::Do { .. }
+        | Stmt::For { .. } => 1,
+    }
+}
+
+/// The number that comes after the steps of a statement whose first one has this number.
+fn after_steps(step: usize, stmt: &Stmt) -> Result<usize, AllocError>
+    ensures after { IfOk result (λ after. after ≡ step + model.steps_in (stmt_view stmt.now)) }
+{
+    let mut after = advanced(step, own_steps(stmt))?;
+    match stmt {
+        Stmt::Block(stmts) => {
+            for inner in stmts {
+                after = after_steps(after, inner)?;
+            }
+            Ok(after)
+        }
+        Stmt::If { first, other, .. } => {
+            after = after_steps(after, first)?;
+            match other {
+                Some(other) => after_steps(after, other),
+                None => Ok(after),
+            }
+        }
+        Stmt::For {
+            start,
+            update,
+            body,
+            ..
+        } => after_steps(after_steps(after_steps(after, start)?, body)?, update),
+        Stmt::While { body, .. }
+        | Stmt::Do { body, .. }
+        | Stmt::ForEach { body, .. }
+        | Stmt::ForEachActive { body, .. }
+        | Stmt::ForEachUnique { body, .. } => after_steps(after, body),
+        Stmt::Empty
+        | Stmt::Declare { .. }
+        | Stmt::Assign { .. }
+        | Stmt::Change { .. }
+        | Stmt::Increment { .. }
+        | Stmt::Call { .. }
+        | Stmt::Break { .. }
+        | Stmt::Continue { .. }
+        | Stmt::Return { .. } => Ok(after),
+    }
+}
+
 /// How many steps a statement has.
 ///
 /// # Errors
@@ -43,42 +108,5 @@ pub fn one_step<A: Drop>(
 pub fn steps_in(stmt: &Stmt) -> Result<usize, AllocError>
     ensures steps { IfOk result (λ steps. steps ≡ model.steps_in (stmt_view stmt.now)) }
 {
-    match stmt {
-        Stmt::Empty => Ok(0),
-        Stmt::Block(stmts) => {
-            let mut steps = 0;
-            for inner in stmts {
-                steps = advanced(steps, steps_in(inner)?)?;
-            }
-            Ok(steps)
-        }
-        Stmt::If { first, other, .. } => {
-            let in_first = advanced(1, steps_in(first)?)?;
-            match other {
-                Some(other) => advanced(in_first, steps_in(other)?),
-                None => Ok(in_first),
-            }
-        }
-        Stmt::While { body, .. } | Stmt::Do { body, .. } => advanced(steps_in(body)?, 1),
-        Stmt::For {
-            start,
-            update,
-            body,
-            ..
-        } => {
-            let before_update = advanced(steps_in(start)?, steps_in(body)?)?;
-            advanced(advanced(before_update, steps_in(update)?)?, 1)
-        }
-        Stmt::ForEach { body, .. }
-        | Stmt::ForEachActive { body, .. }
-        | Stmt::ForEachUnique { body, .. } => advanced(steps_in(body)?, 2),
-        Stmt::Declare { .. }
-        | Stmt::Assign { .. }
-        | Stmt::Change { .. }
-        | Stmt::Increment { .. }
-        | Stmt::Call { .. }
-        | Stmt::Break { .. }
-        | Stmt::Continue { .. }
-        | Stmt::Return { .. } => Ok(1),
-    }
+    after_steps(0, stmt)
 }

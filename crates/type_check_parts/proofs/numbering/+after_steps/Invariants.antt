@@ -1,8 +1,8 @@
 use Rattle.std.proofs.Common.{◌≡◌, ◌+◌, drop}
 use Rattle.gang_model.specs.Running.Numbering.{steps_in_all}
 use Rattle.source_tree.specs.Tree.{stmts_view}
-use Rattle.type_check_parts.proofs.numbering.+steps_in.Given as goal
+use Rattle.type_check_parts.proofs.numbering.+after_steps.Given as goal
 
 -- what is counted so far and what is left come to the whole
 abbrev pub invariant-loop-inner : goal.invariant-loop-inner
-invariant-loop-inner l = l.steps + steps_in_all (stmts_view (drop l.inner-index l.inner-items)) ≡ steps_in_all (stmts_view l.inner-items)
+invariant-loop-inner l = l.after + steps_in_all (stmts_view (drop l.inner-index l.inner-items)) ≡ l.fn.step + steps_in_all (stmts_view l.inner-items)
