@@ -4,7 +4,7 @@ ghost use Rattle.gang_types.specs.declared.places.VarId.TheVariants.{Local};
 ghost use Rattle.gang_model.specs.Names.Bindings.{dim_bindings, param_bindings};
 ghost use Rattle.gang_model.specs.Names.Scope.{NameStanding, Site, bound, standing, with_dims, with_name, with_params};
 ghost use Rattle.source_tree.specs.Tree.{dim_view, param_view};
-ghost use Rattle.ispc_names_steps.specs.Sites.{Declares, Stands};
+ghost use Rattle.ispc_names_steps.specs.Sites.{Declares, Lists, Stands};
 
 use gang_types::Place;
 use ispc_names_table::{Declaration, Standing};
@@ -76,4 +76,18 @@ pub(crate) fn step(
     let innermost = declared.innermost;
     standings.push(Standing { place, innermost })?;
     Ok(())
+}
+
+/// The steps of a `for` behind those of its body: those of its update, then its own.
+pub(crate) fn steps_after_body(
+    place: Place,
+    updates: &[Standing],
+    declared: &Declared,
+    standings: &mut Vec<Standing>,
+) -> Result<(), AllocError>
+    ensures stands { OnOk result ((site : Site) (steps last : List NameStanding) → Stands declared.now standings.old.items site steps → Lists declared.now.declarations.items updates.now last
+        → Stands declared.now standings.new.items site ((steps ++ last) ++ standing place site ∷ [])) }
+{
+    standings.extend_from_slice(updates)?;
+    step(place, declared, standings)
 }

@@ -7,7 +7,7 @@ ghost use Rattle.gang_model.specs.Names.Scope.{NameStanding, Site, after, after_
 ghost use Rattle.source_tree.specs.Tree.{dim_view, stmt_view, stmts_view};
 ghost use Rattle.ispc_names_steps.specs.Sites.{Declares, Passes, Stands};
 
-use crate::declared::{Declared, declare, declare_dims, step};
+use crate::declared::{Declared, declare, declare_dims, step, steps_after_body};
 use gang_types::Place;
 use ispc_names_table::Standing;
 use source_tree::{Dim, Stmt};
@@ -154,8 +154,7 @@ fn for_steps(
     let mut last = Vec::new(alloc);
     inner_steps(alloc, update, declared, &mut last)?;
     inner_steps(alloc, body, declared, standings)?;
-    standings.extend_from_slice(&last)?;
-    step(place, declared, standings)?;
+    steps_after_body(place, &last, declared, standings)?;
     declared.innermost = outside;
     Ok(())
 }

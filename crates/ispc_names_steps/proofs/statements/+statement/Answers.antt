@@ -12,7 +12,7 @@ use Rattle.source_tree.specs.Tree.{stmt_view, stmts_view, dim_view}
 use Rattle.source_tree.proofs.StatementRows.{view_block}
 use Rattle.ispc_names_steps.specs.Sites.{Declares, Lists, Passes, Stands}
 use Rattle.ispc_names_steps.proofs.DeclaredLists.{dims-length}
-use Rattle.ispc_names_steps.proofs.Growth.{lists-none, lists-more, lists-append}
+use Rattle.ispc_names_steps.proofs.Growth.{lists-none, lists-more}
 use Rattle.ispc_names_steps.proofs.Passing.{declares_for, on_ok_any, on_ok, stands_as, stands_left, ends_as, declares_at, declares_in, passes_at, passes_in, declares_two, declares_body}
 use Rattle.ispc_names_steps.proofs.Sequences.{list_declares, list_stands}
 use Rattle.ispc_names_steps.proofs.statements.+statement.Goals as goal
@@ -132,7 +132,6 @@ for_steps-returns-clause-stands t c = λ test site steps h.
     let D2 = c.inner_steps.new.declared.declarations.items in
     let D3 = c.inner_steps-2.new.declared.declarations.items in
     let S1 = c.statement_steps.new.standings.items in
-    let S3 = c.inner_steps-2.new.standings.items in
     let U = c.inner_steps.new.standings.items in
     let start = c.in_ok-statement_steps.ensures in
     let updates = c.in_ok-inner_steps.ensures in
@@ -147,11 +146,8 @@ for_steps-returns-clause-stands t c = λ test site steps h.
     let b0 : Stands c.inner_steps.new.declared S1 inside before =
     record { reaches = u.reaches; numbers = u.numbers; lists = lists-more D1 D2 _ updates.declares S1 before a.lists } in
     let b = rounds.stands inside before b0 in
-    let more = lists-append D3 S3 U (before ++ inner) last b.lists (lists-more D2 D3 _ rounds.declares U last u.lists) in
-    let all : c.extend_from_slice.new.self.items ≡ S3 ++ U = c.in_ok-extend_from_slice.ensures.items ∙ ap (λ xs. S3 ++ xs) c.deref.ensures.value in
-    let t0 : Stands c.inner_steps-2.new.declared c.extend_from_slice.new.self.items (past (locals_in body) inside) ((before ++ inner) ++ last) =
-    record { reaches = b.reaches; numbers = b.numbers; lists = subst (λ xs. Lists D3 xs ((before ++ inner) ++ last)) (sym all) more } in
-    let f = c.in_ok-step.ensures.stands (past (locals_in body) inside) ((before ++ inner) ++ last) t0 in
+    let more = subst (λ xs. Lists D3 xs last) (sym c.deref.ensures.value) (lists-more D2 D3 _ rounds.declares U last u.lists) in
+    let f = c.in_ok-steps_after_body.ensures.stands (past (locals_in body) inside) (before ++ inner) last b more in
     let own = declares_for _ _ _ _ first update body start.declares updates.declares rounds.declares in
     let count : inside.next + locals_in body ≡ site.next + (locals_in first + locals_in update + locals_in body) = omega (arith, after-next first (enclosed site)) in
     let order : ((before ++ inner) ++ last) ++ standing p place ∷ [] ≡ steps ++ (standings_in first (enclosed site) ++ (inner ++ (last ++ standing p place ∷ []))) = simp append_assoc in
