@@ -42,10 +42,10 @@ lowered_then steps old mid new first rest ways next entry later sooner = record 
       };
 }
 
-pub lowered_if : (steps : ℕ) (c0 c1 c2 c3 : List Point) (number : StepNumber) (test : Expr) (first other : Stmt) (ways : Ways) (no' yes' : StepNumber) (x : Point)
-    → Lowered steps c0 c1 other ways no' → Lowered steps c1 c2 first ways yes' → c3 ≡ c2 ++ x ∷ [] → point_view x ≡ p.Branch test yes' no'
-    → Lowered steps c0 c3 (If number test first other) ways number
-lowered_if steps c0 c1 c2 c3 number test first other ways no' yes' x later sooner made is = record {
+pub lowered_if : (steps : ℕ) (c0 c1 c2 c3 : List Point) (s : Stmt) (number : StepNumber) (test : Expr) (first other : Stmt) (ways : Ways) (no' yes' : StepNumber) (x : Point)
+    → s ≡ If number test first other → Lowered steps c0 c1 other ways no' → Lowered steps c1 c2 first ways yes' → c3 ≡ c2 ++ x ∷ [] → point_view x ≡ p.Branch test yes' no'
+    → Lowered steps c0 c3 s ways number
+lowered_if steps c0 c1 c2 c3 s number test first other ways no' yes' x form later sooner made is = subst (λ z. Lowered steps c0 c3 z ways number) (sym form) record {
   counted = let l = later.counted in let m = sooner.counted in let n = one_longer c2 c3 x made in omega arith;
   placed = λ from numbered ends.
       let l = later.counted in

@@ -9,7 +9,7 @@ use Rattle.typed_tree.specs.Views.{boxed_view, expr_view, rounds_view, stmt_view
 use Rattle.mask_states.specs.Points.{body_ways, update_ways, round_ways}
 use Rattle.mask_lowering.specs.Lowering.{Lowered, ways_view}
 use Rattle.mask_lowering.proofs.Rows.{block_is, stmts_from, steps_from, steps_within}
-use Rattle.mask_lowering.proofs.Forms.{lowered_as, lowered_body_first, lowered_empty, lowered_for_each, lowered_loop, lowered_then}
+use Rattle.mask_lowering.proofs.Forms.{lowered_as, lowered_body_first, lowered_empty, lowered_for_each, lowered_if, lowered_loop, lowered_then}
 use Rattle.mask_lowering.proofs.lowering.+statement.Goals as goal
 
 pub lower_statement-lower_statements-requires : goal.lower_statement-lower_statements-requires
@@ -32,6 +32,17 @@ lower_loop-returns t c =
     lowered_loop c.args.steps c.args.points.now.items c.put.new.points.items c.lower_statement.new.points.items c.lower_statement-2.new.points.items
     c.args.step (expr_view c.args.test.now) (stmt_view c.args.update.now) (stmt_view c.args.body.now) (ways_view c.args.ways) c.len-place.result
     c.in_ok-again.again c.in_ok-yes.yes _ _ (c.len-place.ensures ∙ c.args.points.now.ok.0) c.in_ok-put.ensures later sooner refl
+
+pub lower_statement-returns-in_ok-put-in-If : goal.lower_statement-returns-in_ok-put-in-If
+lower_statement-returns-in_ok-put-in-If t c =
+    let later = lowered_as c.args.steps c.args.points.now.items c.lower_statement-in-If.new.points.items (stmt_view c.deref-in-If.result.now) (stmt_view c.in-If.other.value)
+    (ways_view c.args.ways) (ways_view c.args.ways) c.in_ok-no-in-If.no (ap stmt_view c.deref-in-If.ensures) refl c.in_ok-no-in-If.ensures in
+    let sooner = lowered_as c.args.steps c.lower_statement-in-If.new.points.items c.lower_statement-in-If-2.new.points.items (stmt_view c.deref-in-If-2.result.now) (stmt_view c.in-If.first.value)
+    (ways_view c.args.ways) (ways_view c.args.ways) c.in_ok-yes-in-If.yes (ap stmt_view c.deref-in-If-2.ensures) refl c.in_ok-yes-in-If.ensures in
+    lowered_if c.args.steps c.args.points.now.items c.lower_statement-in-If.new.points.items c.lower_statement-in-If-2.new.points.items c.put.new.points.items
+    (stmt_view c.args.statement.now) c.in-If.step (boxed_view c.in-If.test) (stmt_view c.in-If.first.value) (stmt_view c.in-If.other.value) (ways_view c.args.ways)
+    c.in_ok-no-in-If.no c.in_ok-yes-in-If.yes _ (ap stmt_view c.in-If.is) later sooner c.in_ok-put-in-If.ensures
+    (ap (λ e. points.Branch (expr_view e) c.in_ok-yes-in-If.yes c.in_ok-no-in-If.no) c.deref-in-If-3.ensures)
 
 pub lower_statement-returns-in_ok-yes-in-BodyFirst :
     goal.lower_statement-returns-in_ok-yes-in-BodyFirst
