@@ -8,9 +8,9 @@ use Rattle.gang_model.specs.Types.Tree.{Variable}
 use Rattle.debug_machine.specs.Machines.{Finds, FindsInFile, IsOneOf, IsShown, ShowsNamed, file_variables as variables_of_file, listed}
 use Rattle.debug_machine.specs.declared.machine.NamedVariable.{NamedVariable}
 use Rattle.debug_machine.specs.declared.machine.Shown.{Shown}
-use Rattle.gang_machine.specs.Found.{FindsNumber, IsSeen, SeesFound, SeesNamed}
+use Rattle.machine_names.specs.Found.{FindsNumber, IsSeen, SeesFound, SeesNamed}
+use Rattle.machine_names.proofs.FirstNamed.{named_there}
 use Rattle.gang_machine.specs.Nexts.{Sees}
-use Rattle.gang_machine.proofs.FirstNamed.{named_there}
 
 -- one of those that pass is one of all
 pub one_of_all : (test : Variable → Bool) (vs : List Variable) (k : ℕ) (v : Variable) → slice_get (filter test vs) k ≡ Some v → IsOneOf vs v

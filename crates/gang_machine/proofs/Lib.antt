@@ -1,9 +1,6 @@
 pub mod Agreeing
 pub mod Finding
-pub mod FirstNamed
 pub mod Keeping
-pub mod LeastLines
-pub mod Listed
 pub mod Placing
 pub mod Poking
 pub mod Positions

@@ -35,9 +35,10 @@ use Rattle.machine_moves.specs.Standing.{IsShown}
 use Rattle.machine_moves.proofs.Standings.{sized}
 use Rattle.machine_shown.specs.Seen.{IsInScope, IsSeen, StandsAt}
 use Rattle.machine_shown.proofs.Viewed.{viewed_at}
+use Rattle.machine_names.specs.Found.{file_variables}
 use Rattle.gang_machine.specs.Machines.{IsMachine}
 use Rattle.gang_machine.specs.Nexts.{HasEnded, IsNext, Sees}
-use Rattle.gang_machine.specs.Standings.{Stands, file_variables, view_of}
+use Rattle.gang_machine.specs.Standings.{Stands, view_of}
 use Rattle.gang_machine.proofs.Agreeing.{masked_now, spot_is, standing_is, words_are}
 use Rattle.gang_machine.proofs.Placing.{scope_ended}
 

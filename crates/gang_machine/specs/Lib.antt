@@ -1,4 +1,3 @@
-pub mod Found
 pub mod Machines
 pub mod Nexts
 pub mod Standings

@@ -7,7 +7,8 @@ use Rattle.gang_model.specs.Types.Tree.{Variable}
 use Rattle.typed_tree.specs.declared.program.Function.{Function}
 use Rattle.typed_tree.specs.Views.{function_view}
 use Rattle.gang_model.specs.Running.State.{words_for}
-use Rattle.gang_machine.specs.Standings.{View, file_variables}
+use Rattle.machine_names.specs.Found.{file_variables}
+use Rattle.gang_machine.specs.Standings.{View}
 
 -- what a debugger sees: these variables in scope, these of the file, and of each as many words as its rate says
 pub record Sees (w : ℕ) (scope file : List Variable) (s : Setting) (d : Debugger) : Type 0 where

@@ -1,14 +1,12 @@
 -- What a machine stands for.
-use Rattle.std.specs.Prelude.{◌≡◌, ℕ, List, [], ◌∷◌, flat_map, length, map}
+use Rattle.std.specs.Prelude.{◌≡◌, ℕ, List, [], ◌∷◌, length}
 use Rattle.undo_log.specs.History.{History, Moment}
 use Rattle.debug_machine.specs.Machines.{kind_of}
-use Rattle.gang_model.specs.Types.Tree.{Variable, Function}
 use Rattle.gang_model.specs.Types.Tree as t
 use Rattle.gang_model.specs.Debugger.Events.{Event, start}
 use Rattle.gang_model.specs.Debugger.Debugger.{Debugger, Setting, step_lines}
-use Rattle.typed_tree.specs.declared.program.Global.{Global as TreeGlobal}
 use Rattle.typed_tree.specs.declared.program.Program.{Program}
-use Rattle.typed_tree.specs.Views.{global_view, program_view}
+use Rattle.typed_tree.specs.Views.{program_view}
 use Rattle.mask_states.specs.Masked.{Masked}
 use Rattle.mask_states.specs.MaskedStep.{masked_after, masked_start}
 use Rattle.machine_states.specs.Declared.{AreDeclared}
@@ -32,14 +30,6 @@ view_of width entry program lines layout history = record { width = width; entry
 
 abbrev pub history_of : View → History
 history_of m = m.history
-
--- the lines of all steps and closing braces of functions
-abbrev pub lines_in : List Function → List ℕ
-lines_in functions = flat_map (λ f. map (λ standing. standing.place.line) f.standings) functions
-
--- the variables of the file
-abbrev pub file_variables : List TreeGlobal → List Variable
-file_variables globals = map (λ g. g.variable) (map global_view globals)
 
 -- words show a masked state, of which each frame has declared what its lanes have passed
 pub record ShowsWords (width : ℕ) (program : Program) (layout : Layout) (words : List ℕ) (masked : Masked) : Type 0 where

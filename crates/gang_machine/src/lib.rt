@@ -1,10 +1,7 @@
 //! A machine that runs a compiled program step by step, and takes steps back.
 #![tactic(auto)]
 
-mod breakpoint_lines;
-mod listing;
 mod machine;
-mod names;
 mod opening;
 
 pub use machine::Machine;

@@ -9,12 +9,12 @@ ghost use Rattle.debug_machine.specs.Machines.{Finds, FindsInFile, IsPart, IsSho
 ghost use Rattle.gang_machine.specs.Nexts.{HasEnded, IsNext};
 ghost use Rattle.gang_machine.specs.Standings.{Stands, history_of};
 
-use crate::breakpoint_lines::least_from;
-use crate::listing::{listed_count, listed_local};
-use crate::names::{file_named, file_number, local_named, named};
 use debug_machine::{NamedVariable, Position, RecordedMachine, Shown, StepEnd};
 use expression_code::Stacks;
 use machine_moves::{CompiledProgram, next_step};
+use machine_names::{
+    file_named, file_number, least_from, listed_count, listed_local, local_named, named,
+};
 use machine_shown::{call, poke, position, word};
 use machine_steps::step;
 use machine_words::MachineWords;

@@ -9,13 +9,13 @@ ghost use Rattle.codegen.specs.Programs.{IsRunnable, variables_of};
 ghost use Rattle.typed_tree.specs.Views.{program_view};
 ghost use Rattle.gang_machine.specs.Standings.{Stands};
 
-use crate::breakpoint_lines::step_lines;
 use crate::machine::Machine;
 use codegen::compile;
 use expression_code::Stacks;
 use gang_memory::{Layout, Recorded};
 use gang_types::FuncId;
 use machine_moves::CompiledProgram;
+use machine_names::step_lines;
 use machine_steps::start;
 use machine_words::MachineWords;
 use std::alloc::{AllocError, Global};

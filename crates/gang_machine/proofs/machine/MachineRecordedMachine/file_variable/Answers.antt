@@ -2,10 +2,10 @@ use Rattle.std.proofs.Common.{refl, sym, subst, Some}
 use Rattle.std.specs.Prelude.{map}
 use Rattle.typed_tree.specs.Views.{global_view}
 use Rattle.machine_shown.proofs.Viewed.{read_at}
-use Rattle.gang_machine.specs.Found.{SeesNamed}
+use Rattle.machine_names.specs.Found.{SeesNamed}
+use Rattle.machine_names.proofs.FirstNamed.{get_mapped}
 use Rattle.gang_machine.specs.Standings.{Stands}
 use Rattle.gang_machine.proofs.Finding.{shows_file}
-use Rattle.gang_machine.proofs.FirstNamed.{get_mapped}
 use Rattle.gang_machine.proofs.Seeing.{sees}
 use Rattle.gang_machine.proofs.machine.MachineRecordedMachine.file_variable.Goals as goal
 

@@ -1,8 +1,7 @@
 use Rattle.std.proofs.Common.{sym, subst, None}
 use Rattle.gang_model.specs.Source.Names.{named}
-use Rattle.gang_machine.specs.Found.{SeesFound}
+use Rattle.machine_names.specs.Found.{SeesFound, file_variables}
 use Rattle.gang_machine.specs.Nexts.{Sees}
-use Rattle.gang_machine.specs.Standings.{file_variables}
 use Rattle.gang_machine.proofs.Finding.{SeesLocal, finds_global, finds_local, sees_local}
 use Rattle.gang_machine.proofs.machine.MachineRecordedMachine.find.Goals as goal
 use Rattle.gang_machine.proofs.machine.MachineRecordedMachine.find.Goals.{in-Some, in-None}

@@ -1,0 +1,3 @@
+pub mod FirstNamed
+pub mod LeastLines
+pub mod Listed

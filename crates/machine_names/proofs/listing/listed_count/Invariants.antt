@@ -1,0 +1,17 @@
+-- those that were counted and those from this number on are all; there are no more of the first than numbers were passed
+use Rattle.std.proofs.Common.{◌≡◌, ◌+◌, ◌≤◌, length}
+use Rattle.std.specs.Prelude.{filter, map, not, slice_get}
+use Rattle.gang_model.specs.Debugger.Positions.{scope_of}
+use Rattle.ispc_names_table.specs.Scopes.{in_scope}
+use Rattle.ispc_names_table.proofs.ListedNumbers.{is_listed, name_at}
+use Rattle.typed_tree.specs.Views.{function_view, variable_view}
+use Rattle.machine_names.proofs.Listed.{innermost_at, locals_from}
+use Rattle.machine_names.proofs.listing.listed_count.Given as goal
+
+abbrev pub invariant-loop-number : goal.invariant-loop-number
+invariant-loop-number l =
+    let ds = l.function.scopes.declarations.items in
+    let test = is_listed (name_at ds) (in_scope ds (innermost_at (slice_get l.function.scopes.standings.items l.step))) in
+    (l.count + length (locals_from (map variable_view l.function.variables.items) test l.number (length ds))
+    ≡ length (filter (λ v. not v.is_parameter) (scope_of (slice_get (function_view l.function).standings l.step))))
+    × (l.count ≤ l.number)
