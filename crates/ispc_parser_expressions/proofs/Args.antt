@@ -8,7 +8,8 @@ use Rattle.ispc_parser_expressions.specs.declared.budget.Budget.{Budget}
 use Rattle.ispc_parser_expressions.specs.declared.budget.Budget.TheVariants as budget
 use Rattle.source_tree.specs.Expressions.{ParsedArg, OfValue, OfPart, OfPartFrom, with_arg}
 use Rattle.gang_model.proofs.NestingLaws.{opened}
-use Rattle.ispc_parser_expressions.proofs.Starts.{takes_shorter, at_shorter, spelled_shorter}
+use Rattle.ispc_parser_words.proofs.Tokens.{takes_shorter, at_shorter}
+use Rattle.ispc_parser_expressions.proofs.Starts.{spelled_shorter}
 
 -- the tokens are the argument's, and then the rest
 abbrev pub SpellsArg : ℕ → ParsedArg → List Lexeme → List Lexeme → Type 0

@@ -8,11 +8,12 @@ use Rattle.gang_model.specs.Source.Spells.{Takes, TakesAt, any_level, SpellsExpr
 use Rattle.ispc_parser_expressions.specs.declared.budget.Budget.{Budget}
 use Rattle.ispc_parser_expressions.specs.declared.budget.Budget.TheVariants as budget
 use Rattle.source_tree.specs.Expressions.{ParsedArg, OfValue, OfPart, OfPartFrom, with_arg}
-use Rattle.ispc_parser_expressions.specs.Parse.{begins, take, Below, bracket_of, part_of, arg_of, own_arg, counted, more_of, args_of, within, parsers}
-use Rattle.ispc_parser_expressions.proofs.Tools.{take_again, begins_again}
+use Rattle.ispc_parser_words.specs.Front.{begins, take}
+use Rattle.ispc_parser_expressions.specs.Parse.{Below, bracket_of, part_of, arg_of, own_arg, counted, more_of, args_of, within, parsers}
+use Rattle.ispc_parser_words.proofs.Tokens.{take_again, begins_again, takes_shorter, take_none}
 use Rattle.ispc_parser_expressions.proofs.Args.{SpellsArg, arg_weight, items_split, Counts, CountsAll, counts_split, counts_end, arg_shorter}
-use Rattle.ispc_parser_expressions.proofs.Starts.{starts, takes_shorter}
-use Rattle.ispc_parser_expressions.proofs.Follows.{stops_at, not_begins, take_none}
+use Rattle.ispc_parser_expressions.proofs.Starts.{starts}
+use Rattle.ispc_parser_expressions.proofs.Follows.{stops_at, not_begins}
 use Rattle.ispc_parser_expressions.proofs.Complete.{IsComplete, spend_some, bracket_complete, operand_complete, expr_complete}
 use Rattle.std.proofs.lemmas.Option.{same_Some}
 

@@ -9,8 +9,10 @@ use Rattle.gang_model.specs.declared.forms.Infix.TheVariants.{Op, AndAlso, OrEls
 use Rattle.gang_model.specs.Source.Tokens.{Sort, named, numbered, marked, Lexeme}
 use Rattle.gang_model.specs.Source.Spells.{Takes, infix_mark, level, binary_levels, stops, Stops}
 use Rattle.ispc_lexer.specs.Options.{◌>>=◌}
-use Rattle.ispc_parser_expressions.specs.Parse.{is_mark, begins, take, infix_of, mark_of, operator_at}
-use Rattle.ispc_parser_expressions.proofs.Tools.{mark_is, infix_of_is, infix_of_again}
+use Rattle.ispc_parser_words.specs.Front.{is_mark, begins, mark_of}
+use Rattle.ispc_parser_expressions.specs.Parse.{infix_of, operator_at}
+use Rattle.ispc_parser_words.proofs.Tokens.{mark_is}
+use Rattle.ispc_parser_expressions.proofs.Tools.{infix_of_is, infix_of_again}
 
 pub stops_less : (j k : ℕ) (ts : List Lexeme) → j ≤ k → Stops k ts → Stops j ts
 stops_less j k [] le h = tt
@@ -69,11 +71,6 @@ not_mark m k found lt le = go (is_mark m found) refl
 pub not_begins : (m : Mark) (k : ℕ) (ts : List Lexeme) → Stops k ts → stops (marked m) ≤ k → begins m ts ≡ false
 not_begins m k [] h le = refl
 not_begins m k (t ∷ ts) h le = not_mark m k t.sort h le
-
-pub take_none : (m : Mark) (ts : List Lexeme) → begins m ts ≡ false → take m ts ≡ None
-unfolding take
-take_none m [] e = refl
-take_none m (t ∷ ts) e = rw e refl
 
 -- ---- operators
 

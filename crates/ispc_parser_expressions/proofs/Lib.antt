@@ -1,5 +1,4 @@
 pub mod Tools
-pub mod SpecWords
 pub mod Sound
 pub mod Args
 pub mod ArgsSound
@@ -9,7 +8,3 @@ pub mod Complete
 pub mod ArgsComplete
 pub mod Whole
 pub mod Steps
-pub mod SpecOrder
-pub mod WordSteps
-pub mod Said
-pub mod SaidAll

@@ -13,9 +13,12 @@ use Rattle.gang_model.specs.Source.Tokens.{Sort, named, numbered, marked, Lexeme
 use Rattle.gang_model.specs.Source.Specs.{cast_spec_of}
 use Rattle.gang_model.specs.Source.Parsed.{Name, ParsedExpr, ParsedNumber, ParsedBool, ParsedName, ParsedIndex, ParsedCall, ParsedParen, ParsedUnary, ParsedCast, ParsedBinary, ParsedChoice, ParsedArgs}
 use Rattle.gang_model.specs.Source.Spells.{Takes, TakesAt, TakesWords, Opens, unary_mark, level, binary_levels, any_level, SpellsExpr, SpellsArgs, weight, args_weight}
-use Rattle.ispc_parser_expressions.specs.Parse.{take, unary_op, truth_of, operator_at, words_of, after_words, begins_word, cast_spec_at, spend, Below, bracket_of, index_of, call_of, name_of, cast_of, paren_of, group_of, unary_of, marked_of, operand_at, operand_of, chain_of, binary_of, choice_of, expr_of}
-use Rattle.ispc_parser_expressions.proofs.Tools.{spend_is, take_takes, unary_op_is, truth_of_is, operator_takes}
-use Rattle.ispc_parser_expressions.proofs.SpecWords.{words_taken}
+use Rattle.ispc_parser_words.specs.Front.{take}
+use Rattle.ispc_parser_words.specs.Words.{words_of, after_words, begins_word, cast_spec_at}
+use Rattle.ispc_parser_expressions.specs.Parse.{unary_op, truth_of, operator_at, spend, Below, bracket_of, index_of, call_of, name_of, cast_of, paren_of, group_of, unary_of, marked_of, operand_at, operand_of, chain_of, binary_of, choice_of, expr_of}
+use Rattle.ispc_parser_words.proofs.Tokens.{take_takes}
+use Rattle.ispc_parser_expressions.proofs.Tools.{spend_is, unary_op_is, truth_of_is, operator_takes}
+use Rattle.ispc_parser_words.proofs.SpecWords.{words_taken}
 use Rattle.std.proofs.lemmas.Option.{same_Some}
 use Rattle.ispc_lexer.proofs.Runs.{which, bind_some, chosen}
 

@@ -1,18 +1,16 @@
 -- How expressions begin, and that they take tokens.
-use Rattle.std.proofs.Common.{◌≡◌, ℕ, suc, ◌<◌, ◌≤◌, List, [], ◌∷◌, length, None, Bool, true, false, refl, ap, arith}
-use Rattle.gang_types.specs.declared.places.Place.{Place}
+use Rattle.std.proofs.Common.{◌≡◌, ℕ, suc, ◌<◌, ◌≤◌, List, length, None, Bool, true, false, refl, ap, arith}
 use Rattle.gang_types.specs.declared.operators.UnaryOp.{UnaryOp}
 use Rattle.gang_types.specs.declared.operators.UnaryOp.TheVariants as unary
-use Rattle.gang_model.specs.declared.marks.Mark.{Mark}
 use Rattle.gang_model.specs.declared.marks.Mark.TheVariants as mark
 use Rattle.gang_model.specs.Source.Tokens.{Sort, named, numbered, marked, Lexeme}
 use Rattle.gang_model.specs.Source.Parsed.{ParsedExpr, ParsedNumber, ParsedBool, ParsedName, ParsedIndex, ParsedCall, ParsedParen, ParsedUnary, ParsedCast, ParsedBinary, ParsedChoice, ParsedArgs, ParsedEnd, ParsedValue, ParsedPart, ParsedPartFrom}
-use Rattle.gang_model.specs.Source.Spells.{Takes, TakesAt, TakesWords, Separates, truth_mark, unary_mark, infix_mark, level, binary_levels, any_level, SpellsExpr, SpellsItems}
-use Rattle.ispc_parser_expressions.specs.Parse.{is_mark, begins, spec_word, begins_word}
+use Rattle.gang_model.specs.Source.Spells.{Takes, Separates, truth_mark, unary_mark, infix_mark, level, binary_levels, any_level, SpellsExpr, SpellsItems}
+use Rattle.ispc_parser_words.specs.Front.{is_mark, begins}
+use Rattle.ispc_parser_words.specs.Words.{spec_word, begins_word}
 use Rattle.gang_model.proofs.NestingLaws.{opened}
-
-pub takes_at : (s : Sort) (at : Place) (ts rest : List Lexeme) → TakesAt s at ts rest → Takes s ts rest
-takes_at s at ts rest h = record { token = h.token; is = h.is; sort_is = h.sort_is }
+use Rattle.ispc_parser_words.proofs.Tokens.{takes_at, takes_shorter, at_shorter}
+use Rattle.ispc_parser_words.proofs.SpecWords.{words_shorter}
 
 -- ---- the first token
 
@@ -49,16 +47,6 @@ starts (ParsedBinary op l r) d k ts rest h = starts l d (suc (level op)) ts h.1 
 starts (ParsedChoice c x y) d k ts rest h = starts c d binary_levels ts h.1 h.5
 
 -- ---- lengths
-
-pub takes_shorter : (s : Sort) (ts rest : List Lexeme) → Takes s ts rest → length ts ≡ suc (length rest)
-takes_shorter s ts rest h = rw h.is refl
-
-pub at_shorter : (s : Sort) (at : Place) (ts rest : List Lexeme) → TakesAt s at ts rest → length ts ≡ suc (length rest)
-at_shorter s at ts rest h = rw h.is refl
-
-pub words_shorter : (ws : List Mark) (ts rest : List Lexeme) → TakesWords ws ts rest → length rest ≤ length ts
-words_shorter [] ts rest h = omega (arith, ap length h)
-words_shorter (w ∷ ws) ts rest h = omega (arith, takes_shorter (marked w) ts h.0 h.1, words_shorter ws h.0 rest h.2)
 
 separates_shorter : (first : Bool) (ts rest : List Lexeme) → Separates first ts rest → length rest ≤ length ts
 separates_shorter true ts rest h = omega (arith, ap length h)

@@ -1,53 +1,25 @@
--- Results, tests and single tokens.
+-- Operators, and what they spend.
 use Rattle.std.proofs.Common.{◌≡◌, inl, inr, ℕ, zero, suc, List, [], ◌∷◌, Some, None, Bool, true, false, refl, ap, subst, ◌∙◌}
 use Rattle.std.specs.Prelude.{◌==◌}
 use Rattle.std.proofs.lemmas.Bool.{eqb-true}
-use denote.Enum.Bare.{same_true, true_same}
 use Rattle.gang_types.specs.declared.operators.UnaryOp.{UnaryOp}
 use Rattle.gang_types.specs.declared.operators.UnaryOp.TheVariants as unary
 use Rattle.gang_types.specs.declared.operators.BinaryOp.TheVariants as binary
 use Rattle.gang_model.specs.declared.marks.Mark.{Mark}
 use Rattle.gang_model.specs.declared.marks.Mark.TheVariants as mark
-use Rattle.gang_model.specs.contracts.marks.Mark.{the_type}
 use Rattle.gang_model.specs.declared.forms.Infix.{Infix}
 use Rattle.gang_model.specs.declared.forms.Infix.TheVariants.{Op, AndAlso, OrElse}
-use Rattle.gang_model.specs.Source.Tokens.{Sort, named, numbered, marked, Lexeme}
+use Rattle.gang_model.specs.Source.Tokens.{marked, Lexeme}
 use Rattle.gang_model.specs.Source.Spells.{Takes, truth_mark, unary_mark, infix_mark, level}
-use Rattle.ispc_parser_expressions.specs.Parse.{is_mark, begins, take, unary_op, truth_of, infix_of, mark_of, operator_at, spend}
+use Rattle.ispc_parser_words.specs.Front.{mark_of}
+use Rattle.ispc_parser_expressions.specs.Parse.{unary_op, truth_of, infix_of, operator_at, spend}
 use Rattle.ispc_lexer.proofs.Runs.{bind_some, which}
 use Rattle.std.proofs.lemmas.Option.{same_Some}
-
--- ---- results
+use Rattle.ispc_parser_words.proofs.Tokens.{mark_of_is}
 
 pub spend_is : (room left : ℕ) → spend room ≡ Some left → room ≡ suc left
 spend_is zero left e = absurd cc
 spend_is (suc room) left e = ap (λ (n : ℕ). suc n) (same_Some room left e)
-
--- ---- marks
-
-pub mark_is : (m : Mark) (s : Sort) → is_mark m s ≡ true → s ≡ marked m
-mark_is m (marked k) e = ap marked (same_true the_type tt k m e)
-mark_is m (named n) e = absurd cc
-mark_is m (numbered n u l) e = absurd cc
-
-pub is_mark-same : (m : Mark) → is_mark m (marked m) ≡ true
-is_mark-same m = true_same the_type m m refl
-
-pub take_takes : (m : Mark) (ts rest : List Lexeme) → take m ts ≡ Some rest → Takes (marked m) ts rest
-unfolding take
-take_takes m [] rest e = absurd cc
-take_takes m (t ∷ ts) rest e =
-    elim (which (is_mark m t.sort) (Some ts) None (Some rest) e) [
-      | inl p ↦ record { token = t; is = ap (λ (r : List Lexeme). t ∷ r) (same_Some ts rest p.1); sort_is = mark_is m t.sort p.0 }
-      | inr p ↦ let no_value = p.1 in absurd cc
-    ]
-
-pub take_again : (m : Mark) (ts rest : List Lexeme) → Takes (marked m) ts rest → take m ts ≡ Some rest
-unfolding take
-take_again m ts rest h = rw (h.is, h.sort_is, is_mark-same m) refl
-
-pub begins_again : (m : Mark) (ts rest : List Lexeme) → Takes (marked m) ts rest → begins m ts ≡ true
-begins_again m ts rest h = rw (h.is, h.sort_is) (is_mark-same m)
 
 -- ---- operators
 
@@ -109,11 +81,6 @@ infix_of_again (Op binary.Equal) = refl
 infix_of_again (Op binary.NotEqual) = refl
 infix_of_again AndAlso = refl
 infix_of_again OrElse = refl
-
-pub mark_of_is : (s : Sort) (m : Mark) → mark_of s ≡ Some m → s ≡ marked m
-mark_of_is (marked k) m e = ap marked (same_Some k m e)
-mark_of_is (named n) m e = absurd cc
-mark_of_is (numbered n u l) m e = absurd cc
 
 pub operator_takes : (k : ℕ) (ts : List Lexeme) (op : Infix) (rest : List Lexeme) → operator_at k ts ≡ Some (op, rest)
     → (level op ≡ k) × Takes (marked (infix_mark op)) ts rest

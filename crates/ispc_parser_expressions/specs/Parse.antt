@@ -1,61 +1,26 @@
 -- The expression at the front of the tokens, by descent.
-use Rattle.std.specs.Prelude.{◌≡◌, ℕ, zero, suc, Bool, true, false, ◌==◌, List, [], ◌∷◌, length, Option, Some, None, Result, Ok, Err, if◌then◌else◌}
+use Rattle.std.specs.Prelude.{ℕ, zero, suc, Bool, true, false, ◌==◌, List, [], ◌∷◌, length, Option, Some, None, if◌then◌else◌}
 use denote.Enum.Bare.{sameb}
 use Rattle.gang_types.specs.declared.operators.UnaryOp.{UnaryOp}
 use Rattle.gang_types.specs.declared.operators.UnaryOp.TheVariants as unary
 use Rattle.gang_types.specs.declared.operators.BinaryOp.TheVariants as binary
 use Rattle.gang_types.specs.declared.places.Place.{Place}
-use Rattle.gang_types.specs.declared.types.IntType.{IntType}
-use Rattle.gang_types.specs.declared.types.Rate.{Rate}
 use Rattle.gang_model.specs.declared.marks.Mark.{Mark}
 use Rattle.gang_model.specs.declared.marks.Mark.TheVariants as mark
 use Rattle.gang_model.specs.contracts.marks.Mark.{the_type}
 use Rattle.gang_model.specs.declared.forms.Infix.{Infix}
 use Rattle.gang_model.specs.declared.forms.Infix.TheVariants.{Op, AndAlso, OrElse}
-use Rattle.gang_model.specs.declared.forms.Spec.{Spec}
 use Rattle.gang_model.specs.Source.Tokens.{Sort, named, numbered, marked, Lexeme}
-use Rattle.gang_model.specs.Source.Specs.{is_spec_word, spec_of, cast_spec_of}
 use Rattle.gang_model.specs.Source.Parsed.{Name, ParsedExpr, ParsedNumber, ParsedBool, ParsedName, ParsedIndex, ParsedCall, ParsedParen, ParsedUnary, ParsedCast, ParsedBinary, ParsedChoice, ParsedArgs, ParsedEnd}
 use Rattle.gang_model.specs.Source.Spells.{level, max_weight}
-use Rattle.source_answers.specs.declared.fault.SourceFault.{SourceFault}
-use Rattle.source_answers.specs.declared.fault.SourceFault.TheVariants as faults
-use Rattle.gang_model.specs.declared.refusals.RefusalNumber.{RefusalNumber}
-use Rattle.gang_model.specs.declared.refusals.RefusalNumber.TheVariants as numbers
 use Rattle.ispc_lexer.specs.Options.{◌>>=◌, if_some}
+use Rattle.ispc_parser_words.specs.Front.{begins, take, mark_of}
+use Rattle.ispc_parser_words.specs.Words.{begins_word, cast_spec_at}
 use Rattle.ispc_parser_expressions.specs.declared.budget.Budget.{Budget}
 use Rattle.ispc_parser_expressions.specs.declared.budget.Budget.TheVariants as budget
 use Rattle.source_tree.specs.Expressions.{ParsedArg, OfValue, OfPart, OfPartFrom, with_arg}
 
--- the numbers of a parser's refusals
-abbrev pub IsParserNumber : RefusalNumber → Type 0
-IsParserNumber numbers.S3 = Unit {0}
-IsParserNumber numbers.S4 = Unit {0}
-IsParserNumber numbers.S13 = Unit {0}
-IsParserNumber _ = ⊥
-
--- What a function returned, seen by view, is what reading gives, unless memory ran out.
-abbrev pub Fails : {Y : Type 0} → SourceFault → Option Y → Type 0
-Fails faults.Memory read = Unit {0}
-Fails (faults.Refused r) read = (read ≡ None) × IsParserNumber r.number
-
-abbrev pub Gives : {X Y : Type 0} → (X → Y) → Result X SourceFault → Option Y → Type 0
-Gives view (Ok x) read = read ≡ Some (view x)
-Gives view (Err e) read = Fails e read
-
--- ---- tokens
-
-abbrev pub is_mark : Mark → Sort → Bool
-is_mark m (marked k) = sameb the_type k m
-is_mark m _ = false
-
-abbrev pub begins : Mark → List Lexeme → Bool
-begins m [] = false
-begins m (t ∷ ts) = is_mark m t.sort
-
--- the tokens after this mark
-unfoldable pub take : Mark → List Lexeme → Option (List Lexeme)
-take m [] = None
-take m (t ∷ ts) = if is_mark m t.sort then Some ts else None
+-- ---- operators
 
 abbrev pub unary_op : Mark → Option UnaryOp
 unary_op mark.Minus = Some unary.Negate
@@ -90,43 +55,10 @@ infix_of mark.AndAnd = Some AndAlso
 infix_of mark.OrOr = Some OrElse
 infix_of _ = None
 
-abbrev pub mark_of : Sort → Option Mark
-mark_of (marked m) = Some m
-mark_of _ = None
-
 -- an operator of this level, and the tokens after it
 unfoldable pub operator_at : ℕ → List Lexeme → Option (Infix × List Lexeme)
 operator_at k [] = None
 operator_at k (t ∷ ts) = mark_of t.sort >>= λ m. infix_of m >>= λ op. if level op == k then Some (op, ts) else None
-
--- ---- the words of a spec
-
-abbrev pub spec_word : Sort → Option Mark
-spec_word (marked m) = if is_spec_word m then Some m else None
-spec_word _ = None
-
--- as many of them as stand here
-abbrev pub words_of : List Lexeme → List Mark
-words_of [] = []
-words_of (t ∷ ts) = if_some (spec_word t.sort) (λ w. w ∷ words_of ts) []
-
-abbrev pub after_words : List Lexeme → List Lexeme
-after_words [] = []
-after_words (t ∷ ts) = if_some (spec_word t.sort) (λ w. after_words ts) (t ∷ ts)
-
-abbrev pub next_word : List Lexeme → Option (Mark × List Lexeme)
-next_word [] = None
-next_word (t ∷ ts) = spec_word t.sort >>= λ w. Some (w, ts)
-
-abbrev pub begins_word : List Lexeme → Bool
-begins_word [] = false
-begins_word (t ∷ ts) = if_some (spec_word t.sort) (λ w. true) false
-
-unfoldable pub spec_at : List Lexeme → Option (Spec × List Lexeme)
-spec_at ts = spec_of (words_of ts) >>= λ s. Some (s, after_words ts)
-
-unfoldable pub cast_spec_at : List Lexeme → Option ((Option Rate × Option IntType) × List Lexeme)
-cast_spec_at ts = cast_spec_of (words_of ts) >>= λ s. Some (s, after_words ts)
 
 -- ---- expressions
 
@@ -265,13 +197,3 @@ counted budget.Own below = own_arg below
 -- the arguments of a call that is a statement, with so many nestings left inside its parentheses
 unfoldable pub whole_args : ℕ → List Lexeme → Option (ParsedArgs × List Lexeme)
 whole_args d ts = args_of (counted budget.Own (parsers d)) max_weight ts >>= λ es. Some (es.0, es.2)
-
--- ---- refusals
-
-abbrev pub first_place : List Lexeme → Place → Place
-first_place [] end = end
-first_place (t ∷ ts) end = t.place
-
--- S3 at the first of the tokens, or at the end
-abbrev pub unexpected_at : List Lexeme → Place → SourceFault
-unexpected_at ts end = faults.Refused (record { number = numbers.S3; place = first_place ts end })

@@ -3,19 +3,20 @@
 ghost use Rattle.std.specs.Prelude.{◌≡◌, ◌≤◌};
 ghost use Rattle.ispc_lexer.specs.Views.{sort_of, lexemes_of};
 ghost use Rattle.source_tree.specs.Expressions.{expr_view, arg_view, args_view};
+ghost use Rattle.ispc_parser_words.specs.Front.{Gives};
 ghost use Rattle.ispc_parser_expressions.specs.Parse as spec;
-ghost use Rattle.ispc_parser_expressions.specs.Parse.{Gives, within, parsers};
+ghost use Rattle.ispc_parser_expressions.specs.Parse.{within, parsers};
 
-use crate::budget::Budget;
-use crate::front::{
-    MAX_OPERATORS, Reader, after, begins, open, place_of, refused, spend, take, unexpected,
-};
+use crate::budget::{Budget, MAX_OPERATORS, spend};
 use crate::nodes;
-use crate::operators::{operator_at, truth_of, unary_op};
-use crate::words::{begins_word, take_cast_spec};
+use crate::operators::{operator_at, right_levels, truth_of, unary_op};
+use crate::reader::{Reader, open};
 use gang_model::{Mark, RefusalNumber};
 use gang_types::{Place, UnaryOp};
 use ispc_lexer::{Kind, Token};
+use ispc_parser_words::{
+    after, begins, begins_word, place_of, refused, take, take_cast_spec, unexpected,
+};
 use source_answers::SourceFault;
 use source_tree::{Arg, Expr};
 
@@ -203,7 +204,7 @@ fn binary(reader: Reader, levels: u8, room: u32, tokens: &[Token]) -> Read<'_, E
     let (mut left, mut remaining, mut rest) = binary(reader, levels - 1, room, tokens)?;
     while let Some((operator, place, after)) = operator_at(levels - 1, rest) {
         let less = spend(remaining, place)?;
-        let (right, less, after) = binary(reader, levels - 1, less, after)?;
+        let (right, less, after) = binary(reader, right_levels(levels), less, after)?;
         left = nodes::binary(reader.alloc, operator, left, right)?;
         remaining = less;
         rest = after;

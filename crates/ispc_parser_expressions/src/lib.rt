@@ -3,12 +3,10 @@
 
 mod budget;
 mod descent;
-mod front;
 mod nodes;
 mod operators;
 mod outermost;
-mod words;
+mod reader;
 
-pub use front::{after, begins, take, unexpected};
+pub use ispc_parser_words::{after, begins, begins_word, spec_words, take, take_spec, unexpected};
 pub use outermost::{arguments, expression};
-pub use words::{begins_word, spec_words, take_spec};

@@ -1,5 +1,5 @@
 //! Marks that are operators, and how loosely they bind.
-ghost use Rattle.std.specs.Prelude.{◌≡◌, option_map};
+ghost use Rattle.std.specs.Prelude.{◌≡◌, ◌≢◌, ◌-◌, option_map};
 ghost use Rattle.ispc_lexer.specs.Views.{sort_of, lexemes_of};
 ghost use Rattle.gang_model.specs.Source.Spells.{level as level_of};
 ghost use Rattle.ispc_parser_expressions.specs.Parse as spec;
@@ -73,6 +73,15 @@ fn level(operator: Infix) -> u8
         Infix::AndAlso => 8,
         Infix::OrElse => 9,
     }
+}
+
+/// How many levels a right operand takes from an operator of the loosest of these levels: operators of one level group
+/// from the left.
+pub(crate) fn right_levels(levels: u8) -> u8
+    requires { levels ≢ 0 }
+    ensures { result ≡ levels - 1 }
+{
+    levels - 1
 }
 
 /// An operator of this level that stands first, its place, and the tokens after it.

@@ -2,12 +2,12 @@
 ghost use Rattle.std.specs.Prelude.{◌≡◌, ◌≤◌};
 ghost use Rattle.ispc_lexer.specs.Views.{sort_of, lexemes_of};
 ghost use Rattle.source_tree.specs.Expressions.{expr_view, arg_view, args_view};
-ghost use Rattle.ispc_parser_expressions.specs.Parse as spec;
-ghost use Rattle.ispc_parser_expressions.specs.Parse.{Gives, within, parsers, whole_expr, whole_args};
+ghost use Rattle.ispc_parser_words.specs.Front.{Gives};
+ghost use Rattle.ispc_parser_expressions.specs.Parse.{whole_expr, whole_args};
 
-use crate::budget::Budget;
+use crate::budget::{Budget, MAX_OPERATORS};
 use crate::descent::{args, expr};
-use crate::front::{MAX_OPERATORS, Reader};
+use crate::reader::Reader;
 use gang_types::Place;
 use ispc_lexer::Token;
 use source_answers::SourceFault;

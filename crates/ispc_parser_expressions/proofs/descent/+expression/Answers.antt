@@ -4,9 +4,8 @@ use Rattle.ispc_lexer.specs.Views.{lexemes_of}
 use Rattle.gang_model.specs.declared.marks.Mark.TheVariants as mark
 use Rattle.source_tree.specs.Expressions.{expr_view, arg_view, args_view}
 use Rattle.ispc_parser_expressions.specs.Parse.{parsers, counted}
-use Rattle.ispc_parser_expressions.proofs.SpecWords.{length-lexemes_of}
-use Rattle.ispc_parser_expressions.proofs.Tools.{operator_takes, take_takes}
-use Rattle.ispc_parser_expressions.proofs.Starts.{takes_shorter}
+use Rattle.ispc_parser_words.proofs.Tokens.{length-lexemes_of, take_takes, takes_shorter}
+use Rattle.ispc_parser_expressions.proofs.Tools.{operator_takes}
 use Rattle.ispc_parser_expressions.proofs.Steps.{binary_zero, binary_fails, binary_shorter, chains_start, chains_end, chains_spent, chains_fail, chains_on, append, one_arg, args_view-push, counted_shorter, lists_none, lists_fail, lists_start, lists_end, lists_fails, lists_on}
 use Rattle.ispc_parser_expressions.proofs.descent.+expression.Goals as goal
 
@@ -32,13 +31,13 @@ binary-returns-in_err-less t c =
 pub binary-returns-in_err-right : goal.binary-returns-in_err-right
 binary-returns-in_err-right t c =
     let p = err_from_is_err_and c.from_residual-in_err-right.result c.from_residual-in_err-right.ensures.1 in
-    rw (p.1, p.2) (chains_fail _ _ _ _ _ _ c.loop-operator.invariant c.in-Some.operator (lexemes_of c.in-Some.after.now) (sym c.in-Some.ensures) c.in_err-right.field-0.0 c.in_ok-less.less c.in_ok-less.ensures c.in_err-right.ensures)
+    rw (p.1, p.2) (chains_fail _ _ _ _ _ _ c.loop-operator.invariant c.in-Some.operator (lexemes_of c.in-Some.after.now) (sym c.in-Some.ensures) c.in_err-right.field-0.0 c.in_ok-less.less c.in_ok-less.ensures (rw c.right_levels.ensures at c.in_err-right.ensures))
 
 pub binary-loop-operator-smaller : goal.binary-loop-operator-smaller
 binary-loop-operator-smaller t c =
     omega (
       arith,
-      binary_shorter c.args.reader.depth (c.args.levels - 1) c.in_ok-less.less (lexemes_of c.in-Some.after.now) (expr_view c.in_ok-right.right) c.in_ok-right.less (lexemes_of c.in_ok-right.after.now) c.in_ok-right.ensures,
+      binary_shorter c.args.reader.depth c.right_levels.result c.in_ok-less.less (lexemes_of c.in-Some.after.now) (expr_view c.in_ok-right.right) c.in_ok-right.less (lexemes_of c.in_ok-right.after.now) c.in_ok-right.ensures,
       takes_shorter _ (lexemes_of c.loop-operator.rest.now) (lexemes_of c.in-Some.after.now) (operator_takes (c.args.levels - 1) (lexemes_of c.loop-operator.rest.now) c.in-Some.operator (lexemes_of c.in-Some.after.now) (sym c.in-Some.ensures)).1,
       length-lexemes_of c.loop-operator.rest.now,
       length-lexemes_of c.in_ok-right.after.now,
@@ -46,10 +45,10 @@ binary-loop-operator-smaller t c =
 
 pub binary-loop-operator-preserved : goal.binary-loop-operator-preserved
 binary-loop-operator-preserved t c =
-    let shorter = binary_shorter c.args.reader.depth (c.args.levels - 1) c.in_ok-less.less (lexemes_of c.in-Some.after.now) (expr_view c.in_ok-right.right) c.in_ok-right.less (lexemes_of c.in_ok-right.after.now) c.in_ok-right.ensures in
+    let shorter = binary_shorter c.args.reader.depth c.right_levels.result c.in_ok-less.less (lexemes_of c.in-Some.after.now) (expr_view c.in_ok-right.right) c.in_ok-right.less (lexemes_of c.in_ok-right.after.now) c.in_ok-right.ensures in
     rw c.in_ok-left-2.ensures
     (chains_on _ _ _ _ _ _ c.loop-operator.invariant c.in-Some.operator (lexemes_of c.in-Some.after.now) (sym c.in-Some.ensures) c.in_ok-less.less (expr_view c.in_ok-right.right) c.in_ok-right.less (lexemes_of c.in_ok-right.after.now)
-    c.in_ok-less.ensures c.in_ok-right.ensures shorter)
+    c.in_ok-less.ensures (rw c.right_levels.ensures at c.in_ok-right.ensures) shorter)
 
 pub binary-returns : goal.binary-returns
 binary-returns t c = chains_end _ _ _ _ _ _ c.loop-operator.invariant (sym c.in_default.ensures)

@@ -13,13 +13,14 @@ use Rattle.gang_model.specs.Source.Tokens.{Lexeme}
 use Rattle.gang_model.specs.Source.Specs.{has, is_spec_word, are_spec_words, rate_of, type_named, unsigned_named, type_words, spec_of, cast_part}
 use Rattle.source_answers.specs.declared.fault.SourceFault.{SourceFault}
 use Rattle.source_answers.specs.declared.fault.SourceFault.TheVariants as faults
-use Rattle.ispc_parser_expressions.specs.declared.words.Words.{Words}
+use Rattle.ispc_parser_words.specs.declared.words.Words.{Words}
 use Rattle.ispc_lexer.specs.Options.{◌>>=◌, if_some}
-use Rattle.ispc_parser_expressions.specs.Parse.{Fails, spec_word, words_of, after_words, spec_at, cast_spec_at}
-use Rattle.ispc_parser_expressions.specs.Words.{no_words, is_some, with_unsigned, with_type, with_word, words_from, said, said_at}
-use Rattle.ispc_parser_expressions.proofs.SpecWords.{spec_word_is}
-use Rattle.ispc_parser_expressions.proofs.SpecOrder.{same_mark, names_type, spec_of-middle}
-use Rattle.ispc_parser_expressions.proofs.Said.{is_marked, meant, Holds, holds_none, said_is, no_value, rate_free, refused}
+use Rattle.ispc_parser_words.specs.Front.{Fails}
+use Rattle.ispc_parser_words.specs.Words.{spec_word, words_of, after_words, spec_at, cast_spec_at}
+use Rattle.ispc_parser_words.specs.Said.{no_words, is_some, with_unsigned, with_type, with_word, words_from, said, said_at}
+use Rattle.ispc_parser_words.proofs.SpecWords.{spec_word_is}
+use Rattle.ispc_parser_words.proofs.SpecOrder.{same_mark, names_type, spec_of-middle}
+use Rattle.ispc_parser_words.proofs.Said.{is_marked, meant, Holds, holds_none, said_is, no_value, rate_free, refused}
 use Rattle.gang_model.proofs.JudgedLaws.{or_false}
 use Rattle.std.proofs.lemmas.Option.{same_Some}
 use Rattle.ispc_lexer.proofs.Runs.{which}

@@ -1,7 +1,7 @@
 use Rattle.std.proofs.Common.{◌≡◌, length, ◌+◌}
 use Rattle.ispc_lexer.specs.Views.{lexemes_of}
-use Rattle.ispc_parser_expressions.specs.Parse as spec
-use Rattle.ispc_parser_expressions.proofs.words.spec_words.Given as goal
+use Rattle.ispc_parser_words.specs.Words as spec
+use Rattle.ispc_parser_words.proofs.words.spec_words.Given as goal
 
 abbrev pub decreases-loop-after : goal.decreases-loop-after
 decreases-loop-after l = length l.rest

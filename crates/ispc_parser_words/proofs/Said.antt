@@ -10,10 +10,10 @@ use Rattle.gang_model.specs.declared.marks.Mark.TheVariants as mark
 use Rattle.gang_model.specs.contracts.marks.Mark.{the_type}
 use Rattle.gang_model.specs.declared.forms.Spec.{Spec}
 use Rattle.gang_model.specs.Source.Specs.{has, is_spec_word, are_spec_words, rate_of, type_named, unsigned_named, type_words, type_from, type_of, spec_with, spec_of}
-use Rattle.ispc_parser_expressions.specs.declared.words.Words.{Words}
+use Rattle.ispc_parser_words.specs.declared.words.Words.{Words}
 use Rattle.ispc_lexer.specs.Options.{◌>>=◌, if_some}
-use Rattle.ispc_parser_expressions.specs.Words.{no_words, is_some, type_said, with_rate, with_unsigned, with_type, with_word, said}
-use Rattle.ispc_parser_expressions.proofs.SpecOrder.{names_type, type_words-append, spec_of-is, two_types}
+use Rattle.ispc_parser_words.specs.Said.{no_words, is_some, type_said, with_rate, with_unsigned, with_type, with_word, said}
+use Rattle.ispc_parser_words.proofs.SpecOrder.{names_type, type_words-append, spec_of-is, two_types}
 use Rattle.gang_model.proofs.JudgedLaws.{not_true}
 use Rattle.ispc_lexer.proofs.Runs.{which}
 

@@ -2,10 +2,10 @@
 use Rattle.std.proofs.Common.{◌≡◌, List, [], ◌∷◌, Option, Some, None, Bool, refl, sym, ap, ◌∙◌}
 use Rattle.gang_model.specs.declared.marks.Mark.{Mark}
 use Rattle.gang_model.specs.Source.Tokens.{Lexeme}
-use Rattle.ispc_parser_expressions.specs.declared.words.Words.{Words}
+use Rattle.ispc_parser_words.specs.declared.words.Words.{Words}
 use Rattle.ispc_lexer.specs.Options.{◌>>=◌, if_some}
-use Rattle.ispc_parser_expressions.specs.Parse.{spec_word, next_word}
-use Rattle.ispc_parser_expressions.specs.Words.{no_words, with_word, words_from, said, said_at}
+use Rattle.ispc_parser_words.specs.Words.{spec_word, next_word}
+use Rattle.ispc_parser_words.specs.Said.{no_words, with_word, words_from, said, said_at}
 use Rattle.std.proofs.lemmas.Option.{same_Some}
 
 word_step : (w : Words) (m : Mark) (ts after : List Lexeme) → next_word ts ≡ Some (m, after) → words_from w ts ≡ (with_word m w >>= λ more. words_from more after)

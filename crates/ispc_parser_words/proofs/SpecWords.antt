@@ -1,21 +1,16 @@
 -- The words that stand at the front of the tokens.
-use Rattle.std.proofs.Common.{◌≡◌, inl, inr, ℕ, suc, List, [], ◌∷◌, length, Option, Some, None, Bool, true, false, refl, ap, subst}
+use Rattle.std.proofs.Common.{◌≡◌, inl, inr, suc, ◌≤◌, List, [], ◌∷◌, length, Option, Some, None, Bool, true, false, refl, ap, subst, arith}
 use Rattle.std.specs.Prelude.{◌&&◌, not}
 use Rattle.gang_model.specs.declared.marks.Mark.{Mark}
 use Rattle.gang_model.specs.declared.forms.Spec.{Spec}
 use Rattle.gang_model.specs.Source.Tokens.{Sort, named, numbered, marked, Lexeme}
 use Rattle.gang_model.specs.Source.Specs.{has, is_spec_word, are_spec_words, spec_of}
 use Rattle.gang_model.specs.Source.Spells.{TakesWords}
-use Rattle.ispc_lexer.specs.declared.token.Token.{Token}
-use Rattle.ispc_lexer.specs.Views.{lexemes_of}
 use Rattle.ispc_lexer.specs.Options.{◌>>=◌, if_some}
-use Rattle.ispc_parser_expressions.specs.Parse.{spec_word, words_of, after_words, begins_word, next_word}
+use Rattle.ispc_parser_words.specs.Words.{spec_word, words_of, after_words, begins_word, next_word}
 use Rattle.std.proofs.lemmas.Option.{same_Some}
 use Rattle.ispc_lexer.proofs.Runs.{which}
-
-pub length-lexemes_of : (ts : List Token) → length (lexemes_of ts) ≡ length ts
-length-lexemes_of [] = refl
-length-lexemes_of (t ∷ ts) = ap (λ (n : ℕ). suc n) (length-lexemes_of ts)
+use Rattle.ispc_parser_words.proofs.Tokens.{takes_shorter}
 
 pub spec_word_is : (s : Sort) (w : Mark) → spec_word s ≡ Some w → (s ≡ marked w) × (is_spec_word w ≡ true)
 spec_word_is (marked m) w e =
@@ -105,3 +100,9 @@ words_begin (w ∷ ws) ts rest s h e =
     let all : are_spec_words (w ∷ ws) ≡ true = spec_of_words (w ∷ ws) s e in
     let word : is_spec_word w ≡ true = and_left (is_spec_word w) (not (has w ws)) (and_left (is_spec_word w && not (has w ws)) (are_spec_words ws) all) in
     rw (h.1.is, h.1.sort_is, word) refl
+
+-- ---- lengths
+
+pub words_shorter : (ws : List Mark) (ts rest : List Lexeme) → TakesWords ws ts rest → length rest ≤ length ts
+words_shorter [] ts rest h = omega (arith, ap length h)
+words_shorter (w ∷ ws) ts rest h = omega (arith, takes_shorter (marked w) ts h.0 h.1, words_shorter ws h.0 rest h.2)

@@ -1,7 +1,8 @@
 use Rattle.std.proofs.Common.{length, ap, sym, arith}
 use Rattle.ispc_lexer.specs.Views.{lexemes_of}
-use Rattle.ispc_parser_expressions.proofs.SpecWords.{length-lexemes_of, next_word_is}
-use Rattle.ispc_parser_expressions.proofs.words.spec_words.Goals as goal
+use Rattle.ispc_parser_words.proofs.Tokens.{length-lexemes_of}
+use Rattle.ispc_parser_words.proofs.SpecWords.{next_word_is}
+use Rattle.ispc_parser_words.proofs.words.spec_words.Goals as goal
 
 pub loop-after-smaller : goal.loop-after-smaller
 loop-after-smaller c =

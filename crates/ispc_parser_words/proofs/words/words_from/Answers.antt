@@ -1,8 +1,9 @@
 use Rattle.std.proofs.Common.{refl, sym, ◌∙◌, arith}
 use Rattle.ispc_lexer.specs.Views.{lexemes_of}
-use Rattle.ispc_parser_expressions.proofs.SpecWords.{length-lexemes_of, next_word_is}
-use Rattle.ispc_parser_expressions.proofs.WordSteps.{words_on, words_stop, words_end}
-use Rattle.ispc_parser_expressions.proofs.words.words_from.Goals as goal
+use Rattle.ispc_parser_words.proofs.Tokens.{length-lexemes_of}
+use Rattle.ispc_parser_words.proofs.SpecWords.{next_word_is}
+use Rattle.ispc_parser_words.proofs.WordSteps.{words_on, words_stop, words_end}
+use Rattle.ispc_parser_words.proofs.words.words_from.Goals as goal
 
 pub returns-in_default-with_word : goal.returns-in_default-with_word
 returns-in_default-with_word c =

@@ -2,10 +2,10 @@
 ghost use Rattle.std.specs.Prelude.{◌≡◌, Bool, true, false, Some, length, option_map};
 ghost use Rattle.ispc_lexer.specs.Views.{sort_of, lexemes_of};
 ghost use Rattle.gang_model.specs.Source.Specs as model;
-ghost use Rattle.ispc_parser_expressions.specs.Parse as spec;
-ghost use Rattle.ispc_parser_expressions.specs.Parse.{Gives};
-ghost use Rattle.ispc_parser_expressions.specs.Words as said_words;
-ghost use Rattle.ispc_parser_expressions.specs.Words.{said_at};
+ghost use Rattle.ispc_parser_words.specs.Front.{Gives};
+ghost use Rattle.ispc_parser_words.specs.Words as spec;
+ghost use Rattle.ispc_parser_words.specs.Said as said_words;
+ghost use Rattle.ispc_parser_words.specs.Said.{said_at};
 
 use crate::front::unexpected;
 use gang_model::{Mark, Spec};
@@ -14,16 +14,16 @@ use ispc_lexer::{Kind, Token};
 use source_answers::SourceFault;
 
 /// What the words read so far say.
-#[derive(Clone, Copy, Debug, PartialEq, Eq, Drop)]
-pub(crate) struct Words {
-    pub(crate) is_cast: bool,
-    pub(crate) is_exported: bool,
-    pub(crate) is_static: bool,
-    pub(crate) is_inline: bool,
-    pub(crate) is_constant: bool,
-    pub(crate) rate: Option<Rate>,
-    pub(crate) is_unsigned: bool,
-    pub(crate) type_word: Option<Mark>,
+#[derive(Clone, Copy, Drop)]
+struct Words {
+    is_cast: bool,
+    is_exported: bool,
+    is_static: bool,
+    is_inline: bool,
+    is_constant: bool,
+    rate: Option<Rate>,
+    is_unsigned: bool,
+    type_word: Option<Mark>,
 }
 
 fn is_type_word(mark: Mark) -> bool
@@ -114,8 +114,12 @@ pub fn take_spec(tokens: &[Token], end: Place) -> Result<(Spec, &[Token]), Sourc
     words_from(false, tokens, end)
 }
 
-/// The rate and the type of a cast.
-pub(crate) fn take_cast_spec(
+/// The rate and the type of a cast, which stand first, and the tokens after them.
+///
+/// # Errors
+///
+/// S3 as [`take_spec`] has it, and at a word that a cast cannot have.
+pub fn take_cast_spec(
     tokens: &[Token],
     end: Place,
 ) -> Result<(Option<Rate>, Option<IntType>, &[Token]), SourceFault>

@@ -1,8 +1,8 @@
 use Rattle.std.proofs.Common.{ap, ◌∙◌}
 use Rattle.std.proofs.lemmas.Result.{err_from_is_err_and}
 use Rattle.ispc_lexer.specs.Views.{lexemes_of}
-use Rattle.ispc_parser_expressions.proofs.SaidAll.{cast_from, cast_spec_at-said_at, cast_fails}
-use Rattle.ispc_parser_expressions.proofs.words.take_cast_spec.Goals as goal
+use Rattle.ispc_parser_words.proofs.SaidAll.{cast_from, cast_spec_at-said_at, cast_fails}
+use Rattle.ispc_parser_words.proofs.words.take_cast_spec.Goals as goal
 
 pub returns-in_err-spec : goal.returns-in_err-spec
 returns-in_err-spec c =

@@ -8,9 +8,9 @@ use Rattle.gang_model.specs.declared.marks.Mark.TheVariants as mark
 use Rattle.gang_model.specs.declared.forms.Spec.{Spec}
 use Rattle.gang_model.specs.Source.Tokens.{Lexeme}
 use Rattle.gang_model.specs.Source.Specs.{type_named, unsigned_named, type_from}
-use Rattle.ispc_parser_expressions.specs.declared.words.Words.{Words}
+use Rattle.ispc_parser_words.specs.declared.words.Words.{Words}
 use Rattle.ispc_lexer.specs.Options.{◌>>=◌, if_some}
-use Rattle.ispc_parser_expressions.specs.Parse.{spec_word}
+use Rattle.ispc_parser_words.specs.Words.{spec_word}
 
 abbrev pub no_words : (is_cast : Bool) → Words
 no_words is_cast = record {

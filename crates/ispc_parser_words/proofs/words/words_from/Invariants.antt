@@ -1,7 +1,7 @@
 use Rattle.std.proofs.Common.{◌≡◌, length}
 use Rattle.ispc_lexer.specs.Views.{lexemes_of}
-use Rattle.ispc_parser_expressions.specs.Words.{no_words, words_from}
-use Rattle.ispc_parser_expressions.proofs.words.words_from.Given as goal
+use Rattle.ispc_parser_words.specs.Said.{no_words, words_from}
+use Rattle.ispc_parser_words.proofs.words.words_from.Given as goal
 
 abbrev pub decreases-loop-word : goal.decreases-loop-word
 decreases-loop-word l = length l.rest
