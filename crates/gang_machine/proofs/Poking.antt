@@ -18,7 +18,6 @@ use Rattle.debug_machine.specs.Machines.{IsOneOf, IsPart, IsShown, file_variable
 use Rattle.debug_machine.specs.declared.machine.Shown.{Shown}
 use Rattle.mask_states.specs.Masked.{Masked}
 use Rattle.typed_tree.specs.Views.{program_view}
-use Rattle.gang_memory.specs.declared.layout.Layout.{Layout}
 use Rattle.machine_words.specs.declared.words.MachineWords.{MachineWords}
 use Rattle.machine_moves.specs.declared.compiled.CompiledProgram.{CompiledProgram}
 use Rattle.machine_moves.specs.Standing.{AreSound, IsShown as WordsShow, Records}

@@ -1,10 +1,9 @@
 -- What events leave of a machine.
-use Rattle.std.proofs.Common.{◌≡◌, ℕ, ◌≤◌, List, [], ◌∷◌, length, take, refl, ap, sym, subst, ◌∙◌, arith}
+use Rattle.std.proofs.Common.{◌≡◌, ℕ, [], ◌∷◌, ap, sym, subst, ◌∙◌, arith}
 use Rattle.std.specs.Prelude.{All}
 use Rattle.std.proofs.lemmas.List.Elements.{All-cons, All-head, All-tail, All-take}
 use Rattle.undo_log.specs.declared.timeline.Undone.{Undone}
-use Rattle.undo_log.specs.History.{History, Moment, moment, marked}
-use Rattle.gang_memory.specs.Recorded.{without_words}
+use Rattle.undo_log.specs.History.{History, moment, marked}
 use Rattle.gang_memory.specs.declared.layout.Layout.{Layout}
 use Rattle.gang_memory.specs.Layouts.{IsLayoutOf}
 use Rattle.machine_words.specs.declared.words.MachineWords.{MachineWords}

@@ -1,5 +1,5 @@
 -- What a step leaves of a machine.
-use Rattle.std.proofs.Common.{◌≡◌, refl, sym, ap, subst, ℕ, List, [], ◌∷◌}
+use Rattle.std.proofs.Common.{◌≡◌, sym, ap, subst, ℕ, List, ◌∷◌}
 use Rattle.undo_log.specs.declared.timeline.Undone.TheVariants as undone
 use Rattle.undo_log.specs.History.{History}
 use Rattle.gang_model.specs.Debugger.Debugger.{Debugger, Setting, moved}

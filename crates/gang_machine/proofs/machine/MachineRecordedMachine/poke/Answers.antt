@@ -2,7 +2,7 @@ use Rattle.std.proofs.Common.{subst, sym}
 use Rattle.undo_log.specs.declared.timeline.Undone.TheVariants as undone
 use Rattle.gang_machine.specs.Standings.{Stands}
 use Rattle.gang_machine.proofs.Poking.{shown_poked, stands_poked}
-use Rattle.gang_machine.proofs.Recording.{machine_recorded, words_recorded}
+use Rattle.gang_machine.proofs.Recording.{machine_recorded}
 use Rattle.gang_machine.proofs.machine.MachineRecordedMachine.poke.Goals as goal
 
 pub invariant_of-self : goal.invariant_of-self
