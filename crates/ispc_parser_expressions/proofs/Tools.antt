@@ -14,7 +14,7 @@ use Rattle.gang_model.specs.Source.Spells.{Takes, truth_mark, unary_mark, infix_
 use Rattle.ispc_parser_words.specs.Front.{mark_of}
 use Rattle.ispc_parser_expressions.specs.Parse.{unary_op, truth_of, infix_of, operator_at, spend}
 use Rattle.ispc_lexer.proofs.Runs.{bind_some, which}
-use Rattle.std.proofs.lemmas.Option.{same_Some}
+use Rattle.std.proofs.lemmas.Option.{none-some, same_Some}
 use Rattle.ispc_parser_words.proofs.Tokens.{mark_of_is}
 
 pub spend_is : (room left : ℕ) → spend room ≡ Some left → room ≡ suc left
@@ -28,7 +28,7 @@ unary_op_is mark.Minus op e = ap unary_mark (same_Some unary.Negate op e)
 unary_op_is mark.Plus op e = ap unary_mark (same_Some unary.Plus op e)
 unary_op_is mark.Exclamation op e = ap unary_mark (same_Some unary.Not op e)
 unary_op_is mark.Tilde op e = ap unary_mark (same_Some unary.Complement op e)
-unary_op_is _ op e = absurd cc
+unary_op_is _ op e = absurd (none-some op e)
 
 pub unary_op_again : (op : UnaryOp) → unary_op (unary_mark op) ≡ Some op
 unary_op_again unary.Negate = refl
@@ -39,7 +39,7 @@ unary_op_again unary.Complement = refl
 pub truth_of_is : (m : Mark) (v : Bool) → truth_of m ≡ Some v → m ≡ truth_mark v
 truth_of_is mark.True v e = ap truth_mark (same_Some true v e)
 truth_of_is mark.False v e = ap truth_mark (same_Some false v e)
-truth_of_is _ v e = absurd cc
+truth_of_is _ v e = absurd (none-some v e)
 
 pub infix_of_is : (m : Mark) (op : Infix) → infix_of m ≡ Some op → m ≡ infix_mark op
 infix_of_is mark.Plus op e = ap infix_mark (same_Some (Op binary.Add) op e)
@@ -60,7 +60,7 @@ infix_of_is mark.EqualEqual op e = ap infix_mark (same_Some (Op binary.Equal) op
 infix_of_is mark.NotEqual op e = ap infix_mark (same_Some (Op binary.NotEqual) op e)
 infix_of_is mark.AndAnd op e = ap infix_mark (same_Some AndAlso op e)
 infix_of_is mark.OrOr op e = ap infix_mark (same_Some OrElse op e)
-infix_of_is _ op e = absurd cc
+infix_of_is _ op e = absurd (none-some op e)
 
 pub infix_of_again : (op : Infix) → infix_of (infix_mark op) ≡ Some op
 infix_of_again (Op binary.Add) = refl

@@ -11,7 +11,7 @@ use source_answers::SourceFault;
 pub(crate) const MAX_OPERATORS: u32 = 256;
 
 /// What the operators of an argument count for.
-#[derive(Clone, Copy, Debug, PartialEq, Eq, Drop)]
+#[derive(Clone, Copy, Drop)]
 pub(crate) enum Budget {
     /// The expression that the call stands in.
     Shared,

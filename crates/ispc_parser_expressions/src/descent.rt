@@ -26,8 +26,8 @@ type Read<'a, T> = Result<(T, u32, &'a [Token]), SourceFault>;
 // Behind a `[` at this place, up to its `]`.
 #[cycle(expression)]
 #[tactic(auto, unfolding(crate::specs::Parse::bracket_of))]
-fn bracket(reader: Reader, place: Place, room: u32, tokens: &[Token]) -> Read<'_, Expr>
-    ensures { Gives (λ x. (expr_view x.0, x.1, lexemes_of x.2.now)) result (spec.bracket_of (parsers reader.depth) room (lexemes_of tokens.now)) }
+fn bracket(reader: Reader, place: Place, room: u32, tokens: &[Token]) -> Read<'_, Box<Expr>>
+    ensures { Gives (λ x. (expr_view x.0.value, x.1, lexemes_of x.2.now)) result (spec.bracket_of (parsers reader.depth) room (lexemes_of tokens.now)) }
 {
     let inner = open(reader, place)?;
     let (index, room, rest) = expr(inner, room, tokens)?;
@@ -44,8 +44,8 @@ fn after_name<'a>(
     name: &[u8],
     room: u32,
     tokens: &'a [Token],
-) -> Read<'a, Expr>
-    ensures { Gives (λ x. (expr_view x.0, x.1, lexemes_of x.2.now)) result (spec.name_of (parsers reader.depth) place name.now room (lexemes_of tokens.now)) }
+) -> Read<'a, Box<Expr>>
+    ensures { Gives (λ x. (expr_view x.0.value, x.1, lexemes_of x.2.now)) result (spec.name_of (parsers reader.depth) place name.now room (lexemes_of tokens.now)) }
 {
     if let Some(rest) = after(Mark::LeftParen, tokens) {
         let opening = place_of(tokens, reader.end);
@@ -67,8 +67,8 @@ fn call<'a>(
     opening: Place,
     room: u32,
     tokens: &'a [Token],
-) -> Read<'a, Expr>
-    ensures { Gives (λ x. (expr_view x.0, x.1, lexemes_of x.2.now)) result (spec.call_of (parsers reader.depth) place name.now room (lexemes_of tokens.now)) }
+) -> Read<'a, Box<Expr>>
+    ensures { Gives (λ x. (expr_view x.0.value, x.1, lexemes_of x.2.now)) result (spec.call_of (parsers reader.depth) place name.now room (lexemes_of tokens.now)) }
 {
     let room = spend(room, place)?;
     let inner = open(reader, opening)?;
@@ -86,8 +86,8 @@ fn index<'a>(
     opening: Place,
     room: u32,
     tokens: &'a [Token],
-) -> Read<'a, Expr>
-    ensures { Gives (λ x. (expr_view x.0, x.1, lexemes_of x.2.now)) result (spec.index_of (parsers reader.depth) place name.now room (lexemes_of tokens.now)) }
+) -> Read<'a, Box<Expr>>
+    ensures { Gives (λ x. (expr_view x.0.value, x.1, lexemes_of x.2.now)) result (spec.index_of (parsers reader.depth) place name.now room (lexemes_of tokens.now)) }
 {
     let room = spend(room, place)?;
     let (index, room, rest) = bracket(reader, opening, room, tokens)?;
@@ -97,8 +97,8 @@ fn index<'a>(
 // Behind a `(` at this place.
 #[cycle(expression)]
 #[tactic(auto, unfolding(crate::specs::Parse::group_of))]
-fn group(reader: Reader, place: Place, room: u32, tokens: &[Token]) -> Read<'_, Expr>
-    ensures { Gives (λ x. (expr_view x.0, x.1, lexemes_of x.2.now)) result (spec.group_of (parsers reader.depth) place room (lexemes_of tokens.now)) }
+fn group(reader: Reader, place: Place, room: u32, tokens: &[Token]) -> Read<'_, Box<Expr>>
+    ensures { Gives (λ x. (expr_view x.0.value, x.1, lexemes_of x.2.now)) result (spec.group_of (parsers reader.depth) place room (lexemes_of tokens.now)) }
 {
     let inner = open(reader, place)?;
     if begins_word(tokens) {
@@ -110,8 +110,8 @@ fn group(reader: Reader, place: Place, room: u32, tokens: &[Token]) -> Read<'_, 
 
 #[cycle(expression)]
 #[tactic(auto, unfolding(crate::specs::Parse::cast_of))]
-fn cast(inner: Reader, place: Place, room: u32, tokens: &[Token]) -> Read<'_, Expr>
-    ensures { Gives (λ x. (expr_view x.0, x.1, lexemes_of x.2.now)) result (spec.cast_of (within (parsers inner.depth)) place room (lexemes_of tokens.now)) }
+fn cast(inner: Reader, place: Place, room: u32, tokens: &[Token]) -> Read<'_, Box<Expr>>
+    ensures { Gives (λ x. (expr_view x.0.value, x.1, lexemes_of x.2.now)) result (spec.cast_of (within (parsers inner.depth)) place room (lexemes_of tokens.now)) }
 {
     let room = spend(room, place)?;
     let (rate, value_type, rest) = take_cast_spec(tokens, inner.end)?;
@@ -123,8 +123,8 @@ fn cast(inner: Reader, place: Place, room: u32, tokens: &[Token]) -> Read<'_, Ex
 
 #[cycle(expression)]
 #[tactic(auto, unfolding(crate::specs::Parse::paren_of))]
-fn paren(inner: Reader, place: Place, room: u32, tokens: &[Token]) -> Read<'_, Expr>
-    ensures { Gives (λ x. (expr_view x.0, x.1, lexemes_of x.2.now)) result (spec.paren_of (within (parsers inner.depth)) place room (lexemes_of tokens.now)) }
+fn paren(inner: Reader, place: Place, room: u32, tokens: &[Token]) -> Read<'_, Box<Expr>>
+    ensures { Gives (λ x. (expr_view x.0.value, x.1, lexemes_of x.2.now)) result (spec.paren_of (within (parsers inner.depth)) place room (lexemes_of tokens.now)) }
 {
     let (inside, room, rest) = expr(inner, room, tokens)?;
     let rest = take(Mark::RightParen, rest, inner.end)?;
@@ -139,8 +139,8 @@ fn unary(
     operator: UnaryOp,
     room: u32,
     tokens: &[Token],
-) -> Read<'_, Expr>
-    ensures { Gives (λ x. (expr_view x.0, x.1, lexemes_of x.2.now)) result (spec.unary_of (parsers reader.depth) place operator room (lexemes_of tokens.now)) }
+) -> Read<'_, Box<Expr>>
+    ensures { Gives (λ x. (expr_view x.0.value, x.1, lexemes_of x.2.now)) result (spec.unary_of (parsers reader.depth) place operator room (lexemes_of tokens.now)) }
 {
     let inner = open(reader, place)?;
     let room = spend(room, place)?;
@@ -155,17 +155,14 @@ fn unary(
 /// A unary expression.
 #[cycle(expression)]
 #[tactic(auto, unfolding(crate::specs::Parse::operand_of))]
-fn operand(reader: Reader, room: u32, tokens: &[Token]) -> Read<'_, Expr>
-    ensures { Gives (λ x. (expr_view x.0, x.1, lexemes_of x.2.now)) result (spec.operand_of (parsers reader.depth) room (lexemes_of tokens.now)) }
+fn operand(reader: Reader, room: u32, tokens: &[Token]) -> Read<'_, Box<Expr>>
+    ensures { Gives (λ x. (expr_view x.0.value, x.1, lexemes_of x.2.now)) result (spec.operand_of (parsers reader.depth) room (lexemes_of tokens.now)) }
 {
     match tokens {
         [] => Err(unexpected(tokens, reader.end)),
         [first, rest @ ..] => match &first.kind {
             Kind::Number(number) => {
-                let node = Expr::Number {
-                    place: first.place,
-                    number: *number,
-                };
+                let node = nodes::number(reader.alloc, first.place, *number)?;
                 Ok((node, room, rest))
             }
             Kind::Name(name) => after_name(reader, first.place, name.as_slice(), room, rest),
@@ -177,14 +174,20 @@ fn operand(reader: Reader, room: u32, tokens: &[Token]) -> Read<'_, Expr>
 // Behind a mark at this place.
 #[cycle(expression)]
 #[tactic(auto, unfolding(crate::specs::Parse::marked_of))]
-fn marked(reader: Reader, place: Place, mark: Mark, room: u32, tokens: &[Token]) -> Read<'_, Expr>
-    ensures { Gives (λ x. (expr_view x.0, x.1, lexemes_of x.2.now)) result (spec.marked_of (parsers reader.depth) place mark room (lexemes_of tokens.now)) }
+fn marked(
+    reader: Reader,
+    place: Place,
+    mark: Mark,
+    room: u32,
+    tokens: &[Token],
+) -> Read<'_, Box<Expr>>
+    ensures { Gives (λ x. (expr_view x.0.value, x.1, lexemes_of x.2.now)) result (spec.marked_of (parsers reader.depth) place mark room (lexemes_of tokens.now)) }
 {
     if let Some(operator) = unary_op(mark) {
         return unary(reader, place, operator, room, tokens);
     }
     if let Some(value) = truth_of(mark) {
-        return Ok((Expr::Truth { place, value }, room, tokens));
+        return Ok((nodes::truth(reader.alloc, place, value)?, room, tokens));
     }
     if mark == Mark::LeftParen {
         return group(reader, place, room, tokens);
@@ -194,9 +197,9 @@ fn marked(reader: Reader, place: Place, mark: Mark, room: u32, tokens: &[Token])
 
 /// The binary operators of so many levels, from the tightest.
 #[cycle(expression)]
-fn binary(reader: Reader, levels: u8, room: u32, tokens: &[Token]) -> Read<'_, Expr>
+fn binary(reader: Reader, levels: u8, room: u32, tokens: &[Token]) -> Read<'_, Box<Expr>>
     requires { levels ≤ 10 }
-    ensures { Gives (λ x. (expr_view x.0, x.1, lexemes_of x.2.now)) result (spec.binary_of (parsers reader.depth) levels room (lexemes_of tokens.now)) }
+    ensures { Gives (λ x. (expr_view x.0.value, x.1, lexemes_of x.2.now)) result (spec.binary_of (parsers reader.depth) levels room (lexemes_of tokens.now)) }
 {
     if levels == 0 {
         return operand(reader, room, tokens);
@@ -215,8 +218,8 @@ fn binary(reader: Reader, levels: u8, room: u32, tokens: &[Token]) -> Read<'_, E
 /// An expression.
 #[cycle(expression)]
 #[tactic(auto, unfolding(crate::specs::Parse::expr_of))]
-pub(crate) fn expr(reader: Reader, room: u32, tokens: &[Token]) -> Read<'_, Expr>
-    ensures { Gives (λ x. (expr_view x.0, x.1, lexemes_of x.2.now)) result (spec.expr_of (parsers reader.depth) room (lexemes_of tokens.now)) }
+pub(crate) fn expr(reader: Reader, room: u32, tokens: &[Token]) -> Read<'_, Box<Expr>>
+    ensures { Gives (λ x. (expr_view x.0.value, x.1, lexemes_of x.2.now)) result (spec.expr_of (parsers reader.depth) room (lexemes_of tokens.now)) }
 {
     let (test, room, rest) = binary(reader, 10, room, tokens)?;
     match after(Mark::Question, rest) {
@@ -228,8 +231,14 @@ pub(crate) fn expr(reader: Reader, room: u32, tokens: &[Token]) -> Read<'_, Expr
 // Behind a `?` at this place.
 #[cycle(expression)]
 #[tactic(auto, unfolding(crate::specs::Parse::choice_of))]
-fn choice(reader: Reader, test: Expr, place: Place, room: u32, tokens: &[Token]) -> Read<'_, Expr>
-    ensures { Gives (λ x. (expr_view x.0, x.1, lexemes_of x.2.now)) result (spec.choice_of (parsers reader.depth) (expr_view test) room (lexemes_of tokens.now)) }
+fn choice(
+    reader: Reader,
+    test: Box<Expr>,
+    place: Place,
+    room: u32,
+    tokens: &[Token],
+) -> Read<'_, Box<Expr>>
+    ensures { Gives (λ x. (expr_view x.0.value, x.1, lexemes_of x.2.now)) result (spec.choice_of (parsers reader.depth) (expr_view test.value) room (lexemes_of tokens.now)) }
 {
     let inner = open(reader, place)?;
     let room = spend(room, place)?;
@@ -274,7 +283,7 @@ fn arg(reader: Reader, room: u32, tokens: &[Token]) -> Read<'_, Arg>
         return part(reader, room, rest);
     }
     let (value, room, rest) = expr(reader, room, tokens)?;
-    Ok((Arg::Value(value), room, rest))
+    Ok((nodes::value_arg(value), room, rest))
 }
 
 #[cycle(expression)]

@@ -1,32 +1,50 @@
-//! Nodes of the tree, with their children in boxes.
+//! Nodes of the tree in boxes, made of their children's boxes.
 ghost use Rattle.std.specs.Prelude.{◌≡◌, IfOk};
-ghost use Rattle.gang_model.specs.Source.Parsed.{ParsedName, ParsedIndex, ParsedCall, ParsedParen, ParsedUnary, ParsedCast, ParsedBinary, ParsedChoice};
-ghost use Rattle.source_tree.specs.Expressions.{expr_view, arg_view, args_view, OfPart, OfPartFrom};
+ghost use Rattle.gang_model.specs.Source.Parsed.{ParsedNumber, ParsedBool, ParsedName, ParsedIndex, ParsedCall, ParsedParen, ParsedUnary, ParsedCast, ParsedBinary, ParsedChoice};
+ghost use Rattle.source_tree.specs.Expressions.{expr_view, arg_view, args_view, OfValue, OfPart, OfPartFrom};
 
 use gang_model::Infix;
 use gang_types::{IntType, Place, Rate, UnaryOp};
+use ispc_lexer::Number;
 use source_answers::boxed;
 use source_tree::{Arg, Expr};
 use std::alloc::{AllocError, Global};
 
-pub(crate) fn name(alloc: Global, place: Place, name: &[u8]) -> Result<Expr, AllocError>
-    ensures { IfOk result (λ e. expr_view e ≡ ParsedName place name.now) }
+fn in_box(alloc: Global, expr: Expr) -> Result<Box<Expr>, AllocError>
+    ensures { IfOk result (λ node. node.value ≡ expr) }
+{
+    boxed(alloc, expr)
+}
+
+pub(crate) fn number(alloc: Global, place: Place, number: Number) -> Result<Box<Expr>, AllocError>
+    ensures { IfOk result (λ node. expr_view node.value ≡ ParsedNumber place number.value number.is_unsigned number.is_long) }
+{
+    in_box(alloc, Expr::Number { place, number })
+}
+
+pub(crate) fn truth(alloc: Global, place: Place, value: bool) -> Result<Box<Expr>, AllocError>
+    ensures { IfOk result (λ node. expr_view node.value ≡ ParsedBool place value) }
+{
+    in_box(alloc, Expr::Truth { place, value })
+}
+
+pub(crate) fn name(alloc: Global, place: Place, name: &[u8]) -> Result<Box<Expr>, AllocError>
+    ensures { IfOk result (λ node. expr_view node.value ≡ ParsedName place name.now) }
 {
     let name = name.to_vec(alloc)?;
-    Ok(Expr::Name { place, name })
+    in_box(alloc, Expr::Name { place, name })
 }
 
 pub(crate) fn index(
     alloc: Global,
     place: Place,
     name: &[u8],
-    index: Expr,
-) -> Result<Expr, AllocError>
-    ensures { IfOk result (λ e. expr_view e ≡ ParsedIndex place name.now (expr_view index)) }
+    index: Box<Expr>,
+) -> Result<Box<Expr>, AllocError>
+    ensures { IfOk result (λ node. expr_view node.value ≡ ParsedIndex place name.now (expr_view index.value)) }
 {
     let name = name.to_vec(alloc)?;
-    let index = boxed(alloc, index)?;
-    Ok(Expr::Index { place, name, index })
+    in_box(alloc, Expr::Index { place, name, index })
 }
 
 pub(crate) fn call(
@@ -34,11 +52,11 @@ pub(crate) fn call(
     place: Place,
     name: &[u8],
     args: Vec<Arg>,
-) -> Result<Expr, AllocError>
-    ensures { IfOk result (λ e. expr_view e ≡ ParsedCall place name.now (args_view args.items)) }
+) -> Result<Box<Expr>, AllocError>
+    ensures { IfOk result (λ node. expr_view node.value ≡ ParsedCall place name.now (args_view args.items)) }
 {
     let name = name.to_vec(alloc)?;
-    Ok(call_of(place, name, args))
+    in_box(alloc, call_of(place, name, args))
 }
 
 fn call_of(place: Place, name: Vec<u8>, args: Vec<Arg>) -> Expr
@@ -47,27 +65,28 @@ fn call_of(place: Place, name: Vec<u8>, args: Vec<Arg>) -> Expr
     Expr::Call { place, name, args }
 }
 
-pub(crate) fn paren(alloc: Global, place: Place, inner: Expr) -> Result<Expr, AllocError>
-    ensures { IfOk result (λ e. expr_view e ≡ ParsedParen place (expr_view inner)) }
+pub(crate) fn paren(alloc: Global, place: Place, inner: Box<Expr>) -> Result<Box<Expr>, AllocError>
+    ensures { IfOk result (λ node. expr_view node.value ≡ ParsedParen place (expr_view inner.value)) }
 {
-    let inner = boxed(alloc, inner)?;
-    Ok(Expr::Paren { place, inner })
+    in_box(alloc, Expr::Paren { place, inner })
 }
 
 pub(crate) fn unary(
     alloc: Global,
     place: Place,
     operator: UnaryOp,
-    operand: Expr,
-) -> Result<Expr, AllocError>
-    ensures { IfOk result (λ e. expr_view e ≡ ParsedUnary place operator (expr_view operand)) }
+    operand: Box<Expr>,
+) -> Result<Box<Expr>, AllocError>
+    ensures { IfOk result (λ node. expr_view node.value ≡ ParsedUnary place operator (expr_view operand.value)) }
 {
-    let operand = boxed(alloc, operand)?;
-    Ok(Expr::Unary {
-        place,
-        operator,
-        operand,
-    })
+    in_box(
+        alloc,
+        Expr::Unary {
+            place,
+            operator,
+            operand,
+        },
+    )
 }
 
 pub(crate) fn cast(
@@ -75,52 +94,61 @@ pub(crate) fn cast(
     place: Place,
     rate: Option<Rate>,
     value_type: Option<IntType>,
-    operand: Expr,
-) -> Result<Expr, AllocError>
-    ensures { IfOk result (λ e. expr_view e ≡ ParsedCast place rate value_type (expr_view operand)) }
+    operand: Box<Expr>,
+) -> Result<Box<Expr>, AllocError>
+    ensures { IfOk result (λ node. expr_view node.value ≡ ParsedCast place rate value_type (expr_view operand.value)) }
 {
-    let operand = boxed(alloc, operand)?;
-    Ok(Expr::Cast {
-        place,
-        rate,
-        value_type,
-        operand,
-    })
+    in_box(
+        alloc,
+        Expr::Cast {
+            place,
+            rate,
+            value_type,
+            operand,
+        },
+    )
 }
 
 pub(crate) fn binary(
     alloc: Global,
     operator: Infix,
-    left: Expr,
-    right: Expr,
-) -> Result<Expr, AllocError>
-    ensures { IfOk result (λ e. expr_view e ≡ ParsedBinary operator (expr_view left) (expr_view right)) }
+    left: Box<Expr>,
+    right: Box<Expr>,
+) -> Result<Box<Expr>, AllocError>
+    ensures { IfOk result (λ node. expr_view node.value ≡ ParsedBinary operator (expr_view left.value) (expr_view right.value)) }
 {
-    let left = boxed(alloc, left)?;
-    let right = boxed(alloc, right)?;
-    Ok(Expr::Binary {
-        operator,
-        left,
-        right,
-    })
+    in_box(
+        alloc,
+        Expr::Binary {
+            operator,
+            left,
+            right,
+        },
+    )
 }
 
 pub(crate) fn choice(
     alloc: Global,
-    test: Expr,
-    first: Expr,
-    second: Expr,
-) -> Result<Expr, AllocError>
-    ensures { IfOk result (λ e. expr_view e ≡ ParsedChoice (expr_view test) (expr_view first) (expr_view second)) }
+    test: Box<Expr>,
+    first: Box<Expr>,
+    second: Box<Expr>,
+) -> Result<Box<Expr>, AllocError>
+    ensures { IfOk result (λ node. expr_view node.value ≡ ParsedChoice (expr_view test.value) (expr_view first.value) (expr_view second.value)) }
 {
-    let test = boxed(alloc, test)?;
-    let first = boxed(alloc, first)?;
-    let second = boxed(alloc, second)?;
-    Ok(Expr::Choice {
-        test,
-        first,
-        second,
-    })
+    in_box(
+        alloc,
+        Expr::Choice {
+            test,
+            first,
+            second,
+        },
+    )
+}
+
+pub(crate) fn value_arg(value: Box<Expr>) -> Arg
+    ensures { arg_view result ≡ OfValue (expr_view value.value) }
+{
+    Arg::Value(Box::into_inner(value))
 }
 
 pub(crate) fn part(alloc: Global, place: Place, name: &[u8]) -> Result<Arg, AllocError>
@@ -134,10 +162,11 @@ pub(crate) fn part_from(
     alloc: Global,
     place: Place,
     name: &[u8],
-    index: Expr,
+    index: Box<Expr>,
 ) -> Result<Arg, AllocError>
-    ensures { IfOk result (λ a. arg_view a ≡ OfPartFrom place name.now (expr_view index)) }
+    ensures { IfOk result (λ a. arg_view a ≡ OfPartFrom place name.now (expr_view index.value)) }
 {
     let name = name.to_vec(alloc)?;
+    let index = Box::into_inner(index);
     Ok(Arg::PartFrom { place, name, index })
 }

@@ -33,7 +33,7 @@ pub fn expression(
 {
     let reader = Reader { alloc, end, depth };
     let (expression, _, rest) = expr(reader, MAX_OPERATORS, tokens)?;
-    Ok((expression, rest))
+    Ok((Box::into_inner(expression), rest))
 }
 
 /// The arguments of a call that is a statement, up to its `)`, with so many nestings left inside the parentheses.

@@ -21,7 +21,7 @@ binary-returns-in_err-left t c =
 
 pub binary-loop-operator-init : goal.binary-loop-operator-init
 binary-loop-operator-init t c =
-    chains_start (parsers c.args.reader.depth) c.args.levels c.args.room (lexemes_of c.args.tokens.now) (expr_view c.in_ok-left.left) c.in_ok-left.remaining (lexemes_of c.in_ok-left.rest.now) c.if-levels-eq0.false c.in_ok-left.ensures
+    chains_start (parsers c.args.reader.depth) c.args.levels c.args.room (lexemes_of c.args.tokens.now) (expr_view c.in_ok-left.left.value) c.in_ok-left.remaining (lexemes_of c.in_ok-left.rest.now) c.if-levels-eq0.false c.in_ok-left.ensures
 
 pub binary-returns-in_err-less : goal.binary-returns-in_err-less
 binary-returns-in_err-less t c =
@@ -37,7 +37,7 @@ pub binary-loop-operator-smaller : goal.binary-loop-operator-smaller
 binary-loop-operator-smaller t c =
     omega (
       arith,
-      binary_shorter c.args.reader.depth c.right_levels.result c.in_ok-less.less (lexemes_of c.in-Some.after.now) (expr_view c.in_ok-right.right) c.in_ok-right.less (lexemes_of c.in_ok-right.after.now) c.in_ok-right.ensures,
+      binary_shorter c.args.reader.depth c.right_levels.result c.in_ok-less.less (lexemes_of c.in-Some.after.now) (expr_view c.in_ok-right.right.value) c.in_ok-right.less (lexemes_of c.in_ok-right.after.now) c.in_ok-right.ensures,
       takes_shorter _ (lexemes_of c.loop-operator.rest.now) (lexemes_of c.in-Some.after.now) (operator_takes (c.args.levels - 1) (lexemes_of c.loop-operator.rest.now) c.in-Some.operator (lexemes_of c.in-Some.after.now) (sym c.in-Some.ensures)).1,
       length-lexemes_of c.loop-operator.rest.now,
       length-lexemes_of c.in_ok-right.after.now,
@@ -45,9 +45,9 @@ binary-loop-operator-smaller t c =
 
 pub binary-loop-operator-preserved : goal.binary-loop-operator-preserved
 binary-loop-operator-preserved t c =
-    let shorter = binary_shorter c.args.reader.depth c.right_levels.result c.in_ok-less.less (lexemes_of c.in-Some.after.now) (expr_view c.in_ok-right.right) c.in_ok-right.less (lexemes_of c.in_ok-right.after.now) c.in_ok-right.ensures in
+    let shorter = binary_shorter c.args.reader.depth c.right_levels.result c.in_ok-less.less (lexemes_of c.in-Some.after.now) (expr_view c.in_ok-right.right.value) c.in_ok-right.less (lexemes_of c.in_ok-right.after.now) c.in_ok-right.ensures in
     rw c.in_ok-left-2.ensures
-    (chains_on _ _ _ _ _ _ c.loop-operator.invariant c.in-Some.operator (lexemes_of c.in-Some.after.now) (sym c.in-Some.ensures) c.in_ok-less.less (expr_view c.in_ok-right.right) c.in_ok-right.less (lexemes_of c.in_ok-right.after.now)
+    (chains_on _ _ _ _ _ _ c.loop-operator.invariant c.in-Some.operator (lexemes_of c.in-Some.after.now) (sym c.in-Some.ensures) c.in_ok-less.less (expr_view c.in_ok-right.right.value) c.in_ok-right.less (lexemes_of c.in_ok-right.after.now)
     c.in_ok-less.ensures (rw c.right_levels.ensures at c.in_ok-right.ensures) shorter)
 
 pub binary-returns : goal.binary-returns

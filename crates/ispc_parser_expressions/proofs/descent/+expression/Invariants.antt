@@ -58,7 +58,7 @@ decreases-args l = 32 * l.reader.depth + 18
 
 abbrev pub invariant-binary-loop-operator : goal.invariant-binary-loop-operator
 invariant-binary-loop-operator l =
-    Chains (binary_of (parsers l.reader.depth) (l.levels - 1)) (l.levels - 1) (expr_view l.left) l.remaining (lexemes_of l.rest) (binary_of (parsers l.reader.depth) l.levels l.room (lexemes_of l.tokens))
+    Chains (binary_of (parsers l.reader.depth) (l.levels - 1)) (l.levels - 1) (expr_view l.left.value) l.remaining (lexemes_of l.rest) (binary_of (parsers l.reader.depth) l.levels l.room (lexemes_of l.tokens))
 
 abbrev pub decreases-binary-loop-operator : goal.decreases-binary-loop-operator
 decreases-binary-loop-operator l = length l.rest
