@@ -16,7 +16,7 @@ use Rattle.gang_model.specs.Source.Tokens.{Lexeme}
 use Rattle.source_answers.specs.declared.fault.SourceFault.{SourceFault}
 use Rattle.source_answers.specs.declared.fault.SourceFault.TheVariants.{Memory, Refused}
 use Rattle.ispc_lexer.specs.Refusal.{IsRefusal as IsLexerRefusal}
-use Rattle.ispc_parser.specs.Refusals.{IsRefusal as IsParserRefusal}
+use Rattle.ispc_parser_front.specs.Refusals.{IsRefusal as IsParserRefusal}
 use Rattle.ispc_parser_words.specs.Front.{IsParserNumber}
 use Rattle.plain_programs.specs.Sources.{HasVariablesOf, plain_forms}
 use Rattle.plain_programs.proofs.RunnableSources.{entry_text, no_parameters, runnable_text}

@@ -10,8 +10,8 @@ use Rattle.ispc_lexer.specs.declared.token.Token.{Token}
 use Rattle.ispc_lexer.specs.Views.{lexemes_of}
 use Rattle.ispc_lexer.specs.Options.{◌>>=◌}
 use Rattle.ispc_parser_expressions.specs.Parse.{Fails}
+use Rattle.ispc_parser_front.proofs.Fails.{fails_when}
 use Rattle.ispc_parser.specs.Source.{is_empty, item_of, items_of}
-use Rattle.ispc_parser.proofs.Fails.{fails_when}
 
 -- what was read before, and what is still read
 abbrev pub with_items : ParsedSource → Option ParsedSource → Option ParsedSource

@@ -1,16 +1,4 @@
-pub mod Fails
-pub mod Lists
-pub mod Sequences
 pub mod Items
-pub mod Tokens
-pub mod Lengths
-pub mod PartsSound
-pub mod PartsComplete
-pub mod InsideHeads
-pub mod HeadsSound
-pub mod HeadsComplete
-pub mod StatementsSound
-pub mod StatementsComplete
 pub mod SourceSound
 pub mod SourceComplete
 pub mod Whole

@@ -18,12 +18,14 @@ use Rattle.ispc_parser_expressions.proofs.Tools.{mark_is, take_takes, take_again
 use Rattle.ispc_parser_expressions.proofs.Starts.{takes_at, takes_shorter, at_shorter}
 use Rattle.ispc_parser_expressions.proofs.SpecWords.{words_again, words_begin}
 use Rattle.ispc_parser_expressions.proofs.Follows.{take_none, not_begins}
-use Rattle.ispc_parser.specs.Statements.{ends_block, parsers}
-use Rattle.ispc_parser.specs.Source.{brackets_of, param_of, lone_void, some_params_of, params_of, function_body_of, function_of, number_of, literal_of, form_of, global_of, declared_of, outer_spec_of, item_of, is_empty, items_of, tree_of}
-use Rattle.ispc_parser.proofs.Tokens.{other_first, take_at_again, name_again, spec_again, local_spec_again}
-use Rattle.ispc_parser.proofs.Lengths.{spec_shorter, list_shorter, stmts_shorter}
-use Rattle.ispc_parser.proofs.HeadsComplete.{word_first, list_complete}
-use Rattle.ispc_parser.proofs.StatementsComplete.{stmts_complete, parsers_complete}
+use Rattle.ispc_parser_front.specs.SpecWords.{outer_spec_of}
+use Rattle.ispc_parser_front.proofs.Tokens.{other_first, take_at_again, name_again}
+use Rattle.ispc_parser_front.proofs.SpecTokens.{spec_again, local_spec_again, word_first}
+use Rattle.ispc_parser_front.proofs.Lengths.{spec_shorter, list_shorter, stmts_shorter}
+use Rattle.ispc_parser_front.proofs.CommaLists.{list_complete}
+use Rattle.ispc_parser_statements.specs.Statements.{ends_block, parsers}
+use Rattle.ispc_parser_statements.proofs.StatementsComplete.{stmts_complete, parsers_complete}
+use Rattle.ispc_parser.specs.Source.{brackets_of, param_of, lone_void, some_params_of, params_of, function_body_of, function_of, number_of, literal_of, form_of, global_of, declared_of, item_of, is_empty, items_of, tree_of}
 
 -- ---- parameters
 

@@ -14,12 +14,14 @@ use Rattle.gang_model.specs.Source.SpellsStatements.{SpellsSpec, SpellsList, Spe
 use Rattle.gang_model.specs.Source.SpellsSource.{max_nesting, max_params, SpellsEmptyBrackets, SpellsParam, SpellsParams, SpellsLiteral, SpellsForm, SpellsItem, IsTree}
 use Rattle.ispc_parser_expressions.specs.Parse.{begins, take, spec_at}
 use Rattle.ispc_parser_expressions.proofs.Tools.{take_takes}
-use Rattle.ispc_parser.specs.Parts.{take_at, name_of, local_spec_of}
-use Rattle.ispc_parser.specs.Statements.{within, parsers}
-use Rattle.ispc_parser.specs.Source.{brackets_of, param_of, some_params_of, lone_void, params_of, Body, function_body_of, function_of, Digits, digits_in, number_of, signed, literal_of, form_of, global_of, declared_of, is_outer, outer_spec_of, item_of, is_empty, items_of, tree_of}
-use Rattle.ispc_parser.proofs.Tokens.{take_at_sound, name_sound, spec_sound, local_spec_sound}
-use Rattle.ispc_parser.proofs.HeadsSound.{list_sound}
-use Rattle.ispc_parser.proofs.StatementsSound.{within_sound, parsers_sound}
+use Rattle.ispc_parser_front.specs.Front.{take_at, name_of}
+use Rattle.ispc_parser_front.specs.SpecWords.{local_spec_of, is_outer, outer_spec_of}
+use Rattle.ispc_parser_front.proofs.Tokens.{take_at_sound, name_sound}
+use Rattle.ispc_parser_front.proofs.SpecTokens.{spec_sound, local_spec_sound}
+use Rattle.ispc_parser_front.proofs.CommaLists.{list_sound}
+use Rattle.ispc_parser_statements.specs.Statements.{within, parsers}
+use Rattle.ispc_parser_statements.proofs.StatementsSound.{within_sound, parsers_sound}
+use Rattle.ispc_parser.specs.Source.{brackets_of, param_of, some_params_of, lone_void, params_of, Body, function_body_of, function_of, Digits, digits_in, number_of, signed, literal_of, form_of, global_of, declared_of, item_of, is_empty, items_of, tree_of}
 use Rattle.std.proofs.lemmas.Option.{same_Some}
 use Rattle.ispc_lexer.proofs.Runs.{which, bind_some, chosen}
 
@@ -194,15 +196,6 @@ module _ (spec : Spec) (at : Place) (n : Name) (all a b : List Lexeme) (words : 
       ]
 
 -- ---- sources
-
-outer_spec_sound : (s : Spec) (ts rest : List Lexeme) → outer_spec_of ts ≡ Some (s, rest) → SpellsSpec s ts rest
-unfolding outer_spec_of
-outer_spec_sound s ts rest e =
-    let q = bind_some (spec_at ts) _ (s, rest) e in
-    elim (which (is_outer q.0.0) _ _ (Some (s, rest)) q.2) [
-      | inl p ↦ subst (λ (y : Spec × List Lexeme). SpellsSpec y.0 ts y.1) (same_Some q.0 (s, rest) p.1) (spec_sound q.0.0 ts q.0.1 q.1)
-      | inr p ↦ let no_value = p.1 in absurd cc
-    ]
 
 item_sound : (x : ParsedItem) (ts rest : List Lexeme) → item_of ts ≡ Some (x, rest) → SpellsItem x ts rest
 unfolding item_of

@@ -1,5 +1,1 @@
-pub mod Parts
-pub mod Heads
-pub mod Statements
 pub mod Source
-pub mod Refusals

@@ -1,5 +1,5 @@
 -- The functions and file-scope variables of the tokens, by descent.
-use Rattle.std.specs.Prelude.{ℕ, zero, suc, Bool, true, false, not, ◌||◌, ◌&&◌, List, [], ◌∷◌, length, Option, Some, None, if◌then◌else◌}
+use Rattle.std.specs.Prelude.{ℕ, zero, suc, Bool, true, false, ◌||◌, List, [], ◌∷◌, length, Option, Some, None, if◌then◌else◌}
 use Rattle.gang_types.specs.declared.places.Place.{Place}
 use Rattle.gang_model.specs.declared.marks.Mark.TheVariants as mark
 use Rattle.gang_model.specs.declared.forms.Spec.{Spec}
@@ -11,12 +11,13 @@ use Rattle.gang_model.specs.Source.Tokens.{Sort, numbered, Lexeme}
 use Rattle.gang_model.specs.Source.SpellsSource.{max_params}
 use Rattle.gang_model.specs.Source.Parsed.{Name, ParsedStmts, ParsedParam, ParsedItem, ParsedFunctionItem, ParsedGlobalItem, ParsedSource}
 use Rattle.ispc_lexer.specs.Options.{◌>>=◌, if_some}
-use Rattle.ispc_parser_expressions.specs.Parse.{begins, take, spec_at}
+use Rattle.ispc_parser_expressions.specs.Parse.{begins, take}
 use Rattle.ispc_lexer.specs.declared.token.Number.{Number}
 use Rattle.ispc_parser.specs.declared.source.Body.{Body as WrittenBody}
 use Rattle.source_tree.specs.Tree.{stmts_view}
-use Rattle.ispc_parser.specs.Parts.{Reader, take_at, name_of, list_of, local_spec_of}
-use Rattle.ispc_parser.specs.Statements.{within, parsers}
+use Rattle.ispc_parser_front.specs.Front.{Reader, take_at, name_of, list_of}
+use Rattle.ispc_parser_front.specs.SpecWords.{local_spec_of, outer_spec_of}
+use Rattle.ispc_parser_statements.specs.Statements.{within, parsers}
 
 -- ---- functions
 
@@ -102,14 +103,6 @@ unfoldable pub declared_of : Spec → Place → Name → Reader ParsedItem
 declared_of spec at n ts =
     if begins mark.LeftParen ts then (if spec.is_constant then None else function_of spec at n ts)
     else (if spec.is_exported || spec.is_inline then None else global_of spec at n ts)
-
--- no function and no variable has both `const` and `export` or `inline`
-abbrev pub is_outer : Spec → Bool
-is_outer s = not (s.is_constant && (s.is_exported || s.is_inline))
-
--- the words before the name of a function or a file-scope variable
-unfoldable pub outer_spec_of : Reader Spec
-outer_spec_of ts = spec_at ts >>= λ s. if is_outer s.0 then Some s else None
 
 unfoldable pub item_of : Reader ParsedItem
 item_of ts = outer_spec_of ts >>= λ s. name_of s.1 >>= λ n. declared_of s.0 n.0.0 n.0.1 n.1

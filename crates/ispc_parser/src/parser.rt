@@ -5,13 +5,13 @@ ghost use Rattle.gang_model.specs.Source.SpellsSource.{IsTree};
 ghost use Rattle.ispc_lexer.specs.Views.{lexemes_of};
 ghost use Rattle.ispc_parser_expressions.specs.Parse.{Gives};
 ghost use Rattle.source_tree.specs.Tree.{tree_view};
+ghost use Rattle.ispc_parser_front.specs.Refusals.{IsRefusal};
 ghost use Rattle.ispc_parser.specs.Source.{tree_of};
-ghost use Rattle.ispc_parser.specs.Refusals.{IsRefusal};
 
-use crate::front::Context;
 use crate::source::items;
 use gang_types::Place;
 use ispc_lexer::Token;
+use ispc_parser_front::Context;
 use source_answers::SourceFault;
 use source_tree::Tree;
 use std::alloc::Global;

@@ -3,18 +3,19 @@ ghost use Rattle.std.specs.Prelude.{◌≡◌, map, option_map};
 ghost use Rattle.ispc_lexer.specs.Views.{sort_of, lexemes_of};
 ghost use Rattle.ispc_parser_expressions.specs.Parse.{Gives};
 ghost use Rattle.source_tree.specs.Tree.{param_view, item_view};
-ghost use Rattle.ispc_parser.specs.Parts.{name_view};
+ghost use Rattle.ispc_parser_front.specs.Front.{name_view};
+ghost use Rattle.ispc_parser_front.specs.Refusals.{IsRefusal};
 ghost use Rattle.ispc_parser.specs.Source as spec;
 ghost use Rattle.ispc_parser.specs.Source.{body_view, digits_view, function_of, global_of, declared_of};
-ghost use Rattle.ispc_parser.specs.Refusals.{IsRefusal};
 
-use crate::front::{Context, Identifier, Read, name, refused_at, take_at};
-use crate::misfits::{local_spec, outer_spec};
-use crate::statements::stmts;
 use gang_model::{GlobalForm, Literal, Mark, RefusalNumber, Spec};
 use gang_types::Place;
 use ispc_lexer::{Kind, Number, Token};
 use ispc_parser_expressions::{after, begins, begins_word, take, unexpected};
+use ispc_parser_front::{
+    Context, Identifier, Read, local_spec, name, outer_spec, refused_at, take_at,
+};
+use ispc_parser_statements::stmts;
 use source_answers::SourceFault;
 use source_tree::{Function, GlobalVariable, Item, Param, Stmt};
 

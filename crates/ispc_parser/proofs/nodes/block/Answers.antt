@@ -1,5 +1,0 @@
-use Rattle.source_tree.proofs.StatementRows.{view_block}
-use Rattle.ispc_parser.proofs.nodes.block.Goals as goal
-
-pub returns : goal.returns
-returns c = view_block c.args.stmts

@@ -1,0 +1,4 @@
+pub mod Front
+pub mod SpecWords
+pub mod Openings
+pub mod Refusals

@@ -1,0 +1,3 @@
+pub mod InsideHeads
+pub mod HeadsSound
+pub mod HeadsComplete

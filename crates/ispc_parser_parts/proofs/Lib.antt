@@ -1,0 +1,3 @@
+pub mod PartsSound
+pub mod PartsComplete
+pub mod Beginnings

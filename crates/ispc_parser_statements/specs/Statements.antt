@@ -1,0 +1,96 @@
+-- The statements at the front of the tokens, by descent.
+use Rattle.std.specs.Prelude.{ℕ, zero, suc, Bool, true, false, List, [], ◌∷◌, length, Option, Some, None, if◌then◌else◌}
+use Rattle.gang_types.specs.declared.places.Place.{Place}
+use Rattle.gang_model.specs.declared.marks.Mark.{Mark}
+use Rattle.gang_model.specs.declared.marks.Mark.TheVariants as mark
+use Rattle.gang_model.specs.Source.Tokens.{Sort, named, numbered, marked, Lexeme}
+use Rattle.gang_model.specs.Source.Parsed.{ParsedExpr, ParsedStmt, ParsedEmpty, ParsedBlock, ParsedBreak, ParsedContinue, ParsedReturn, ParsedIf, ParsedIfElse, ParsedDo, ParsedStmts, ParsedLast, ParsedNext}
+use Rattle.ispc_lexer.specs.Options.{◌>>=◌}
+use Rattle.ispc_parser_expressions.specs.Parse.{begins, begins_word, take, is_mark, whole_expr}
+use Rattle.ispc_parser_front.specs.declared.words.Loop.{Loop}
+use Rattle.ispc_parser_front.specs.declared.words.Plain.{Plain}
+use Rattle.ispc_parser_front.specs.declared.words.Plain.TheVariants as plain
+use Rattle.ispc_parser_front.specs.declared.words.Opening.{Opening}
+use Rattle.ispc_parser_front.specs.declared.words.Opening.TheVariants as opening
+use Rattle.ispc_parser_front.specs.Front.{Reader, take_at, in_parens, ended_of}
+use Rattle.ispc_parser_front.specs.Openings.{opening_of}
+use Rattle.ispc_parser_parts.specs.Parts.{declaration_of, simple_of}
+use Rattle.ispc_parser_heads.specs.Heads.{optional_of, completed, head_of}
+
+-- a statement that holds no other one: all of its tokens, and those behind its first
+unfoldable pub plain_of : Plain → ℕ → Place → List Lexeme → Reader ParsedStmt
+plain_of plain.Empty d at all rest = Some (ParsedEmpty, rest)
+plain_of plain.Break d at all rest = take mark.Semicolon rest >>= λ after. Some (ParsedBreak at, after)
+plain_of plain.Continue d at all rest = take mark.Semicolon rest >>= λ after. Some (ParsedContinue at, after)
+plain_of plain.Return d at all rest = optional_of d rest >>= λ e. take mark.Semicolon e.1 >>= λ after. Some (ParsedReturn at e.0, after)
+plain_of plain.Simple d at all rest = ended_of (simple_of d) all
+
+-- what parses one nesting deeper
+pub record Below : Type 0 where
+  pub stmt : Reader ParsedStmt
+  pub stmts : Reader ParsedStmts
+
+unfoldable pub block_of : Option Below → Reader ParsedStmt
+block_of below ts = take mark.LeftBrace ts >>= λ a. below >>= λ inner. inner.stmts a >>= λ ss. take mark.RightBrace ss.1 >>= λ rest. Some (ParsedBlock ss.0, rest)
+
+unfoldable pub body_of : Option Below → Reader ParsedStmt
+body_of below ts = if begins mark.LeftBrace ts then block_of below ts else (below >>= λ inner. inner.stmt ts)
+
+-- `else` and its body
+unfoldable pub else_of : Option Below → Reader ParsedStmt
+else_of below ts = take mark.Else ts >>= λ a. body_of below a
+
+-- behind `if`
+unfoldable pub if_of : ℕ → Option Below → Place → Reader ParsedStmt
+if_of d below at ts = in_parens whole_expr d ts >>= λ e. body_of below e.1 >>= λ x.
+    if begins mark.Else x.1 then (else_of below x.1 >>= λ y. Some (ParsedIfElse at e.0 x.0 y.0, y.1))
+    else Some (ParsedIf at e.0 x.0, x.1)
+
+-- `while ( e ) ;` behind the body of a `do`
+unfoldable pub do_test_of : ℕ → Reader (Place × ParsedExpr)
+do_test_of d ts = take_at mark.While ts >>= λ w. in_parens whole_expr d w.1 >>= λ e. take mark.Semicolon e.1 >>= λ rest. Some ((w.0, e.0), rest)
+
+-- behind `do`
+unfoldable pub do_of : ℕ → Option Below → Reader ParsedStmt
+do_of d below ts = body_of below ts >>= λ x. do_test_of d x.1 >>= λ t. Some (ParsedDo x.0 t.0.0 t.0.1, t.1)
+
+unfoldable pub loop_of : Loop → ℕ → Option Below → Place → Reader ParsedStmt
+loop_of word d below at ts = head_of word d at ts >>= λ h. body_of below h.1 >>= λ x. Some (completed h.0 x.0, x.1)
+
+abbrev pub opened_of : Opening → ℕ → Option Below → Place → List Lexeme → Reader ParsedStmt
+opened_of (opening.Plain word) d below at all rest = plain_of word d at all rest
+opened_of opening.Block d below at all rest = block_of below all
+opened_of opening.If d below at all rest = if_of d below at rest
+opened_of opening.Do d below at all rest = do_of d below rest
+opened_of (opening.Loop word) d below at all rest = loop_of word d below at rest
+
+abbrev pub stmt_at : ℕ → Option Below → Sort → Place → List Lexeme → Reader ParsedStmt
+stmt_at d below (named n) at all rest = ended_of (simple_of d) all
+stmt_at d below (marked m) at all rest = opening_of m >>= λ o. opened_of o d below at all rest
+stmt_at d below (numbered n u l) at all rest = None
+
+unfoldable pub stmt_of : ℕ → Option Below → Reader ParsedStmt
+stmt_of d below [] = None
+stmt_of d below (t ∷ ts) =
+    if begins_word (t ∷ ts) then ended_of (declaration_of d t.place) (t ∷ ts)
+    else stmt_at d below t.sort t.place (t ∷ ts) ts
+
+-- a } or the end comes next
+abbrev pub ends_block : List Lexeme → Bool
+ends_block [] = true
+ends_block (t ∷ ts) = is_mark mark.RightBrace t.sort
+
+-- at most n statements, up to a } or the end
+unfoldable pub stmts_of : Reader ParsedStmt → ℕ → Reader ParsedStmts
+stmts_of one zero ts = Some (ParsedLast, ts)
+stmts_of one (suc n) ts =
+    if ends_block ts then Some (ParsedLast, ts)
+    else (one ts >>= λ s. stmts_of one n s.1 >>= λ ss. Some (ParsedNext s.0 ss.0, ss.1))
+
+abbrev pub within : ℕ → Option Below → Below
+within d below = record { stmt = stmt_of d below; stmts = λ ts. stmts_of (stmt_of d below) (length ts) ts }
+
+-- what parses inside one of so many nestings
+unfoldable pub parsers : ℕ → Option Below
+parsers zero = None
+parsers (suc d) = Some (within d (parsers d))

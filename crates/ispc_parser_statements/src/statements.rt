@@ -1,0 +1,315 @@
+//! Statements, by descent.
+ghost use Rattle.std.specs.Prelude.{◌≡◌, ◌+◌, IfOk};
+ghost use Rattle.ispc_lexer.specs.Views.{sort_of, lexemes_of};
+ghost use Rattle.ispc_parser_expressions.specs.Parse.{Gives};
+ghost use Rattle.source_tree.specs.Expressions.{expr_view};
+ghost use Rattle.source_tree.specs.Tree.{stmt_view, stmts_view};
+ghost use Rattle.ispc_parser_front.specs.Front.{ended_of};
+ghost use Rattle.ispc_parser_parts.specs.Parts.{declaration_of, simple_of};
+ghost use Rattle.ispc_parser_statements.specs.Statements as spec;
+ghost use Rattle.ispc_parser_statements.specs.Statements.{within, parsers};
+
+use gang_model::{Mark, RefusalNumber};
+use gang_types::Place;
+use ispc_lexer::{Kind, Token};
+use ispc_parser_expressions::{begins, begins_word, take, unexpected};
+use ispc_parser_front::{Context, Loop, Opening, Plain, Read, opening_of, refused_at, take_at};
+use ispc_parser_heads::{head_of, optional, test};
+use ispc_parser_parts::{
+    block_of, closed, declaration, do_while, ended, if_else, if_then, push, simple, with_rest,
+};
+use source_answers::SourceFault;
+use source_tree::{Expr, Stmt};
+
+// ---- statements that hold no other one
+
+#[tactic(auto, unfolding(ispc_parser_front::specs::Front::ended_of))]
+fn ended_simple(context: Context, depth: u32, tokens: &[Token]) -> Read<'_, Box<Stmt>>
+    ensures { Gives (λ x. (stmt_view x.0.value, lexemes_of x.1.now)) result
+        (ended_of (simple_of depth) (lexemes_of tokens.now)) }
+{
+    let (simple, rest) = simple(context, depth, tokens)?;
+    ended(simple, rest, context.end)
+}
+
+#[tactic(auto, unfolding(ispc_parser_front::specs::Front::ended_of))]
+fn ended_declaration(
+    context: Context,
+    depth: u32,
+    place: Place,
+    tokens: &[Token],
+) -> Read<'_, Box<Stmt>>
+    ensures { Gives (λ x. (stmt_view x.0.value, lexemes_of x.1.now)) result
+        (ended_of (declaration_of depth place) (lexemes_of tokens.now)) }
+{
+    let (declared, rest) = declaration(context, depth, place, tokens)?;
+    ended(declared, rest, context.end)
+}
+
+/// Behind `return`, which stands at this place.
+#[tactic(auto, unfolding(crate::specs::Statements::plain_of))]
+fn return_stmt<'a>(
+    context: Context,
+    depth: u32,
+    place: Place,
+    tokens: &'a [Token],
+    rest: &'a [Token],
+) -> Read<'a, Box<Stmt>>
+    ensures { Gives (λ x. (stmt_view x.0.value, lexemes_of x.1.now)) result
+        (spec.plain_of Plain.Return depth place (lexemes_of tokens.now) (lexemes_of rest.now)) }
+{
+    let (value, rest) = optional(context, depth, rest)?;
+    closed(
+        context,
+        Mark::Semicolon,
+        Stmt::Return { place, value },
+        rest,
+    )
+}
+
+/// A statement that holds no other one: all of its tokens, and those behind its first, which stands at this place.
+#[tactic(auto, unfolding(crate::specs::Statements::plain_of))]
+fn plain_stmt<'a>(
+    context: Context,
+    depth: u32,
+    word: Plain,
+    place: Place,
+    tokens: &'a [Token],
+    rest: &'a [Token],
+) -> Read<'a, Box<Stmt>>
+    ensures { Gives (λ x. (stmt_view x.0.value, lexemes_of x.1.now)) result
+        (spec.plain_of word depth place (lexemes_of tokens.now) (lexemes_of rest.now)) }
+{
+    match word {
+        Plain::Empty => with_rest(context.alloc, Stmt::Empty, rest),
+        Plain::Break => closed(context, Mark::Semicolon, Stmt::Break { place }, rest),
+        Plain::Continue => closed(context, Mark::Semicolon, Stmt::Continue { place }, rest),
+        Plain::Return => return_stmt(context, depth, place, tokens, rest),
+        Plain::Simple => ended_simple(context, depth, tokens),
+    }
+}
+
+// ---- nestings
+
+/// Whether a statement may begin so.
+fn begins_statement(tokens: &[Token]) -> bool {
+    match tokens {
+        [] => false,
+        [first, ..] => match first.kind {
+            Kind::Name(_) => true,
+            Kind::Number(_) => false,
+            Kind::Mark(mark) => begins_word(tokens) || opening_of(mark).is_some(),
+        },
+    }
+}
+
+/// How many nestings are left inside the block that begins so.
+#[tactic(auto, unfolding(crate::specs::Statements::parsers))]
+fn inside_block(depth: u32, tokens: &[Token], end: Place) -> Result<u32, SourceFault>
+    ensures inside { Gives (λ inner. within inner (parsers inner)) result (parsers depth) }
+    ensures one_less { IfOk result (λ inner. inner + 1 ≡ depth) }
+{
+    if depth == 0 {
+        Err(refused_at(RefusalNumber::S4, tokens, end))
+    } else {
+        Ok(depth - 1)
+    }
+}
+
+/// How many nestings are left inside the body that begins so and is no block.
+#[tactic(auto, unfolding(crate::specs::Statements::parsers))]
+fn inside_body(depth: u32, tokens: &[Token], end: Place) -> Result<u32, SourceFault>
+    ensures inside { Gives (λ inner. within inner (parsers inner)) result (parsers depth) }
+    ensures one_less { IfOk result (λ inner. inner + 1 ≡ depth) }
+{
+    if depth != 0 {
+        return Ok(depth - 1);
+    }
+    if begins_statement(tokens) {
+        Err(refused_at(RefusalNumber::S4, tokens, end))
+    } else {
+        Err(unexpected(tokens, end))
+    }
+}
+
+// ---- statements that hold others
+
+#[cycle(statement)]
+#[tactic(auto, unfolding(crate::specs::Statements::block_of))]
+fn block(context: Context, depth: u32, tokens: &[Token]) -> Read<'_, Box<Stmt>>
+    ensures { Gives (λ x. (stmt_view x.0.value, lexemes_of x.1.now)) result
+        (spec.block_of (parsers depth) (lexemes_of tokens.now)) }
+{
+    let rest = take(Mark::LeftBrace, tokens, context.end)?;
+    let inner = inside_block(depth, tokens, context.end)?;
+    let (stmts, rest) = stmts(context, inner, rest)?;
+    closed(context, Mark::RightBrace, block_of(stmts), rest)
+}
+
+/// The body of a form that stands with so many nestings left.
+#[cycle(statement)]
+#[tactic(auto, unfolding(crate::specs::Statements::body_of))]
+fn body(context: Context, depth: u32, tokens: &[Token]) -> Read<'_, Box<Stmt>>
+    ensures { Gives (λ x. (stmt_view x.0.value, lexemes_of x.1.now)) result
+        (spec.body_of (parsers depth) (lexemes_of tokens.now)) }
+{
+    if begins(Mark::LeftBrace, tokens) {
+        return block(context, depth, tokens);
+    }
+    let inner = inside_body(depth, tokens, context.end)?;
+    stmt(context, inner, tokens)
+}
+
+/// `else` and its body.
+#[cycle(statement)]
+#[tactic(auto, unfolding(crate::specs::Statements::else_of))]
+fn else_body(context: Context, depth: u32, tokens: &[Token]) -> Read<'_, Box<Stmt>>
+    ensures { Gives (λ x. (stmt_view x.0.value, lexemes_of x.1.now)) result
+        (spec.else_of (parsers depth) (lexemes_of tokens.now)) }
+{
+    let rest = take(Mark::Else, tokens, context.end)?;
+    body(context, depth, rest)
+}
+
+/// Behind `if`, which stands at this place.
+#[cycle(statement)]
+#[tactic(auto, unfolding(crate::specs::Statements::if_of))]
+fn if_stmt(context: Context, depth: u32, place: Place, tokens: &[Token]) -> Read<'_, Box<Stmt>>
+    ensures { Gives (λ x. (stmt_view x.0.value, lexemes_of x.1.now)) result
+        (spec.if_of depth (parsers depth) place (lexemes_of tokens.now)) }
+{
+    let (test, rest) = test(context, depth, tokens)?;
+    let (first, rest) = body(context, depth, rest)?;
+    if !begins(Mark::Else, rest) {
+        return if_then(context.alloc, place, test, first, rest);
+    }
+    let (other, rest) = else_body(context, depth, rest)?;
+    if_else(context.alloc, place, test, first, other, rest)
+}
+
+/// `while ( e ) ;` behind the body of a `do`: the place of its word, and the test.
+#[tactic(auto, unfolding(crate::specs::Statements::do_test_of))]
+fn do_test(context: Context, depth: u32, tokens: &[Token]) -> Read<'_, (Place, Expr)>
+    ensures { Gives (λ x. ((x.0.0, expr_view x.0.1), lexemes_of x.1.now)) result
+        (spec.do_test_of depth (lexemes_of tokens.now)) }
+{
+    let (place, rest) = take_at(Mark::While, tokens, context.end)?;
+    let (test, rest) = test(context, depth, rest)?;
+    let rest = take(Mark::Semicolon, rest, context.end)?;
+    Ok(((place, test), rest))
+}
+
+/// Behind `do`.
+#[cycle(statement)]
+#[tactic(auto, unfolding(crate::specs::Statements::do_of))]
+fn do_stmt(context: Context, depth: u32, tokens: &[Token]) -> Read<'_, Box<Stmt>>
+    ensures { Gives (λ x. (stmt_view x.0.value, lexemes_of x.1.now)) result
+        (spec.do_of depth (parsers depth) (lexemes_of tokens.now)) }
+{
+    let (body, rest) = body(context, depth, tokens)?;
+    let (tested, rest) = do_test(context, depth, rest)?;
+    do_while(context.alloc, body, tested, rest)
+}
+
+/// Behind the word of a loop or a foreach form, which stands at this place.
+#[cycle(statement)]
+#[tactic(auto, unfolding(crate::specs::Statements::loop_of))]
+fn loop_stmt(
+    context: Context,
+    depth: u32,
+    word: Loop,
+    place: Place,
+    tokens: &[Token],
+) -> Read<'_, Box<Stmt>>
+    ensures { Gives (λ x. (stmt_view x.0.value, lexemes_of x.1.now)) result
+        (spec.loop_of word depth (parsers depth) place (lexemes_of tokens.now)) }
+{
+    let (head, rest) = head_of(context, depth, word, place, tokens)?;
+    let (body, rest) = body(context, depth, rest)?;
+    with_rest(context.alloc, head.with_body(body), rest)
+}
+
+/// A statement with this opening: all of its tokens, and those behind its first, which stands at this place.
+#[cycle(statement)]
+fn opened_stmt<'a>(
+    context: Context,
+    depth: u32,
+    opening: Opening,
+    place: Place,
+    tokens: &'a [Token],
+    rest: &'a [Token],
+) -> Read<'a, Box<Stmt>>
+    ensures { Gives (λ x. (stmt_view x.0.value, lexemes_of x.1.now)) result
+        (spec.opened_of opening depth (parsers depth) place (lexemes_of tokens.now) (lexemes_of rest.now)) }
+{
+    match opening {
+        Opening::Plain(word) => plain_stmt(context, depth, word, place, tokens, rest),
+        Opening::Block => block(context, depth, tokens),
+        Opening::If => if_stmt(context, depth, place, rest),
+        Opening::Do => do_stmt(context, depth, rest),
+        Opening::Loop(word) => loop_stmt(context, depth, word, place, rest),
+    }
+}
+
+/// A statement, with so many nestings left.
+#[cycle(statement)]
+#[tactic(auto, unfolding(crate::specs::Statements::stmt_of))]
+fn stmt(context: Context, depth: u32, tokens: &[Token]) -> Read<'_, Box<Stmt>>
+    ensures { Gives (λ x. (stmt_view x.0.value, lexemes_of x.1.now)) result
+        (spec.stmt_of depth (parsers depth) (lexemes_of tokens.now)) }
+{
+    match tokens {
+        [] => Err(unexpected(tokens, context.end)),
+        [first, rest @ ..] => {
+            if begins_word(tokens) {
+                return ended_declaration(context, depth, first.place, tokens);
+            }
+            match first.kind {
+                Kind::Name(_) => ended_simple(context, depth, tokens),
+                Kind::Number(_) => Err(unexpected(tokens, context.end)),
+                Kind::Mark(mark) => {
+                    let Some(opening) = opening_of(mark) else {
+                        return Err(unexpected(tokens, context.end));
+                    };
+                    opened_stmt(context, depth, opening, first.place, tokens, rest)
+                }
+            }
+        }
+    }
+}
+
+fn ends_block(tokens: &[Token]) -> bool
+    ensures { result ≡ spec.ends_block (lexemes_of tokens.now) }
+{
+    match tokens {
+        [] => true,
+        [first, ..] => match first.kind {
+            Kind::Mark(mark) => mark == Mark::RightBrace,
+            _ => false,
+        },
+    }
+}
+
+/// The statements up to a `}` or the end, with so many nestings left.
+///
+/// # Errors
+///
+/// S3 at the first token that nothing goes on with there, or at the end; S4 at the token that opens a nesting too many; S13 at the
+/// fourth dimension, or at the 257th operator, call or indexing of an expression. Out of memory.
+#[cycle(statement)]
+pub fn stmts(context: Context, depth: u32, tokens: &[Token]) -> Read<'_, Vec<Stmt>>
+    ensures { Gives (λ x. (stmts_view x.0.items, lexemes_of x.1.now)) result
+        ((within depth (parsers depth)).stmts (lexemes_of tokens.now)) }
+{
+    let mut stmts = Vec::new(context.alloc);
+    let mut rest = tokens;
+    for _ in 0..tokens.len() {
+        if ends_block(rest) {
+            return Ok((stmts, rest));
+        }
+        let (stmt, after) = stmt(context, depth, rest)?;
+        push(&mut stmts, stmt)?;
+        rest = after;
+    }
+    Ok((stmts, rest))
+}
