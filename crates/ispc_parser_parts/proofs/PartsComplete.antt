@@ -1,20 +1,17 @@
 -- What is spelled as a declaration, an assignment or a call is read so.
-use Rattle.std.proofs.Common.{◌≡◌, inl, inr, ℕ, List, [], ◌∷◌, Option, Some, None, Bool, true, false, refl, sym, ap, ◌∙◌, arith}
-use denote.Enum.Bare.{sameb, same_true}
+use Rattle.std.proofs.Common.{◌≡◌, inl, inr, ℕ, List, Option, Some, None, false, refl, ◌∙◌, arith}
 use Rattle.gang_types.specs.declared.operators.BinaryOp.{BinaryOp}
 use Rattle.gang_types.specs.declared.places.Place.{Place}
 use Rattle.gang_model.specs.declared.marks.Mark.{Mark}
 use Rattle.gang_model.specs.declared.marks.Mark.TheVariants as mark
-use Rattle.gang_model.specs.contracts.marks.Mark.{the_type}
 use Rattle.gang_model.specs.declared.forms.Spec.{Spec}
-use Rattle.gang_model.specs.Source.Tokens.{Sort, named, marked, Lexeme}
+use Rattle.gang_model.specs.Source.Tokens.{named, marked, Lexeme}
 use Rattle.gang_model.specs.Source.Parsed.{Name, ParsedExpr, ParsedTarget, ParsedStmt, ParsedDeclare, ParsedAssign, ParsedChange, ParsedIncrement, ParsedDoCall}
 use Rattle.gang_model.specs.Source.Spells.{Takes, TakesAt, Stops, any_level, WholeExpr, WholeArgs}
 use Rattle.gang_model.specs.Source.SpellsStatements.{BeginsAt, Maybe, InBrackets, SpellsValue, SpellsDeclaration, SpellsTarget, change_of, increment_of, SpellsSimple}
 use Rattle.ispc_parser_expressions.specs.Parse.{begins, is_mark, whole_args}
 use Rattle.gang_model.proofs.NestingLaws.{opened}
 use Rattle.ispc_parser_expressions.proofs.Tools.{take_again, begins_again}
-use Rattle.ispc_parser_expressions.proofs.Starts.{takes_at}
 use Rattle.ispc_parser_expressions.proofs.Follows.{stops_at, not_begins}
 use Rattle.ispc_parser_expressions.proofs.Whole.{whole_complete, args_complete}
 use Rattle.ispc_parser_parts.specs.Parts.{behind, between, value_of, declaration_of, index_of, target_of, changed_of, assigned_of, call_of, named_of, incremented_of, simple_of}
