@@ -1,21 +1,18 @@
 -- What is spelled as the head of a loop or a foreach form is read so.
-use Rattle.std.proofs.Common.{◌≡◌, inl, inr, ℕ, zero, suc, ◌≤◌, List, [], ◌∷◌, length, Option, Some, None, Bool, true, false, refl, subst, ◌∙◌, arith}
+use Rattle.std.proofs.Common.{◌≡◌, inl, inr, ℕ, List, [], ◌∷◌, Option, Some, None, Bool, true, refl, ◌∙◌, arith}
 use Rattle.gang_types.specs.declared.places.Place.{Place}
-use Rattle.gang_model.specs.declared.marks.Mark.{Mark}
 use Rattle.gang_model.specs.declared.marks.Mark.TheVariants as mark
 use Rattle.gang_model.specs.Source.Tokens.{Sort, named, marked, Lexeme}
 use Rattle.gang_model.specs.Source.Parsed.{Name, ParsedExpr, ParsedDim, ParsedStmt, ParsedEmpty, ParsedDeclare}
 use Rattle.gang_model.specs.Source.Spells.{Takes, TakesAt, Stops, any_level, WholeExpr}
-use Rattle.gang_model.specs.Source.SpellsStatements.{BeginsAt, Maybe, InParens, SpellsList, SpellsDeclaration, SpellsStart, SpellsUpdate, SpellsRounds, SpellsDim, max_dims, SpellsDims, SpellsDistinct}
-use Rattle.ispc_lexer.specs.Options.{if_some}
-use Rattle.ispc_parser_expressions.specs.Parse.{begins, begins_word, is_mark, spec_word, whole_expr}
-use Rattle.ispc_parser_expressions.proofs.Tools.{mark_is, take_again, begins_again}
+use Rattle.gang_model.specs.Source.SpellsStatements.{BeginsAt, Maybe, InParens, SpellsStart, SpellsUpdate, SpellsRounds, SpellsDim, max_dims, SpellsDims, SpellsDistinct}
+use Rattle.ispc_parser_expressions.specs.Parse.{begins_word, whole_expr}
+use Rattle.ispc_parser_expressions.proofs.Tools.{take_again, begins_again}
 use Rattle.ispc_parser_expressions.proofs.Starts.{starts}
-use Rattle.ispc_parser_expressions.proofs.SpecWords.{words_begin}
-use Rattle.ispc_parser_expressions.proofs.Follows.{stops_at, take_none}
+use Rattle.ispc_parser_expressions.proofs.Follows.{stops_at}
 use Rattle.ispc_parser_expressions.proofs.Whole.{whole_complete}
 use Rattle.ispc_parser_front.specs.declared.words.Loop.TheVariants as loop
-use Rattle.ispc_parser_front.specs.Front.{Reader, name_of, in_parens, list_of}
+use Rattle.ispc_parser_front.specs.Front.{name_of, in_parens}
 use Rattle.ispc_parser_front.proofs.Tokens.{other_first, in_parens_again, name_again}
 use Rattle.ispc_parser_front.proofs.SpecTokens.{word_first}
 use Rattle.ispc_parser_front.proofs.CommaLists.{list_complete}

@@ -1,21 +1,21 @@
 -- What is read as the head of a loop or a foreach form is spelled so.
-use Rattle.std.proofs.Common.{◌≡◌, inl, inr, ℕ, zero, suc, ◌≤◌, List, [], ◌∷◌, length, Option, Some, None, refl, subst, arith}
+use Rattle.std.proofs.Common.{◌≡◌, inl, inr, ℕ, List, [], ◌∷◌, Option, Some, None, refl, subst}
 use Rattle.gang_model.specs.declared.marks.Mark.TheVariants as mark
-use Rattle.gang_model.specs.Source.Tokens.{marked, Lexeme}
+use Rattle.gang_model.specs.Source.Tokens.{Lexeme}
 use Rattle.gang_model.specs.Source.Parsed.{ParsedExpr, ParsedDim, ParsedStmt, ParsedEmpty, ParsedDeclare, ParsedAssign, ParsedChange, ParsedIncrement, ParsedDoCall}
-use Rattle.gang_model.specs.Source.Spells.{Takes, WholeExpr}
-use Rattle.gang_model.specs.Source.SpellsStatements.{Maybe, SpellsList, SpellsDeclaration, SpellsSimple, SpellsStart, SpellsUpdate, SpellsRounds, SpellsDim, max_dims, SpellsDims, SpellsDistinct}
+use Rattle.gang_model.specs.Source.Spells.{WholeExpr}
+use Rattle.gang_model.specs.Source.SpellsStatements.{Maybe, SpellsDeclaration, SpellsSimple, SpellsStart, SpellsUpdate, SpellsRounds, SpellsDim, max_dims, SpellsDims, SpellsDistinct}
 use Rattle.ispc_parser_expressions.specs.Parse.{begins, begins_word, take, is_mark, whole_expr}
 use Rattle.ispc_parser_expressions.proofs.Tools.{take_takes}
 use Rattle.ispc_parser_expressions.proofs.Whole.{whole_sound}
-use Rattle.ispc_parser_front.specs.Front.{Reader, name_of, list_of}
+use Rattle.ispc_parser_front.specs.Front.{name_of}
 use Rattle.ispc_parser_front.proofs.Tokens.{name_sound}
 use Rattle.ispc_parser_front.proofs.CommaLists.{list_sound}
 use Rattle.ispc_parser_parts.specs.Parts.{behind}
 use Rattle.ispc_parser_parts.proofs.PartsSound.{declaration_sound, simple_sound}
 use Rattle.ispc_parser_heads.specs.Heads.{optional_of, start_of, update_of, ParsedRounds, rounds_of, dim_of, dims_of, ParsedDistinct, distinct_of}
 use Rattle.std.proofs.lemmas.Option.{same_Some}
-use Rattle.ispc_lexer.proofs.Runs.{which, bind_some, chosen}
+use Rattle.ispc_lexer.proofs.Runs.{which, bind_some}
 
 -- ---- heads
 
