@@ -12,12 +12,12 @@ use Rattle.gang_model.specs.Source.Parsed.{Name, ParsedParam, ParsedItem, Parsed
 use Rattle.gang_model.specs.Source.Spells.{Takes, TakesAt, Opens}
 use Rattle.gang_model.specs.Source.SpellsStatements.{SpellsSpec, SpellsList, SpellsStmts}
 use Rattle.gang_model.specs.Source.SpellsSource.{max_nesting, max_params, SpellsEmptyBrackets, SpellsParam, SpellsParams, SpellsLiteral, SpellsForm, SpellsItem, IsTree}
-use Rattle.ispc_parser_expressions.specs.Parse.{begins, take, spec_at}
+use Rattle.ispc_parser_expressions.specs.Parse.{begins, take}
 use Rattle.ispc_parser_expressions.proofs.Tools.{take_takes}
 use Rattle.ispc_parser_front.specs.Front.{take_at, name_of}
-use Rattle.ispc_parser_front.specs.SpecWords.{local_spec_of, is_outer, outer_spec_of}
+use Rattle.ispc_parser_front.specs.SpecWords.{local_spec_of, outer_spec_of}
 use Rattle.ispc_parser_front.proofs.Tokens.{take_at_sound, name_sound}
-use Rattle.ispc_parser_front.proofs.SpecTokens.{spec_sound, local_spec_sound}
+use Rattle.ispc_parser_front.proofs.SpecTokens.{local_spec_sound, outer_spec_sound}
 use Rattle.ispc_parser_front.proofs.CommaLists.{list_sound}
 use Rattle.ispc_parser_statements.specs.Statements.{within, parsers}
 use Rattle.ispc_parser_statements.proofs.StatementsSound.{within_sound, parsers_sound}
