@@ -9,7 +9,7 @@ use Rattle.source_answers.specs.declared.fault.SourceFault.{SourceFault}
 use Rattle.ispc_lexer.specs.declared.token.Token.{Token}
 use Rattle.ispc_lexer.specs.Views.{lexemes_of}
 use Rattle.ispc_lexer.specs.Options.{◌>>=◌}
-use Rattle.ispc_parser_expressions.specs.Parse.{Fails}
+use Rattle.ispc_parser_words.specs.Front.{Fails}
 use Rattle.ispc_parser_front.proofs.Fails.{fails_when}
 use Rattle.ispc_parser.specs.Source.{is_empty, item_of, items_of}
 

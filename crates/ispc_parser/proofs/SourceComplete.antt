@@ -13,11 +13,13 @@ use Rattle.gang_model.specs.Source.Spells.{Takes, TakesAt, Stops, any_level, tru
 use Rattle.gang_model.specs.Source.SpellsStatements.{SpellsList, SpellsStmts}
 use Rattle.gang_model.specs.Source.SpellsSource.{max_params, SpellsEmptyBrackets, SpellsParam, SpellsParams, SpellsFunction, SpellsLiteral, SpellsForm, SpellsGlobal, SpellsItem, IsTree}
 use Rattle.ispc_lexer.specs.Options.{◌>>=◌}
-use Rattle.ispc_parser_expressions.specs.Parse.{begins, begins_word, take, after_words}
-use Rattle.ispc_parser_expressions.proofs.Tools.{mark_is, take_takes, take_again, begins_again}
-use Rattle.ispc_parser_expressions.proofs.Starts.{takes_at, takes_shorter, at_shorter}
-use Rattle.ispc_parser_expressions.proofs.SpecWords.{words_again, words_begin}
-use Rattle.ispc_parser_expressions.proofs.Follows.{take_none, not_begins}
+use Rattle.ispc_parser_words.specs.Front.{begins, take}
+use Rattle.ispc_parser_words.specs.Words.{begins_word, after_words}
+use Rattle.ispc_parser_words.proofs.Tokens.{mark_is, take_takes, take_again, begins_again}
+use Rattle.ispc_parser_words.proofs.Tokens.{takes_at, takes_shorter, at_shorter}
+use Rattle.ispc_parser_words.proofs.SpecWords.{words_again, words_begin}
+use Rattle.ispc_parser_words.proofs.Tokens.{take_none}
+use Rattle.ispc_parser_expressions.proofs.Follows.{not_begins}
 use Rattle.ispc_parser_front.specs.SpecWords.{outer_spec_of}
 use Rattle.ispc_parser_front.proofs.Tokens.{other_first, take_at_again, name_again}
 use Rattle.ispc_parser_front.proofs.SpecTokens.{spec_again, local_spec_again, word_first}

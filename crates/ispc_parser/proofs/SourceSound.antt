@@ -12,8 +12,8 @@ use Rattle.gang_model.specs.Source.Parsed.{Name, ParsedParam, ParsedItem, Parsed
 use Rattle.gang_model.specs.Source.Spells.{Takes, TakesAt, Opens}
 use Rattle.gang_model.specs.Source.SpellsStatements.{SpellsSpec, SpellsList, SpellsStmts}
 use Rattle.gang_model.specs.Source.SpellsSource.{max_nesting, max_params, SpellsEmptyBrackets, SpellsParam, SpellsParams, SpellsLiteral, SpellsForm, SpellsItem, IsTree}
-use Rattle.ispc_parser_expressions.specs.Parse.{begins, take}
-use Rattle.ispc_parser_expressions.proofs.Tools.{take_takes}
+use Rattle.ispc_parser_words.specs.Front.{begins, take}
+use Rattle.ispc_parser_words.proofs.Tokens.{take_takes}
 use Rattle.ispc_parser_front.specs.Front.{take_at, name_of}
 use Rattle.ispc_parser_front.specs.SpecWords.{local_spec_of, outer_spec_of}
 use Rattle.ispc_parser_front.proofs.Tokens.{take_at_sound, name_sound}

@@ -11,7 +11,7 @@ use Rattle.gang_model.specs.Source.Tokens.{Sort, numbered, Lexeme}
 use Rattle.gang_model.specs.Source.SpellsSource.{max_params}
 use Rattle.gang_model.specs.Source.Parsed.{Name, ParsedStmts, ParsedParam, ParsedItem, ParsedFunctionItem, ParsedGlobalItem, ParsedSource}
 use Rattle.ispc_lexer.specs.Options.{◌>>=◌, if_some}
-use Rattle.ispc_parser_expressions.specs.Parse.{begins, take}
+use Rattle.ispc_parser_words.specs.Front.{begins, take}
 use Rattle.ispc_lexer.specs.declared.token.Number.{Number}
 use Rattle.ispc_parser.specs.declared.source.Body.{Body as WrittenBody}
 use Rattle.source_tree.specs.Tree.{stmts_view}

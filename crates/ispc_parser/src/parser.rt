@@ -3,7 +3,7 @@ ghost use Rattle.std.specs.Prelude.{◌≡◌, ◌⊎◌, IfOk, IfErr};
 ghost use Rattle.gang_model.specs.Source.Parsed.{ParsedSource};
 ghost use Rattle.gang_model.specs.Source.SpellsSource.{IsTree};
 ghost use Rattle.ispc_lexer.specs.Views.{lexemes_of};
-ghost use Rattle.ispc_parser_expressions.specs.Parse.{Gives};
+ghost use Rattle.ispc_parser_words.specs.Front.{Gives};
 ghost use Rattle.source_tree.specs.Tree.{tree_view};
 ghost use Rattle.ispc_parser_front.specs.Refusals.{IsRefusal};
 ghost use Rattle.ispc_parser.specs.Source.{tree_of};

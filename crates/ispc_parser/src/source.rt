@@ -1,7 +1,7 @@
 //! Functions, file-scope variables and whole sources.
 ghost use Rattle.std.specs.Prelude.{◌≡◌, map, option_map};
 ghost use Rattle.ispc_lexer.specs.Views.{sort_of, lexemes_of};
-ghost use Rattle.ispc_parser_expressions.specs.Parse.{Gives};
+ghost use Rattle.ispc_parser_words.specs.Front.{Gives};
 ghost use Rattle.source_tree.specs.Tree.{param_view, item_view};
 ghost use Rattle.ispc_parser_front.specs.Front.{name_view};
 ghost use Rattle.ispc_parser_front.specs.Refusals.{IsRefusal};
@@ -11,11 +11,11 @@ ghost use Rattle.ispc_parser.specs.Source.{body_view, digits_view, function_of, 
 use gang_model::{GlobalForm, Literal, Mark, RefusalNumber, Spec};
 use gang_types::Place;
 use ispc_lexer::{Kind, Number, Token};
-use ispc_parser_expressions::{after, begins, begins_word, take, unexpected};
 use ispc_parser_front::{
     Context, Identifier, Read, local_spec, name, outer_spec, refused_at, take_at,
 };
 use ispc_parser_statements::stmts;
+use ispc_parser_words::{after, begins, begins_word, take, unexpected};
 use source_answers::SourceFault;
 use source_tree::{Function, GlobalVariable, Item, Param, Stmt};
 

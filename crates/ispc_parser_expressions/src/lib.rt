@@ -8,5 +8,4 @@ mod operators;
 mod outermost;
 mod reader;
 
-pub use ispc_parser_words::{after, begins, begins_word, spec_words, take, take_spec, unexpected};
 pub use outermost::{arguments, expression};

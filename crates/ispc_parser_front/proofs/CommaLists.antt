@@ -4,9 +4,10 @@ use Rattle.gang_model.specs.declared.marks.Mark.TheVariants as mark
 use Rattle.gang_model.specs.Source.Tokens.{marked, Lexeme}
 use Rattle.gang_model.specs.Source.Spells.{Takes, Stops, any_level}
 use Rattle.gang_model.specs.Source.SpellsStatements.{SpellsList}
-use Rattle.ispc_parser_expressions.specs.Parse.{take}
-use Rattle.ispc_parser_expressions.proofs.Tools.{take_takes, take_again}
-use Rattle.ispc_parser_expressions.proofs.Follows.{stops_at, take_none}
+use Rattle.ispc_parser_words.specs.Front.{take}
+use Rattle.ispc_parser_words.proofs.Tokens.{take_takes, take_again}
+use Rattle.ispc_parser_words.proofs.Tokens.{take_none}
+use Rattle.ispc_parser_expressions.proofs.Follows.{stops_at}
 use Rattle.ispc_parser_front.specs.Front.{Reader, list_of}
 use Rattle.ispc_parser_front.proofs.Tokens.{other_first}
 use Rattle.std.proofs.lemmas.Option.{same_Some}

@@ -2,7 +2,7 @@
 use Rattle.std.proofs.Common.{◌≡◌, Option, None}
 use Rattle.source_answers.specs.declared.fault.SourceFault.{SourceFault}
 use Rattle.source_answers.specs.declared.fault.SourceFault.TheVariants as faults
-use Rattle.ispc_parser_expressions.specs.Parse.{Fails}
+use Rattle.ispc_parser_words.specs.Front.{Fails}
 use Rattle.ispc_parser_front.specs.Refusals.{IsRefusal, IsSooner}
 
 -- a part fails, and so what needs it

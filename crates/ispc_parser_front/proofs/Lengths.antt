@@ -9,7 +9,9 @@ use Rattle.gang_model.specs.Source.Parsed.{Name, ParsedExpr, ParsedDim, ParsedTa
 use Rattle.gang_model.specs.Source.Spells.{TakesAt, any_level, WholeExpr, WholeArgs}
 use Rattle.gang_model.specs.Source.SpellsStatements.{TakesEither, Maybe, InParens, InBrackets, SpellsList, SpellsSpec, SpellsValue, SpellsDeclaration, SpellsTarget, SpellsSimple, SpellsStart, SpellsUpdate, SpellsRounds, SpellsDim, SpellsDims, foreach_word, SpellsDistinct, OpensBody, SpellsStmt, SpellsStmts}
 use Rattle.gang_model.proofs.NestingLaws.{opened}
-use Rattle.ispc_parser_expressions.proofs.Starts.{words_shorter, takes_shorter, at_shorter, spelled_shorter, items_shorter}
+use Rattle.ispc_parser_words.proofs.SpecWords.{words_shorter}
+use Rattle.ispc_parser_words.proofs.Tokens.{takes_shorter, at_shorter}
+use Rattle.ispc_parser_expressions.proofs.Starts.{spelled_shorter, items_shorter}
 
 -- ---- tokens
 

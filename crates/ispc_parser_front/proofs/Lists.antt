@@ -4,7 +4,7 @@ use Rattle.gang_model.specs.declared.marks.Mark.TheVariants as mark
 use Rattle.gang_model.specs.Source.Tokens.{Lexeme}
 use Rattle.source_answers.specs.declared.fault.SourceFault.{SourceFault}
 use Rattle.ispc_lexer.specs.Options.{◌>>=◌}
-use Rattle.ispc_parser_expressions.specs.Parse.{Fails, take}
+use Rattle.ispc_parser_words.specs.Front.{Fails, take}
 use Rattle.ispc_parser_front.specs.Front.{Reader, list_of}
 use Rattle.ispc_parser_front.proofs.Fails.{fails_when}
 

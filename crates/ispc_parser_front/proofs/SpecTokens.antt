@@ -9,9 +9,10 @@ use Rattle.gang_model.specs.Source.Specs.{spec_of}
 use Rattle.gang_model.specs.Source.Spells.{TakesAt}
 use Rattle.gang_model.specs.Source.SpellsStatements.{SpellsSpec, IsLocal}
 use Rattle.ispc_lexer.specs.Options.{if_some}
-use Rattle.ispc_parser_expressions.specs.Parse.{begins, begins_word, is_mark, spec_word, words_of, after_words, spec_at}
-use Rattle.ispc_parser_expressions.proofs.Tools.{mark_is}
-use Rattle.ispc_parser_expressions.proofs.SpecWords.{words_taken, words_again}
+use Rattle.ispc_parser_words.specs.Front.{begins, is_mark}
+use Rattle.ispc_parser_words.specs.Words.{begins_word, spec_word, words_of, after_words, spec_at}
+use Rattle.ispc_parser_words.proofs.Tokens.{mark_is}
+use Rattle.ispc_parser_words.proofs.SpecWords.{words_taken, words_again}
 use Rattle.ispc_parser_front.specs.SpecWords.{is_local, local_spec_of, is_outer, outer_spec_of}
 use Rattle.std.proofs.lemmas.Option.{same_Some}
 use Rattle.ispc_lexer.proofs.Runs.{which, bind_some}

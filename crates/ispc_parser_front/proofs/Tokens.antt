@@ -9,9 +9,9 @@ use Rattle.gang_model.specs.Source.Tokens.{Sort, named, numbered, marked, Lexeme
 use Rattle.gang_model.specs.Source.Parsed.{Name}
 use Rattle.gang_model.specs.Source.Spells.{Takes, TakesAt, Opens}
 use Rattle.gang_model.specs.Source.SpellsStatements.{NotNext, BeginsAt, InParens}
-use Rattle.ispc_parser_expressions.specs.Parse.{begins, take, is_mark}
+use Rattle.ispc_parser_words.specs.Front.{begins, take, is_mark}
 use Rattle.gang_model.proofs.NestingLaws.{opened}
-use Rattle.ispc_parser_expressions.proofs.Tools.{mark_is, is_mark-same, take_takes, take_again, begins_again}
+use Rattle.ispc_parser_words.proofs.Tokens.{mark_is, is_mark-same, take_takes, take_again, begins_again}
 use Rattle.ispc_parser_front.specs.Front.{Reader, deeper, enter, take_at, name_in, name_of, in_parens}
 use Rattle.std.proofs.lemmas.Option.{same_Some}
 use Rattle.ispc_lexer.proofs.Runs.{which, bind_some}

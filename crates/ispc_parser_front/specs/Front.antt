@@ -6,7 +6,7 @@ use Rattle.gang_model.specs.declared.marks.Mark.TheVariants as mark
 use Rattle.gang_model.specs.Source.Tokens.{Sort, named, Lexeme}
 use Rattle.gang_model.specs.Source.Parsed.{Name}
 use Rattle.ispc_lexer.specs.Options.{◌>>=◌, if_some}
-use Rattle.ispc_parser_expressions.specs.Parse.{take, is_mark}
+use Rattle.ispc_parser_words.specs.Front.{take, is_mark}
 use Rattle.ispc_parser_front.specs.declared.front.Identifier.{Identifier}
 
 abbrev pub Reader : Type 0 → Type 0

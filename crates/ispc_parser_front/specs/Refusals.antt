@@ -2,7 +2,7 @@
 use Rattle.std.specs.Prelude.{◌≡◌}
 use Rattle.source_answers.specs.declared.fault.SourceFault.{SourceFault}
 use Rattle.source_answers.specs.declared.fault.SourceFault.TheVariants.{Memory, Refused}
-use Rattle.ispc_parser_expressions.specs.Parse.{IsParserNumber}
+use Rattle.ispc_parser_words.specs.Front.{IsParserNumber}
 
 -- S3, S4 or S13
 abbrev pub IsRefusal : SourceFault → Type 0

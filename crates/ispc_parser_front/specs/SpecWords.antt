@@ -2,7 +2,7 @@
 use Rattle.std.specs.Prelude.{Bool, not, ◌||◌, ◌&&◌, Some, None, if◌then◌else◌}
 use Rattle.gang_model.specs.declared.forms.Spec.{Spec}
 use Rattle.ispc_lexer.specs.Options.{◌>>=◌}
-use Rattle.ispc_parser_expressions.specs.Parse.{spec_at}
+use Rattle.ispc_parser_words.specs.Words.{spec_at}
 use Rattle.ispc_parser_front.specs.Front.{Reader}
 
 abbrev pub is_local : Spec → Bool

@@ -1,14 +1,14 @@
 //! What stands at the front of the tokens, and refusals there.
 ghost use Rattle.std.specs.Prelude.{◌≡◌, IfOk};
 ghost use Rattle.ispc_lexer.specs.Views.{lexemes_of};
-ghost use Rattle.ispc_parser_expressions.specs.Parse.{Gives, first_place};
+ghost use Rattle.ispc_parser_words.specs.Front.{Gives, first_place};
 ghost use Rattle.ispc_parser_front.specs.Front as spec;
 ghost use Rattle.ispc_parser_front.specs.Front.{name_view};
 
 use gang_model::{Mark, RefusalNumber, SourceRefusal};
 use gang_types::Place;
 use ispc_lexer::{Kind, Token};
-use ispc_parser_expressions::{begins, take, unexpected};
+use ispc_parser_words::{begins, take, unexpected};
 use source_answers::SourceFault;
 use std::alloc::{AllocError, Global};
 

@@ -1,7 +1,7 @@
 //! The words before a name, where they fit nothing that may be declared there.
 ghost use Rattle.std.specs.Prelude.{◌≡◌};
 ghost use Rattle.ispc_lexer.specs.Views.{lexemes_of};
-ghost use Rattle.ispc_parser_expressions.specs.Parse.{Gives};
+ghost use Rattle.ispc_parser_words.specs.Front.{Gives};
 ghost use Rattle.ispc_parser_front.specs.SpecWords as spec;
 ghost use Rattle.ispc_parser_front.specs.Refusals.{IsSooner};
 
@@ -9,7 +9,7 @@ use crate::front::{Context, Read};
 use gang_model::{Mark, RefusalNumber, SourceRefusal, Spec};
 use gang_types::Place;
 use ispc_lexer::{Kind, Token};
-use ispc_parser_expressions::{spec_words, take_spec};
+use ispc_parser_words::{spec_words, take_spec};
 use source_answers::SourceFault;
 
 /// The first word that stands on no variable of a function.

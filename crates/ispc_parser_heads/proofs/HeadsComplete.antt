@@ -6,8 +6,9 @@ use Rattle.gang_model.specs.Source.Tokens.{Sort, named, marked, Lexeme}
 use Rattle.gang_model.specs.Source.Parsed.{Name, ParsedExpr, ParsedDim, ParsedStmt, ParsedEmpty, ParsedDeclare}
 use Rattle.gang_model.specs.Source.Spells.{Takes, TakesAt, Stops, any_level, WholeExpr}
 use Rattle.gang_model.specs.Source.SpellsStatements.{BeginsAt, Maybe, InParens, SpellsStart, SpellsUpdate, SpellsRounds, SpellsDim, max_dims, SpellsDims, SpellsDistinct}
-use Rattle.ispc_parser_expressions.specs.Parse.{begins_word, whole_expr}
-use Rattle.ispc_parser_expressions.proofs.Tools.{take_again, begins_again}
+use Rattle.ispc_parser_words.specs.Words.{begins_word}
+use Rattle.ispc_parser_expressions.specs.Parse.{whole_expr}
+use Rattle.ispc_parser_words.proofs.Tokens.{take_again, begins_again}
 use Rattle.ispc_parser_expressions.proofs.Starts.{starts}
 use Rattle.ispc_parser_expressions.proofs.Follows.{stops_at}
 use Rattle.ispc_parser_expressions.proofs.Whole.{whole_complete}

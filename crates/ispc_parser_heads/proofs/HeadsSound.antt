@@ -5,8 +5,10 @@ use Rattle.gang_model.specs.Source.Tokens.{Lexeme}
 use Rattle.gang_model.specs.Source.Parsed.{ParsedExpr, ParsedDim, ParsedStmt, ParsedEmpty, ParsedDeclare, ParsedAssign, ParsedChange, ParsedIncrement, ParsedDoCall}
 use Rattle.gang_model.specs.Source.Spells.{WholeExpr}
 use Rattle.gang_model.specs.Source.SpellsStatements.{Maybe, SpellsDeclaration, SpellsSimple, SpellsStart, SpellsUpdate, SpellsRounds, SpellsDim, max_dims, SpellsDims, SpellsDistinct}
-use Rattle.ispc_parser_expressions.specs.Parse.{begins, begins_word, take, is_mark, whole_expr}
-use Rattle.ispc_parser_expressions.proofs.Tools.{take_takes}
+use Rattle.ispc_parser_words.specs.Front.{begins, take, is_mark}
+use Rattle.ispc_parser_words.specs.Words.{begins_word}
+use Rattle.ispc_parser_expressions.specs.Parse.{whole_expr}
+use Rattle.ispc_parser_words.proofs.Tokens.{take_takes}
 use Rattle.ispc_parser_expressions.proofs.Whole.{whole_sound}
 use Rattle.ispc_parser_front.specs.Front.{name_of}
 use Rattle.ispc_parser_front.proofs.Tokens.{name_sound}

@@ -4,7 +4,8 @@ use Rattle.gang_types.specs.declared.places.Place.{Place}
 use Rattle.gang_model.specs.declared.marks.Mark.TheVariants as mark
 use Rattle.gang_model.specs.Source.Tokens.{Lexeme}
 use Rattle.ispc_lexer.specs.Options.{◌>>=◌}
-use Rattle.ispc_parser_expressions.specs.Parse.{take, whole_expr}
+use Rattle.ispc_parser_words.specs.Front.{take}
+use Rattle.ispc_parser_expressions.specs.Parse.{whole_expr}
 use Rattle.ispc_parser_front.specs.declared.words.Loop.{Loop}
 use Rattle.ispc_parser_front.specs.declared.words.Loop.TheVariants as loop
 use Rattle.ispc_parser_front.specs.Front.{Reader, enter, name_of, in_parens}

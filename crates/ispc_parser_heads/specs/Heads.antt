@@ -5,7 +5,9 @@ use Rattle.gang_model.specs.declared.marks.Mark.TheVariants as mark
 use Rattle.gang_model.specs.Source.Parsed.{Name, ParsedExpr, ParsedDim, ParsedStmt, ParsedEmpty, ParsedWhile, ParsedFor, ParsedForEach, ParsedForEachActive, ParsedForEachUnique}
 use Rattle.gang_model.specs.Source.SpellsStatements.{max_dims}
 use Rattle.ispc_lexer.specs.Options.{◌>>=◌}
-use Rattle.ispc_parser_expressions.specs.Parse.{begins, begins_word, take, is_mark, whole_expr}
+use Rattle.ispc_parser_words.specs.Front.{begins, take, is_mark}
+use Rattle.ispc_parser_words.specs.Words.{begins_word}
+use Rattle.ispc_parser_expressions.specs.Parse.{whole_expr}
 use Rattle.source_tree.specs.Expressions.{expr_view}
 use Rattle.ispc_parser_front.specs.declared.words.Loop.{Loop}
 use Rattle.ispc_parser_front.specs.declared.words.Loop.TheVariants as loop

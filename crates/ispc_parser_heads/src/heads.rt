@@ -2,7 +2,8 @@
 ghost use Rattle.std.specs.Prelude.{◌≡◌, map, option_map};
 ghost use Rattle.ispc_lexer.specs.Views.{lexemes_of};
 ghost use Rattle.source_tree.specs.Expressions.{expr_view};
-ghost use Rattle.ispc_parser_expressions.specs.Parse.{Gives, whole_expr};
+ghost use Rattle.ispc_parser_words.specs.Front.{Gives};
+ghost use Rattle.ispc_parser_expressions.specs.Parse.{whole_expr};
 ghost use Rattle.source_tree.specs.Tree.{dim_view, stmt_view};
 ghost use Rattle.ispc_parser_front.specs.Front.{name_view, name_of, in_parens};
 ghost use Rattle.ispc_parser_front.specs.Refusals.{IsRefusal};
@@ -12,9 +13,10 @@ ghost use Rattle.ispc_parser_heads.specs.Heads.{ForHead, UniqueHead, rounds_view
 use gang_model::{Mark, RefusalNumber};
 use gang_types::Place;
 use ispc_lexer::{Kind, Token};
-use ispc_parser_expressions::{after, begins, begins_word, expression, take, unexpected};
+use ispc_parser_expressions::expression;
 use ispc_parser_front::{Context, Identifier, Loop, Read, enter, name, refused_at};
 use ispc_parser_parts::{behind, between, declaration, simple, with_rest};
+use ispc_parser_words::{after, begins, begins_word, take, unexpected};
 use source_answers::SourceFault;
 use source_tree::{Dim, Expr, Stmt};
 

@@ -7,10 +7,11 @@ use Rattle.gang_model.specs.Source.Tokens.{Sort, named, marked, Lexeme}
 use Rattle.gang_model.specs.Source.Parsed.{ParsedStmt, ParsedDeclare, ParsedAssign, ParsedChange, ParsedIncrement, ParsedDoCall}
 use Rattle.gang_model.specs.Source.Spells.{Takes}
 use Rattle.gang_model.specs.Source.SpellsStatements.{SpellsDeclaration, increment_of, SpellsSimple}
-use Rattle.ispc_parser_expressions.specs.Parse.{begins_word, is_mark, spec_word}
-use Rattle.ispc_parser_expressions.proofs.Tools.{mark_is}
-use Rattle.ispc_parser_expressions.proofs.Starts.{takes_at}
-use Rattle.ispc_parser_expressions.proofs.SpecWords.{words_begin}
+use Rattle.ispc_parser_words.specs.Front.{is_mark}
+use Rattle.ispc_parser_words.specs.Words.{begins_word, spec_word}
+use Rattle.ispc_parser_words.proofs.Tokens.{mark_is}
+use Rattle.ispc_parser_words.proofs.Tokens.{takes_at}
+use Rattle.ispc_parser_words.proofs.SpecWords.{words_begin}
 
 -- a name, `++` or `--`
 abbrev pub BeginsSimple : Sort → Type 0

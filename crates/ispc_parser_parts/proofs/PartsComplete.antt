@@ -9,9 +9,10 @@ use Rattle.gang_model.specs.Source.Tokens.{named, marked, Lexeme}
 use Rattle.gang_model.specs.Source.Parsed.{Name, ParsedExpr, ParsedTarget, ParsedStmt, ParsedDeclare, ParsedAssign, ParsedChange, ParsedIncrement, ParsedDoCall}
 use Rattle.gang_model.specs.Source.Spells.{Takes, TakesAt, Stops, any_level, WholeExpr, WholeArgs}
 use Rattle.gang_model.specs.Source.SpellsStatements.{BeginsAt, Maybe, InBrackets, SpellsValue, SpellsDeclaration, SpellsTarget, change_of, increment_of, SpellsSimple}
-use Rattle.ispc_parser_expressions.specs.Parse.{begins, is_mark, whole_args}
+use Rattle.ispc_parser_words.specs.Front.{begins, is_mark}
+use Rattle.ispc_parser_expressions.specs.Parse.{whole_args}
 use Rattle.gang_model.proofs.NestingLaws.{opened}
-use Rattle.ispc_parser_expressions.proofs.Tools.{take_again, begins_again}
+use Rattle.ispc_parser_words.proofs.Tokens.{take_again, begins_again}
 use Rattle.ispc_parser_expressions.proofs.Follows.{stops_at, not_begins}
 use Rattle.ispc_parser_expressions.proofs.Whole.{whole_complete, args_complete}
 use Rattle.ispc_parser_parts.specs.Parts.{behind, between, value_of, declaration_of, index_of, target_of, changed_of, assigned_of, call_of, named_of, incremented_of, simple_of}

@@ -9,7 +9,8 @@ use Rattle.gang_model.specs.Source.Tokens.{Sort, named, numbered, marked}
 use Rattle.gang_model.specs.Source.Parsed.{Name, ParsedExpr, ParsedTarget, ParsedStmt, ParsedDeclare, ParsedAssign, ParsedChange, ParsedIncrement, ParsedDoCall}
 use Rattle.gang_model.specs.Source.SpellsStatements.{change_of, increment_of}
 use Rattle.ispc_lexer.specs.Options.{◌>>=◌, if_some}
-use Rattle.ispc_parser_expressions.specs.Parse.{begins, take, mark_of, whole_expr, whole_args}
+use Rattle.ispc_parser_words.specs.Front.{begins, take, mark_of}
+use Rattle.ispc_parser_expressions.specs.Parse.{whole_expr, whole_args}
 use Rattle.ispc_parser_front.specs.Front.{Reader, enter, name_of, in_parens}
 use Rattle.ispc_parser_front.specs.SpecWords.{local_spec_of}
 

@@ -2,7 +2,7 @@
 ghost use Rattle.std.specs.Prelude.{◌≡◌, [], ◌∷◌, ◌++◌, IfOk, OnOk};
 ghost use Rattle.gang_model.specs.Source.Parsed.{ParsedBlock, ParsedIf, ParsedIfElse, ParsedDo};
 ghost use Rattle.ispc_lexer.specs.Views.{lexemes_of};
-ghost use Rattle.ispc_parser_expressions.specs.Parse.{Gives};
+ghost use Rattle.ispc_parser_words.specs.Front.{Gives};
 ghost use Rattle.source_tree.specs.Expressions.{expr_view};
 ghost use Rattle.ispc_parser_front.specs.Front.{just, closed_by};
 ghost use Rattle.source_tree.specs.Tree.{stmt_view, stmts_view};
@@ -10,8 +10,8 @@ ghost use Rattle.source_tree.specs.Tree.{stmt_view, stmts_view};
 use gang_model::Mark;
 use gang_types::Place;
 use ispc_lexer::Token;
-use ispc_parser_expressions::take;
 use ispc_parser_front::{Context, Read};
+use ispc_parser_words::take;
 use source_answers::boxed;
 use source_tree::{Expr, Stmt};
 use std::alloc::{AllocError, Global};

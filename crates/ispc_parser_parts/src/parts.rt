@@ -3,7 +3,7 @@ ghost use Rattle.std.specs.Prelude.{◌≡◌, option_map};
 ghost use Rattle.ispc_lexer.specs.Views.{sort_of, lexemes_of};
 ghost use Rattle.gang_model.specs.Source.SpellsStatements as grammar;
 ghost use Rattle.source_tree.specs.Expressions.{expr_view};
-ghost use Rattle.ispc_parser_expressions.specs.Parse.{Gives};
+ghost use Rattle.ispc_parser_words.specs.Front.{Gives};
 ghost use Rattle.source_tree.specs.Tree.{target_view, stmt_view};
 ghost use Rattle.ispc_parser_front.specs.Front.{name_view};
 ghost use Rattle.ispc_parser_parts.specs.Parts as spec;
@@ -12,8 +12,9 @@ use crate::nodes::{closed, with_rest};
 use gang_model::Mark;
 use gang_types::{BinaryOp, Place};
 use ispc_lexer::{Kind, Token};
-use ispc_parser_expressions::{arguments, begins, expression, take, unexpected};
+use ispc_parser_expressions::{arguments, expression};
 use ispc_parser_front::{Context, Identifier, Read, copied_name, enter, local_spec, name};
+use ispc_parser_words::{begins, take, unexpected};
 use source_tree::{Expr, Stmt, Target};
 
 /// What `op=` does, for such a mark.

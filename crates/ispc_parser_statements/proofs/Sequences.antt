@@ -4,7 +4,7 @@ use Rattle.gang_model.specs.Source.Tokens.{Lexeme}
 use Rattle.gang_model.specs.Source.Parsed.{ParsedStmt, ParsedStmts, ParsedLast, ParsedNext}
 use Rattle.source_answers.specs.declared.fault.SourceFault.{SourceFault}
 use Rattle.ispc_lexer.specs.Options.{◌>>=◌}
-use Rattle.ispc_parser_expressions.specs.Parse.{Fails}
+use Rattle.ispc_parser_words.specs.Front.{Fails}
 use Rattle.source_tree.specs.declared.tree.Stmt.{Stmt}
 use Rattle.source_tree.specs.Tree.{stmt_view, stmts_view}
 use Rattle.ispc_parser_front.specs.Front.{Reader}

@@ -7,10 +7,11 @@ use Rattle.gang_model.specs.Source.Tokens.{Sort, named, marked, Lexeme}
 use Rattle.gang_model.specs.Source.Parsed.{ParsedStmt, ParsedEmpty, ParsedBlock, ParsedDeclare, ParsedAssign, ParsedChange, ParsedIncrement, ParsedDoCall, ParsedBreak, ParsedContinue, ParsedReturn, ParsedIf, ParsedIfElse, ParsedWhile, ParsedDo, ParsedFor, ParsedSwitch, ParsedForEach, ParsedForEachActive, ParsedForEachUnique, ParsedStmts, ParsedLast, ParsedNext}
 use Rattle.gang_model.specs.Source.Spells.{Takes, TakesAt, Opens, any_level}
 use Rattle.gang_model.specs.Source.SpellsStatements.{TakesEither, BeginsAt, SpellsSimple, foreach_word, OpensBody, SpellsStmt, SpellsStmts}
-use Rattle.ispc_parser_expressions.specs.Parse.{begins, begins_word, is_mark, spec_word}
+use Rattle.ispc_parser_words.specs.Front.{begins, is_mark}
+use Rattle.ispc_parser_words.specs.Words.{begins_word, spec_word}
 use Rattle.gang_model.proofs.NestingLaws.{opened}
-use Rattle.ispc_parser_expressions.proofs.Tools.{take_again, begins_again}
-use Rattle.ispc_parser_expressions.proofs.Starts.{takes_at}
+use Rattle.ispc_parser_words.proofs.Tokens.{take_again, begins_again}
+use Rattle.ispc_parser_words.proofs.Tokens.{takes_at}
 use Rattle.ispc_parser_expressions.proofs.Follows.{stops_at}
 use Rattle.ispc_parser_front.specs.declared.words.Loop.{Loop}
 use Rattle.ispc_parser_front.specs.declared.words.Loop.TheVariants as loop

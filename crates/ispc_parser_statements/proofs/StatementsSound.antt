@@ -7,9 +7,11 @@ use Rattle.gang_model.specs.Source.Tokens.{Sort, named, numbered, marked, Lexeme
 use Rattle.gang_model.specs.Source.Parsed.{ParsedExpr, ParsedStmt, ParsedEmpty, ParsedBlock, ParsedDeclare, ParsedAssign, ParsedChange, ParsedIncrement, ParsedDoCall, ParsedBreak, ParsedContinue, ParsedReturn, ParsedIf, ParsedIfElse, ParsedDo, ParsedStmts, ParsedLast, ParsedNext}
 use Rattle.gang_model.specs.Source.Spells.{Takes, TakesAt, WholeExpr}
 use Rattle.gang_model.specs.Source.SpellsStatements.{TakesEither, SpellsDeclaration, SpellsSimple, SpellsRounds, SpellsDims, SpellsDistinct, foreach_word, OpensBody, SpellsStmt, SpellsStmts}
-use Rattle.ispc_parser_expressions.specs.Parse.{begins, begins_word, take, whole_expr}
-use Rattle.ispc_parser_expressions.proofs.Tools.{take_takes, begins_again}
-use Rattle.ispc_parser_expressions.proofs.Starts.{takes_at}
+use Rattle.ispc_parser_words.specs.Front.{begins, take}
+use Rattle.ispc_parser_words.specs.Words.{begins_word}
+use Rattle.ispc_parser_expressions.specs.Parse.{whole_expr}
+use Rattle.ispc_parser_words.proofs.Tokens.{take_takes, begins_again}
+use Rattle.ispc_parser_words.proofs.Tokens.{takes_at}
 use Rattle.ispc_parser_expressions.proofs.Whole.{whole_sound}
 use Rattle.ispc_parser_front.specs.declared.words.Loop.{Loop}
 use Rattle.ispc_parser_front.specs.declared.words.Loop.TheVariants as loop

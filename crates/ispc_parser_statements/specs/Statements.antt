@@ -5,7 +5,9 @@ use Rattle.gang_model.specs.declared.marks.Mark.TheVariants as mark
 use Rattle.gang_model.specs.Source.Tokens.{Sort, named, numbered, marked, Lexeme}
 use Rattle.gang_model.specs.Source.Parsed.{ParsedExpr, ParsedStmt, ParsedEmpty, ParsedBlock, ParsedBreak, ParsedContinue, ParsedReturn, ParsedIf, ParsedIfElse, ParsedDo, ParsedStmts, ParsedLast, ParsedNext}
 use Rattle.ispc_lexer.specs.Options.{◌>>=◌}
-use Rattle.ispc_parser_expressions.specs.Parse.{begins, begins_word, take, is_mark, whole_expr}
+use Rattle.ispc_parser_words.specs.Front.{begins, take, is_mark}
+use Rattle.ispc_parser_words.specs.Words.{begins_word}
+use Rattle.ispc_parser_expressions.specs.Parse.{whole_expr}
 use Rattle.ispc_parser_front.specs.declared.words.Loop.{Loop}
 use Rattle.ispc_parser_front.specs.declared.words.Plain.{Plain}
 use Rattle.ispc_parser_front.specs.declared.words.Plain.TheVariants as plain

@@ -1,7 +1,7 @@
 //! Statements, by descent.
 ghost use Rattle.std.specs.Prelude.{◌≡◌, ◌+◌, IfOk};
 ghost use Rattle.ispc_lexer.specs.Views.{sort_of, lexemes_of};
-ghost use Rattle.ispc_parser_expressions.specs.Parse.{Gives};
+ghost use Rattle.ispc_parser_words.specs.Front.{Gives};
 ghost use Rattle.source_tree.specs.Expressions.{expr_view};
 ghost use Rattle.source_tree.specs.Tree.{stmt_view, stmts_view};
 ghost use Rattle.ispc_parser_front.specs.Front.{ended_of};
@@ -12,12 +12,12 @@ ghost use Rattle.ispc_parser_statements.specs.Statements.{within, parsers};
 use gang_model::{Mark, RefusalNumber};
 use gang_types::Place;
 use ispc_lexer::{Kind, Token};
-use ispc_parser_expressions::{begins, begins_word, take, unexpected};
 use ispc_parser_front::{Context, Loop, Opening, Plain, Read, opening_of, refused_at, take_at};
 use ispc_parser_heads::{head_of, optional, test};
 use ispc_parser_parts::{
     block_of, closed, declaration, do_while, ended, if_else, if_then, push, simple, with_rest,
 };
+use ispc_parser_words::{begins, begins_word, take, unexpected};
 use source_answers::SourceFault;
 use source_tree::{Expr, Stmt};
 

@@ -1,7 +1,7 @@
 use Rattle.std.proofs.Common.{◌≡◌, ◌-◌, ◌+◌, ◌∙◌, [], ◌∷◌, ◌++◌, sym, arith, length, map}
 use Rattle.std.proofs.lemmas.List.{map-append}
 use Rattle.std.proofs.lemmas.Result.{err_from_is_err_and}
-use Rattle.ispc_parser_expressions.proofs.SpecWords.{length-lexemes_of}
+use Rattle.ispc_parser_words.proofs.Tokens.{length-lexemes_of}
 use Rattle.ispc_lexer.specs.Views.{lexemes_of}
 use Rattle.source_tree.specs.Tree.{item_view}
 use Rattle.ispc_parser_front.proofs.Fails.{fails_none}

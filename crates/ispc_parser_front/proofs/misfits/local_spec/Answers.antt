@@ -1,6 +1,6 @@
 use Rattle.std.proofs.Common.{refl}
 use Rattle.ispc_lexer.specs.Views.{lexemes_of}
-use Rattle.ispc_parser_expressions.specs.Parse.{spec_at}
+use Rattle.ispc_parser_words.specs.Words.{spec_at}
 use Rattle.ispc_parser_front.specs.SpecWords.{local_spec_of}
 use Rattle.ispc_parser_front.proofs.Fails.{fails_sooner}
 use Rattle.ispc_parser_front.proofs.misfits.local_spec.Goals as goal

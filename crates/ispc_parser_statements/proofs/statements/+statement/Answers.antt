@@ -1,7 +1,7 @@
 use Rattle.std.proofs.Common.{◌≡◌, ◌-◌, ◌+◌, ◌∙◌, sym, arith, length}
 use Rattle.std.proofs.lemmas.Result.{err_from_is_err_and}
 use Rattle.gang_model.specs.Source.Parsed.{ParsedLast, ParsedNext}
-use Rattle.ispc_parser_expressions.proofs.SpecWords.{length-lexemes_of}
+use Rattle.ispc_parser_words.proofs.Tokens.{length-lexemes_of}
 use Rattle.ispc_lexer.specs.Views.{lexemes_of}
 use Rattle.source_tree.specs.Tree.{stmt_view, stmts_view}
 use Rattle.ispc_parser_statements.specs.Statements.{parsers, stmt_of}
