@@ -150,20 +150,34 @@ begun-all context ss rest typed outer entries before locals first step h none = 
   answered = h.answered ∙ (ap (λ r. begun h.declared typed (answer_of (statements r context entries (length locals) step))) none ∙ begun_all h.declared typed);
 }
 
+seen_items : (declared : List Variable) (typed : Result (Vec Stmt Global) SourceRefusal)
+    → seen (λ xs. made (stmts_view xs) declared) (seen (λ v. v.items) typed) ≡ seen (λ v. made (stmts_view v.items) declared) typed
+seen_items declared (Ok v) = refl
+seen_items declared (Err fault) = refl
+
+-- the typed statements
+pub whole-typed : (context : Context) (ss : ParsedStmts) (typed : Result (Vec Stmt Global) SourceRefusal) (outer entries : Scope) (before locals after : List Variable) (first step : ℕ)
+    → IsWhole context ss (seen (λ v. v.items) typed) outer entries before locals first step → after ≡ locals
+    → IsTyped (λ v. stmts_view v.items) typed (statements ss context outer (length before) first) before after (locals_in_all ss)
+whole-typed context ss typed outer entries before locals after first step h e = record {
+  declared = h.declared;
+  variables = e ∙ h.variables;
+  counted = h.counted;
+  answered = h.answered ∙ seen_items h.declared typed;
+}
+
 seen_block : (declared : List Variable) (block : Result BoxedStmt SourceRefusal) (typed : Result (Vec Stmt Global) SourceRefusal)
     → seen boxed_stmt_view block ≡ seen (λ v. stmts_view v.items) typed
-    → seen (λ xs. made (stmts_view xs) declared) (seen (λ v. v.items) typed) ≡ seen (λ s. made (boxed_stmt_view s) declared) block
+    → seen (λ v. made (stmts_view v.items) declared) typed ≡ seen (λ s. made (boxed_stmt_view s) declared) block
 seen_block declared (Ok s) (Ok v) e = let same : boxed_stmt_view s ≡ stmts_view v.items = cc in ap (λ x. Ok (made x declared)) (sym same)
 seen_block declared (Ok s) (Err f) e = let none : ⊥ = cc in absurd none
 seen_block declared (Err g) (Ok v) e = let none : ⊥ = cc in absurd none
 seen_block declared (Err g) (Err f) e = let same : g ≡ f = cc in ap Err (sym same)
 
--- a block of the typed statements
-pub whole-block : (context : Context) (ss : ParsedStmts) (typed : Result (Vec Stmt Global) SourceRefusal) (block : Result BoxedStmt SourceRefusal) (outer entries : Scope) (before locals : List Variable)
-    (first step : ℕ)
-    → IsWhole context ss (seen (λ v. v.items) typed) outer entries before locals first step → seen boxed_stmt_view block ≡ seen (λ v. stmts_view v.items) typed
-    → IsTyped boxed_stmt_view block (statements ss context outer (length before) first) before locals (locals_in_all ss)
-whole-block context ss typed block outer entries before locals first step h e = record {
+-- a block of typed statements
+pub typed-block : (j : Judged Made) (typed : Result (Vec Stmt Global) SourceRefusal) (block : Result BoxedStmt SourceRefusal) (before after : List Variable) (count : ℕ)
+    → IsTyped (λ v. stmts_view v.items) typed j before after count → seen boxed_stmt_view block ≡ seen (λ v. stmts_view v.items) typed → IsTyped boxed_stmt_view block j before after count
+typed-block j typed block before after count h e = record {
   declared = h.declared;
   variables = h.variables;
   counted = h.counted;
@@ -174,15 +188,11 @@ sound_of : {A : Type 0} (j : Judged A) (a : A) → answer_of j ≡ Ok a → j �
 sound_of (Sound b) a e = let same : b ≡ a = cc in ap Sound same
 sound_of (Faulty first others) a e = let none : ⊥ = cc in absurd none
 
--- a body of the typed statements
-pub whole-body : (context : Context) (ss : ParsedStmts) (typed : Result (Vec Stmt Global) SourceRefusal) (result : Result (Vec Stmt Global) SourceFault) (outer entries : Scope)
-    (before locals : List Variable) (first step : ℕ)
-    → IsWhole context ss (seen (λ v. v.items) typed) outer entries before locals first step → result ≡ joined typed
-    → Makes (λ v. stmts_view v.items) result before locals (statements ss context outer (length before) first)
-whole-body context ss typed result outer entries before locals first step h e =
-    subst (λ r. Makes (λ v. stmts_view v.items) r before locals (statements ss context outer (length before) first)) (sym e) (by typed h.answered)
+-- a body of typed statements
+pub typed-body : (j : Judged Made) (typed : Result (Vec Stmt Global) SourceRefusal) (result : Result (Vec Stmt Global) SourceFault) (before after : List Variable) (count : ℕ)
+    → IsTyped (λ v. stmts_view v.items) typed j before after count → result ≡ joined typed → Makes (λ v. stmts_view v.items) result before after j
+typed-body j typed result before after count h e = subst (λ r. Makes (λ v. stmts_view v.items) r before after j) (sym e) (by typed h.answered)
   where
-    by : (r : Result (Vec Stmt Global) SourceRefusal) → answer_of (statements ss context outer (length before) first) ≡ seen (λ xs. made (stmts_view xs) h.declared) (seen (λ v. v.items) r)
-        → Makes (λ v. stmts_view v.items) (joined r) before locals (statements ss context outer (length before) first)
-    by (Ok v) a = (h.declared, h.variables, sound_of (statements ss context outer (length before) first) (made (stmts_view v.items) h.declared) a)
+    by : (r : Result (Vec Stmt Global) SourceRefusal) → answer_of j ≡ seen (λ v. made (stmts_view v.items) h.declared) r → Makes (λ v. stmts_view v.items) (joined r) before after j
+    by (Ok v) a = (h.declared, h.variables, sound_of j (made (stmts_view v.items) h.declared) a)
     by (Err fault) a = a

@@ -29,42 +29,6 @@ pub seen-both : {A B C D : Type 0} (f : A → C) (g : B → D) (l : Result A Sou
 seen-both f g l r whole j k w h i =
     laws.answer_of-both j k ∙ (ap (λ x. definitions.both_answers x (answer_of k)) h ∙ (ap (definitions.both_answers (seen f l)) i ∙ (both_seen f g l r ∙ ap (seen (pair_view f g)) (sym w))))
 
--- what is judged of a sound part
-pub sound-then : {A C D : Type 0} (view : A → C) (r : Result A SourceRefusal) (a : A) (j : Judged C) (next : C → Judged D)
-    → answer_of j ≡ seen view r → r ≡ Ok a → answer_of (j >>= next) ≡ answer_of (next (view a))
-sound-then view r a j next h e =
-    laws.answer_of-then j next ∙ ap (λ x. definitions.then_answer x (λ y. answer_of (next y))) (h ∙ ap (seen view) e)
-
--- a part with a fault
-pub faulty-then : {A C D : Type 0} (view : A → C) (r : Result A SourceRefusal) (fault : SourceRefusal) (j : Judged C) (next : C → Judged D)
-    → answer_of j ≡ seen view r → r ≡ Err fault → answer_of (j >>= next) ≡ Err fault
-faulty-then view r fault j next h e =
-    laws.answer_of-then j next ∙ ap (λ x. definitions.then_answer x (λ y. answer_of (next y))) (h ∙ ap (seen view) e)
-
--- a statement whose parts are sound
-pub typed-sound : {A P C : Type 0} (view : A → Stmt) (parts : P → C) (r : Result P SourceRefusal) (p : P) (j : Judged C) (next : C → Judged Made) (z : A)
-    (before after declared : List Variable) (count : ℕ)
-    → answer_of j ≡ seen parts r → r ≡ Ok p → next (parts p) ≡ Sound (made (view z) declared) → after ≡ before ++ declared → length declared ≡ count
-    → IsTyped view (Ok z) (j >>= next) before after count
-typed-sound view parts r p j next z before after declared count h e n v l = record {
-  declared = declared;
-  variables = v;
-  counted = l;
-  answered = sound-then parts r p j next h e ∙ ap answer_of n;
-}
-
--- a statement with a fault in one of its parts
-pub typed-faulty : {A P C : Type 0} (view : A → Stmt) (parts : P → C) (r : Result P SourceRefusal) (fault : SourceRefusal) (j : Judged C) (next : C → Judged Made)
-    (before after declared : List Variable) (count : ℕ)
-    → answer_of j ≡ seen parts r → r ≡ Err fault → after ≡ before ++ declared → length declared ≡ count
-    → IsTyped view (Err fault) (j >>= next) before after count
-typed-faulty view parts r fault j next before after declared count h e v l = record {
-  declared = declared;
-  variables = v;
-  counted = l;
-  answered = faulty-then parts r fault j next h e;
-}
-
 alone_seen : {A : Type 0} (view : A → Stmt) (answer : Result A SourceRefusal)
     → definitions.then_answer (seen view answer) (λ s. answer_of (alone s)) ≡ seen (λ s. made (view s) []) answer
 alone_seen view (Ok a) = refl

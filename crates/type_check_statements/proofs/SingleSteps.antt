@@ -1,4 +1,4 @@
--- Statements of one step that declare nothing, and statements in the forms in which they lie in memory.
+-- Statements in the forms in which they lie in memory, and those of one step.
 use Rattle.std.proofs.Common.{◌≡◌, ℕ, ◌+◌, List, [], length, refl, sym, ap, subst, ◌∙◌, append-nil}
 use Rattle.std.specs.Prelude.{Result, Ok, Err, IfOk, OnOk}
 use Rattle.std.specs.declared.alloc.AllocError.{AllocError}
@@ -11,7 +11,7 @@ use Rattle.gang_model.specs.Running.Numbering.{steps_in}
 use Rattle.gang_model.specs.Names.Scope.{locals_in}
 use Rattle.gang_model.specs.Types.Calls.{Context}
 use Rattle.gang_model.specs.Types.Typing.{Scope}
-use Rattle.gang_model.specs.Source.Judged.{Judged, Sound, Faulty, ◌>>=◌}
+use Rattle.gang_model.specs.Source.Judged.{Judged, ◌>>=◌}
 use Rattle.gang_model.specs.Types.Statements.{Made, made, alone, scope_after, statement}
 use Rattle.source_answers.specs.declared.fault.SourceFault.{SourceFault}
 use Rattle.source_answers.specs.declared.fault.SourceFault.TheVariants.{Memory, Refused}
@@ -24,11 +24,6 @@ use Rattle.source_answers.specs.Apart.{apart}
 use Rattle.type_check_parts.specs.Typed.{IsTyped}
 use Rattle.type_check_statements.proofs.Judging.{typed-alone}
 
--- a statement that is judged, and then stands alone
-pub then-alone : {A : Type 0} (j : Judged A) (form : A → tree.Stmt) → (j >>= (λ x. Sound (form x)) >>= (λ s. alone s)) ≡ (j >>= (λ x. alone (form x)))
-then-alone (Sound x) form = refl
-then-alone (Faulty first others) form = refl
-
 -- the same statement, said in another way
 pub typed-as : (answer : Result BoxedStmt SourceRefusal) (s t : ParsedStmt) (context : Context) (entries : Scope) (k step : ℕ) (before after : List Variable) → s ≡ t
     → IsTyped boxed_stmt_view answer (statement t context entries k step) before after (locals_in t) → IsTyped boxed_stmt_view answer (statement s context entries k step) before after (locals_in s)
@@ -39,22 +34,8 @@ pub typed-form : {E : Type 0} (result : Result (Result BoxedStmt SourceRefusal) 
     → IfOk result (λ answer. IsTyped boxed_stmt_view answer (statement s context entries k step) before after (locals_in s))
 typed-form result s t context entries k step before after e h = IfOk-weaker result _ _ (λ answer x. typed-as answer s t context entries k step before after e x) h
 
-pub after-form : {A E : Type 0} (result : Result A E) (s t : ParsedStmt) (entries entries' : Scope) (k : ℕ) → s ≡ t
-    → OnOk result (entries' ≡ scope_after t entries k) → OnOk result (entries' ≡ scope_after s entries k)
-after-form result s t entries entries' k e h = on_ok_weaker result (λ x. x ∙ sym (ap (λ y. scope_after y entries k) e)) h
-
 pub steps-form : {A E : Type 0} (result : Result A E) (s t : ParsedStmt) (step step' : ℕ) → s ≡ t → OnOk result (step' ≡ step + steps_in t) → OnOk result (step' ≡ step + steps_in s)
 steps-form result s t step step' e h = on_ok_weaker result (λ x. x ∙ sym (ap (λ y. step + steps_in y) e)) h
-
--- a statement that is empty
-pub empty-statement : (place : BoxedStmt) (s : ParsedStmt) (context : Context) (entries : Scope) (before : List Variable) (step : ℕ) → place.value ≡ Empty → s ≡ ParsedEmpty
-    → IsTyped boxed_stmt_view (Ok place) (statement s context entries (length before) step) before before (locals_in s)
-empty-statement place s context entries before step is e = typed-as (Ok place) s ParsedEmpty context entries (length before) step before before e (record {
-  declared = [];
-  variables = sym (append-nil before);
-  counted = refl;
-  answered = ap (λ x. Ok (made (stmt_view x) [])) (sym is);
-})
 
 -- the same number of variables, said in another way
 pub counted-as : (answer : Result BoxedStmt SourceRefusal) (j : Judged Made) (before after : List Variable) (m n : ℕ) → m ≡ n → IsTyped boxed_stmt_view answer j before after m → IsTyped boxed_stmt_view answer j before after n

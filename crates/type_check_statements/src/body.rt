@@ -6,12 +6,11 @@ ghost use Rattle.typed_tree.specs.Views.{stmts_view};
 ghost use Rattle.type_check_calls.specs.Calls.{context_view};
 ghost use Rattle.type_check_parts.specs.Makes.{IfAnswered, Makes};
 
-use crate::statements::statement;
+use crate::statements::statements;
 use source_answers::{SourceFault, joined};
 use source_tree::Stmt as ParsedStmt;
 use std::alloc::Global;
 use type_check_calls::Context;
-use type_check_forms::more_statements;
 use type_check_scopes::TypeScope;
 use typed_tree::Stmt;
 
@@ -29,13 +28,7 @@ pub fn typed_body(
     ensures makes { Makes (λ made. stmts_view made.items) result scope.old.locals scope.new.locals (model.statements (parsed.stmts_view stmts.now) (context_view context.now) scope.old.entries (length scope.old.locals) 0) }
     ensures entries { IfAnswered result (scope.new.entries ≡ scope.old.entries) }
 {
-    let mark = scope.mark();
     let mut step = 0;
-    let mut typed = Ok(Vec::new(alloc));
-    for stmt in stmts {
-        let next = statement(alloc, stmt, context, scope, &mut step)?;
-        typed = more_statements(typed, next)?;
-    }
-    scope.leave(mark);
+    let typed = statements(alloc, stmts, context, scope, &mut step)?;
     joined(typed)
 }

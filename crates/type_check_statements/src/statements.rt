@@ -3,32 +3,30 @@ ghost use Rattle.std.specs.Prelude.{◌≡◌, ◌+◌, ◌∷◌, IfOk, OnOk, l
 ghost use Rattle.gang_types.specs.declared.places.Place.{Place};
 ghost use Rattle.gang_types.specs.declared.places.VarId.TheVariants.{Local};
 ghost use Rattle.source_tree.specs.Expressions.{expr_view};
-ghost use Rattle.gang_model.specs.Running.Numbering.{steps_in};
+ghost use Rattle.gang_model.specs.Running.Numbering.{steps_in, steps_in_all};
 ghost use Rattle.gang_model.specs.Source.Parsed.{ParsedFor, ParsedForEach, ParsedForEachActive, ParsedForEachUnique, ParsedIf, ParsedIfElse, ParsedWhile, ParsedDo};
-ghost use Rattle.gang_model.specs.Names.Scope.{locals_in};
+ghost use Rattle.gang_model.specs.Names.Scope.{locals_in, locals_in_all};
 ghost use Rattle.gang_model.specs.Types.Statements as model;
 ghost use Rattle.source_tree.specs.Tree as parsed;
 ghost use Rattle.typed_tree.specs.Boxes.{boxed_stmt_view};
+ghost use Rattle.typed_tree.specs.Views.{stmts_view};
 ghost use Rattle.type_check_calls.specs.Calls.{context_view};
 ghost use Rattle.type_check_scopes.specs.Entries.{declared_view};
 ghost use Rattle.type_check_parts.specs.Typed.{IsTyped, IsTypedStatement, with_index};
 
+use crate::heads::{for_each_head, for_head, rounds_head, test_apart, test_step, value_apart};
+use crate::simple::simple_statement;
+use crate::whole::{for_each_of, for_of, while_of};
 use gang_types::{IntType, Rate, VarId};
-use source_answers::{Answer, both_answers, set_apart};
+use source_answers::{Answer, both_answers};
 use source_tree::{Dim, Expr, Stmt as ParsedStmt};
 use std::alloc::{AllocError, Global};
-use type_check_calls::{Context, WholeCall};
-use type_check_expressions::expression;
+use type_check_calls::Context;
 use type_check_forms::{
-    block, body_first, choice, conditional, more_statements, over_lanes, over_rows, over_values,
-    repeated, started, type_of,
+    block, body_first, choice, conditional, more_statements, over_lanes, over_values, type_of,
 };
-use type_check_parts::{
-    advanced, assignment, called, change, declare, declare_indices, dimensions, increment,
-    one_step, returning, some_test, steps_in, test_of, unjudged, variable_of,
-};
+use type_check_parts::{advanced, variable_of};
 use type_check_scopes::{Declared, TypeScope, index_variable};
-use type_check_values::boxed_stmt;
 use typed_tree::Stmt;
 
 /// The typed form of a statement. What it declares is in scope then, and the step is that of the next statement; so also where
@@ -46,59 +44,10 @@ pub(crate) fn statement(
     ensures steps { OnOk result (step.new ≡ step.old + steps_in (parsed.stmt_view stmt.now)) }
 {
     match stmt {
-        ParsedStmt::Empty => {
-            let empty = boxed_stmt(alloc, Stmt::Empty)?;
-            Ok(Ok(empty))
-        }
         ParsedStmt::Block(stmts) => {
-            let mark = scope.mark();
-            let mut typed: Answer<Vec<Stmt>> = Ok(Vec::new(alloc));
-            for inner in stmts {
-                let next = statement(alloc, inner, context, scope, step)?;
-                typed = more_statements(typed, next)?;
-            }
-            scope.leave(mark);
+            let typed = statements(alloc, stmts, context, scope, step)?;
             block(alloc, typed)
         }
-        ParsedStmt::Declare {
-            spec,
-            name_place,
-            name,
-            value,
-            ..
-        } => declare(alloc, *spec, *name_place, name, value, context, scope, step),
-        ParsedStmt::Assign { target, value, .. } => one_step(
-            assignment(alloc, context, scope, target, value, *step),
-            step,
-        ),
-        ParsedStmt::Change {
-            target,
-            operator,
-            value,
-            ..
-        } => one_step(change(alloc, scope, target, *operator, value, *step), step),
-        ParsedStmt::Increment {
-            target,
-            operator,
-            ..
-        } => one_step(increment(alloc, scope, target, *operator, *step), step),
-        ParsedStmt::Call { place, name, args } => {
-            let call = WholeCall {
-                place: *place,
-                name,
-                args,
-            };
-            one_step(called(alloc, context, scope, &call, *step), step)
-        }
-        ParsedStmt::Break { .. } => one_step(unjudged(alloc, Stmt::Break { step: *step }), step),
-        ParsedStmt::Continue { .. } => one_step(
-            unjudged(alloc, Stmt::Continue { step: *step }),
-            step,
-        ),
-        ParsedStmt::Return { place, value } => one_step(
-            returning(alloc, context, scope, *place, value, *step),
-            step,
-        ),
         ParsedStmt::If {
             test,
             first,
@@ -134,7 +83,32 @@ pub(crate) fn statement(
             body,
             ..
         } => for_each_unique(alloc, name, value, body, context, scope, step),
+        _ => simple_statement(alloc, stmt, context, scope, step),
     }
+}
+
+/// Statements in a scope of their own.
+#[cycle(statement)]
+pub(crate) fn statements(
+    alloc: Global,
+    stmts: &[ParsedStmt],
+    context: &Context,
+    scope: &mut TypeScope,
+    step: &mut usize,
+) -> Result<Answer<Vec<Stmt>>, AllocError>
+    ensures typed { IfOk result (λ answer. IsTyped (λ made. stmts_view made.items) answer (model.statements (parsed.stmts_view stmts.now) (context_view context.now) scope.old.entries (length scope.old.locals) step.old)
+        scope.old.locals scope.new.locals (locals_in_all (parsed.stmts_view stmts.now))) }
+    ensures after { OnOk result (scope.new.entries ≡ scope.old.entries) }
+    ensures steps { OnOk result (step.new ≡ step.old + steps_in_all (parsed.stmts_view stmts.now)) }
+{
+    let mark = scope.mark();
+    let mut typed = Ok(Vec::new(alloc));
+    for stmt in stmts {
+        let next = statement(alloc, stmt, context, scope, step)?;
+        typed = more_statements(typed, next)?;
+    }
+    scope.leave(mark);
+    Ok(typed)
 }
 
 /// A statement that is a scope of its own.
@@ -172,8 +146,7 @@ fn if_only(
     ensures steps { OnOk result (step.new ≡ step.old + (1 + steps_in (parsed.stmt_view first.now))) }
 {
     let at = *step;
-    *step = advanced(at, 1)?;
-    let test = set_apart(test_of(alloc, scope, test))?;
+    let test = test_step(alloc, scope, test, step)?;
     let first = inner(alloc, first, context, scope, step)?;
     conditional(alloc, at, both_answers(test, first))
 }
@@ -195,8 +168,7 @@ fn if_else(
     ensures steps { OnOk result (step.new ≡ step.old + (1 + steps_in (parsed.stmt_view first.now) + steps_in (parsed.stmt_view other.now))) }
 {
     let at = *step;
-    *step = advanced(at, 1)?;
-    let test = set_apart(test_of(alloc, scope, test))?;
+    let test = test_step(alloc, scope, test, step)?;
     let first = inner(alloc, first, context, scope, step)?;
     let other = inner(alloc, other, context, scope, step)?;
     choice(alloc, at, both_answers(test, both_answers(first, other)))
@@ -217,11 +189,9 @@ fn while_loop(
     ensures after { OnOk result (scope.new.entries ≡ scope.old.entries) }
     ensures steps { OnOk result (step.new ≡ step.old + (steps_in (parsed.stmt_view body.now) + 1)) }
 {
-    let test = set_apart(test_of(alloc, scope, test))?;
+    let test = test_apart(alloc, scope, test)?;
     let body = inner(alloc, body, context, scope, step)?;
-    let at = *step;
-    *step = advanced(at, 1)?;
-    repeated(alloc, at, both_answers(test, body))
+    while_of(alloc, test, body, step)
 }
 
 /// `do`.
@@ -240,9 +210,8 @@ fn do_loop(
     ensures steps { OnOk result (step.new ≡ step.old + (steps_in (parsed.stmt_view body.now) + 1)) }
 {
     let body = inner(alloc, body, context, scope, step)?;
-    let test = set_apart(test_of(alloc, scope, test))?;
     let at = *step;
-    *step = advanced(at, 1)?;
+    let test = test_step(alloc, scope, test, step)?;
     body_first(alloc, at, both_answers(body, test))
 }
 
@@ -265,14 +234,12 @@ fn for_loop(
 {
     let mark = scope.mark();
     let start = statement(alloc, start, context, scope, step)?;
-    let test = set_apart(some_test(alloc, scope, test))?;
-    let mut at = advanced(*step, steps_in(body)?)?;
+    let (test, mut at) = for_head(alloc, scope, test, body, *step)?;
     let update = inner(alloc, update, context, scope, &mut at)?;
     let body = inner(alloc, body, context, scope, step)?;
     scope.leave(mark);
-    *step = advanced(at, 1)?;
-    let parts = both_answers(both_answers(start, test), both_answers(update, body));
-    started(alloc, at, parts)
+    *step = at;
+    for_of(alloc, start, test, update, body, step)
 }
 
 /// `foreach` and `foreach_tiled`.
@@ -292,14 +259,11 @@ fn for_each(
     ensures steps { OnOk result (step.new ≡ step.old + (steps_in (parsed.stmt_view body.now) + 2)) }
 {
     let at = *step;
-    *step = advanced(at, 1)?;
-    let dimensions = dimensions(alloc, scope, dims)?;
     let mark = scope.mark();
-    declare_indices(alloc, dims, scope)?;
+    let dimensions = for_each_head(alloc, dims, scope, step)?;
     let body = inner(alloc, body, context, scope, step)?;
     scope.leave(mark);
-    *step = advanced(*step, 1)?;
-    over_rows(alloc, at, is_tiled, both_answers(dimensions, body))
+    for_each_of(alloc, at, is_tiled, dimensions, body, step)
 }
 
 /// The body of `foreach_active` or `foreach_unique`, in the scope of its index variable, with the steps of its head and rounds.
@@ -319,9 +283,8 @@ fn rounds(
     ensures after { OnOk result (scope.new.entries ≡ scope.old.entries) }
     ensures steps { OnOk result (step.new ≡ step.old + (steps_in (parsed.stmt_view body.now) + 2)) }
 {
-    *step = advanced(*step, 1)?;
     let mark = scope.mark();
-    scope.declare(alloc, name, index)?;
+    rounds_head(alloc, name, index, scope, step)?;
     let body = inner(alloc, body, context, scope, step)?;
     scope.leave(mark);
     *step = advanced(*step, 1)?;
@@ -367,7 +330,7 @@ fn for_each_unique(
     ensures steps { OnOk result (step.new ≡ step.old + (steps_in (parsed.stmt_view body.now) + 2)) }
 {
     let at = *step;
-    let value = set_apart(expression(alloc, value, scope))?;
+    let value = value_apart(alloc, scope, value)?;
     let value_type = type_of(&value);
     let index = index_variable(VarId::Local(scope.next()), value_type, Rate::Uniform);
     let body = rounds(alloc, name, index, body, context, scope, step)?;

@@ -6,7 +6,7 @@ use Rattle.gang_types.specs.declared.places.VarId.TheVariants.{Local}
 use Rattle.gang_types.specs.declared.types.IntType.TheVariants as int_type
 use Rattle.gang_types.specs.declared.types.Rate.TheVariants.{Uniform}
 use Rattle.source_tree.specs.Expressions.{expr_view, args_view}
-use Rattle.gang_model.specs.Source.Judged.{Sound, both}
+use Rattle.gang_model.specs.Source.Judged.{both_answers}
 use Rattle.gang_model.specs.Running.Numbering.{steps_in}
 use Rattle.gang_model.specs.Names.Scope.{locals_in}
 use Rattle.gang_model.specs.Types.Calls.{WholeCall, call_of}
@@ -31,8 +31,8 @@ use Rattle.type_check_forms.specs.Sequences.{type_or_int32}
 use Rattle.source_answers.specs.Apart.{seen}
 use Rattle.type_check_parts.proofs.Judging.{answers-apart}
 use Rattle.type_check_parts.proofs.Named.{index-named}
-use Rattle.type_check_statements.proofs.SingleSteps.{then-alone, typed-form, single-step, typed-as, counted-as, ends-at, empty-statement, in-any-case}
-use Rattle.type_check_statements.proofs.InSequence.{begun-none, begun-next, begun-all, whole-block}
+use Rattle.type_check_statements.proofs.SingleSteps.{typed-form, steps-form, counted-as, ends-at, in-any-case}
+use Rattle.type_check_statements.proofs.InSequence.{begun-none, begun-next, begun-all, whole-typed, typed-block}
 use Rattle.type_check_statements.proofs.Compound.{if-only, if-else, while-loop, do-loop, for-loop, for-each, in-rounds, for-each-active, for-each-unique}
 use Rattle.type_check_statements.proofs.ScopeSteps.{extends-after, extends-indices, extends-one, extends-same, extends-next, extends-marked, extends-left}
 use Rattle.type_check_statements.proofs.statements.+statement.Goals as goal
@@ -67,8 +67,8 @@ if_only-returns-clause-typed t c =
     IfOk-weaker c.conditional.result _ _ (λ answer form p.
     if-only p e (parsed.stmt_view c.args.first.now) (context_view c.args.context.now) scope.entries scope.entries scope.locals c.inner.new.scope.locals c.args.step.now _
     c.in_ok-test.test c.in_ok-first.first answer c.both_answers.result
-    (answers-apart typed.boxed_view c.test_of.result c.in_ok-test.test (test_of scope.entries (Some e)) c.test_of.ensures c.in_ok-test.ensures)
-    c.in_ok-first.ensures.typed refl c.in_ok-step.ensures.number c.both_answers.ensures form)
+    c.in_ok-test.ensures.test
+    c.in_ok-first.ensures.typed refl c.in_ok-test.ensures.steps c.both_answers.ensures form)
     c.conditional.ensures.form
 
 pub if_else-returns-clause-typed : goal.if_else-returns-clause-typed
@@ -79,8 +79,8 @@ if_else-returns-clause-typed t c =
     if-else p e (parsed.stmt_view c.args.first.now) (parsed.stmt_view c.args.other.now) (context_view c.args.context.now) scope.entries scope.entries c.inner.new.scope.entries
     scope.locals c.inner.new.scope.locals c.inner-2.new.scope.locals c.args.step.now _ _
     c.in_ok-test.test c.in_ok-first.first c.in_ok-other.other answer c.both_answers.result c.both_answers-2.result
-    (answers-apart typed.boxed_view c.test_of.result c.in_ok-test.test (test_of scope.entries (Some e)) c.test_of.ensures c.in_ok-test.ensures)
-    c.in_ok-first.ensures.typed refl c.in_ok-step.ensures.number c.in_ok-other.ensures.typed c.in_ok-first.ensures.after c.in_ok-first.ensures.steps
+    c.in_ok-test.ensures.test
+    c.in_ok-first.ensures.typed refl c.in_ok-test.ensures.steps c.in_ok-other.ensures.typed c.in_ok-first.ensures.after c.in_ok-first.ensures.steps
     c.both_answers.ensures c.both_answers-2.ensures form)
     c.choice.ensures.form
 
@@ -90,12 +90,11 @@ pub while_loop-returns-clause-typed : goal.while_loop-returns-clause-typed
 while_loop-returns-clause-typed t c =
     let scope = c.args.scope.now in
     let e = expr_view c.args.test.now in
-    IfOk-weaker c.repeated.result _ _ (λ answer form p.
+    IfOk-weaker c.while_of.result _ _ (λ answer form p.
     while-loop p e (parsed.stmt_view c.args.body.now) (context_view c.args.context.now) scope.entries scope.entries scope.locals c.inner.new.scope.locals c.args.step.now c.inner.new.step
-    c.in_ok-test.test c.in_ok-body.body answer c.both_answers.result
-    (answers-apart typed.boxed_view c.test_of.result c.in_ok-test.test (test_of scope.entries (Some e)) c.test_of.ensures c.in_ok-test.ensures)
-    c.in_ok-body.ensures.typed refl c.in_ok-body.ensures.steps c.both_answers.ensures form)
-    c.repeated.ensures.form
+    c.in_ok-test.test c.in_ok-body.body answer (both_answers c.in_ok-test.test c.in_ok-body.body)
+    c.in_ok-test.ensures.test c.in_ok-body.ensures.typed refl c.in_ok-body.ensures.steps refl form)
+    c.while_of.ensures.form
 
 pub do_loop-returns-clause-typed : goal.do_loop-returns-clause-typed
 do_loop-returns-clause-typed t c =
@@ -105,8 +104,7 @@ do_loop-returns-clause-typed t c =
     IfOk-weaker c.body_first.result _ _ (λ answer form p.
     do-loop p e (parsed.stmt_view c.args.body.now) (context_view c.args.context.now) scope.entries entries scope.locals c.inner.new.scope.locals c.args.step.now c.inner.new.step
     c.in_ok-test.test c.in_ok-body.body answer c.both_answers.result c.in_ok-body.ensures.typed
-    (answers-apart typed.boxed_view c.test_of.result c.in_ok-test.test (test_of entries (Some e)) c.test_of.ensures c.in_ok-test.ensures)
-    c.in_ok-body.ensures.after c.in_ok-body.ensures.steps c.both_answers.ensures form)
+    c.in_ok-test.ensures.test c.in_ok-body.ensures.after c.in_ok-body.ensures.steps c.both_answers.ensures form)
     c.body_first.ensures.form
 
 pub for_loop-returns-clause-typed : goal.for_loop-returns-clause-typed
@@ -114,19 +112,22 @@ for_loop-returns-clause-typed t c =
     let scope = c.args.scope.now in
     let entries = c.statement.new.scope.entries in
     let e = option_map expr_view c.args.test.now in
-    IfOk-weaker c.started.result _ _ (λ answer form p.
+    let start = c.in_ok-start.start in
+    let test = c.in_ok-test.test in
+    let update = c.in_ok-update.update in
+    let body = c.in_ok-body.body in
+    IfOk-weaker c.for_of.result _ _ (λ answer form p.
     ends-at answer _ scope.locals c.inner-2.new.scope.locals c.leave.new.self.locals _ c.leave.ensures.locals
     (for-loop p (parsed.stmt_view c.args.start.now) (parsed.stmt_view c.args.update.now) (parsed.stmt_view c.args.body.now) e (context_view c.args.context.now)
     scope.entries entries c.inner.new.scope.entries
     scope.locals c.statement.new.scope.locals c.inner.new.scope.locals c.inner-2.new.scope.locals
     c.args.step.now c.statement.new.step _ _ c.inner.new.step
-    c.in_ok-test.test c.in_ok-start.start c.in_ok-update.update c.in_ok-body.body answer c.both_answers.result c.both_answers-2.result c.both_answers-parts.result
+    test start update body answer (both_answers start test) (both_answers update body) (both_answers (both_answers start test) (both_answers update body))
     c.in_ok-start.ensures.typed c.in_ok-start.ensures.after c.in_ok-start.ensures.steps
-    (answers-apart typed.boxed_view c.some_test.result c.in_ok-test.test (test_of entries e) c.some_test.ensures c.in_ok-test.ensures)
-    c.in_ok-steps_in.ensures.steps c.in_ok-at.ensures.number
+    c.in_ok-test.ensures.test refl c.in_ok-test.ensures.update
     c.in_ok-update.ensures.typed c.in_ok-update.ensures.after c.in_ok-update.ensures.steps c.in_ok-body.ensures.typed
-    c.both_answers.ensures c.both_answers-2.ensures c.both_answers-parts.ensures form))
-    c.started.ensures.form
+    refl refl refl form))
+    c.for_of.ensures.form
 
 pub for_loop-leave-requires : goal.for_loop-leave-requires
 for_loop-leave-requires t c =
@@ -143,7 +144,7 @@ for_loop-returns-clause-after t c =
     let scope = c.args.scope.now in
     let begun = c.statement.new.scope in
     let after = c.inner-2.new.scope in
-    in-any-case c.started.result (extends-left scope.entries after.entries c.leave.new.self.entries c.mark-mark.result.declared c.mark-mark.ensures
+    in-any-case c.for_of.result (extends-left scope.entries after.entries c.leave.new.self.entries c.mark-mark.result.declared c.mark-mark.ensures
     (extends-next scope.entries begun.entries after.entries
     (extends-after (parsed.stmt_view c.args.start.now) scope.entries begun.entries (length scope.locals) c.in_ok-start.ensures.after)
     (extends-same begun.entries after.entries (c.in_ok-body.ensures.after ∙ c.in_ok-update.ensures.after)))
@@ -156,29 +157,29 @@ for_each-leave-requires t c =
     let scope = c.args.scope.now in
     let after = c.inner.new.scope in
     extends-marked scope.entries after.entries c.mark-mark.result.declared c.mark-mark.ensures
-    (extends-indices (map parsed.dim_view c.args.dims.now) (length scope.locals) scope.entries after.entries (c.in_ok-body.ensures.after ∙ c.in_ok-declare_indices.ensures.entries))
+    (extends-indices (map parsed.dim_view c.args.dims.now) (length scope.locals) scope.entries after.entries (c.in_ok-body.ensures.after ∙ c.in_ok-dimensions.ensures.entries))
 
 pub for_each-returns-clause-typed : goal.for_each-returns-clause-typed
 for_each-returns-clause-typed t c =
     let scope = c.args.scope.now in
-    let inside = c.declare_indices.new.scope in
+    let inside = c.for_each_head.new.scope in
     let dims = map parsed.dim_view c.args.dims.now in
-    IfOk-weaker c.over_rows.result _ _ (λ answer form p.
+    IfOk-weaker c.for_each_of.result _ _ (λ answer form p.
     ends-at answer _ scope.locals c.inner.new.scope.locals c.leave.new.self.locals _ c.leave.ensures.locals
     (for-each (λ ds. map typed.dimension_view ds.items) p c.args.is_tiled dims (length c.args.dims.now) (parsed.stmt_view c.args.body.now) (context_view c.args.context.now)
     scope.entries inside.entries scope.locals inside.locals c.inner.new.scope.locals c.args.step.now _
-    c.in_ok-dimensions.dimensions c.in_ok-body.body answer c.both_answers.result
+    c.in_ok-dimensions.dimensions c.in_ok-body.body answer (both_answers c.in_ok-dimensions.dimensions c.in_ok-body.body)
     (sym (length-map c.args.dims.now parsed.dim_view)) c.in_ok-dimensions.ensures.dimensions
-    c.in_ok-declare_indices.ensures.entries c.in_ok-declare_indices.ensures.locals c.in_ok-step.ensures.number
-    c.in_ok-body.ensures.typed c.both_answers.ensures form))
-    c.over_rows.ensures.form
+    c.in_ok-dimensions.ensures.entries c.in_ok-dimensions.ensures.locals c.in_ok-dimensions.ensures.steps
+    c.in_ok-body.ensures.typed refl form))
+    c.for_each_of.ensures.form
 
 pub for_each-returns-clause-after : goal.for_each-returns-clause-after
 for_each-returns-clause-after t c =
     let scope = c.args.scope.now in
     let after = c.inner.new.scope in
-    in-any-case c.over_rows.result (extends-left scope.entries after.entries c.leave.new.self.entries c.mark-mark.result.declared c.mark-mark.ensures
-    (extends-indices (map parsed.dim_view c.args.dims.now) (length scope.locals) scope.entries after.entries (c.in_ok-body.ensures.after ∙ c.in_ok-declare_indices.ensures.entries))
+    in-any-case c.for_each_of.result (extends-left scope.entries after.entries c.leave.new.self.entries c.mark-mark.result.declared c.mark-mark.ensures
+    (extends-indices (map parsed.dim_view c.args.dims.now) (length scope.locals) scope.entries after.entries (c.in_ok-body.ensures.after ∙ c.in_ok-dimensions.ensures.entries))
     c.leave.ensures.entries)
 
 pub rounds-leave-requires : goal.rounds-leave-requires
@@ -186,23 +187,23 @@ rounds-leave-requires t c =
     let scope = c.args.scope.now in
     let after = c.inner.new.scope in
     extends-marked scope.entries after.entries c.mark-mark.result.declared c.mark-mark.ensures
-    (extends-one scope.entries after.entries (declared_view c.args.name.now c.args.index) (c.in_ok-body.ensures.after ∙ c.in_ok-declare.ensures.entries))
+    (extends-one scope.entries after.entries (declared_view c.args.name.now c.args.index) (c.in_ok-body.ensures.after ∙ c.in_ok-rounds_head.ensures.entries))
 
 pub rounds-returns-clause-typed : goal.rounds-returns-clause-typed
 rounds-returns-clause-typed t c =
     let scope = c.args.scope.now in
-    let inside = c.declare.new.self in
+    let inside = c.rounds_head.new.scope in
     ends-at c.in_ok-body.body _ scope.locals c.inner.new.scope.locals c.leave.new.self.locals _ c.leave.ensures.locals
     (in-rounds (declared_view c.args.name.now c.args.index) (parsed.stmt_view c.args.body.now) (context_view c.args.context.now) scope.entries inside.entries
     scope.locals inside.locals c.inner.new.scope.locals c.args.step.now _ c.in_ok-body.body
-    c.in_ok-declare.ensures.entries c.in_ok-declare.ensures.locals c.in_ok-step.ensures.number c.in_ok-body.ensures.typed)
+    c.in_ok-rounds_head.ensures.entries c.in_ok-rounds_head.ensures.locals c.in_ok-rounds_head.ensures.steps c.in_ok-body.ensures.typed)
 
 pub rounds-returns-clause-after : goal.rounds-returns-clause-after
 rounds-returns-clause-after t c =
     let scope = c.args.scope.now in
     let after = c.inner.new.scope in
     extends-left scope.entries after.entries c.leave.new.self.entries c.mark-mark.result.declared c.mark-mark.ensures
-    (extends-one scope.entries after.entries (declared_view c.args.name.now c.args.index) (c.in_ok-body.ensures.after ∙ c.in_ok-declare.ensures.entries))
+    (extends-one scope.entries after.entries (declared_view c.args.name.now c.args.index) (c.in_ok-body.ensures.after ∙ c.in_ok-rounds_head.ensures.entries))
     c.leave.ensures.entries
 
 pub for_each_active-returns-clause-typed : goal.for_each_active-returns-clause-typed
@@ -227,112 +228,71 @@ for_each_unique-returns-clause-typed t c =
     IfOk-weaker c.over_values.result _ _ (λ answer form p at.
     for-each-unique typed_view p at name e (parsed.stmt_view c.args.body.now) (context_view c.args.context.now) scope.entries scope.locals c.rounds.new.scope.locals c.args.step.now
     (declared_view name index) (typed.var_view c.variable_of.result) c.in_ok-value.value c.in_ok-body.body answer
-    (answers-apart typed_view c.expression.result c.in_ok-value.value (expression e scope.entries) c.expression.ensures c.in_ok-value.ensures)
+    c.in_ok-value.ensures.value
     (λ x is. index-named name index _ _ _ c.index_variable-index.ensures
     ∙ (ap (λ n. index_entry name (Local n) c.type_of-value_type.result Uniform) c.next.ensures
     ∙ ap (λ ty. index_entry name (Local k) ty Uniform) (c.type_of-value_type.ensures ∙ ap type_or_int32 is)))
     c.variable_of.ensures c.in_ok-body.ensures.typed form)
     c.over_values.ensures.form
 
--- ---- blocks
+-- ---- statements in order
 
-pub statement-loop-inner-init : goal.statement-loop-inner-init
-statement-loop-inner-init t c =
+pub statements-loop-stmt-init : goal.statements-loop-stmt-init
+statements-loop-stmt-init t c =
     let scope = c.args.scope.now in
-    begun-none (context_view c.args.context.now) (parsed.stmts_view c.deref-inner-items.result.now) _ scope.entries scope.locals c.args.step.now (ap Ok c.new.ensures.items)
+    begun-none (context_view c.args.context.now) (parsed.stmts_view c.args.stmts.now) _ scope.entries scope.locals c.args.step.now (ap Ok c.new.ensures.items)
 
-pub statement-loop-inner-preserved : goal.statement-loop-inner-preserved
-statement-loop-inner-preserved t c =
+pub statements-loop-stmt-preserved : goal.statements-loop-stmt-preserved
+statements-loop-stmt-preserved t c =
     let scope = c.args.scope.now in
-    let items = c.deref-inner-items.result.now in
-    let i = c.loop-inner.inner-index in
-    let here = c.loop-inner.scope in
+    let items = c.args.stmts.now in
+    let i = c.loop-stmt.stmt-index in
+    let here = c.loop-stmt.scope in
     let there = c.statement.new.scope in
-    begun-next (context_view c.args.context.now) (parsed.stmts_view items) (parsed.stmts_view (drop i items)) (parsed.stmts_view (drop (i + 1) items)) (parsed.stmt_view c.inner-item.result)
-    (seen (λ v. v.items) c.loop-inner.typed) _ c.in_ok-next-in-Block.next scope.entries here.entries there.entries scope.locals here.locals there.locals c.args.step.now c.loop-inner.step _
-    c.loop-inner.invariant (ap parsed.stmts_view (next_item items i c.inner-item.result c.loop-inner-test.true c.inner-item.is))
-    c.in_ok-next-in-Block.ensures.typed c.in_ok-next-in-Block.ensures.after c.in_ok-next-in-Block.ensures.steps c.in_ok-typed-in-Block.ensures.more
+    begun-next (context_view c.args.context.now) (parsed.stmts_view items) (parsed.stmts_view (drop i items)) (parsed.stmts_view (drop (i + 1) items)) (parsed.stmt_view c.stmt-item.result)
+    (seen (λ v. v.items) c.loop-stmt.typed) _ c.in_ok-next.next scope.entries here.entries there.entries scope.locals here.locals there.locals c.args.step.now c.loop-stmt.step _
+    c.loop-stmt.invariant (ap parsed.stmts_view (next_item items i c.stmt-item.result c.loop-stmt-test.true c.stmt-item.is))
+    c.in_ok-next.ensures.typed c.in_ok-next.ensures.after c.in_ok-next.ensures.steps c.in_ok-typed.ensures.more
+
+pub statements-leave-requires : goal.statements-leave-requires
+statements-leave-requires t c =
+    let scope = c.args.scope.now in
+    let items = c.args.stmts.now in
+    let i = c.loop-stmt.stmt-index in
+    let whole = begun-all (context_view c.args.context.now) (parsed.stmts_view items) (parsed.stmts_view (drop i items)) (seen (λ v. v.items) c.loop-stmt.typed) scope.entries c.loop-stmt.scope.entries
+    scope.locals c.loop-stmt.scope.locals c.args.step.now c.loop-stmt.step c.loop-stmt.invariant (ap parsed.stmts_view (drop_all i items c.loop-stmt-test.false)) in
+    extends-marked scope.entries c.loop-stmt.scope.entries c.mark-mark.result.declared c.mark-mark.ensures whole.extends
+
+pub statements-returns-clause-typed : goal.statements-returns-clause-typed
+statements-returns-clause-typed t c =
+    let scope = c.args.scope.now in
+    let items = c.args.stmts.now in
+    let i = c.loop-stmt.stmt-index in
+    let context = context_view c.args.context.now in
+    let whole = begun-all context (parsed.stmts_view items) (parsed.stmts_view (drop i items)) (seen (λ v. v.items) c.loop-stmt.typed) scope.entries c.loop-stmt.scope.entries
+    scope.locals c.loop-stmt.scope.locals c.args.step.now c.loop-stmt.step c.loop-stmt.invariant (ap parsed.stmts_view (drop_all i items c.loop-stmt-test.false)) in
+    whole-typed context (parsed.stmts_view items) c.loop-stmt.typed scope.entries c.loop-stmt.scope.entries scope.locals c.loop-stmt.scope.locals c.leave.new.self.locals c.args.step.now c.loop-stmt.step whole
+    c.leave.ensures.locals
+
+pub statements-returns-clause-after : goal.statements-returns-clause-after
+statements-returns-clause-after t c =
+    let scope = c.args.scope.now in
+    let items = c.args.stmts.now in
+    let i = c.loop-stmt.stmt-index in
+    let whole = begun-all (context_view c.args.context.now) (parsed.stmts_view items) (parsed.stmts_view (drop i items)) (seen (λ v. v.items) c.loop-stmt.typed) scope.entries c.loop-stmt.scope.entries
+    scope.locals c.loop-stmt.scope.locals c.args.step.now c.loop-stmt.step c.loop-stmt.invariant (ap parsed.stmts_view (drop_all i items c.loop-stmt-test.false)) in
+    extends-left scope.entries c.loop-stmt.scope.entries c.leave.new.self.entries c.mark-mark.result.declared c.mark-mark.ensures whole.extends c.leave.ensures.entries
+
+pub statements-returns-clause-steps : goal.statements-returns-clause-steps
+statements-returns-clause-steps t c =
+    let scope = c.args.scope.now in
+    let items = c.args.stmts.now in
+    let i = c.loop-stmt.stmt-index in
+    let whole = begun-all (context_view c.args.context.now) (parsed.stmts_view items) (parsed.stmts_view (drop i items)) (seen (λ v. v.items) c.loop-stmt.typed) scope.entries c.loop-stmt.scope.entries
+    scope.locals c.loop-stmt.scope.locals c.args.step.now c.loop-stmt.step c.loop-stmt.invariant (ap parsed.stmts_view (drop_all i items c.loop-stmt-test.false)) in
+    whole.numbered
 
 -- ---- the forms of a statement
-
-pub statement-returns-in_ok-empty-in-Empty-clause-typed : goal.statement-returns-in_ok-empty-in-Empty-clause-typed
-statement-returns-in_ok-empty-in-Empty-clause-typed t c =
-    let scope = c.args.scope.now in
-    empty-statement c.in_ok-empty-in-Empty.empty (parsed.stmt_view c.args.stmt.now) (context_view c.args.context.now) scope.entries scope.locals c.args.step.now c.in_ok-empty-in-Empty.ensures.value (ap parsed.stmt_view c.in-Empty.is)
-
-pub statement-returns-in-Assign-clause-typed : goal.statement-returns-in-Assign-clause-typed
-statement-returns-in-Assign-clause-typed t c =
-    let scope = c.args.scope.now in
-    let context = context_view c.args.context.now in
-    let s = parsed.stmt_view c.args.stmt.now in
-    single-step c.one_step.result c.assignment.result (model.assignment context scope.entries (parsed.target_view c.in-Assign.target) (expr_view c.in-Assign.value) c.args.step.now) s (ParsedAssign c.in-Assign.place (parsed.target_view c.in-Assign.target) (expr_view c.in-Assign.value))
-    context scope.entries scope.locals c.args.step.now (ap parsed.stmt_view c.in-Assign.is) (refl) refl c.assignment.ensures c.one_step.ensures.answer
-
-pub statement-returns-in-Change-clause-typed : goal.statement-returns-in-Change-clause-typed
-statement-returns-in-Change-clause-typed t c =
-    let scope = c.args.scope.now in
-    let context = context_view c.args.context.now in
-    let s = parsed.stmt_view c.args.stmt.now in
-    let target = parsed.target_view c.in-Change.target in
-    let e = expr_view c.in-Change.value in
-    let aimed = model.target_of scope.entries target.at target.name target.index in
-    single-step c.one_step-in-Change.result c.change.result (change_of scope.entries target c.in-Change.operator e c.args.step.now) s (ParsedChange c.in-Change.place target c.in-Change.operator e)
-    context scope.entries scope.locals c.args.step.now (ap parsed.stmt_view c.in-Change.is) (then-alone (both aimed (model.operand_for (model.rate_of aimed) e scope.entries)) (λ parts. model.changed c.in-Change.operator c.args.step.now parts.0 parts.1)) refl c.change.ensures c.one_step-in-Change.ensures.answer
-
-pub statement-returns-in-Increment-clause-typed : goal.statement-returns-in-Increment-clause-typed
-statement-returns-in-Increment-clause-typed t c =
-    let scope = c.args.scope.now in
-    let context = context_view c.args.context.now in
-    let s = parsed.stmt_view c.args.stmt.now in
-    let target = parsed.target_view c.in-Increment.target in
-    single-step c.one_step-in-Increment.result c.increment.result (increment_of scope.entries target c.in-Increment.operator c.args.step.now) s (ParsedIncrement c.in-Increment.place target c.in-Increment.operator)
-    context scope.entries scope.locals c.args.step.now (ap parsed.stmt_view c.in-Increment.is) (then-alone (model.target_of scope.entries target.at target.name target.index) (λ a. model.changed c.in-Increment.operator c.args.step.now a model.number_one)) refl c.increment.ensures c.one_step-in-Increment.ensures.answer
-
-pub statement-returns-in-Call-clause-typed : goal.statement-returns-in-Call-clause-typed
-statement-returns-in-Call-clause-typed t c =
-    let scope = c.args.scope.now in
-    let context = context_view c.args.context.now in
-    let s = parsed.stmt_view c.args.stmt.now in
-    let call : WholeCall = record { at = c.in-Call.place; name = c.in-Call.name.items; args = args_view c.in-Call.args.items } in
-    let same : whole_call_view (record { place = c.in-Call.place; name = c.deref-in-Call.result; args = c.deref-in-Call-2.result }) ≡ call =
-    ap (λ name. record { at = c.in-Call.place; name = name; args = args_view c.deref-in-Call-2.result.now }) c.deref-in-Call.ensures.value
-    ∙ ap (λ args. record { at = c.in-Call.place; name = c.in-Call.name.items; args = args_view args }) c.deref-in-Call-2.ensures.value in
-    single-step c.one_step-in-Call.result c.called.result (call_statement context scope.entries call c.args.step.now) s (ParsedDoCall c.in-Call.place c.in-Call.name.items (args_view c.in-Call.args.items))
-    context scope.entries scope.locals c.args.step.now (ap parsed.stmt_view c.in-Call.is) (then-alone (call_of context scope.entries c.in-Call.place c.in-Call.name.items (args_view c.in-Call.args.items) tree.Nothing c.args.step.now) (λ x. x.stmt)) refl (subst (λ x. Answers boxed_stmt_view c.called.result (call_statement context scope.entries x c.args.step.now)) same c.called.ensures) c.one_step-in-Call.ensures.answer
-
-pub statement-returns-in-Break-clause-typed : goal.statement-returns-in-Break-clause-typed
-statement-returns-in-Break-clause-typed t c =
-    let scope = c.args.scope.now in
-    let context = context_view c.args.context.now in
-    let s = parsed.stmt_view c.args.stmt.now in
-    single-step c.one_step-in-Break.result c.unjudged.result (Sound (tree.Break c.args.step.now)) s (ParsedBreak c.in-Break.place)
-    context scope.entries scope.locals c.args.step.now (ap parsed.stmt_view c.in-Break.is) (refl) refl c.unjudged.ensures c.one_step-in-Break.ensures.answer
-
-pub statement-returns-in-Continue-clause-typed : goal.statement-returns-in-Continue-clause-typed
-statement-returns-in-Continue-clause-typed t c =
-    let scope = c.args.scope.now in
-    let context = context_view c.args.context.now in
-    let s = parsed.stmt_view c.args.stmt.now in
-    single-step c.one_step-in-Continue.result c.unjudged-in-Continue.result (Sound (tree.Continue c.args.step.now)) s (ParsedContinue c.in-Continue.place)
-    context scope.entries scope.locals c.args.step.now (ap parsed.stmt_view c.in-Continue.is) (refl) refl c.unjudged-in-Continue.ensures c.one_step-in-Continue.ensures.answer
-
-pub statement-returns-in-Return-clause-typed : goal.statement-returns-in-Return-clause-typed
-statement-returns-in-Return-clause-typed t c =
-    let scope = c.args.scope.now in
-    let context = context_view c.args.context.now in
-    let s = parsed.stmt_view c.args.stmt.now in
-    single-step c.one_step-in-Return.result c.returning.result (model.returning context scope.entries c.in-Return.place (option_map expr_view c.in-Return.value) c.args.step.now) s (ParsedReturn c.in-Return.place (option_map expr_view c.in-Return.value))
-    context scope.entries scope.locals c.args.step.now (ap parsed.stmt_view c.in-Return.is) (refl) refl c.returning.ensures c.one_step-in-Return.ensures.answer
-
-pub statement-returns-in-Declare-clause-typed : goal.statement-returns-in-Declare-clause-typed
-statement-returns-in-Declare-clause-typed t c =
-    let scope = c.args.scope.now in
-    let s = parsed.stmt_view c.args.stmt.now in
-    let form = ParsedDeclare c.in-Declare.place c.in-Declare.spec c.in-Declare.name_place c.deref.result.now (option_map expr_view c.in-Declare.value) in
-    let e : s ≡ form =
-    ap parsed.stmt_view c.in-Declare.is ∙ ap (λ x. ParsedDeclare c.in-Declare.place c.in-Declare.spec c.in-Declare.name_place x (option_map expr_view c.in-Declare.value)) (sym c.deref.ensures.value) in
-    typed-form c.declare.result s form (context_view c.args.context.now) scope.entries (length scope.locals) c.args.step.now scope.locals c.declare.new.scope.locals e
-    (IfOk-weaker c.declare.result _ _ (λ answer h. h c.in-Declare.place) c.declare.ensures.typed)
 
 pub statement-returns-in-None-clause-typed : goal.statement-returns-in-None-clause-typed
 statement-returns-in-None-clause-typed t c =
@@ -426,51 +386,19 @@ statement-returns-in-ForEachUnique-clause-typed t c =
     typed-form c.for_each_unique.result s form (context_view c.args.context.now) scope.entries (length scope.locals) c.args.step.now scope.locals c.for_each_unique.new.scope.locals e
     (IfOk-weaker c.for_each_unique.result _ _ (λ answer h. h c.in-ForEachUnique.place c.in-ForEachUnique.name_place) c.for_each_unique.ensures.typed)
 
-pub statement-leave-requires : goal.statement-leave-requires
-statement-leave-requires t c =
+pub statement-returns-in_ok-typed-in-Block-clause-typed : goal.statement-returns-in_ok-typed-in-Block-clause-typed
+statement-returns-in_ok-typed-in-Block-clause-typed t c =
     let scope = c.args.scope.now in
-    let items = c.deref-inner-items.result.now in
-    let i = c.loop-inner.inner-index in
-    let whole = begun-all (context_view c.args.context.now) (parsed.stmts_view items) (parsed.stmts_view (drop i items)) (seen (λ v. v.items) c.loop-inner.typed) scope.entries c.loop-inner.scope.entries
-    scope.locals c.loop-inner.scope.locals c.args.step.now c.loop-inner.step c.loop-inner.invariant (ap parsed.stmts_view (drop_all i items c.loop-inner-test.false)) in
-    extends-marked scope.entries c.loop-inner.scope.entries c.mark-mark.result.declared c.mark-mark.ensures whole.extends
-
-pub statement-returns-after-loop-inner-clause-typed : goal.statement-returns-after-loop-inner-clause-typed
-statement-returns-after-loop-inner-clause-typed t c =
-    let scope = c.args.scope.now in
-    let items = c.deref-inner-items.result.now in
-    let i = c.loop-inner.inner-index in
-    let context = context_view c.args.context.now in
-    let whole = begun-all context (parsed.stmts_view items) (parsed.stmts_view (drop i items)) (seen (λ v. v.items) c.loop-inner.typed) scope.entries c.loop-inner.scope.entries
-    scope.locals c.loop-inner.scope.locals c.args.step.now c.loop-inner.step c.loop-inner.invariant (ap parsed.stmts_view (drop_all i items c.loop-inner-test.false)) in
+    let items = c.deref.result.now in
     let e : parsed.stmt_view c.args.stmt.now ≡ ParsedBlock (parsed.stmts_view items) =
-    ap parsed.stmt_view c.in-Block.is ∙ (view_block c.in-Block.stmts ∙ ap (λ xs. ParsedBlock (parsed.stmts_view xs)) (sym c.deref-inner-items.ensures.value)) in
-    IfOk-weaker c.block.result _ _ (λ answer form.
-    typed-as answer (parsed.stmt_view c.args.stmt.now) (ParsedBlock (parsed.stmts_view items)) context scope.entries (length scope.locals) c.args.step.now scope.locals c.leave.new.self.locals e
-    (ends-at answer _ scope.locals c.loop-inner.scope.locals c.leave.new.self.locals _ c.leave.ensures.locals
-    (whole-block context (parsed.stmts_view items) c.loop-inner.typed answer scope.entries c.loop-inner.scope.entries scope.locals c.loop-inner.scope.locals c.args.step.now c.loop-inner.step whole form)))
-    c.block.ensures.form
+    ap parsed.stmt_view c.in-Block.is ∙ (view_block c.in-Block.stmts ∙ ap (λ xs. ParsedBlock (parsed.stmts_view xs)) (sym c.deref.ensures.value)) in
+    typed-form c.block.result (parsed.stmt_view c.args.stmt.now) (ParsedBlock (parsed.stmts_view items)) (context_view c.args.context.now) scope.entries (length scope.locals) c.args.step.now
+    scope.locals c.statements.new.scope.locals e
+    (IfOk-weaker c.block.result _ _ (λ answer form. typed-block _ c.in_ok-typed-in-Block.typed answer scope.locals c.statements.new.scope.locals _ c.in_ok-typed-in-Block.ensures.typed form) c.block.ensures.form)
 
-pub statement-returns-after-loop-inner-clause-after : goal.statement-returns-after-loop-inner-clause-after
-statement-returns-after-loop-inner-clause-after t c =
-    let scope = c.args.scope.now in
-    let items = c.deref-inner-items.result.now in
-    let i = c.loop-inner.inner-index in
-    let k = length scope.locals in
-    let whole = begun-all (context_view c.args.context.now) (parsed.stmts_view items) (parsed.stmts_view (drop i items)) (seen (λ v. v.items) c.loop-inner.typed) scope.entries c.loop-inner.scope.entries
-    scope.locals c.loop-inner.scope.locals c.args.step.now c.loop-inner.step c.loop-inner.invariant (ap parsed.stmts_view (drop_all i items c.loop-inner-test.false)) in
+pub statement-returns-in_ok-typed-in-Block-clause-steps : goal.statement-returns-in_ok-typed-in-Block-clause-steps
+statement-returns-in_ok-typed-in-Block-clause-steps t c =
+    let items = c.deref.result.now in
     let e : parsed.stmt_view c.args.stmt.now ≡ ParsedBlock (parsed.stmts_view items) =
-    ap parsed.stmt_view c.in-Block.is ∙ (view_block c.in-Block.stmts ∙ ap (λ xs. ParsedBlock (parsed.stmts_view xs)) (sym c.deref-inner-items.ensures.value)) in
-    in-any-case c.block.result (extends-left scope.entries c.loop-inner.scope.entries c.leave.new.self.entries c.mark-mark.result.declared c.mark-mark.ensures whole.extends c.leave.ensures.entries
-    ∙ sym (ap (λ s. model.scope_after s scope.entries k) e))
-
-pub statement-returns-after-loop-inner-clause-steps : goal.statement-returns-after-loop-inner-clause-steps
-statement-returns-after-loop-inner-clause-steps t c =
-    let scope = c.args.scope.now in
-    let items = c.deref-inner-items.result.now in
-    let i = c.loop-inner.inner-index in
-    let whole = begun-all (context_view c.args.context.now) (parsed.stmts_view items) (parsed.stmts_view (drop i items)) (seen (λ v. v.items) c.loop-inner.typed) scope.entries c.loop-inner.scope.entries
-    scope.locals c.loop-inner.scope.locals c.args.step.now c.loop-inner.step c.loop-inner.invariant (ap parsed.stmts_view (drop_all i items c.loop-inner-test.false)) in
-    let e : parsed.stmt_view c.args.stmt.now ≡ ParsedBlock (parsed.stmts_view items) =
-    ap parsed.stmt_view c.in-Block.is ∙ (view_block c.in-Block.stmts ∙ ap (λ xs. ParsedBlock (parsed.stmts_view xs)) (sym c.deref-inner-items.ensures.value)) in
-    in-any-case c.block.result (whole.numbered ∙ sym (ap (λ s. c.args.step.now + steps_in s) e))
+    ap parsed.stmt_view c.in-Block.is ∙ (view_block c.in-Block.stmts ∙ ap (λ xs. ParsedBlock (parsed.stmts_view xs)) (sym c.deref.ensures.value)) in
+    steps-form c.block.result (parsed.stmt_view c.args.stmt.now) (ParsedBlock (parsed.stmts_view items)) c.args.step.now c.statements.new.step e (in-any-case c.block.result c.in_ok-typed-in-Block.ensures.steps)

@@ -12,6 +12,9 @@ use Rattle.type_check_statements.proofs.statements.+statement.Given as goal
 abbrev pub decreases-statement : goal.decreases-statement
 decreases-statement l = 4 * size-Stmt l.stmt.now
 
+abbrev pub decreases-statements : goal.decreases-statements
+decreases-statements l = 4 * goal.size-statements l + 1
+
 abbrev pub decreases-inner : goal.decreases-inner
 decreases-inner l = 4 * size-Stmt l.stmt.now + 1
 
@@ -43,7 +46,7 @@ abbrev pub decreases-for_each_unique : goal.decreases-for_each_unique
 decreases-for_each_unique l = 4 * size-Stmt l.body.now + 3
 
 -- what is typed so far and what is left come to the whole
-abbrev pub invariant-statement-loop-inner : goal.invariant-statement-loop-inner
-invariant-statement-loop-inner l =
-    IsBegun (context_view l.context) (stmts_view l.inner-items) (stmts_view (drop l.inner-index l.inner-items)) (seen (λ stmts. stmts.items) l.typed)
+abbrev pub invariant-statements-loop-stmt : goal.invariant-statements-loop-stmt
+invariant-statements-loop-stmt l =
+    IsBegun (context_view l.context) (stmts_view l.stmts) (stmts_view (drop l.stmt-index l.stmts)) (seen (λ stmts. stmts.items) l.typed)
     l.fn.scope.entries l.scope.entries l.fn.scope.locals l.scope.locals l.fn.step l.step
