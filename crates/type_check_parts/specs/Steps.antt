@@ -1,7 +1,12 @@
--- The steps that a statement has beside those of the statements in it.
+-- What is counted of the steps of a statement.
 use Rattle.std.specs.Prelude.{ℕ}
 use Rattle.source_tree.specs.declared.tree.Stmt.{Stmt, Empty, Block', ForEach', ForEachActive', ForEachUnique'}
 
+-- the greatest number, which stands for all that are too large
+abbrev pub greatest : ℕ
+greatest = 18446744073709551615
+
+-- the steps that a statement has beside those of the statements in it
 abbrev pub own_steps : Stmt → ℕ
 own_steps Empty = 0
 own_steps (Block' shape ss) = 0

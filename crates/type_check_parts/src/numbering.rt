@@ -1,5 +1,5 @@
 //! The numbers of steps.
-ghost use Rattle.std.specs.Prelude.{◌≡◌, ◌+◌, IfOk, OnOk};
+ghost use Rattle.std.specs.Prelude.{◌≡◌, ◌+◌, IfOk, OnOk, min};
 ghost use Rattle.gang_model.specs.Running.Numbering as model;
 ghost use Rattle.source_tree.specs.Tree.{stmt_view};
 ghost use Rattle.source_answers.specs.Apart.{apart};
@@ -43,38 +43,27 @@ fn own_steps(stmt: &Stmt) -> usize
     match stmt {
         Stmt::Empty | Stmt::Block(_) => 0,
         Stmt::ForEach { .. } | Stmt::ForEachActive { .. } | Stmt::ForEachUnique { .. } => 2,
-        Stmt::Declare { .. }
-        | Stmt::Assign { .. }
-        | Stmt::Change { .. }
-        | Stmt::Increment { .. }
-        | Stmt::Call { .. }
-        | Stmt::Break { .. }
-        | Stmt::Continue { .. }
-        | Stmt::Return { .. }
-        | Stmt::If { .. }
-        | Stmt::While { .. }
-        | Stmt::Do { .. }
-        | Stmt::For { .. } => 1,
+        _ => 1,
     }
 }
 
-/// The number that comes after the steps of a statement whose first one has this number.
-fn after_steps(step: usize, stmt: &Stmt) -> Result<usize, AllocError>
-    ensures after { IfOk result (λ after. after ≡ step + model.steps_in (stmt_view stmt.now)) }
+/// The number that comes after the steps of a statement whose first one has this number, or the greatest number.
+fn after_steps(step: usize, stmt: &Stmt) -> usize
+    ensures { result ≡ min (step + model.steps_in (stmt_view stmt.now)) steps.greatest }
 {
-    let mut after = advanced(step, own_steps(stmt))?;
+    let mut after = step.saturating_add(own_steps(stmt));
     match stmt {
         Stmt::Block(stmts) => {
             for inner in stmts {
-                after = after_steps(after, inner)?;
+                after = after_steps(after, inner);
             }
-            Ok(after)
+            after
         }
         Stmt::If { first, other, .. } => {
-            after = after_steps(after, first)?;
+            after = after_steps(after, first);
             match other {
                 Some(other) => after_steps(after, other),
-                None => Ok(after),
+                None => after,
             }
         }
         Stmt::For {
@@ -82,21 +71,13 @@ fn after_steps(step: usize, stmt: &Stmt) -> Result<usize, AllocError>
             update,
             body,
             ..
-        } => after_steps(after_steps(after_steps(after, start)?, body)?, update),
+        } => after_steps(after_steps(after_steps(after, start), body), update),
         Stmt::While { body, .. }
         | Stmt::Do { body, .. }
         | Stmt::ForEach { body, .. }
         | Stmt::ForEachActive { body, .. }
         | Stmt::ForEachUnique { body, .. } => after_steps(after, body),
-        Stmt::Empty
-        | Stmt::Declare { .. }
-        | Stmt::Assign { .. }
-        | Stmt::Change { .. }
-        | Stmt::Increment { .. }
-        | Stmt::Call { .. }
-        | Stmt::Break { .. }
-        | Stmt::Continue { .. }
-        | Stmt::Return { .. } => Ok(after),
+        _ => after,
     }
 }
 
@@ -108,5 +89,10 @@ fn after_steps(step: usize, stmt: &Stmt) -> Result<usize, AllocError>
 pub fn steps_in(stmt: &Stmt) -> Result<usize, AllocError>
     ensures steps { IfOk result (λ steps. steps ≡ model.steps_in (stmt_view stmt.now)) }
 {
-    after_steps(0, stmt)
+    let steps = after_steps(0, stmt);
+    if steps < usize::MAX {
+        Ok(steps)
+    } else {
+        Err(AllocError)
+    }
 }
