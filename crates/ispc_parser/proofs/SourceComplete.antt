@@ -19,7 +19,7 @@ use Rattle.ispc_parser_words.proofs.Tokens.{mark_is, take_takes, take_again, beg
 use Rattle.ispc_parser_words.proofs.Tokens.{takes_at, takes_shorter, at_shorter}
 use Rattle.ispc_parser_words.proofs.SpecWords.{words_again, words_begin}
 use Rattle.ispc_parser_words.proofs.Tokens.{take_none}
-use Rattle.ispc_parser_expressions.proofs.Follows.{not_begins}
+use Rattle.ispc_parser_words.proofs.Follows.{not_begins}
 use Rattle.ispc_parser_front.specs.SpecWords.{outer_spec_of}
 use Rattle.ispc_parser_front.proofs.Tokens.{other_first, take_at_again, name_again}
 use Rattle.ispc_parser_front.proofs.SpecTokens.{spec_again, local_spec_again, word_first}

@@ -13,7 +13,7 @@ use Rattle.ispc_parser_expressions.specs.Parse.{Below, bracket_of, part_of, arg_
 use Rattle.ispc_parser_words.proofs.Tokens.{take_again, begins_again, takes_shorter, take_none}
 use Rattle.ispc_parser_expressions.proofs.Args.{SpellsArg, arg_weight, items_split, Counts, CountsAll, counts_split, counts_end, arg_shorter}
 use Rattle.ispc_parser_expressions.proofs.Starts.{starts}
-use Rattle.ispc_parser_expressions.proofs.Follows.{stops_at, not_begins}
+use Rattle.ispc_parser_words.proofs.Follows.{stops_at, not_begins}
 use Rattle.ispc_parser_expressions.proofs.Complete.{IsComplete, spend_some, bracket_complete, operand_complete, expr_complete}
 use Rattle.std.proofs.lemmas.Option.{same_Some}
 

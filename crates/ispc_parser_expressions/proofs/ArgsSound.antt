@@ -10,9 +10,8 @@ use Rattle.source_tree.specs.Expressions.{ParsedArg, OfValue, OfPart, OfPartFrom
 use Rattle.ispc_parser_words.specs.Front.{begins, take}
 use Rattle.ispc_parser_expressions.specs.Parse.{spend, Below, bracket_of, expr_of, part_at, part_of, arg_of, own_arg, counted, more_of, args_of, within, parsers}
 use Rattle.ispc_parser_words.proofs.Tokens.{take_takes}
-use Rattle.ispc_parser_expressions.proofs.Tools.{spend_is}
 use Rattle.ispc_parser_expressions.proofs.Args.{SpellsArg, arg_weight, items_spelled, Counts, CountsAll, counts_none, counts_more}
-use Rattle.ispc_parser_expressions.proofs.Sound.{IsSound, bracket_sound, operand_sound, expr_sound}
+use Rattle.ispc_parser_expressions.proofs.Sound.{spend_is, IsSound, bracket_sound, operand_sound, expr_sound}
 use Rattle.std.proofs.lemmas.Option.{same_Some}
 use Rattle.ispc_lexer.proofs.Runs.{which, bind_some, chosen}
 

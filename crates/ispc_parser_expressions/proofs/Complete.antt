@@ -15,13 +15,14 @@ use Rattle.gang_model.specs.Source.Parsed.{Name, ParsedExpr, ParsedNumber, Parse
 use Rattle.gang_model.specs.Source.Spells.{Takes, TakesAt, TakesWords, Opens, truth_mark, unary_mark, infix_mark, level, binary_levels, any_level, SpellsExpr, SpellsArgs, weight, args_weight, Stops}
 use Rattle.ispc_parser_words.specs.Front.{take}
 use Rattle.ispc_parser_words.specs.Words.{begins_word, cast_spec_at}
-use Rattle.ispc_parser_expressions.specs.Parse.{operator_at, spend, Below, bracket_of, index_of, call_of, name_of, cast_of, paren_of, group_of, unary_of, marked_of, operand_of, chain_of, binary_of, choice_of, expr_of}
+use Rattle.ispc_parser_words.specs.Operators.{operator_at}
+use Rattle.ispc_parser_expressions.specs.Parse.{spend, Below, bracket_of, index_of, call_of, name_of, cast_of, paren_of, group_of, unary_of, marked_of, operand_of, chain_of, binary_of, choice_of, expr_of}
 use Rattle.gang_model.proofs.NestingLaws.{opened}
 use Rattle.ispc_parser_words.proofs.Tokens.{take_again, takes_shorter, take_none}
-use Rattle.ispc_parser_expressions.proofs.Tools.{unary_op_again}
+use Rattle.ispc_parser_words.proofs.OperatorMarks.{unary_op_again}
 use Rattle.ispc_parser_words.proofs.SpecWords.{words_again, words_begin}
 use Rattle.ispc_parser_expressions.proofs.Starts.{starts, spelled_shorter}
-use Rattle.ispc_parser_expressions.proofs.Follows.{stops_less, stops_at, stops_infix, level_below, not_begins, no_operator, operator_again, tight_or}
+use Rattle.ispc_parser_words.proofs.Follows.{stops_less, stops_at, stops_infix, level_below, not_begins, no_operator, operator_again, tight_or}
 
 pub spend_some : (room left : ℕ) → room ≡ suc left → spend room ≡ Some left
 spend_some room left e = rw e refl

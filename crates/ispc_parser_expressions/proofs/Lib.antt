@@ -1,9 +1,7 @@
-pub mod Tools
 pub mod Sound
 pub mod Args
 pub mod ArgsSound
 pub mod Starts
-pub mod Follows
 pub mod Complete
 pub mod ArgsComplete
 pub mod Whole

@@ -15,12 +15,17 @@ use Rattle.gang_model.specs.Source.Parsed.{Name, ParsedExpr, ParsedNumber, Parse
 use Rattle.gang_model.specs.Source.Spells.{Takes, TakesAt, TakesWords, Opens, unary_mark, level, binary_levels, any_level, SpellsExpr, SpellsArgs, weight, args_weight}
 use Rattle.ispc_parser_words.specs.Front.{take}
 use Rattle.ispc_parser_words.specs.Words.{words_of, after_words, begins_word, cast_spec_at}
-use Rattle.ispc_parser_expressions.specs.Parse.{unary_op, truth_of, operator_at, spend, Below, bracket_of, index_of, call_of, name_of, cast_of, paren_of, group_of, unary_of, marked_of, operand_at, operand_of, chain_of, binary_of, choice_of, expr_of}
+use Rattle.ispc_parser_words.specs.Operators.{unary_op, truth_of, operator_at}
+use Rattle.ispc_parser_expressions.specs.Parse.{spend, Below, bracket_of, index_of, call_of, name_of, cast_of, paren_of, group_of, unary_of, marked_of, operand_at, operand_of, chain_of, binary_of, choice_of, expr_of}
 use Rattle.ispc_parser_words.proofs.Tokens.{take_takes}
-use Rattle.ispc_parser_expressions.proofs.Tools.{spend_is, unary_op_is, truth_of_is, operator_takes}
+use Rattle.ispc_parser_words.proofs.OperatorMarks.{unary_op_is, truth_of_is, operator_takes}
 use Rattle.ispc_parser_words.proofs.SpecWords.{words_taken}
 use Rattle.std.proofs.lemmas.Option.{same_Some}
 use Rattle.ispc_lexer.proofs.Runs.{which, bind_some, chosen}
+
+pub spend_is : (room left : ℕ) → spend room ≡ Some left → room ≡ suc left
+spend_is zero left e = absurd cc
+spend_is (suc room) left e = ap (λ (n : ℕ). suc n) (same_Some room left e)
 
 -- an expression, how many operators are left, and the tokens after it
 abbrev pub Read : Type 0

@@ -11,9 +11,10 @@ use Rattle.ispc_parser_expressions.specs.declared.budget.Budget.{Budget}
 use Rattle.source_tree.specs.Expressions.{ParsedArg, OfValue, OfPart, OfPartFrom, with_arg, arg_view, args_view}
 use Rattle.ispc_lexer.specs.Options.{◌>>=◌}
 use Rattle.ispc_parser_words.specs.Front.{Fails, begins, take}
-use Rattle.ispc_parser_expressions.specs.Parse.{operator_at, spend, Parser, Below, operand_of, chain_of, binary_of, counted, more_of, args_of, parsers}
+use Rattle.ispc_parser_words.specs.Operators.{operator_at}
+use Rattle.ispc_parser_expressions.specs.Parse.{spend, Parser, Below, operand_of, chain_of, binary_of, counted, more_of, args_of, parsers}
 use Rattle.ispc_parser_words.proofs.Tokens.{take_takes, takes_shorter}
-use Rattle.ispc_parser_expressions.proofs.Tools.{operator_takes}
+use Rattle.ispc_parser_words.proofs.OperatorMarks.{operator_takes}
 use Rattle.ispc_parser_expressions.proofs.Sound.{Read, binary_sound}
 use Rattle.ispc_parser_expressions.proofs.ArgsSound.{ReadArg, ReadArgs, counted_sound, parsers_sound}
 use Rattle.ispc_parser_expressions.proofs.Args.{arg_shorter}

@@ -9,13 +9,13 @@ ghost use Rattle.ispc_parser_expressions.specs.Parse.{within, parsers};
 
 use crate::budget::{Budget, MAX_OPERATORS, spend};
 use crate::nodes;
-use crate::operators::{operator_at, right_levels, truth_of, unary_op};
 use crate::reader::{Reader, open};
 use gang_model::{Mark, RefusalNumber};
 use gang_types::{Place, UnaryOp};
 use ispc_lexer::{Kind, Token};
 use ispc_parser_words::{
-    after, begins, begins_word, place_of, refused, take, take_cast_spec, unexpected,
+    after, begins, begins_word, operator_at, place_of, refused, right_levels, take, take_cast_spec,
+    truth_of, unary_op, unexpected,
 };
 use source_answers::SourceFault;
 use source_tree::{Arg, Expr};

@@ -4,7 +4,6 @@
 mod budget;
 mod descent;
 mod nodes;
-mod operators;
 mod outermost;
 mod reader;
 

@@ -7,7 +7,7 @@ use Rattle.gang_model.specs.Source.SpellsStatements.{SpellsList}
 use Rattle.ispc_parser_words.specs.Front.{take}
 use Rattle.ispc_parser_words.proofs.Tokens.{take_takes, take_again}
 use Rattle.ispc_parser_words.proofs.Tokens.{take_none}
-use Rattle.ispc_parser_expressions.proofs.Follows.{stops_at}
+use Rattle.ispc_parser_words.proofs.Follows.{stops_at}
 use Rattle.ispc_parser_front.specs.Front.{Reader, list_of}
 use Rattle.ispc_parser_front.proofs.Tokens.{other_first}
 use Rattle.std.proofs.lemmas.Option.{same_Some}

@@ -10,7 +10,7 @@ use Rattle.ispc_parser_words.specs.Words.{begins_word}
 use Rattle.ispc_parser_expressions.specs.Parse.{whole_expr}
 use Rattle.ispc_parser_words.proofs.Tokens.{take_again, begins_again}
 use Rattle.ispc_parser_expressions.proofs.Starts.{starts}
-use Rattle.ispc_parser_expressions.proofs.Follows.{stops_at}
+use Rattle.ispc_parser_words.proofs.Follows.{stops_at}
 use Rattle.ispc_parser_expressions.proofs.Whole.{whole_complete}
 use Rattle.ispc_parser_front.specs.declared.words.Loop.TheVariants as loop
 use Rattle.ispc_parser_front.specs.Front.{name_of, in_parens}

@@ -12,7 +12,7 @@ use Rattle.ispc_parser_words.specs.Words.{begins_word, spec_word}
 use Rattle.gang_model.proofs.NestingLaws.{opened}
 use Rattle.ispc_parser_words.proofs.Tokens.{take_again, begins_again}
 use Rattle.ispc_parser_words.proofs.Tokens.{takes_at}
-use Rattle.ispc_parser_expressions.proofs.Follows.{stops_at}
+use Rattle.ispc_parser_words.proofs.Follows.{stops_at}
 use Rattle.ispc_parser_front.specs.declared.words.Loop.{Loop}
 use Rattle.ispc_parser_front.specs.declared.words.Loop.TheVariants as loop
 use Rattle.ispc_parser_front.specs.Front.{ended_of}

@@ -1,4 +1,6 @@
 pub mod Tokens
+pub mod OperatorMarks
+pub mod Follows
 pub mod SpecWords
 pub mod SpecOrder
 pub mod WordSteps

@@ -1,3 +1,4 @@
 pub mod Front
+pub mod Operators
 pub mod Words
 pub mod Said

@@ -5,7 +5,7 @@ use Rattle.gang_model.specs.declared.marks.Mark.TheVariants as mark
 use Rattle.source_tree.specs.Expressions.{expr_view, arg_view, args_view}
 use Rattle.ispc_parser_expressions.specs.Parse.{parsers, counted}
 use Rattle.ispc_parser_words.proofs.Tokens.{length-lexemes_of, take_takes, takes_shorter}
-use Rattle.ispc_parser_expressions.proofs.Tools.{operator_takes}
+use Rattle.ispc_parser_words.proofs.OperatorMarks.{operator_takes}
 use Rattle.ispc_parser_expressions.proofs.Steps.{binary_zero, binary_fails, binary_shorter, chains_start, chains_end, chains_spent, chains_fail, chains_on, append, one_arg, args_view-push, counted_shorter, lists_none, lists_fail, lists_start, lists_end, lists_fails, lists_on}
 use Rattle.ispc_parser_expressions.proofs.descent.+expression.Goals as goal
 

@@ -1,5 +1,5 @@
--- Operators, and what they spend.
-use Rattle.std.proofs.Common.{◌≡◌, inl, inr, ℕ, zero, suc, List, [], ◌∷◌, Some, None, Bool, true, false, refl, ap, subst, ◌∙◌}
+-- Which marks are operators or truth values.
+use Rattle.std.proofs.Common.{◌≡◌, inl, inr, ℕ, List, [], ◌∷◌, Some, None, Bool, true, false, refl, ap, subst, ◌∙◌}
 use Rattle.std.specs.Prelude.{◌==◌}
 use Rattle.std.proofs.lemmas.Bool.{eqb-true}
 use Rattle.gang_types.specs.declared.operators.UnaryOp.{UnaryOp}
@@ -12,16 +12,10 @@ use Rattle.gang_model.specs.declared.forms.Infix.TheVariants.{Op, AndAlso, OrEls
 use Rattle.gang_model.specs.Source.Tokens.{marked, Lexeme}
 use Rattle.gang_model.specs.Source.Spells.{Takes, truth_mark, unary_mark, infix_mark, level}
 use Rattle.ispc_parser_words.specs.Front.{mark_of}
-use Rattle.ispc_parser_expressions.specs.Parse.{unary_op, truth_of, infix_of, operator_at, spend}
+use Rattle.ispc_parser_words.specs.Operators.{unary_op, truth_of, infix_of, operator_at}
 use Rattle.ispc_lexer.proofs.Runs.{bind_some, which}
 use Rattle.std.proofs.lemmas.Option.{none-some, same_Some}
 use Rattle.ispc_parser_words.proofs.Tokens.{mark_of_is}
-
-pub spend_is : (room left : ℕ) → spend room ≡ Some left → room ≡ suc left
-spend_is zero left e = absurd cc
-spend_is (suc room) left e = ap (λ (n : ℕ). suc n) (same_Some room left e)
-
--- ---- operators
 
 pub unary_op_is : (m : Mark) (op : UnaryOp) → unary_op m ≡ Some op → m ≡ unary_mark op
 unary_op_is mark.Minus op e = ap unary_mark (same_Some unary.Negate op e)

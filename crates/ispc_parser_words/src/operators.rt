@@ -1,14 +1,15 @@
-//! Marks that are operators, and how loosely they bind.
-ghost use Rattle.std.specs.Prelude.{◌≡◌, ◌≢◌, ◌-◌, option_map};
+//! Marks that are operators or truth values, and how loosely operators bind.
+ghost use Rattle.std.specs.Prelude.{◌≡◌, ◌-◌, option_map};
 ghost use Rattle.ispc_lexer.specs.Views.{sort_of, lexemes_of};
 ghost use Rattle.gang_model.specs.Source.Spells.{level as level_of};
-ghost use Rattle.ispc_parser_expressions.specs.Parse as spec;
+ghost use Rattle.ispc_parser_words.specs.Operators as spec;
 
 use gang_model::{Infix, Mark};
 use gang_types::{BinaryOp, Place, UnaryOp};
 use ispc_lexer::{Kind, Token};
 
-pub(crate) fn unary_op(mark: Mark) -> Option<UnaryOp>
+/// The unary operator that a mark is, if it is one.
+pub fn unary_op(mark: Mark) -> Option<UnaryOp>
     ensures { result ≡ spec.unary_op mark }
 {
     match mark {
@@ -20,7 +21,8 @@ pub(crate) fn unary_op(mark: Mark) -> Option<UnaryOp>
     }
 }
 
-pub(crate) fn truth_of(mark: Mark) -> Option<bool>
+/// The truth value that a mark is, if it is one.
+pub fn truth_of(mark: Mark) -> Option<bool>
     ensures { result ≡ spec.truth_of mark }
 {
     match mark {
@@ -75,18 +77,17 @@ fn level(operator: Infix) -> u8
     }
 }
 
-/// How many levels a right operand takes from an operator of the loosest of these levels: operators of one level group
-/// from the left.
-pub(crate) fn right_levels(levels: u8) -> u8
-    requires { levels ≢ 0 }
+/// How many levels of operators a right operand may have, beside an operator of the loosest of so many: those of one
+/// level group from the left.
+pub fn right_levels(levels: u8) -> u8
     ensures { result ≡ levels - 1 }
 {
-    levels - 1
+    levels.saturating_sub(1)
 }
 
 /// An operator of this level that stands first, its place, and the tokens after it.
-#[tactic(auto, unfolding(crate::specs::Parse::operator_at))]
-pub(crate) fn operator_at(wanted: u8, tokens: &[Token]) -> Option<(Infix, Place, &[Token])>
+#[tactic(auto, unfolding(crate::specs::Operators::operator_at))]
+pub fn operator_at(wanted: u8, tokens: &[Token]) -> Option<(Infix, Place, &[Token])>
     ensures { option_map (λ x. (x.0, lexemes_of x.2.now)) result ≡ spec.operator_at wanted (lexemes_of tokens.now) }
 {
     match tokens {

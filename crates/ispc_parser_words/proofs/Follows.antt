@@ -10,9 +10,9 @@ use Rattle.gang_model.specs.Source.Tokens.{Sort, named, numbered, marked, Lexeme
 use Rattle.gang_model.specs.Source.Spells.{Takes, infix_mark, level, binary_levels, stops, Stops}
 use Rattle.ispc_lexer.specs.Options.{◌>>=◌}
 use Rattle.ispc_parser_words.specs.Front.{is_mark, begins, mark_of}
-use Rattle.ispc_parser_expressions.specs.Parse.{infix_of, operator_at}
+use Rattle.ispc_parser_words.specs.Operators.{infix_of, operator_at}
 use Rattle.ispc_parser_words.proofs.Tokens.{mark_is}
-use Rattle.ispc_parser_expressions.proofs.Tools.{infix_of_is, infix_of_again}
+use Rattle.ispc_parser_words.proofs.OperatorMarks.{infix_of_is, infix_of_again}
 
 pub stops_less : (j k : ℕ) (ts : List Lexeme) → j ≤ k → Stops k ts → Stops j ts
 stops_less j k [] le h = tt
