@@ -29,21 +29,6 @@ pub seen-both : {A B C D : Type 0} (f : A → C) (g : B → D) (l : Result A Sou
 seen-both f g l r whole j k w h i =
     laws.answer_of-both j k ∙ (ap (λ x. definitions.both_answers x (answer_of k)) h ∙ (ap (definitions.both_answers (seen f l)) i ∙ (both_seen f g l r ∙ ap (seen (pair_view f g)) (sym w))))
 
-alone_seen : {A : Type 0} (view : A → Stmt) (answer : Result A SourceRefusal)
-    → definitions.then_answer (seen view answer) (λ s. answer_of (alone s)) ≡ seen (λ s. made (view s) []) answer
-alone_seen view (Ok a) = refl
-alone_seen view (Err fault) = refl
-
--- a statement of one step that declares nothing
-pub typed-alone : {A : Type 0} (view : A → Stmt) (result : Result A SourceFault) (answer : Result A SourceRefusal) (j : Judged Stmt) (before : List Variable)
-    → Answers view result j → Ok answer ≡ apart result → IsTyped view answer (j >>= (λ s. alone s)) before before 0
-typed-alone view result answer j before h e = record {
-  declared = [];
-  variables = sym (append-nil before);
-  counted = refl;
-  answered = laws.answer_of-then j (λ s. alone s) ∙ (ap (λ x. definitions.then_answer x (λ s. answer_of (alone s))) (answers-apart view result answer j h e) ∙ alone_seen view answer);
-}
-
 -- the same in the same scope
 pub typed-at : {A : Type 0} (view : A → Stmt) (answer : Result A SourceRefusal) (s : ParsedStmt) (context : Context) (scope scope' : Scope) (k k' step step' : ℕ)
     (before after : List Variable) (count : ℕ)

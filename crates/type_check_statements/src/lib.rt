@@ -2,9 +2,6 @@
 #![tactic(auto)]
 
 mod body;
-mod heads;
-mod simple;
 mod statements;
-mod whole;
 
 pub use body::typed_body;

@@ -14,9 +14,6 @@ ghost use Rattle.type_check_calls.specs.Calls.{context_view};
 ghost use Rattle.type_check_scopes.specs.Entries.{declared_view};
 ghost use Rattle.type_check_parts.specs.Typed.{IsTyped, IsTypedStatement, with_index};
 
-use crate::heads::{for_each_head, for_head, rounds_head, test_apart, test_step, value_apart};
-use crate::simple::simple_statement;
-use crate::whole::{for_each_of, for_of, while_of};
 use gang_types::{IntType, Rate, VarId};
 use source_answers::{Answer, both_answers};
 use source_tree::{Dim, Expr, Stmt as ParsedStmt};
@@ -27,6 +24,10 @@ use type_check_forms::{
 };
 use type_check_parts::{advanced, variable_of};
 use type_check_scopes::{Declared, TypeScope, index_variable};
+use type_check_steps::{
+    for_each_head, for_each_of, for_of, for_test, rounds_head, simple_statement, test_apart,
+    test_step, update_number, value_apart, while_of,
+};
 use typed_tree::Stmt;
 
 /// The typed form of a statement. What it declares is in scope then, and the step is that of the next statement; so also where
@@ -234,7 +235,8 @@ fn for_loop(
 {
     let mark = scope.mark();
     let start = statement(alloc, start, context, scope, step)?;
-    let (test, mut at) = for_head(alloc, scope, test, body, *step)?;
+    let mut at = update_number(body, *step)?;
+    let test = for_test(alloc, scope, test)?;
     let update = inner(alloc, update, context, scope, &mut at)?;
     let body = inner(alloc, body, context, scope, step)?;
     scope.leave(mark);

@@ -31,7 +31,7 @@ use Rattle.type_check_forms.specs.Sequences.{type_or_int32}
 use Rattle.source_answers.specs.Apart.{seen}
 use Rattle.type_check_parts.proofs.Judging.{answers-apart}
 use Rattle.type_check_parts.proofs.Named.{index-named}
-use Rattle.type_check_statements.proofs.SingleSteps.{typed-form, steps-form, counted-as, ends-at, in-any-case}
+use Rattle.type_check_steps.proofs.SingleSteps.{typed-form, steps-form, counted-as, ends-at, in-any-case}
 use Rattle.type_check_statements.proofs.InSequence.{begun-none, begun-next, begun-all, whole-typed, typed-block}
 use Rattle.type_check_statements.proofs.Compound.{if-only, if-else, while-loop, do-loop, for-loop, for-each, in-rounds, for-each-active, for-each-unique}
 use Rattle.type_check_statements.proofs.ScopeSteps.{extends-after, extends-indices, extends-one, extends-same, extends-next, extends-marked, extends-left}
@@ -124,7 +124,7 @@ for_loop-returns-clause-typed t c =
     c.args.step.now c.statement.new.step _ _ c.inner.new.step
     test start update body answer (both_answers start test) (both_answers update body) (both_answers (both_answers start test) (both_answers update body))
     c.in_ok-start.ensures.typed c.in_ok-start.ensures.after c.in_ok-start.ensures.steps
-    c.in_ok-test.ensures.test refl c.in_ok-test.ensures.update
+    c.in_ok-test.ensures.test refl c.in_ok-at.ensures.number
     c.in_ok-update.ensures.typed c.in_ok-update.ensures.after c.in_ok-update.ensures.steps c.in_ok-body.ensures.typed
     refl refl refl form))
     c.for_of.ensures.form

@@ -11,7 +11,9 @@ use Rattle.gang_model.specs.Running.Numbering.{steps_in}
 use Rattle.gang_model.specs.Names.Scope.{locals_in}
 use Rattle.gang_model.specs.Types.Calls.{Context}
 use Rattle.gang_model.specs.Types.Typing.{Scope}
-use Rattle.gang_model.specs.Source.Judged.{Judged, ◌>>=◌}
+use Rattle.gang_model.specs.Source.Judged.{Judged, ◌>>=◌, answer_of}
+use Rattle.gang_model.specs.Source.Judged as definitions
+use Rattle.gang_model.proofs.JudgedLaws as laws
 use Rattle.gang_model.specs.Types.Statements.{Made, made, alone, scope_after, statement}
 use Rattle.source_answers.specs.declared.fault.SourceFault.{SourceFault}
 use Rattle.source_answers.specs.declared.fault.SourceFault.TheVariants.{Memory, Refused}
@@ -20,9 +22,9 @@ use Rattle.typed_tree.specs.Boxes.{BoxedStmt, boxed_stmt_view}
 use Rattle.typed_tree.specs.Views.{stmt_view}
 use Rattle.source_answers.specs.Answers.{Answers}
 use Rattle.type_check_parts.specs.Makes.{IfAnswered}
-use Rattle.source_answers.specs.Apart.{apart}
+use Rattle.source_answers.specs.Apart.{apart, seen}
 use Rattle.type_check_parts.specs.Typed.{IsTyped}
-use Rattle.type_check_statements.proofs.Judging.{typed-alone}
+use Rattle.type_check_parts.proofs.Judging.{answers-apart}
 
 -- the same statement, said in another way
 pub typed-as : (answer : Result BoxedStmt SourceRefusal) (s t : ParsedStmt) (context : Context) (entries : Scope) (k step : ℕ) (before after : List Variable) → s ≡ t
@@ -55,6 +57,21 @@ pub unless-memory : {A P : Type 0} (result : Result A SourceFault) → P → IfA
 unless-memory (Ok a) p = p
 unless-memory (Err Memory) p = tt
 unless-memory (Err (Refused fault)) p = p
+
+alone_seen : {A : Type 0} (view : A → tree.Stmt) (answer : Result A SourceRefusal)
+    → definitions.then_answer (seen view answer) (λ s. answer_of (alone s)) ≡ seen (λ s. made (view s) []) answer
+alone_seen view (Ok a) = refl
+alone_seen view (Err fault) = refl
+
+-- a statement of one step that declares nothing
+pub typed-alone : {A : Type 0} (view : A → tree.Stmt) (result : Result A SourceFault) (answer : Result A SourceRefusal) (j : Judged tree.Stmt) (before : List Variable)
+    → Answers view result j → Ok answer ≡ apart result → IsTyped view answer (j >>= (λ s. alone s)) before before 0
+typed-alone view result answer j before h e = record {
+  declared = [];
+  variables = sym (append-nil before);
+  counted = refl;
+  answered = laws.answer_of-then j (λ s. alone s) ∙ (ap (λ x. definitions.then_answer x (λ s. answer_of (alone s))) (answers-apart view result answer j h e) ∙ alone_seen view answer);
+}
 
 -- a statement of one step
 pub single-step : (result : Result (Result BoxedStmt SourceRefusal) AllocError) (part : Result BoxedStmt SourceFault) (j : Judged tree.Stmt) (s t : ParsedStmt) (context : Context) (entries : Scope)

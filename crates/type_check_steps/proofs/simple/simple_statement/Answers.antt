@@ -5,10 +5,10 @@ use Rattle.gang_model.specs.Source.Parsed.{ParsedDeclare}
 use Rattle.source_tree.specs.Expressions.{expr_view}
 use Rattle.source_tree.specs.Tree.{stmt_view}
 use Rattle.type_check_calls.specs.Calls.{context_view}
-use Rattle.type_check_statements.specs.Singles.{single}
-use Rattle.type_check_statements.proofs.Singles.{simple-single, single-after, single-judged, single-locals, single-steps}
-use Rattle.type_check_statements.proofs.SingleSteps.{in-any-case, single-step, typed-form}
-use Rattle.type_check_statements.proofs.simple.simple_statement.Goals as goal
+use Rattle.type_check_steps.specs.Singles.{single}
+use Rattle.type_check_steps.proofs.Singles.{simple-single, single-after, single-judged, single-locals, single-steps}
+use Rattle.type_check_steps.proofs.SingleSteps.{in-any-case, single-step, typed-form}
+use Rattle.type_check_steps.proofs.simple.simple_statement.Goals as goal
 
 pub returns-in-Declare-clause-typed : goal.returns-in-Declare-clause-typed
 returns-in-Declare-clause-typed c =

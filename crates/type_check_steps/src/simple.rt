@@ -7,7 +7,7 @@ ghost use Rattle.typed_tree.specs.Boxes.{boxed_stmt_view};
 ghost use Rattle.source_answers.specs.Answers.{Answers};
 ghost use Rattle.type_check_calls.specs.Calls.{context_view};
 ghost use Rattle.type_check_parts.specs.Typed.{IsTypedStatement};
-ghost use Rattle.type_check_statements.specs.Singles.{is_simple, is_single, single};
+ghost use Rattle.type_check_steps.specs.Singles.{is_simple, is_single, single};
 
 use source_answers::{Answer, SourceFault};
 use source_tree::Stmt as ParsedStmt;
@@ -64,7 +64,11 @@ fn single_statement(
 }
 
 /// The typed form of a statement that holds no other, which is in scope then as after any statement.
-pub(crate) fn simple_statement(
+///
+/// # Errors
+///
+/// Out of memory.
+pub fn simple_statement(
     alloc: Global,
     stmt: &ParsedStmt,
     context: &Context,

@@ -11,7 +11,7 @@ use Rattle.gang_model.specs.Source.Judged.{Judged, Sound, Faulty, both, ◌>>=�
 use Rattle.gang_model.specs.Types.Statements.{alone, changed, number_one, operand_for, rate_of, scope_after, statement, target_of}
 use Rattle.source_tree.specs.declared.tree.Stmt.{Stmt, Empty, Declare, If', None', Some'}
 use Rattle.source_tree.specs.Tree.{stmt_view}
-use Rattle.type_check_statements.specs.Singles.{is_simple, is_single, single}
+use Rattle.type_check_steps.specs.Singles.{is_simple, is_single, single}
 
 -- a statement that is judged, and then stands alone
 pub then-alone : {A : Type 0} (j : Judged A) (form : A → tree.Stmt) → (j >>= (λ x. Sound (form x)) >>= (λ s. alone s)) ≡ (j >>= (λ x. alone (form x)))

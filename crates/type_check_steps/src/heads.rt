@@ -24,7 +24,11 @@ use type_check_values::Typed;
 use typed_tree::{Dimension, Expr as TypedExpr};
 
 /// A test.
-pub(crate) fn test_apart(
+///
+/// # Errors
+///
+/// Out of memory.
+pub fn test_apart(
     alloc: Global,
     scope: &TypeScope,
     test: &Expr,
@@ -35,7 +39,11 @@ pub(crate) fn test_apart(
 }
 
 /// A test that is a step by itself.
-pub(crate) fn test_step(
+///
+/// # Errors
+///
+/// Out of memory.
+pub fn test_step(
     alloc: Global,
     scope: &TypeScope,
     test: &Expr,
@@ -47,31 +55,38 @@ pub(crate) fn test_step(
     one_step(test_of(alloc, scope, test), step)
 }
 
-/// The number of a `for`'s update, which comes after the steps of its body.
-fn update_number(body: &Stmt, step: usize) -> Result<usize, AllocError>
+/// The number of a `for`'s update, which comes after the steps of its body. The body begins with the given step.
+///
+/// # Errors
+///
+/// Out of memory.
+pub fn update_number(body: &Stmt, step: usize) -> Result<usize, AllocError>
     ensures number { IfOk result (λ number. number ≡ step + numbering.steps_in (stmt_view body.now)) }
 {
     advanced(step, steps_in(body)?)
 }
 
-/// The test of a `for`, and the number of its update, where the body begins with this step.
-pub(crate) fn for_head(
+/// The test of a `for`; an empty one is true.
+///
+/// # Errors
+///
+/// Out of memory.
+pub fn for_test(
     alloc: Global,
     scope: &TypeScope,
     test: &Option<Expr>,
-    body: &Stmt,
-    step: usize,
-) -> Result<(Answer<Box<TypedExpr>>, usize), AllocError>
-    ensures test { IfOk result (λ head. answer_of (model.test_of scope.now.entries (option_map expr_view test.now)) ≡ seen boxed_view head.0) }
-    ensures update { IfOk result (λ head. head.1 ≡ step + numbering.steps_in (stmt_view body.now)) }
+) -> Result<Answer<Box<TypedExpr>>, AllocError>
+    ensures test { IfOk result (λ answer. answer_of (model.test_of scope.now.entries (option_map expr_view test.now)) ≡ seen boxed_view answer) }
 {
-    let at = update_number(body, step)?;
-    let test = set_apart(some_test(alloc, scope, test))?;
-    Ok((test, at))
+    set_apart(some_test(alloc, scope, test))
 }
 
 /// The dimensions of a `foreach`, its first step, whose index variables are declared then.
-pub(crate) fn for_each_head(
+///
+/// # Errors
+///
+/// Out of memory.
+pub fn for_each_head(
     alloc: Global,
     dims: &[Dim],
     scope: &mut TypeScope,
@@ -89,7 +104,11 @@ pub(crate) fn for_each_head(
 }
 
 /// The first step of a `foreach_active` or `foreach_unique`, whose index variable is declared then.
-pub(crate) fn rounds_head(
+///
+/// # Errors
+///
+/// Out of memory.
+pub fn rounds_head(
     alloc: Global,
     name: &[u8],
     index: Declared,
@@ -106,7 +125,11 @@ pub(crate) fn rounds_head(
 }
 
 /// The value of a `foreach_unique`.
-pub(crate) fn value_apart(
+///
+/// # Errors
+///
+/// Out of memory.
+pub fn value_apart(
     alloc: Global,
     scope: &TypeScope,
     value: &Expr,

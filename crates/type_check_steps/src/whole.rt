@@ -13,7 +13,11 @@ use type_check_parts::advanced;
 use typed_tree::{Dimension, Expr, Stmt};
 
 /// `while`, whose test is its last step.
-pub(crate) fn while_of(
+///
+/// # Errors
+///
+/// Out of memory.
+pub fn while_of(
     alloc: Global,
     test: Answer<Box<Expr>>,
     body: Answer<Box<Stmt>>,
@@ -28,7 +32,11 @@ pub(crate) fn while_of(
 }
 
 /// `for`, whose test is its last step.
-pub(crate) fn for_of(
+///
+/// # Errors
+///
+/// Out of memory.
+pub fn for_of(
     alloc: Global,
     start: Answer<Box<Stmt>>,
     test: Answer<Box<Expr>>,
@@ -47,7 +55,11 @@ pub(crate) fn for_of(
 }
 
 /// `foreach` and `foreach_tiled`, whose head is the step `at` and whose rounds are the last step.
-pub(crate) fn for_each_of(
+///
+/// # Errors
+///
+/// Out of memory.
+pub fn for_each_of(
     alloc: Global,
     at: usize,
     is_tiled: bool,

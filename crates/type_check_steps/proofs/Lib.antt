@@ -1,0 +1,2 @@
+pub mod SingleSteps
+pub mod Singles
