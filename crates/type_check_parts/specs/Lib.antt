@@ -5,3 +5,4 @@ pub mod Indices
 pub mod Rows
 pub mod Beside
 pub mod Steps
+pub mod Results

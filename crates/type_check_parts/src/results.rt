@@ -1,5 +1,5 @@
 //! What a function gives back.
-ghost use Rattle.std.specs.Prelude.{Some, option_map};
+ghost use Rattle.std.specs.Prelude.{◌≡◌, Some, option_map};
 ghost use Rattle.source_tree.specs.Expressions.{expr_view};
 ghost use Rattle.gang_model.specs.Types.Statements as model;
 ghost use Rattle.source_tree.specs.Tree as parsed;
@@ -8,6 +8,7 @@ ghost use Rattle.typed_tree.specs.Boxes.{boxed_stmt_view};
 ghost use Rattle.typed_tree.specs.Views.{stmt_view};
 ghost use Rattle.source_answers.specs.Answers.{Answers};
 ghost use Rattle.type_check_calls.specs.Calls.{context_view};
+ghost use Rattle.type_check_parts.specs.Results as answers;
 
 use gang_model::{RefusalNumber, SourceRefusal};
 use gang_types::{IntType, Place, Rate};
@@ -81,6 +82,17 @@ fn empty_return(
     }
 }
 
+/// The answer for a value at this place that is returned where there is no result.
+fn in_void(place: Place, answer: Result<Box<Stmt>, SourceFault>) -> Result<Box<Stmt>, SourceFault>
+    ensures { result ≡ answers.in_void place answer }
+{
+    answer?;
+    Err(SourceFault::Refused(SourceRefusal {
+        number: RefusalNumber::S8,
+        place,
+    }))
+}
+
 /// `return` with a value.
 fn value_return(
     alloc: Global,
@@ -95,11 +107,8 @@ fn value_return(
         Some(asked) => returned(alloc, context, scope, value, asked, step),
         None => {
             let any = (IntType::Int32, Rate::Varying);
-            returned(alloc, context, scope, value, any, step)?;
-            Err(SourceFault::Refused(SourceRefusal {
-                number: RefusalNumber::S8,
-                place: first_of(value),
-            }))
+            let answer = returned(alloc, context, scope, value, any, step);
+            in_void(first_of(value), answer)
         }
     }
 }
