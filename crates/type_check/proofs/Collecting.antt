@@ -1,12 +1,14 @@
 -- Parts that are judged each by itself, collected one after another: what they stand for, and their least fault.
-use Rattle.std.proofs.Common.{◌≡◌, refl, sym, ap, ◌∙◌, List, [], ◌∷◌, ◌++◌, append_assoc}
-use Rattle.std.specs.Prelude.{Option, Some, None, Result, Ok, Err}
+use Rattle.std.proofs.Common.{◌≡◌, refl, sym, ap, subst, ◌∙◌, List, [], ◌∷◌, ◌++◌, append_assoc}
+use Rattle.std.specs.Prelude.{Option, Some, None, Result, Ok, Err, IfOk}
 use Rattle.gang_model.specs.declared.refusals.SourceRefusal.{SourceRefusal}
 use Rattle.gang_model.specs.Source.Judged.{Judged, Sound, Faulty, both, ◌>>=◌, answer_of, merged, both_answers, then_answer}
 use Rattle.gang_model.proofs.JudgedLaws.{answer_unless, answer_of-both, answer_of-then, merged-none}
 use Rattle.source_answers.specs.declared.fault.SourceFault.{SourceFault}
 use Rattle.source_answers.specs.declared.fault.SourceFault.TheVariants.{Memory, Refused}
 use Rattle.source_answers.specs.Answers.{Answers, refusal_of}
+use Rattle.source_answers.proofs.Answered.{answers-same}
+use Rattle.type_check.specs.Collected.{unless_fault}
 
 -- the parts together
 abbrev pub all_of : {A : Type 0} → List (Judged A) → Judged (List A)
@@ -106,12 +108,18 @@ fault_collected view fault items x Memory e h = tt
 fault_collected view None items x (Refused f) e h = cc
 fault_collected view (Some g) items x (Refused f) e h = h ∙ ap Err cc
 
--- no fault was found
-pub none_found : (fault : Option SourceRefusal) (gone_on : Unit {0}) → Ok gone_on ≡ refusal_of fault → fault ≡ None
-none_found None gone_on e = refl
-none_found (Some f) gone_on e = cc
-
--- one was
+-- a fault was found
 pub one_found : (fault : Option SourceRefusal) (g : SourceRefusal) → merged fault (Some g) ≡ None → ⊥
 one_found None g e = cc
 one_found (Some f) g e = cc
+
+-- all that was collected, unless there is a fault
+pub collected-answers : {A B : Type 0} (view : B → List A) (fault : Option SourceRefusal) (made : B) (x : Judged (List A)) (result : Result B SourceFault)
+    → result ≡ unless_fault fault made → Collects fault (view made) x → Answers view result x
+collected-answers view None made x result e h = answers-same view result (Ok made) x e (sound_told x (view made) h)
+collected-answers view (Some f) made x result e h = answers-same view result (Err (Refused f)) x e h
+
+pub collected-ok : {B : Type 0} (fault : Option SourceRefusal) (made : B) (result : Result B SourceFault) (holds : B → Type 0)
+    → result ≡ unless_fault fault made → (fault ≡ None → holds made) → IfOk result holds
+collected-ok None made result holds e h = subst (λ r. IfOk r holds) (sym e) (h refl)
+collected-ok (Some f) made result holds e h = subst (λ r. IfOk r holds) (sym e) tt

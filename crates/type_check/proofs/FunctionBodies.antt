@@ -1,6 +1,7 @@
 -- The body of a function, from what its statements make.
-use Rattle.std.proofs.Common.{◌≡◌, sym, ap, subst, ◌∙◌, List, ◌++◌, length}
-use Rattle.std.specs.Prelude.{Ok, Err, Some}
+use Rattle.std.proofs.Common.{◌≡◌, sym, ap, subst, ◌∙◌, List, ◌++◌, length, map, Vec}
+use Rattle.std.specs.Prelude.{Result, Ok, Err, Some}
+use Rattle.std.specs.declared.alloc.Global.{Global}
 use Rattle.gang_model.specs.declared.refusals.SourceRefusal.{SourceRefusal}
 use Rattle.gang_model.specs.Types.Tree as tree
 use Rattle.gang_model.specs.Source.Parsed.{ParsedFunction, ParsedSource, ParsedStmts, functions_in, globals_in}
@@ -11,11 +12,17 @@ use Rattle.gang_model.specs.Types.Typing.{Scope}
 use Rattle.gang_model.specs.Types.Statements.{Made, statements}
 use Rattle.gang_model.specs.Types.Resolved.{global_entries, param_entries, param_variables}
 use Rattle.gang_model.proofs.VariableLaws.{params_count}
-use Rattle.source_answers.specs.declared.fault.SourceFault.TheVariants.{Refused}
+use Rattle.source_answers.specs.declared.fault.SourceFault.{SourceFault}
+use Rattle.source_answers.specs.declared.fault.SourceFault.TheVariants.{Memory, Refused}
 use Rattle.source_answers.specs.Answers.{Answers}
-use Rattle.source_answers.proofs.Answered.{answers-refused}
-use Rattle.type_check_parts.specs.Makes.{Makes}
-use Rattle.type_check.specs.Bodies.{WithVariables, declared_variables, judged_body, variables_made}
+use Rattle.source_answers.specs.Apart.{apart}
+use Rattle.source_answers.proofs.Answered.{answers-refused, answers-same}
+use Rattle.typed_tree.specs.declared.statements.Stmt.{Stmt}
+use Rattle.typed_tree.specs.declared.program.Variable.{Variable}
+use Rattle.typed_tree.specs.Views.{stmts_view, variable_view}
+use Rattle.type_check_parts.specs.Makes.{Makes, IfAnswered}
+use Rattle.type_check.specs.declared.bodies.Body.{Body}
+use Rattle.type_check.specs.Bodies.{WithVariables, body_made, body_view, declared_variables, judged_body, variables_made}
 
 -- what the statements of a function's body are judged to be
 abbrev pub judged_statements : (functions : List ParsedFunction) → ParsedFunction → (file : Scope) → Judged Made
@@ -31,19 +38,40 @@ statements-of_body functions f file body context entries locals b c e l =
     ∙ (ap (λ x. statements f.body (record { functions = functions; result = result_of f.spec }) x (length locals) 0) e
     ∙ ap (λ n. statements f.body (record { functions = functions; result = result_of f.spec }) (param_entries 0 f.params file) n 0) (ap length l ∙ params_count 0 f.params)))
 
--- the statements are made
-pub body-made : {A : Type 0} (view : A → tree.Stmt) (functions : List ParsedFunction) (f : ParsedFunction) (file : Scope) (body : A) (locals after variables : List tree.Variable) (j : Judged Made)
-    → Makes view (Ok body) locals after j → j ≡ judged_statements functions f file → locals ≡ param_variables 0 f.params → variables ≡ after
-    → judged_body functions f file ≡ Sound (view body, variables)
-body-made view functions f file body locals after variables j h is l v =
-    ap (λ (x : Judged Made). x >>= (λ m. Sound (m.stmt, param_variables 0 f.params ++ m.variables))) (sym is ∙ h.2)
-    ∙ ap (λ (ls : List tree.Variable). Sound (view body, ls)) (sym (v ∙ (h.1 ∙ ap (λ (ls : List tree.Variable). ls ++ h.0) l)))
+-- the statements are judged
+module _ (functions : List ParsedFunction) (f : ParsedFunction) (file : Scope) (locals : List tree.Variable) (are : locals ≡ param_variables 0 f.params)
+    (variables : Vec Variable Global) (j : Judged Made) (is : j ≡ judged_statements functions f file) where
+  made : (statements : Vec Stmt Global) → Makes (λ v. stmts_view v.items) (Ok statements) locals (map variable_view variables.items) j
+      → judged_body functions f file ≡ Sound (stmts_view statements.items, map variable_view variables.items)
+  made statements h =
+      ap (λ (x : Judged Made). x >>= (λ m. Sound (m.stmt, param_variables 0 f.params ++ m.variables))) (sym is ∙ h.2)
+      ∙ ap (λ (ls : List tree.Variable). Sound (stmts_view statements.items, ls)) (sym (h.1 ∙ ap (λ (ls : List tree.Variable). ls ++ h.0) are))
 
--- the statements have a fault
-pub body-refused : {B : Type 0} (view : B → WithVariables) (functions : List ParsedFunction) (f : ParsedFunction) (file : Scope) (fault : SourceRefusal) (j : Judged Made)
-    → answer_of j ≡ Err fault → j ≡ judged_statements functions f file → Answers view (Err (Refused fault)) (judged_body functions f file)
-body-refused view functions f file fault j h is =
-    answers-refused (λ (m : Made). m) view (Refused fault) (judged_statements functions f file) (λ m. Sound (m.stmt, param_variables 0 f.params ++ m.variables)) (ap answer_of (sym is) ∙ h)
+  by_answer : (part : Result (Vec Stmt Global) SourceFault) (answer : Result (Vec Stmt Global) SourceRefusal) → Makes (λ v. stmts_view v.items) part locals (map variable_view variables.items) j
+      → Ok answer ≡ apart part → Answers body_view (body_made answer variables) (judged_body functions f file)
+  by_answer (Ok statements) (Ok same) h e =
+      let is_it : same ≡ statements = cc in
+      made statements h ∙ ap (λ (v : Vec Stmt Global). Sound (stmts_view v.items, map variable_view variables.items)) (sym is_it)
+  by_answer (Ok statements) (Err fault) h e = cc
+  by_answer (Err Memory) answer h e = cc
+  by_answer (Err (Refused fault)) (Ok statements) h e = cc
+  by_answer (Err (Refused fault)) (Err same) h e =
+      let is_it : same ≡ fault = cc in
+      answers-refused (λ (m : Made). m) body_view (Refused fault) (judged_statements functions f file) (λ m. Sound (m.stmt, param_variables 0 f.params ++ m.variables)) (ap answer_of (sym is) ∙ h)
+      ∙ ap Err (sym is_it)
+
+  pub body-answered : (part : Result (Vec Stmt Global) SourceFault) (answer : Result (Vec Stmt Global) SourceRefusal) (after : List tree.Variable) (result : Result Body SourceFault)
+      → Makes (λ v. stmts_view v.items) part locals after j → Ok answer ≡ apart part → map variable_view variables.items ≡ after → result ≡ body_made answer variables
+      → Answers body_view result (judged_body functions f file)
+  body-answered part answer after result h e v r =
+      answers-same body_view result (body_made answer variables) (judged_body functions f file) r
+      (by_answer part answer (subst (λ ls. Makes (λ v. stmts_view v.items) part locals ls j) (sym v) h) e)
+
+-- what holds where a part was answered
+pub if-apart : {A P : Type 0} (part : Result A SourceFault) (answer : Result A SourceRefusal) → Ok answer ≡ apart part → IfAnswered part P → P
+if-apart (Ok a) answer e p = p
+if-apart (Err Memory) answer e p = cc
+if-apart (Err (Refused fault)) answer e p = p
 
 -- the variables of a function whose body is sound
 module _ (params : List tree.Variable) (body : WithVariables) where

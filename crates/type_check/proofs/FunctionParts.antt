@@ -1,6 +1,6 @@
 -- Functions, one after another.
 use Rattle.std.proofs.Common.{◌≡◌, ℕ, ◌+◌, ◌<◌, ◌≤◌, refl, sym, ap, ap₂, ◌∙◌, List, [], ◌∷◌, ◌++◌, arith, length, get_or, take, map, append-nil, Bor}
-use Rattle.std.specs.Prelude.{Option, Some, Err, option_map, slice_get}
+use Rattle.std.specs.Prelude.{Option, Some, None, Result, Ok, Err, IfOk, option_map, slice_get}
 use Rattle.std.specs.List.{zip}
 use Rattle.std.proofs.Math.ListN.{drop_of_length-le}
 use Rattle.std.proofs.lemmas.List.{map-append, take_more, take-append-drop, length-map}
@@ -16,14 +16,21 @@ use Rattle.gang_model.specs.Types.Typing.{Scope}
 use Rattle.gang_model.specs.Types.Statements.{Made, statements}
 use Rattle.gang_model.specs.Types.TypeFaults.{signature_faults}
 use Rattle.gang_model.specs.Types.Resolved.{global_entries, judged_function, judged_functions, param_entries, param_variables}
+use Rattle.gang_model.proofs.JudgedLaws.{answer_unless}
+use Rattle.source_answers.specs.declared.fault.SourceFault.{SourceFault}
+use Rattle.source_answers.specs.declared.fault.SourceFault.TheVariants.{Memory, Refused}
+use Rattle.source_answers.specs.Answers.{Answers}
 use Rattle.source_tree.specs.declared.tree.Function.{Function}
 use Rattle.source_tree.specs.Tree.{function_view}
 use Rattle.ispc_names.specs.Tables.{AreTablesOf}
 use Rattle.ispc_names_table.specs.declared.table.StepScopes.{StepScopes}
 use Rattle.ispc_names_table.specs.Scopes.{standings_view}
 use Rattle.typed_tree.specs.declared.program.Function.{Function as TypedFunction}
+use Rattle.typed_tree.specs.Views as typed
+use Rattle.type_check_parts.specs.Makes.{IfAnswered}
 use Rattle.type_check.specs.Bodies.{WithVariables, declared_variables, judged_body, own_variables, with_body}
-use Rattle.type_check.proofs.Collecting.{all_of, Collects, collects-fault, collects-sound}
+use Rattle.type_check.specs.Collected.{Adds}
+use Rattle.type_check.proofs.Collecting.{all_of, Collects, collects-fault, collects-sound, one_found}
 
 -- ---- a function from its signature and its body
 
@@ -153,23 +160,42 @@ variables-made source fs n m f before made lt is next h e =
     ∙ ap₂ (λ xs x. xs ++ x ∷ []) h e
     ∙ sym (ap (λ k. map (declared_variables source) (views (take k fs))) next ∙ views-last (declared_variables source) fs n f lt is)
 
--- one more function that stands for something
-pub functions-sound : (source : ParsedSource) (fs : List (Bor Function)) (n m : ℕ) (f : Bor Function) (fault : Option SourceRefusal) (items : List tree.Function) (made : tree.Function)
-    → n < length fs → f ≡ get_or fs n f → m ≡ n + 1 → Collects fault items (all_of (function_parts source fs n)) → judged_function source (function_view f.now) ≡ Sound made
-    → Collects fault (items ++ made ∷ []) (all_of (function_parts source fs m))
-functions-sound source fs n m f fault items made lt is next h e =
-    ap (λ js. answer_of (all_of js)) (ap (function_parts source fs) next ∙ views-last (judged_function source) fs n f lt is)
-    ∙ collects-sound fault items made (function_parts source fs n) (judged_function source (function_view f.now)) h e
+-- one more function that is collected, if there is memory
+module _ (source : ParsedSource) (fs : List (Bor Function)) (n m : ℕ) (f : Bor Function) (in_list : n < length fs) (here : f ≡ get_or fs n f) (next : m ≡ n + 1)
+    (fault more : Option SourceRefusal) (before after : List TypedFunction) where
+  abbrev own : Judged tree.Function
+  own = judged_function source (function_view f.now)
 
--- one more function with a fault
-pub functions-fault : (source : ParsedSource) (fs : List (Bor Function)) (n m : ℕ) (f : Bor Function) (fault : Option SourceRefusal) (g : SourceRefusal) (items : List tree.Function)
-    → n < length fs → f ≡ get_or fs n f → m ≡ n + 1 → Collects fault items (all_of (function_parts source fs n)) → answer_of (judged_function source (function_view f.now)) ≡ Err g
-    → Collects (merged fault (Some g)) items (all_of (function_parts source fs m))
-functions-fault source fs n m f fault g items lt is next h e =
-    ap (λ js. answer_of (all_of js)) (ap (function_parts source fs) next ∙ views-last (judged_function source) fs n f lt is)
-    ∙ collects-fault fault g items (function_parts source fs n) (judged_function source (function_view f.now)) h e
+  one_later : {A : Type 0} (told : List (Judged tree.Function) → A) → told (function_parts source fs m) ≡ told (function_parts source fs n ++ own ∷ [])
+  one_later told = ap told (ap (function_parts source fs) next ∙ views-last (judged_function source) fs n f in_list here)
 
--- every function is judged
+  pub functions-added : (function : Result TypedFunction SourceFault) → Adds function before after fault more → Answers typed.function_view function own
+      → Collects fault (map typed.function_view before) (all_of (function_parts source fs n)) → Collects more (map typed.function_view after) (all_of (function_parts source fs m))
+  functions-added (Ok made) added judged h =
+      one_later (λ js. answer_of (all_of js)) ∙ (collects-sound fault (map typed.function_view before) (typed.function_view made) (function_parts source fs n) own h judged
+      ∙ ap₂ answer_unless (sym added.1) (sym (ap (map typed.function_view) added.0 ∙ map-append typed.function_view before (made ∷ []))))
+  functions-added (Err Memory) added judged h = absurd added
+  functions-added (Err (Refused g)) added judged h =
+      one_later (λ js. answer_of (all_of js)) ∙ (collects-fault fault g (map typed.function_view before) (function_parts source fs n) own h judged
+      ∙ ap₂ answer_unless (sym added.1) (ap (map typed.function_view) (sym added.0)))
+
+  pub variables-added : (function : Result TypedFunction SourceFault) → Adds function before after fault more
+      → IfOk function (λ made. own_variables made ≡ declared_variables source (function_view f.now))
+      → (fault ≡ None → map own_variables before ≡ map (declared_variables source) (views (take n fs)))
+      → more ≡ None → map own_variables after ≡ map (declared_variables source) (views (take m fs))
+  variables-added (Ok made) added own_is h none =
+      ap (map own_variables) added.0 ∙ variables-made source fs n m f before made in_list here next (h (sym added.1 ∙ none)) own_is
+  variables-added (Err Memory) added own_is h none = absurd added
+  variables-added (Err (Refused g)) added own_is h none = absurd (one_found fault g (sym added.1 ∙ none))
+
+-- what holds unless out of memory
+pub if-added : {P : Type 0} (function : Result TypedFunction SourceFault) (before after : List TypedFunction) (fault more : Option SourceRefusal)
+    → Adds function before after fault more → IfAnswered function P → P
+if-added (Ok made) before after fault more added p = p
+if-added (Err Memory) before after fault more added p = absurd added
+if-added (Err (Refused g)) before after fault more added p = p
+
+-- every function is collected
 pub functions-done : (source : ParsedSource) (fs : List (Bor Function)) (n : ℕ) (fault : Option SourceRefusal) (items : List tree.Function)
     → views fs ≡ functions_in source → take n fs ≡ fs → Collects fault items (all_of (function_parts source fs n)) → Collects fault items (judged_functions source (functions_in source))
 functions-done source fs n fault items are whole h =

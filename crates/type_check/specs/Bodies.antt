@@ -1,5 +1,7 @@
 -- The bodies of functions.
-use Rattle.std.specs.Prelude.{◌≡◌, List, [], ◌++◌, length, map}
+use Rattle.std.specs.Prelude.{◌≡◌, List, [], ◌++◌, Result, Ok, Err, Vec, length, map}
+use Rattle.std.specs.declared.alloc.Global.{Global}
+use Rattle.gang_model.specs.declared.refusals.SourceRefusal.{SourceRefusal}
 use Rattle.gang_model.specs.Types.Tree as tree
 use Rattle.gang_model.specs.Source.Parsed.{ParsedFunction, ParsedSource, functions_in, globals_in}
 use Rattle.gang_model.specs.Source.Judged.{Judged, Sound, Faulty, ◌>>=◌}
@@ -8,10 +10,14 @@ use Rattle.gang_model.specs.Types.Typing.{Scope}
 use Rattle.gang_model.specs.Types.Statements.{Made, statements}
 use Rattle.gang_model.specs.Names.Scope.{NameStanding}
 use Rattle.gang_model.specs.Types.Resolved.{global_entries, param_entries, param_variables, rate_or_uniform, standing_with, type_or_int32}
+use Rattle.source_answers.specs.declared.fault.SourceFault.{SourceFault}
+use Rattle.source_answers.specs.declared.fault.SourceFault.TheVariants.{Refused}
 use Rattle.typed_tree.specs.Views.{stmts_view, variable_view}
+use Rattle.typed_tree.specs.declared.statements.Stmt.{Stmt}
+use Rattle.typed_tree.specs.declared.program.Variable.{Variable}
 use Rattle.typed_tree.specs.declared.program.Function.{Function}
 use Rattle.typed_tree.specs.declared.program.Program.{Program}
-use Rattle.type_check.specs.declared.functions.Body.{Body}
+use Rattle.type_check.specs.declared.bodies.Body.{Body}
 
 -- a body with the variables of its function
 abbrev pub WithVariables : Type 0
@@ -19,6 +25,11 @@ WithVariables = tree.Stmt × List tree.Variable
 
 abbrev pub body_view : Body → WithVariables
 body_view b = (stmts_view b.statements.items, map variable_view b.variables.items)
+
+-- the body of some statements, unless they have a fault
+abbrev pub body_made : Result (Vec Stmt Global) SourceRefusal → Vec Variable Global → Result Body SourceFault
+body_made (Ok statements) variables = Ok (record { statements = statements; variables = variables })
+body_made (Err fault) variables = Err (Refused fault)
 
 -- a function's body, and the function's variables by their numbers, the parameters first
 abbrev pub judged_body : (functions : List ParsedFunction) → ParsedFunction → (file : Scope) → Judged WithVariables

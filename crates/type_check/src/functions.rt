@@ -9,25 +9,20 @@ ghost use Rattle.ispc_names_table.specs.Scopes.{standings_view};
 ghost use Rattle.typed_tree.specs.Views as typed;
 ghost use Rattle.source_answers.specs.Answers.{Answers};
 ghost use Rattle.type_check_parts.specs.Makes.{IfAnswered};
-ghost use Rattle.type_check.specs.Bodies.{AreVariablesOf, body_view, declared_variables, judged_body, own_variables, with_body};
+ghost use Rattle.type_check.specs.Bodies.{AreVariablesOf, body_view, declared_variables, judged_body, own_variables};
 
+use crate::bodies::Body;
+use crate::collected::Collected;
 use crate::signatures::{result_of, signature_fault};
-use gang_types::{IntType, Rate, VarId};
+use gang_types::VarId;
 use ispc_names_table::StepScopes;
-use source_answers::{SourceFault, both, least, refuse};
+use source_answers::{SourceFault, both, refuse, set_apart};
 use source_tree::{Function as ParsedFunction, Param};
 use std::alloc::{AllocError, Global};
 use type_check_calls::Context;
 use type_check_scopes::{TypeScope, declared_with};
 use type_check_statements::typed_body;
-use typed_tree::{Function, Stmt, Variable};
-
-/// A function's body, with the function's variables by their numbers.
-#[derive(Drop)]
-struct Body {
-    statements: Vec<Stmt>,
-    variables: Vec<Variable>,
-}
+use typed_tree::Function;
 
 /// Declares the parameters, which are the function's first variables.
 fn declare_params(alloc: Global, params: &[Param], scope: &mut TypeScope) -> Result<(), AllocError>
@@ -60,43 +55,9 @@ fn body_of(
         functions,
         result: result_of(function.spec),
     };
-    match typed_body(alloc, &function.body, &context, scope) {
-        Ok(statements) => {
-            scope.leave(mark);
-            let variables = scope.take_locals(alloc);
-            Ok(Body {
-                statements,
-                variables,
-            })
-        }
-        Err(SourceFault::Refused(refusal)) => {
-            scope.leave(mark);
-            Err(SourceFault::Refused(refusal))
-        }
-        Err(SourceFault::Memory) => Err(SourceFault::Memory),
-    }
-}
-
-/// A function with its body and what is in scope at its steps.
-fn function_with(
-    alloc: Global,
-    function: &ParsedFunction,
-    body: Body,
-    scopes: StepScopes,
-) -> Result<Function, AllocError>
-    ensures variables { IfOk result (λ made. own_variables made ≡ (body_view body).1) }
-    ensures typed { IfOk result (λ made. typed.function_view made ≡ with_body (parsed.function_view function.now) (body_view body) (standings_view scopes)) }
-{
-    let no_result = (IntType::Int32, Rate::Uniform);
-    let (result_type, result) = result_of(function.spec).unwrap_or(no_result);
-    Ok(Function {
-        name: function.name.to_vec(alloc)?,
-        result,
-        result_type,
-        body: body.statements,
-        variables: body.variables,
-        scopes,
-    })
+    let statements = set_apart(typed_body(alloc, &function.body, &context, scope))?;
+    scope.leave(mark);
+    Body::new(statements, scope.take_locals(alloc))
 }
 
 /// A function in the typed tree, where the file-scope variables are in scope.
@@ -121,7 +82,7 @@ fn typed_function(
     let signature = refuse(signature_fault(function));
     let body = body_of(alloc, functions, function, scope);
     let (_, body) = both(signature, body)?;
-    Ok(function_with(alloc, function, body, scopes)?)
+    Ok(body.into_function(alloc, function, scopes)?)
 }
 
 /// The functions in the typed tree, where the file-scope variables are in scope.
@@ -146,15 +107,10 @@ pub(crate) fn typed_functions(
         → AreTablesOf source tables.items
         → IfOk result (λ made. AreVariablesOf source made.items) }
 {
-    let mut typed = Vec::new(alloc);
-    let mut first = None;
+    let mut collected = Collected::new(alloc);
     for (function, scopes) in functions.iter().zip(tables) {
-        match typed_function(alloc, functions, function, scopes, &mut scope) {
-            Ok(function) => typed.push(function)?,
-            Err(SourceFault::Refused(refusal)) => first = least(first, Some(refusal)),
-            Err(SourceFault::Memory) => return Err(SourceFault::Memory),
-        }
+        let next = typed_function(alloc, functions, function, scopes, &mut scope);
+        collected.add(next)?;
     }
-    refuse(first)?;
-    Ok(typed)
+    collected.into_functions()
 }

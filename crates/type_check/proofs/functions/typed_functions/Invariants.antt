@@ -12,7 +12,7 @@ abbrev pub invariant-loop-function : goal.invariant-loop-function
 invariant-loop-function l = record {
   entries : l.scope.entries ≡ l.fn.scope.entries;
   variables : (source : ParsedSource) → views l.fn.functions ≡ functions_in source → l.fn.scope.entries ≡ global_entries 0 (globals_in source)
-      → AreTablesOf source l.fn.tables.items → l.first ≡ None → map own_variables l.typed.items ≡ map (declared_variables source) (views (take (length l.yielded) l.fn.functions));
+      → AreTablesOf source l.fn.tables.items → l.collected.fault ≡ None → map own_variables l.collected.functions.items ≡ map (declared_variables source) (views (take (length l.yielded) l.fn.functions));
   collects : (source : ParsedSource) → views l.fn.functions ≡ functions_in source → l.fn.scope.entries ≡ global_entries 0 (globals_in source)
-      → AreTablesOf source l.fn.tables.items → Collects l.first (map typed.function_view l.typed.items) (all_of (function_parts source l.fn.functions (length l.yielded)));
+      → AreTablesOf source l.fn.tables.items → Collects l.collected.fault (map typed.function_view l.collected.functions.items) (all_of (function_parts source l.fn.functions (length l.yielded)));
 }
