@@ -17,9 +17,9 @@ use Rattle.typed_tree.specs.declared.program.Global.{Global as TypedGlobal}
 use Rattle.typed_tree.specs.Views as typed
 use Rattle.type_check_scopes.specs.declared.entries.Declared.{Declared}
 use Rattle.type_check_scopes.specs.Entries.{declared_view}
-use Rattle.type_check.proofs.FunctionParts.{take_all}
-use Rattle.type_check.proofs.Parameters.{declared-named}
-use Rattle.type_check.proofs.Collecting.{all_of, Collects, collects-more}
+use Rattle.type_check_functions.proofs.FunctionParts.{take_all}
+use Rattle.type_check_functions.proofs.Parameters.{declared-named}
+use Rattle.type_check_functions.proofs.Collecting.{all_of, Collects, collects-more}
 
 -- a file-scope variable by itself
 abbrev pub global_part : ℕ → ParsedGlobal → Judged Global

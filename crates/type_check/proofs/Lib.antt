@@ -1,5 +1,1 @@
-pub mod Collecting
-pub mod FunctionBodies
-pub mod FunctionParts
 pub mod GlobalParts
-pub mod Parameters

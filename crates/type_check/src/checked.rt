@@ -6,7 +6,7 @@ ghost use Rattle.gang_model.specs.Types.SourceRefusals.{names_refusal, types_ref
 ghost use Rattle.source_answers.specs.declared.fault.SourceFault.TheVariants.{Memory, Refused};
 ghost use Rattle.source_tree.specs.Tree.{tree_view};
 ghost use Rattle.typed_tree.specs.Views.{program_view};
-ghost use Rattle.type_check.specs.Bodies.{AreVariablesOf};
+ghost use Rattle.type_check_functions.specs.Bodies.{AreVariablesOf};
 
 use crate::typed::typed_program;
 use ispc_names::Named;
@@ -32,7 +32,7 @@ impl Model for Checked {
     ghost use Rattle.source_tree.specs.declared.tree.Tree as declared;
     ghost use Rattle.source_tree.specs.Tree.{tree_view};
     ghost use Rattle.typed_tree.specs.Views.{program_view};
-    ghost use Rattle.type_check.specs.Bodies.{AreVariablesOf};
+    ghost use Rattle.type_check_functions.specs.Bodies.{AreVariablesOf};
 
     ghost Value = { declared.Tree };
 

@@ -8,12 +8,12 @@ ghost use Rattle.source_tree.specs.Tree as parsed;
 ghost use Rattle.typed_tree.specs.Views as typed;
 ghost use Rattle.source_answers.specs.Answers.{Answers};
 
-use crate::signatures::{variable_fault, varying_fault};
 use gang_model::{GlobalForm, Literal, SourceRefusal};
 use gang_types::{IntType, UnaryOp, VarId, convert, unary};
 use source_answers::{SourceFault, least, refuse};
 use source_tree::GlobalVariable;
 use std::alloc::{AllocError, Global};
+use type_check_functions::{variable_fault, varying_fault};
 use type_check_scopes::{TypeScope, declared_with};
 use type_check_values::{declared_rate, declared_type, literal_type};
 use typed_tree::{Global as TypedGlobal, Variable};

@@ -5,15 +5,15 @@ ghost use Rattle.source_tree.specs.Tree.{tree_view};
 ghost use Rattle.ispc_names.specs.Tables.{AreTablesOf};
 ghost use Rattle.typed_tree.specs.Views.{program_view};
 ghost use Rattle.source_answers.specs.Answers.{Answers};
-ghost use Rattle.type_check.specs.Bodies.{AreVariablesOf};
+ghost use Rattle.type_check_functions.specs.Bodies.{AreVariablesOf};
 
-use crate::functions::typed_functions;
 use crate::globals::{declared_globals, typed_globals};
 use ispc_names_declarations::{functions_of, globals_of};
 use ispc_names_table::StepScopes;
 use source_answers::{SourceFault, both};
 use source_tree::Tree;
 use std::alloc::Global;
+use type_check_functions::typed_functions;
 use typed_tree::Program;
 
 /// The typed program of a tree, whose functions have these steps. Each function has the variables that are declared in it, by their

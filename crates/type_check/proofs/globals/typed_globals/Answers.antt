@@ -3,7 +3,7 @@ use Rattle.std.specs.Global as alloc
 use Rattle.gang_model.specs.Types.Resolved.{judged_globals}
 use Rattle.typed_tree.specs.declared.program.Global.{Global}
 use Rattle.typed_tree.specs.Views as typed
-use Rattle.type_check.proofs.Collecting.{all_collected, fault_collected}
+use Rattle.type_check_functions.proofs.Collecting.{all_collected, fault_collected}
 use Rattle.type_check.proofs.GlobalParts.{views, globals-step, globals-done}
 use Rattle.type_check_expressions.proofs.Residuals.{answers-fault}
 use Rattle.type_check.proofs.globals.typed_globals.Goals as goal

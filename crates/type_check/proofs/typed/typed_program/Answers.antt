@@ -6,7 +6,7 @@ use Rattle.gang_model.specs.Types.Tree as tree
 use Rattle.source_tree.specs.Tree.{tree_view}
 use Rattle.typed_tree.specs.Views as typed
 use Rattle.source_answers.proofs.Answered.{answers-at}
-use Rattle.type_check.proofs.FunctionParts as functions
+use Rattle.type_check_functions.proofs.FunctionParts as functions
 use Rattle.type_check.proofs.GlobalParts as globals
 use Rattle.type_check_expressions.proofs.Residuals.{pair-refused}
 use Rattle.type_check.proofs.typed.typed_program.Goals as goal

@@ -9,7 +9,7 @@ ghost use Rattle.ispc_names_table.specs.Scopes.{standings_view};
 ghost use Rattle.typed_tree.specs.Views as typed;
 ghost use Rattle.source_answers.specs.Answers.{Answers};
 ghost use Rattle.type_check_parts.specs.Makes.{IfAnswered};
-ghost use Rattle.type_check.specs.Bodies.{AreVariablesOf, body_view, declared_variables, judged_body, own_variables};
+ghost use Rattle.type_check_functions.specs.Bodies.{AreVariablesOf, body_view, declared_variables, judged_body, own_variables};
 
 use crate::bodies::Body;
 use crate::collected::Collected;
@@ -90,7 +90,7 @@ fn typed_function(
 /// # Errors
 ///
 /// The first of their faults. Out of memory.
-pub(crate) fn typed_functions(
+pub fn typed_functions(
     alloc: Global,
     functions: &[&ParsedFunction],
     tables: Vec<StepScopes>,

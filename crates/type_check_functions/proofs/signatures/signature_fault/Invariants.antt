@@ -3,7 +3,7 @@ use Rattle.std.specs.List.{flat_map}
 use Rattle.gang_model.specs.Source.Judged.{least_fault, merged}
 use Rattle.gang_model.specs.Types.TypeFaults.{param_faults, signature_faults}
 use Rattle.source_tree.specs.Tree.{function_view, param_view}
-use Rattle.type_check.proofs.signatures.signature_fault.Given as goal
+use Rattle.type_check_functions.proofs.signatures.signature_fault.Given as goal
 
 -- what is found so far and what is left decide
 abbrev pub invariant-loop-param : goal.invariant-loop-param

@@ -6,7 +6,7 @@ use Rattle.gang_model.proofs.JudgedLaws.{least_fault-append}
 use Rattle.gang_model.proofs.WalkedLists.{next_item}
 use Rattle.source_tree.specs.Tree.{function_view, param_view}
 use Rattle.ispc_names_declarations.proofs.Merging.{one_more}
-use Rattle.type_check.proofs.signatures.signature_fault.Goals as goal
+use Rattle.type_check_functions.proofs.signatures.signature_fault.Goals as goal
 
 pub loop-param-init : goal.loop-param-init
 loop-param-init c =

@@ -1,6 +1,6 @@
 //! Typed functions, collected one after another.
 ghost use Rattle.std.specs.Prelude.{◌≡◌, [], None, OnOk};
-ghost use Rattle.type_check.specs.Collected.{Adds, unless_fault};
+ghost use Rattle.type_check_functions.specs.Collected.{Adds, unless_fault};
 
 use gang_model::SourceRefusal;
 use source_answers::{SourceFault, least};

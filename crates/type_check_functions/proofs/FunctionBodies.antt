@@ -21,8 +21,8 @@ use Rattle.typed_tree.specs.declared.statements.Stmt.{Stmt}
 use Rattle.typed_tree.specs.declared.program.Variable.{Variable}
 use Rattle.typed_tree.specs.Views.{stmts_view, variable_view}
 use Rattle.type_check_parts.specs.Makes.{Makes, IfAnswered}
-use Rattle.type_check.specs.declared.bodies.Body.{Body}
-use Rattle.type_check.specs.Bodies.{WithVariables, body_made, body_view, declared_variables, judged_body, variables_made}
+use Rattle.type_check_functions.specs.declared.bodies.Body.{Body}
+use Rattle.type_check_functions.specs.Bodies.{WithVariables, body_made, body_view, declared_variables, judged_body, variables_made}
 
 -- what the statements of a function's body are judged to be
 abbrev pub judged_statements : (functions : List ParsedFunction) → ParsedFunction → (file : Scope) → Judged Made

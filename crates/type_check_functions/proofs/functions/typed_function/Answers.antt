@@ -5,10 +5,10 @@ use Rattle.source_tree.specs.Tree as parsed
 use Rattle.ispc_names_table.specs.Scopes.{standings_view}
 use Rattle.typed_tree.specs.Views as typed
 use Rattle.source_answers.proofs.Answered.{answers-at, answers-refusal}
-use Rattle.type_check.specs.Bodies.{body_view, judged_body, with_body}
-use Rattle.type_check.proofs.FunctionParts.{views, from_parts, function-of_parts}
+use Rattle.type_check_functions.specs.Bodies.{body_view, judged_body, with_body}
+use Rattle.type_check_functions.proofs.FunctionParts.{views, from_parts, function-of_parts}
 use Rattle.type_check_expressions.proofs.Residuals.{pair-refused}
-use Rattle.type_check.proofs.functions.typed_function.Goals as goal
+use Rattle.type_check_functions.proofs.functions.typed_function.Goals as goal
 
 pub returns-in_err-body-clause-function : goal.returns-in_err-body-clause-function
 returns-in_err-body-clause-function c = λ source are entries standings.

@@ -1,7 +1,7 @@
 use Rattle.std.proofs.Common.{drop, map}
 use Rattle.source_tree.specs.Tree.{param_view}
-use Rattle.type_check.proofs.Parameters.{AreDeclared}
-use Rattle.type_check.proofs.functions.declare_params.Given as goal
+use Rattle.type_check_functions.proofs.Parameters.{AreDeclared}
+use Rattle.type_check_functions.proofs.functions.declare_params.Given as goal
 
 abbrev pub invariant-loop-param : goal.invariant-loop-param
 invariant-loop-param l =

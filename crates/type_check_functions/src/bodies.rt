@@ -3,7 +3,7 @@ ghost use Rattle.std.specs.Prelude.{◌≡◌, IfOk};
 ghost use Rattle.source_tree.specs.Tree as parsed;
 ghost use Rattle.ispc_names_table.specs.Scopes.{standings_view};
 ghost use Rattle.typed_tree.specs.Views as typed;
-ghost use Rattle.type_check.specs.Bodies.{body_made, body_view, own_variables, with_body};
+ghost use Rattle.type_check_functions.specs.Bodies.{body_made, body_view, own_variables, with_body};
 
 use crate::signatures::result_of;
 use gang_types::{IntType, Rate};

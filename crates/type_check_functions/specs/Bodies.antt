@@ -17,7 +17,7 @@ use Rattle.typed_tree.specs.declared.statements.Stmt.{Stmt}
 use Rattle.typed_tree.specs.declared.program.Variable.{Variable}
 use Rattle.typed_tree.specs.declared.program.Function.{Function}
 use Rattle.typed_tree.specs.declared.program.Program.{Program}
-use Rattle.type_check.specs.declared.bodies.Body.{Body}
+use Rattle.type_check_functions.specs.declared.bodies.Body.{Body}
 
 -- a body with the variables of its function
 abbrev pub WithVariables : Type 0

@@ -11,10 +11,10 @@ use Rattle.gang_model.specs.Source.Parsed.{functions_in}
 use Rattle.gang_model.specs.Types.Resolved.{judged_functions}
 use Rattle.typed_tree.specs.declared.program.Function.{Function}
 use Rattle.typed_tree.specs.Views as typed
-use Rattle.type_check.specs.Bodies.{AreVariablesOf, declared_variables}
-use Rattle.type_check.proofs.Collecting.{collected-answers, collected-ok}
-use Rattle.type_check.proofs.FunctionParts.{pair-at, steps-of, views, all-paired, functions-added, variables-added, if-added, functions-done}
-use Rattle.type_check.proofs.functions.typed_functions.Goals as goal
+use Rattle.type_check_functions.specs.Bodies.{AreVariablesOf, declared_variables}
+use Rattle.type_check_functions.proofs.Collecting.{collected-answers, collected-ok}
+use Rattle.type_check_functions.proofs.FunctionParts.{pair-at, steps-of, views, all-paired, functions-added, variables-added, if-added, functions-done}
+use Rattle.type_check_functions.proofs.functions.typed_functions.Goals as goal
 
 pub loop-function-preserved : goal.loop-function-preserved
 loop-function-preserved c =

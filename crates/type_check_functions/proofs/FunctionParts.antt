@@ -28,9 +28,9 @@ use Rattle.ispc_names_table.specs.Scopes.{standings_view}
 use Rattle.typed_tree.specs.declared.program.Function.{Function as TypedFunction}
 use Rattle.typed_tree.specs.Views as typed
 use Rattle.type_check_parts.specs.Makes.{IfAnswered}
-use Rattle.type_check.specs.Bodies.{WithVariables, declared_variables, judged_body, own_variables, with_body}
-use Rattle.type_check.specs.Collected.{Adds}
-use Rattle.type_check.proofs.Collecting.{all_of, Collects, collects-fault, collects-sound, one_found}
+use Rattle.type_check_functions.specs.Bodies.{WithVariables, declared_variables, judged_body, own_variables, with_body}
+use Rattle.type_check_functions.specs.Collected.{Adds}
+use Rattle.type_check_functions.proofs.Collecting.{all_of, Collects, collects-fault, collects-sound, one_found}
 
 -- ---- a function from its signature and its body
 

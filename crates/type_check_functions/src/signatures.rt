@@ -19,14 +19,14 @@ fn is_varying_spec(spec: Spec) -> bool
 }
 
 /// S8 at the name of a `void` variable.
-pub(crate) fn variable_fault(place: Place, spec: Spec) -> Option<SourceRefusal>
+pub fn variable_fault(place: Place, spec: Spec) -> Option<SourceRefusal>
     ensures { result ≡ least_fault (faults.variable_faults place spec) }
 {
     fault_if(spec.value_type.is_none(), RefusalNumber::S8, place)
 }
 
 /// S7 at the name of what is varying where it has to be uniform.
-pub(crate) fn varying_fault(
+pub fn varying_fault(
     place: Place,
     spec: Spec,
     has_to_be_uniform: bool,

@@ -8,7 +8,7 @@ use Rattle.source_answers.specs.declared.fault.SourceFault.{SourceFault}
 use Rattle.source_answers.specs.declared.fault.SourceFault.TheVariants.{Memory, Refused}
 use Rattle.source_answers.specs.Answers.{Answers, refusal_of}
 use Rattle.source_answers.proofs.Answered.{answers-same}
-use Rattle.type_check.specs.Collected.{unless_fault}
+use Rattle.type_check_functions.specs.Collected.{unless_fault}
 
 -- the parts together
 abbrev pub all_of : {A : Type 0} → List (Judged A) → Judged (List A)

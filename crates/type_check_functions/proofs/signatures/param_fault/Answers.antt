@@ -3,7 +3,7 @@ use Rattle.std.specs.Prelude.{◌||◌}
 use Rattle.gang_model.specs.Source.Judged.{least_fault}
 use Rattle.gang_model.specs.Types.TypeFaults.{array_faults, variable_faults}
 use Rattle.ispc_names_declarations.proofs.Merging.{pair_fault}
-use Rattle.type_check.proofs.signatures.param_fault.Goals as goal
+use Rattle.type_check_functions.proofs.signatures.param_fault.Goals as goal
 
 pub returns : goal.returns
 returns c =

@@ -3,10 +3,10 @@ use Rattle.gang_model.specs.Source.Parsed.{ParsedSource, functions_in, globals_i
 use Rattle.gang_model.specs.Types.Resolved.{global_entries}
 use Rattle.ispc_names.specs.Tables.{AreTablesOf}
 use Rattle.typed_tree.specs.Views as typed
-use Rattle.type_check.specs.Bodies.{declared_variables, own_variables}
-use Rattle.type_check.proofs.Collecting.{all_of, Collects}
-use Rattle.type_check.proofs.FunctionParts.{function_parts, views}
-use Rattle.type_check.proofs.functions.typed_functions.Given as goal
+use Rattle.type_check_functions.specs.Bodies.{declared_variables, own_variables}
+use Rattle.type_check_functions.proofs.Collecting.{all_of, Collects}
+use Rattle.type_check_functions.proofs.FunctionParts.{function_parts, views}
+use Rattle.type_check_functions.proofs.functions.typed_functions.Given as goal
 
 abbrev pub invariant-loop-function : goal.invariant-loop-function
 invariant-loop-function l = record {

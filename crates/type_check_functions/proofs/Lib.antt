@@ -1,0 +1,4 @@
+pub mod Collecting
+pub mod FunctionBodies
+pub mod FunctionParts
+pub mod Parameters
