@@ -7,6 +7,7 @@ ghost use Rattle.gang_model.specs.Texts.Transcript.{setting};
 ghost use Rattle.machine_states.specs.Variables.{parameters_of};
 ghost use Rattle.codegen.specs.Programs.{IsRunnable, variables_of};
 ghost use Rattle.typed_tree.specs.Views.{program_view};
+ghost use Rattle.gang_machine.specs.Openings.{IsBlank};
 ghost use Rattle.gang_machine.specs.Standings.{Stands};
 
 use crate::machine::Machine;
@@ -24,6 +25,22 @@ use undo_log::SnapshotRing;
 
 /// How many words the machine has itself: the number of frames.
 const OWN: [usize; 1] = [1];
+
+/// The words of a machine for a program, all 0, that keep nothing, and at most `history` events.
+fn blank_words<const W: usize>(
+    alloc: Global,
+    program: &Program,
+    history: u32,
+) -> Result<MachineWords<SnapshotRing>, AllocError>
+    requires width { IsGangWidth W }
+    requires range { (1 ≤ history) × (history ≤ 65536) }
+    ensures { IfOk result (IsBlank W program.now history) }
+{
+    let layout = Layout::plan::<W>(alloc, program, &[], &OWN, &[1, 1, 1, W, W])?;
+    let timeline = SnapshotRing::new(alloc, layout.words, history as usize)?;
+    let store = Recorded { timeline };
+    Ok(MachineWords { layout, store })
+}
 
 /// A machine before the first step of a program's entry, that keeps at most `history` steps. All memory is taken here.
 ///
@@ -46,11 +63,8 @@ pub fn open<const W: usize>(
 {
     let lines = step_lines(alloc, &program.functions)?;
     let code = compile(alloc, &program)?;
-    let layout = Layout::plan::<W>(alloc, &program, &[], &OWN, &[1, 1, 1, W, W])?;
     let stacks = Box::new(alloc, Stacks::new())?;
-    let timeline = SnapshotRing::new(alloc, layout.words, history as usize)?;
-    let store = Recorded { timeline };
-    let mut words = MachineWords { layout, store };
+    let mut words = blank_words::<W>(alloc, &program, history)?;
     let compiled = CompiledProgram { program, code };
     start::<W, SnapshotRing>(&compiled, entry.0, &mut words);
     Ok(Machine {
