@@ -8,11 +8,11 @@ ghost use Rattle.ispc_parser_expressions.specs.Parse as spec;
 ghost use Rattle.ispc_parser_expressions.specs.Parse.{within, parsers};
 
 use crate::budget::{Budget, MAX_OPERATORS, spend};
-use crate::nodes;
 use crate::reader::{Reader, open};
 use gang_model::{Mark, RefusalNumber};
 use gang_types::{Place, UnaryOp};
 use ispc_lexer::{Kind, Token};
+use ispc_parser_nodes as nodes;
 use ispc_parser_words::{
     after, begins, begins_word, operator_at, place_of, refused, right_levels, take, take_cast_spec,
     truth_of, unary_op, unexpected,

@@ -3,7 +3,6 @@
 
 mod budget;
 mod descent;
-mod nodes;
 mod outermost;
 mod reader;
 

@@ -1,7 +1,7 @@
-//! Nodes of the tree in boxes, made of their children's boxes.
+//! Nodes of expressions, each in a box, made of their children's boxes.
 ghost use Rattle.std.specs.Prelude.{◌≡◌, IfOk};
 ghost use Rattle.gang_model.specs.Source.Parsed.{ParsedNumber, ParsedBool, ParsedName, ParsedIndex, ParsedCall, ParsedParen, ParsedUnary, ParsedCast, ParsedBinary, ParsedChoice};
-ghost use Rattle.source_tree.specs.Expressions.{expr_view, arg_view, args_view, OfValue, OfPart, OfPartFrom};
+ghost use Rattle.source_tree.specs.Expressions.{expr_view, args_view};
 
 use gang_model::Infix;
 use gang_types::{IntType, Place, Rate, UnaryOp};
@@ -16,26 +16,46 @@ fn in_box(alloc: Global, expr: Expr) -> Result<Box<Expr>, AllocError>
     boxed(alloc, expr)
 }
 
-pub(crate) fn number(alloc: Global, place: Place, number: Number) -> Result<Box<Expr>, AllocError>
+/// A number.
+///
+/// # Errors
+///
+/// Out of memory.
+pub fn number(alloc: Global, place: Place, number: Number) -> Result<Box<Expr>, AllocError>
     ensures { IfOk result (λ node. expr_view node.value ≡ ParsedNumber place number.value number.is_unsigned number.is_long) }
 {
     in_box(alloc, Expr::Number { place, number })
 }
 
-pub(crate) fn truth(alloc: Global, place: Place, value: bool) -> Result<Box<Expr>, AllocError>
+/// A truth value.
+///
+/// # Errors
+///
+/// Out of memory.
+pub fn truth(alloc: Global, place: Place, value: bool) -> Result<Box<Expr>, AllocError>
     ensures { IfOk result (λ node. expr_view node.value ≡ ParsedBool place value) }
 {
     in_box(alloc, Expr::Truth { place, value })
 }
 
-pub(crate) fn name(alloc: Global, place: Place, name: &[u8]) -> Result<Box<Expr>, AllocError>
+/// A name, whose bytes are copied.
+///
+/// # Errors
+///
+/// Out of memory.
+pub fn name(alloc: Global, place: Place, name: &[u8]) -> Result<Box<Expr>, AllocError>
     ensures { IfOk result (λ node. expr_view node.value ≡ ParsedName place name.now) }
 {
     let name = name.to_vec(alloc)?;
     in_box(alloc, Expr::Name { place, name })
 }
 
-pub(crate) fn index(
+/// An element of the array that a name stands for.
+///
+/// # Errors
+///
+/// Out of memory.
+pub fn index(
     alloc: Global,
     place: Place,
     name: &[u8],
@@ -47,7 +67,12 @@ pub(crate) fn index(
     in_box(alloc, Expr::Index { place, name, index })
 }
 
-pub(crate) fn call(
+/// A call of the function that a name stands for.
+///
+/// # Errors
+///
+/// Out of memory.
+pub fn call(
     alloc: Global,
     place: Place,
     name: &[u8],
@@ -65,13 +90,23 @@ fn call_of(place: Place, name: Vec<u8>, args: Vec<Arg>) -> Expr
     Expr::Call { place, name, args }
 }
 
-pub(crate) fn paren(alloc: Global, place: Place, inner: Box<Expr>) -> Result<Box<Expr>, AllocError>
+/// An expression in parentheses.
+///
+/// # Errors
+///
+/// Out of memory.
+pub fn paren(alloc: Global, place: Place, inner: Box<Expr>) -> Result<Box<Expr>, AllocError>
     ensures { IfOk result (λ node. expr_view node.value ≡ ParsedParen place (expr_view inner.value)) }
 {
     in_box(alloc, Expr::Paren { place, inner })
 }
 
-pub(crate) fn unary(
+/// A unary operator with its operand.
+///
+/// # Errors
+///
+/// Out of memory.
+pub fn unary(
     alloc: Global,
     place: Place,
     operator: UnaryOp,
@@ -89,7 +124,12 @@ pub(crate) fn unary(
     )
 }
 
-pub(crate) fn cast(
+/// A cast to a rate, where one is written, and to a type, `None` being `void`.
+///
+/// # Errors
+///
+/// Out of memory.
+pub fn cast(
     alloc: Global,
     place: Place,
     rate: Option<Rate>,
@@ -109,7 +149,12 @@ pub(crate) fn cast(
     )
 }
 
-pub(crate) fn binary(
+/// A binary operator with its operands.
+///
+/// # Errors
+///
+/// Out of memory.
+pub fn binary(
     alloc: Global,
     operator: Infix,
     left: Box<Expr>,
@@ -127,7 +172,12 @@ pub(crate) fn binary(
     )
 }
 
-pub(crate) fn choice(
+/// A test with the values that it chooses from.
+///
+/// # Errors
+///
+/// Out of memory.
+pub fn choice(
     alloc: Global,
     test: Box<Expr>,
     first: Box<Expr>,
@@ -143,30 +193,4 @@ pub(crate) fn choice(
             second,
         },
     )
-}
-
-pub(crate) fn value_arg(value: Box<Expr>) -> Arg
-    ensures { arg_view result ≡ OfValue (expr_view value.value) }
-{
-    Arg::Value(Box::into_inner(value))
-}
-
-pub(crate) fn part(alloc: Global, place: Place, name: &[u8]) -> Result<Arg, AllocError>
-    ensures { IfOk result (λ a. arg_view a ≡ OfPart place name.now) }
-{
-    let name = name.to_vec(alloc)?;
-    Ok(Arg::Part { place, name })
-}
-
-pub(crate) fn part_from(
-    alloc: Global,
-    place: Place,
-    name: &[u8],
-    index: Box<Expr>,
-) -> Result<Arg, AllocError>
-    ensures { IfOk result (λ a. arg_view a ≡ OfPartFrom place name.now (expr_view index.value)) }
-{
-    let name = name.to_vec(alloc)?;
-    let index = Box::into_inner(index);
-    Ok(Arg::PartFrom { place, name, index })
 }
