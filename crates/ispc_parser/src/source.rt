@@ -2,7 +2,8 @@
 ghost use Rattle.std.specs.Prelude.{◌≡◌, map, option_map};
 ghost use Rattle.ispc_lexer.specs.Views.{sort_of, lexemes_of};
 ghost use Rattle.ispc_parser_words.specs.Front.{Gives};
-ghost use Rattle.source_tree.specs.Tree.{param_view, item_view};
+ghost use Rattle.gang_model.specs.Source.Parsed.{ParsedFunctionItem};
+ghost use Rattle.source_tree.specs.Tree.{param_view, stmts_view, item_view};
 ghost use Rattle.ispc_parser_front.specs.Front.{name_view};
 ghost use Rattle.ispc_parser_front.specs.Refusals.{IsRefusal};
 ghost use Rattle.ispc_parser.specs.Source as spec;
@@ -133,6 +134,20 @@ fn function_body(context: Context, tokens: &[Token]) -> Read<'_, Body>
     Ok((Body { stmts, closing }, rest))
 }
 
+/// The function of its parts.
+fn function_item(spec: Spec, name: Identifier, params: Vec<Param>, body: Body) -> Item
+    ensures { item_view result ≡ ParsedFunctionItem (record { at = name.place; name = name.text.items; spec = spec; params = map param_view params.items; body = stmts_view body.stmts.items; closing = body.closing }) }
+{
+    Item::Function(Function {
+        place: name.place,
+        name: name.text,
+        spec,
+        params,
+        body: body.stmts,
+        closing: body.closing,
+    })
+}
+
 /// Behind a function's name.
 #[tactic(auto, unfolding(crate::specs::Source::function_of))]
 fn function(context: Context, spec: Spec, name: Identifier, tokens: &[Token]) -> Read<'_, Item>
@@ -143,15 +158,7 @@ fn function(context: Context, spec: Spec, name: Identifier, tokens: &[Token]) ->
     let (params, rest) = params(context, rest)?;
     let rest = take(Mark::RightParen, rest, context.end)?;
     let (body, rest) = function_body(context, rest)?;
-    let function = Function {
-        place: name.place,
-        name: name.text,
-        spec,
-        params,
-        body: body.stmts,
-        closing: body.closing,
-    };
-    Ok((Item::Function(function), rest))
+    Ok((function_item(spec, name, params, body), rest))
 }
 
 // ---- file-scope variables

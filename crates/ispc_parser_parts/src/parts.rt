@@ -8,12 +8,13 @@ ghost use Rattle.source_tree.specs.Tree.{target_view, stmt_view};
 ghost use Rattle.ispc_parser_front.specs.Front.{name_view};
 ghost use Rattle.ispc_parser_parts.specs.Parts as spec;
 
-use crate::nodes::{closed, with_rest};
 use gang_model::Mark;
 use gang_types::{BinaryOp, Place};
 use ispc_lexer::{Kind, Token};
 use ispc_parser_expressions::{arguments, expression};
-use ispc_parser_front::{Context, Identifier, Read, copied_name, enter, local_spec, name};
+use ispc_parser_front::{
+    Context, Identifier, Read, closed, copied_name, enter, local_spec, name, with_rest,
+};
 use ispc_parser_words::{begins, take, unexpected};
 use source_tree::{Expr, Stmt, Target};
 

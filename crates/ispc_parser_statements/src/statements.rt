@@ -1,6 +1,7 @@
 //! Statements, by descent.
 ghost use Rattle.std.specs.Prelude.{◌≡◌, ◌+◌, IfOk};
 ghost use Rattle.ispc_lexer.specs.Views.{sort_of, lexemes_of};
+ghost use Rattle.ispc_parser_words.specs.Front as front;
 ghost use Rattle.ispc_parser_words.specs.Front.{Gives};
 ghost use Rattle.source_tree.specs.Expressions.{expr_view};
 ghost use Rattle.source_tree.specs.Tree.{stmt_view, stmts_view};
@@ -12,11 +13,12 @@ ghost use Rattle.ispc_parser_statements.specs.Statements.{within, parsers};
 use gang_model::{Mark, RefusalNumber};
 use gang_types::Place;
 use ispc_lexer::{Kind, Token};
-use ispc_parser_front::{Context, Loop, Opening, Plain, Read, opening_of, refused_at, take_at};
-use ispc_parser_heads::{head_of, optional, test};
-use ispc_parser_parts::{
-    block_of, closed, declaration, do_while, ended, if_else, if_then, push, simple, with_rest,
+use ispc_parser_front::{
+    Context, Loop, Opening, Plain, Read, block_of, closed, do_while, ended, if_else, if_then,
+    opening_of, push, refused_at, take_at, with_rest,
 };
+use ispc_parser_heads::{head_of, optional, test};
+use ispc_parser_parts::{declaration, simple};
 use ispc_parser_words::{begins, begins_word, take, unexpected};
 use source_answers::SourceFault;
 use source_tree::{Expr, Stmt};
@@ -171,6 +173,13 @@ fn else_body(context: Context, depth: u32, tokens: &[Token]) -> Read<'_, Box<Stm
     body(context, depth, rest)
 }
 
+/// Whether an `else` follows. It belongs to the `if` whose body was read last.
+fn has_else(tokens: &[Token]) -> bool
+    ensures { result ≡ front.begins Mark.Else (lexemes_of tokens.now) }
+{
+    begins(Mark::Else, tokens)
+}
+
 /// Behind `if`, which stands at this place.
 #[cycle(statement)]
 #[tactic(auto, unfolding(crate::specs::Statements::if_of))]
@@ -180,7 +189,7 @@ fn if_stmt(context: Context, depth: u32, place: Place, tokens: &[Token]) -> Read
 {
     let (test, rest) = test(context, depth, tokens)?;
     let (first, rest) = body(context, depth, rest)?;
-    if !begins(Mark::Else, rest) {
+    if !has_else(rest) {
         return if_then(context.alloc, place, test, first, rest);
     }
     let (other, rest) = else_body(context, depth, rest)?;

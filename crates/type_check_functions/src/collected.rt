@@ -34,10 +34,7 @@ impl Collected {
     }
 
     /// One more function, or its fault.
-    pub(crate) fn add(
-        &mut self,
-        function: Result<Function, SourceFault>,
-    ) -> Result<(), AllocError>
+    pub(crate) fn add(&mut self, function: Result<Function, SourceFault>) -> Result<(), AllocError>
         ensures added { OnOk result (Adds function self.old.functions.items self.new.functions.items self.old.fault self.new.fault) }
     {
         match function {

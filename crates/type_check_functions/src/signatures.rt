@@ -26,11 +26,7 @@ pub fn variable_fault(place: Place, spec: Spec) -> Option<SourceRefusal>
 }
 
 /// S7 at the name of what is varying where it has to be uniform.
-pub fn varying_fault(
-    place: Place,
-    spec: Spec,
-    has_to_be_uniform: bool,
-) -> Option<SourceRefusal>
+pub fn varying_fault(place: Place, spec: Spec, has_to_be_uniform: bool) -> Option<SourceRefusal>
     ensures { result ≡ least_fault (faults.array_faults place spec has_to_be_uniform) }
 {
     let is_refused = has_to_be_uniform && is_varying_spec(spec);

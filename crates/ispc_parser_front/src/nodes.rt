@@ -7,10 +7,10 @@ ghost use Rattle.source_tree.specs.Expressions.{expr_view};
 ghost use Rattle.ispc_parser_front.specs.Front.{just, closed_by};
 ghost use Rattle.source_tree.specs.Tree.{stmt_view, stmts_view};
 
+use crate::front::{Context, Read};
 use gang_model::Mark;
 use gang_types::Place;
 use ispc_lexer::Token;
-use ispc_parser_front::{Context, Read};
 use ispc_parser_words::take;
 use source_answers::boxed;
 use source_tree::{Expr, Stmt};
