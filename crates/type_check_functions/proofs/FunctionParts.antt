@@ -10,7 +10,7 @@ use Rattle.gang_model.specs.declared.refusals.SourceRefusal.{SourceRefusal}
 use Rattle.gang_model.specs.Types.Tree as tree
 use Rattle.gang_model.specs.Source.Parsed.{ParsedSource, ParsedFunction, functions_in, globals_in}
 use Rattle.gang_model.specs.Names.Scope.{NameStanding, file_scope, standings_of}
-use Rattle.gang_model.specs.Source.Judged.{Judged, Sound, Faulty, unless, both, ◌>>=◌, answer_of, merged}
+use Rattle.gang_model.specs.Source.Judged.{Judged, Sound, Faulty, unless, both, ◌>>=◌, answer_of}
 use Rattle.gang_model.specs.Types.Signatures.{result_of}
 use Rattle.gang_model.specs.Types.Typing.{Scope}
 use Rattle.gang_model.specs.Types.Statements.{Made, statements}

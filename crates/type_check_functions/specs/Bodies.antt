@@ -16,7 +16,6 @@ use Rattle.typed_tree.specs.Views.{stmts_view, variable_view}
 use Rattle.typed_tree.specs.declared.statements.Stmt.{Stmt}
 use Rattle.typed_tree.specs.declared.program.Variable.{Variable}
 use Rattle.typed_tree.specs.declared.program.Function.{Function}
-use Rattle.typed_tree.specs.declared.program.Program.{Program}
 use Rattle.type_check_functions.specs.declared.bodies.Body.{Body}
 
 -- a body with the variables of its function

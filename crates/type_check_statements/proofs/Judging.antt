@@ -1,5 +1,5 @@
 -- How the answers for the parts of a statement make up what is known of the statement.
-use Rattle.std.proofs.Common.{◌≡◌, ℕ, ◌+◌, List, [], ◌++◌, length, refl, sym, ap, subst, ◌∙◌, append_assoc, append-nil, length-append}
+use Rattle.std.proofs.Common.{◌≡◌, ℕ, ◌+◌, List, ◌++◌, length, refl, sym, ap, subst, ◌∙◌, append_assoc, length-append}
 use Rattle.std.specs.Prelude.{Result, Ok, Err}
 use Rattle.gang_model.specs.declared.refusals.SourceRefusal.{SourceRefusal}
 use Rattle.gang_model.specs.Types.Tree.{Stmt, Variable}
@@ -7,14 +7,12 @@ use Rattle.gang_model.specs.Source.Parsed.{ParsedStmt}
 use Rattle.gang_model.specs.Types.Calls.{Context}
 use Rattle.gang_model.specs.Types.Typing.{Scope}
 use Rattle.gang_model.specs.Source.Judged.{Judged, Sound, both, ◌>>=◌, answer_of}
-use Rattle.gang_model.specs.Types.Statements.{Made, made, alone, statement}
+use Rattle.gang_model.specs.Types.Statements.{Made, made, statement}
 use Rattle.gang_model.specs.Source.Judged as definitions
 use Rattle.gang_model.proofs.JudgedLaws as laws
-use Rattle.source_answers.specs.declared.fault.SourceFault.{SourceFault}
-use Rattle.source_answers.specs.Answers.{Answers, pair_view}
-use Rattle.source_answers.specs.Apart.{apart, seen}
+use Rattle.source_answers.specs.Answers.{pair_view}
+use Rattle.source_answers.specs.Apart.{seen}
 use Rattle.type_check_parts.specs.Typed.{IsTyped}
-use Rattle.type_check_parts.proofs.Judging.{answers-apart}
 
 both_seen : {A B C D : Type 0} (f : A → C) (g : B → D) (l : Result A SourceRefusal) (r : Result B SourceRefusal)
     → definitions.both_answers (seen f l) (seen g r) ≡ seen (pair_view f g) (definitions.both_answers l r)

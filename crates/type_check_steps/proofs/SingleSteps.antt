@@ -6,7 +6,7 @@ use Rattle.std.proofs.lemmas.Result.{IfOk-weaker, on_ok_weaker}
 use Rattle.gang_model.specs.declared.refusals.SourceRefusal.{SourceRefusal}
 use Rattle.gang_model.specs.Types.Tree as tree
 use Rattle.gang_model.specs.Types.Tree.{Variable}
-use Rattle.gang_model.specs.Source.Parsed.{ParsedStmt, ParsedEmpty}
+use Rattle.gang_model.specs.Source.Parsed.{ParsedStmt}
 use Rattle.gang_model.specs.Running.Numbering.{steps_in}
 use Rattle.gang_model.specs.Names.Scope.{locals_in}
 use Rattle.gang_model.specs.Types.Calls.{Context}
@@ -14,12 +14,10 @@ use Rattle.gang_model.specs.Types.Typing.{Scope}
 use Rattle.gang_model.specs.Source.Judged.{Judged, ◌>>=◌, answer_of}
 use Rattle.gang_model.specs.Source.Judged as definitions
 use Rattle.gang_model.proofs.JudgedLaws as laws
-use Rattle.gang_model.specs.Types.Statements.{Made, made, alone, scope_after, statement}
+use Rattle.gang_model.specs.Types.Statements.{Made, made, alone, statement}
 use Rattle.source_answers.specs.declared.fault.SourceFault.{SourceFault}
 use Rattle.source_answers.specs.declared.fault.SourceFault.TheVariants.{Memory, Refused}
-use Rattle.typed_tree.specs.declared.statements.Stmt.{Empty}
 use Rattle.typed_tree.specs.Boxes.{BoxedStmt, boxed_stmt_view}
-use Rattle.typed_tree.specs.Views.{stmt_view}
 use Rattle.source_answers.specs.Answers.{Answers}
 use Rattle.type_check_parts.specs.Makes.{IfAnswered}
 use Rattle.source_answers.specs.Apart.{apart, seen}

@@ -1,35 +1,25 @@
-use Rattle.std.proofs.Common.{◌≡◌, ◌∙◌, ◌+◌, ap, drop, length, map, refl, subst, sym}
+use Rattle.std.proofs.Common.{◌≡◌, ◌∙◌, ◌+◌, ap, drop, length, map, refl, sym}
 use Rattle.std.proofs.lemmas.List.{drop_all, length-map}
 use Rattle.std.proofs.lemmas.Result.{IfOk-weaker}
-use Rattle.std.specs.Prelude.{Some, Ok, option_map}
+use Rattle.std.specs.Prelude.{Ok, option_map}
 use Rattle.gang_types.specs.declared.places.VarId.TheVariants.{Local}
 use Rattle.gang_types.specs.declared.types.IntType.TheVariants as int_type
 use Rattle.gang_types.specs.declared.types.Rate.TheVariants.{Uniform}
-use Rattle.source_tree.specs.Expressions.{expr_view, args_view}
+use Rattle.source_tree.specs.Expressions.{expr_view}
 use Rattle.gang_model.specs.Source.Judged.{both_answers}
-use Rattle.gang_model.specs.Running.Numbering.{steps_in}
 use Rattle.gang_model.specs.Names.Scope.{locals_in}
-use Rattle.gang_model.specs.Types.Calls.{WholeCall, call_of}
-use Rattle.gang_model.specs.Types.Tree as tree
-use Rattle.gang_model.specs.Source.Parsed.{ParsedBlock, ParsedDeclare, ParsedAssign, ParsedChange, ParsedIncrement, ParsedDoCall, ParsedBreak, ParsedContinue, ParsedReturn, ParsedIf, ParsedIfElse, ParsedWhile, ParsedDo, ParsedFor, ParsedForEach, ParsedForEachActive, ParsedForEachUnique}
-use Rattle.gang_model.specs.Types.Statements as model
-use Rattle.gang_model.specs.Types.Statements.{test_of}
-use Rattle.gang_model.specs.Types.Typing.{expression, index_entry}
+use Rattle.gang_model.specs.Source.Parsed.{ParsedBlock, ParsedIf, ParsedIfElse, ParsedWhile, ParsedDo, ParsedFor, ParsedForEach, ParsedForEachActive, ParsedForEachUnique}
+use Rattle.gang_model.specs.Types.Typing.{index_entry}
 use Rattle.gang_model.proofs.WalkedLists.{next_item}
 use Rattle.source_tree.specs.declared.tree.Stmt.{If}
 use Rattle.source_tree.specs.Tree as parsed
 use Rattle.source_tree.proofs.StatementRows.{view_block}
-use Rattle.typed_tree.specs.Boxes.{boxed_stmt_view}
 use Rattle.typed_tree.specs.Views as typed
 use Rattle.type_check_values.specs.Views.{typed_view}
-use Rattle.source_answers.specs.Answers.{Answers}
 use Rattle.type_check_scopes.specs.Entries.{declared_view}
-use Rattle.type_check_calls.specs.Calls.{context_view, whole_call_view}
-use Rattle.type_check_parts.specs.Changes.{change_of, increment_of}
-use Rattle.type_check_parts.specs.Beside.{call_statement}
+use Rattle.type_check_calls.specs.Calls.{context_view}
 use Rattle.type_check_forms.specs.Sequences.{type_or_int32}
 use Rattle.source_answers.specs.Apart.{seen}
-use Rattle.type_check_parts.proofs.Judging.{answers-apart}
 use Rattle.type_check_parts.proofs.Named.{index-named}
 use Rattle.type_check_steps.proofs.SingleSteps.{typed-form, steps-form, counted-as, ends-at, in-any-case}
 use Rattle.type_check_statements.proofs.InSequence.{begun-none, begun-next, begun-all, whole-typed, typed-block}
