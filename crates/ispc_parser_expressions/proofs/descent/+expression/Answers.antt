@@ -3,7 +3,7 @@ use Rattle.std.proofs.lemmas.Result.{err_from_is_err_and}
 use Rattle.ispc_lexer.specs.Views.{lexemes_of}
 use Rattle.gang_model.specs.declared.marks.Mark.TheVariants as mark
 use Rattle.source_tree.specs.Expressions.{expr_view, arg_view, args_view}
-use Rattle.ispc_parser_expressions.specs.Parse.{parsers, counted}
+use Rattle.ispc_parser_expressions.specs.Parse.{cast_of, parsers, counted}
 use Rattle.ispc_parser_words.proofs.Tokens.{length-lexemes_of, take_takes, takes_shorter}
 use Rattle.ispc_parser_words.proofs.OperatorMarks.{operator_takes}
 use Rattle.ispc_parser_expressions.proofs.Steps.{binary_zero, binary_fails, binary_shorter, chains_start, chains_end, chains_spent, chains_fail, chains_on, append, one_arg, args_view-push, counted_shorter, lists_none, lists_fail, lists_start, lists_end, lists_fails, lists_on}
@@ -52,6 +52,12 @@ binary-loop-operator-preserved t c =
 
 pub binary-returns : goal.binary-returns
 binary-returns t c = chains_end _ _ _ _ _ _ c.loop-operator.invariant (sym c.in_default.ensures)
+
+-- ---- casts
+
+pub cast-returns : goal.cast-returns
+unfolding cast_of
+cast-returns t c = rw (c.in_ok-room.ensures, c.in_ok-rate.ensures, c.in_ok-rest.ensures, c.in_ok-operand.ensures, c.in_ok-node.ensures) refl
 
 -- ---- arguments
 
