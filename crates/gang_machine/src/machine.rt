@@ -1,6 +1,7 @@
 //! The machine: a compiled program, and words that lie in a timeline.
-ghost use Rattle.std.specs.Prelude.{◌≡◌, ℕ, ◌<◌, ◌≤◌, false, filter, length, map, not, slice_get, slice_index, None, IfSome};
+ghost use Rattle.std.specs.Prelude.{◌≡◌, ℕ, ◌<◌, ◌≤◌, false, filter, length, map, not, slice_get, slice_index, None, IfSome, OnErr};
 ghost use Rattle.gang_types.specs.Masks.{IsGangWidth};
+ghost use Rattle.undo_log.specs.History.{TakenBack};
 ghost use Rattle.gang_model.specs.Types.Tree.{Variable};
 ghost use Rattle.gang_model.specs.Debugger.Debugger.{Debugger, Setting, depth, kept_steps, least_from, now, shown_words, step_lines};
 ghost use Rattle.gang_model.specs.Debugger.Positions.{line_now};
@@ -20,7 +21,7 @@ use machine_steps::step;
 use machine_words::MachineWords;
 use std::marker::Model;
 use typed_tree::Function;
-use undo_log::{NoHistory, Timeline, Undone};
+use undo_log::{Back, NoHistory, Timeline, Undone};
 
 /// A program that runs: its code, and its words in a timeline.
 #[derive(Drop)]
@@ -72,7 +73,7 @@ impl<const W: usize, T: Timeline + Drop> RecordedMachine for Machine<W, T> {
     }
 
     fn undo(&mut self) -> Result<Undone, NoHistory> {
-        let back = self.words.store.timeline.back()?;
+        let back = taken_back(&mut self.words)?;
         Ok(back.event)
     }
 
@@ -139,4 +140,13 @@ impl<const W: usize, T: Timeline + Drop> RecordedMachine for Machine<W, T> {
     fn line_from(&self, line: u32) -> Option<u32> {
         least_from(&self.lines, line)
     }
+}
+
+/// Takes the newest kept event of the words back.
+fn taken_back<T: Timeline + Drop>(words: &mut MachineWords<T>) -> Result<Back, NoHistory>
+    ensures answer { TakenBack (T.history words.old.store.timeline) result (T.history words.new.store.timeline) }
+    ensures left { OnErr result (T.left words.new.store.timeline ≡ T.left words.old.store.timeline) }
+    ensures layout { words.new.layout ≡ words.old.layout }
+{
+    words.store.timeline.back()
 }
