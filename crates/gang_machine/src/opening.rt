@@ -2,11 +2,12 @@
 ghost use Rattle.std.specs.Prelude.{◌≡◌, ℕ, ◌≤◌, [], Some, slice_get, IfOk};
 ghost use Rattle.gang_types.specs.Masks.{IsGangWidth};
 ghost use Rattle.gang_model.specs.Types.Tree.{Function};
-ghost use Rattle.gang_model.specs.Debugger.Debugger.{fresh};
+ghost use Rattle.gang_model.specs.Debugger.Debugger.{fresh, step_lines};
 ghost use Rattle.gang_model.specs.Texts.Transcript.{setting};
 ghost use Rattle.machine_states.specs.Variables.{parameters_of};
 ghost use Rattle.codegen.specs.Programs.{IsRunnable, variables_of};
 ghost use Rattle.typed_tree.specs.Views.{program_view};
+ghost use Rattle.machine_moves.specs.Compiled.{IsCompiled};
 ghost use Rattle.gang_machine.specs.Openings.{IsBlank};
 ghost use Rattle.gang_machine.specs.Standings.{Stands};
 
@@ -64,14 +65,35 @@ pub fn open<const W: usize>(
     let lines = step_lines(alloc, &program.functions)?;
     let code = compile(alloc, &program)?;
     let stacks = Box::new(alloc, Stacks::new())?;
-    let mut words = blank_words::<W>(alloc, &program, history)?;
+    let words = blank_words::<W>(alloc, &program, history)?;
     let compiled = CompiledProgram { program, code };
+    Ok(started::<W>(entry, compiled, lines, words, stacks))
+}
+
+/// The machine before the first step of the entry, over words that are all 0 and keep nothing.
+fn started<const W: usize>(
+    entry: FuncId,
+    compiled: CompiledProgram,
+    lines: Vec<u32>,
+    words: MachineWords<SnapshotRing>,
+    stacks: Box<Stacks<W>>,
+) -> Machine<W, SnapshotRing>
+    requires width { IsGangWidth W }
+    requires compiled { IsCompiled compiled }
+    requires entry { (f : Function) × (slice_get (program_view compiled.program).functions entry.0 ≡ Some f) }
+    requires none { parameters_of (variables_of compiled.program) entry.0 ≡ 0 }
+    requires lines { step_lines (program_view compiled.program) ≡ lines.items }
+    requires blank { (history : ℕ) × (1 ≤ history) × IsBlank W compiled.program history words }
+    ensures { (history steps : ℕ) → IsBlank W compiled.program history words
+        → Stands result (setting (program_view compiled.program) entry.0 [] (record { width = W; history = history; steps = steps })) (fresh history) }
+{
+    let mut words = words;
     start::<W, SnapshotRing>(&compiled, entry.0, &mut words);
-    Ok(Machine {
+    Machine {
         entry: entry.0,
         compiled,
         lines,
         words,
         stacks,
-    })
+    }
 }
