@@ -3,7 +3,7 @@ use Rattle.std.proofs.Common.{◌≡◌, Bool, true, false, refl, ap, ◌∙◌,
 use Rattle.std.specs.Prelude.{◌||◌}
 use Rattle.typed_tree.specs.declared.expressions.Expr.{Expr, Number, ProgramIndex, ProgramCount, LaneMask, Read, Element', Unary', Binary', Convert', AndAlso', OrElse', Choice', Reduce', ScanLanes', OfOne', OfTwo', Extract', Insert', Rotate', Shift', Shuffle', ShuffleTwo', Select'}
 use Rattle.typed_tree.specs.Views.{expr_view}
-use Rattle.expression_code.specs.Code.{reads_arrays}
+use Rattle.expression_machine.specs.Arrays.{reads_arrays}
 use Rattle.machine_states.specs.Variables.{Variables}
 use Rattle.machine_states.specs.Plain.{IsPlainExpr}
 

@@ -7,9 +7,9 @@ use Rattle.machine_states.specs.Plain.{IsPlainExpr, IsPlainOption, IsPlainPoint}
 use Rattle.machine_states.specs.Variables.{Variables}
 use Rattle.typed_tree.specs.declared.expressions.Expr.{Expr}
 use Rattle.typed_tree.specs.Views.{expr_view, result_view, var_view}
-use Rattle.expression_code.specs.declared.code.Instruction.{Instruction}
-use Rattle.expression_code.specs.Code.{reads_arrays}
-use Rattle.expression_code.specs.Correct.{Computes}
+use Rattle.expression_instructions.specs.declared.code.Instruction.{Instruction}
+use Rattle.expression_machine.specs.Arrays.{reads_arrays}
+use Rattle.expression_machine.specs.Correct.{Computes}
 use Rattle.codegen.specs.declared.code.ArgCode.{ArgCode}
 use Rattle.codegen.specs.declared.code.Change.{Change}
 use Rattle.codegen.specs.declared.code.Code.{Code}

@@ -1,6 +1,6 @@
 //! What the steps of a program do.
 
-use expression_code::Instruction;
+use expression_instructions::Instruction;
 use gang_types::{BinaryOp, IntType};
 use typed_tree::{ResultFor, Var};
 

@@ -4,7 +4,8 @@ ghost use Rattle.typed_tree.specs.Views.{arg_view, boxed_view, expr_view};
 ghost use Rattle.codegen.specs.Codes.{Fit, IsArg, IsOptionValue, IsPlainArg, IsPlainOptionValue, IsPlainValue, IsValue};
 
 use crate::code::ArgCode;
-use expression_code::{Instruction, compile};
+use expression_code::compile;
+use expression_instructions::Instruction;
 use std::alloc::{AllocError, Global};
 use typed_tree::{Arg, Expr};
 

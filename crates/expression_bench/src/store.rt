@@ -2,7 +2,7 @@
 ghost use Rattle.std.specs.Prelude.{◌≡◌};
 ghost use Rattle.expression_bench.specs.Sum.{HasElements, HasVariables, named};
 
-use expression_code::Words;
+use expression_instructions::Words;
 use gang_memory::{Part, gather};
 use gang_types::{FaultName, Mask, Rate, VarId};
 use typed_tree::Var;

@@ -1,10 +1,5 @@
 pub mod Patch
-pub mod Seen
-pub mod Tops
-pub mod Idle
-pub mod IdleOperations
 pub mod Outside
-pub mod Inserted
 pub mod Arrays
 pub mod Runs
 pub mod Whole

@@ -2,9 +2,9 @@
 use Rattle.std.proofs.Common.{◌≡◌, ℕ, ◌-◌, List, [], ◌∷◌, ◌++◌, length, ap, ◌∙◌, arith, append_assoc, length-append}
 use Rattle.std.specs.Prelude.{slice_set}
 use Rattle.std.proofs.Math.Seq.{set-append_seam}
-use Rattle.expression_code.specs.declared.code.Gate.{Gate}
-use Rattle.expression_code.specs.declared.code.Instruction.{Instruction}
-use Rattle.expression_code.specs.declared.code.Instruction.TheVariants.{Enter}
+use Rattle.expression_instructions.specs.declared.code.Gate.{Gate}
+use Rattle.expression_instructions.specs.declared.code.Instruction.{Instruction}
+use Rattle.expression_instructions.specs.declared.code.Instruction.TheVariants.{Enter}
 use Rattle.expression_code.specs.Code.{arm_code}
 
 pub patch_arm : (gate : Gate) (base part c1 c2 : List Instruction) (x : Instruction) (n0 n1 : ℕ) → n0 ≡ length base → c1 ≡ base ++ x ∷ [] → c2 ≡ c1 ++ part → n1 ≡ length c2 → slice_set c2 n0 (Enter gate (n1 - n0 - 1)) ≡ base ++ arm_code gate part

@@ -11,24 +11,24 @@ use Rattle.gang_model.specs.Running.Value.{value}
 use Rattle.typed_tree.specs.declared.expressions.Expr.{Expr, Number, ProgramIndex, ProgramCount, LaneMask, Read, Element', Unary', Binary', Convert', AndAlso', OrElse', Choice', Reduce', ScanLanes', OfOne', OfTwo', Extract', Insert', Rotate', Shift', Shuffle', ShuffleTwo', Select'}
 use Rattle.typed_tree.specs.Views.{expr_view, reduction_view, scan_view}
 use Rattle.cross_lane.specs.Calls.{values_in}
-use Rattle.expression_code.specs.declared.code.Leaf.{Leaf}
-use Rattle.expression_code.specs.declared.code.Leaf.TheVariants as leaf
-use Rattle.expression_code.specs.declared.code.OneOperand.{OneOperand}
-use Rattle.expression_code.specs.declared.code.OneOperand.TheVariants as one
-use Rattle.expression_code.specs.declared.code.Move.TheVariants as move
-use Rattle.expression_code.specs.declared.code.TwoOperands.{TwoOperands}
-use Rattle.expression_code.specs.declared.code.TwoOperands.TheVariants as two
-use Rattle.expression_code.specs.declared.code.ThreeOperands.{ThreeOperands}
-use Rattle.expression_code.specs.declared.code.ThreeOperands.TheVariants as three
-use Rattle.expression_code.specs.declared.code.Gate.TheVariants.{WhereTrue, WhereFalse, Otherwise}
-use Rattle.expression_code.specs.declared.code.Joining.TheVariants as joining
-use Rattle.expression_code.specs.declared.code.Instruction.{Instruction}
-use Rattle.expression_code.specs.declared.code.Instruction.TheVariants.{Push, Element, One, Two, Three, Enter, Join}
+use Rattle.expression_instructions.specs.declared.code.Leaf.{Leaf}
+use Rattle.expression_instructions.specs.declared.code.Leaf.TheVariants as leaf
+use Rattle.expression_instructions.specs.declared.code.OneOperand.{OneOperand}
+use Rattle.expression_instructions.specs.declared.code.OneOperand.TheVariants as one
+use Rattle.expression_instructions.specs.declared.code.Move.TheVariants as move
+use Rattle.expression_instructions.specs.declared.code.TwoOperands.{TwoOperands}
+use Rattle.expression_instructions.specs.declared.code.TwoOperands.TheVariants as two
+use Rattle.expression_instructions.specs.declared.code.ThreeOperands.{ThreeOperands}
+use Rattle.expression_instructions.specs.declared.code.ThreeOperands.TheVariants as three
+use Rattle.expression_instructions.specs.declared.code.Gate.TheVariants.{WhereTrue, WhereFalse, Otherwise}
+use Rattle.expression_instructions.specs.declared.code.Joining.TheVariants as joining
+use Rattle.expression_instructions.specs.declared.code.Instruction.{Instruction}
+use Rattle.expression_instructions.specs.declared.code.Instruction.TheVariants.{Push, Element, One, Two, Three, Enter, Join}
 use Rattle.expression_code.specs.Code.{code_of, arm_code}
-use Rattle.expression_code.specs.Room.{depth, nesting}
-use Rattle.expression_code.specs.Values.{leaf_value, element_value, one_value, two_value, three_value, moved_word, both_value, either_value, chosen_value, where_lanes}
-use Rattle.expression_code.specs.Machine.{Vectors, Masks, Goes, Jams, Outcome, Faulted, push, give, enter, deeper, follow, exec}
-use Rattle.expression_code.proofs.Idle.{idle, zeros}
+use Rattle.expression_machine.specs.Room.{depth, nesting}
+use Rattle.expression_instructions.specs.Values.{leaf_value, element_value, one_value, two_value, three_value, moved_word, both_value, either_value, chosen_value, where_lanes}
+use Rattle.expression_machine.specs.Machine.{Vectors, Masks, Goes, Jams, Outcome, Faulted, push, give, enter, deeper, follow, exec}
+use Rattle.expression_instructions.proofs.Idle.{idle, zeros}
 use Rattle.expression_code.proofs.Outside.{after_within, bind_same}
 
 -- what follows a value; a fault ends the run

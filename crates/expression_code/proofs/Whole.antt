@@ -8,8 +8,8 @@ use Rattle.gang_model.specs.Running.Value.{value}
 use Rattle.typed_tree.specs.declared.expressions.Expr.{Expr}
 use Rattle.typed_tree.specs.Views.{expr_view}
 use Rattle.expression_code.specs.Code.{code_of}
-use Rattle.expression_code.specs.Machine.{exec}
-use Rattle.expression_code.specs.Correct.{Computes, ended}
+use Rattle.expression_machine.specs.Machine.{exec}
+use Rattle.expression_machine.specs.Correct.{Computes, ended}
 use Rattle.expression_code.proofs.Arrays.{arrays-code}
 use Rattle.expression_code.proofs.Runs.{after, on_top, lands}
 

@@ -1,10 +1,3 @@
+pub mod Accepted
 pub mod Code
-pub mod Room
 pub mod ProgramRoom
-pub mod Values
-pub mod Machine
-pub mod Correct
-pub mod Read
-pub mod Bridge
-pub mod Evaluated
-pub mod Stacks

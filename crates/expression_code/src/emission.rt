@@ -1,13 +1,14 @@
 //! From expressions to the machine's instructions.
 ghost use Rattle.std.specs.Prelude.{◌≡◌, ◌-◌, ◌<◌, [], ◌∷◌, ◌++◌, length, slice_set, IfOk, OnOk};
 ghost use Rattle.expression_code.specs.Code.{code_of, arm_code, IsOther};
-ghost use Rattle.expression_code.specs.declared.code.Instruction.TheVariants.{Enter};
+ghost use Rattle.expression_instructions.specs.declared.code.Instruction.TheVariants.{Enter};
 ghost use Rattle.typed_tree.specs.Views.{expr_view};
-ghost use Rattle.expression_code.specs.Correct.{Computes};
-ghost use Rattle.expression_code.specs.Room.{HasRoom, IsAccepted};
+ghost use Rattle.expression_machine.specs.Correct.{Computes};
+ghost use Rattle.expression_machine.specs.Room.{HasRoom};
+ghost use Rattle.expression_code.specs.Accepted.{IsAccepted};
 
-use crate::code::{Gate, Instruction, Joining, Leaf};
 use crate::operands::{one_operand, three_operands, two_operands};
+use expression_instructions::{Gate, Instruction, Joining, Leaf};
 use std::alloc::{AllocError, Global};
 use typed_tree::Expr;
 

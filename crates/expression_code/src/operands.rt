@@ -1,9 +1,9 @@
 //! The operations of expressions, with the operands that they take whole.
 ghost use Rattle.std.specs.Prelude.{◌≡◌, false, [], ◌∷◌, ◌++◌, MatchOption};
 ghost use Rattle.expression_code.specs.Code.{code_of, takes_one, takes_three, takes_two};
-ghost use Rattle.expression_code.specs.declared.code.Instruction.TheVariants.{One, Two, Three};
+ghost use Rattle.expression_instructions.specs.declared.code.Instruction.TheVariants.{One, Two, Three};
 
-use crate::code::{Move, OneOperand, ThreeOperands, TwoOperands};
+use expression_instructions::{Move, OneOperand, ThreeOperands, TwoOperands};
 use typed_tree::Expr;
 
 /// An operation on one operand.

@@ -11,7 +11,7 @@ ghost use Rattle.gang_machine.specs.Nexts.{HasEnded, IsNext};
 ghost use Rattle.gang_machine.specs.Standings.{Stands, history_of};
 
 use debug_machine::{NamedVariable, Position, RecordedMachine, Shown, StepEnd};
-use expression_code::Stacks;
+use expression_machine::Stacks;
 use machine_moves::{CompiledProgram, next_step};
 use machine_names::{
     file_named, file_number, least_from, listed_count, listed_local, local_named, named,

@@ -13,7 +13,7 @@ ghost use Rattle.gang_machine.specs.Standings.{Stands};
 
 use crate::machine::Machine;
 use codegen::compile;
-use expression_code::Stacks;
+use expression_machine::Stacks;
 use gang_memory::{Layout, Recorded};
 use gang_types::FuncId;
 use machine_moves::CompiledProgram;

@@ -1,18 +1,16 @@
 //! Compiles a program for gangs, and debugs it by commands, forwards and backwards.
 #![tactic(auto)]
 
-mod streams;
-
 ghost use Rattle.ispc_options.specs.Ranges.{AreInRange};
 
 use clap::error::{Error, ErrorKind};
+use debug_streams::{StreamReader, StreamWriter};
 use ispc_debugger::{MOST_BYTES, Refusal, run, split_script, write_refusal};
 use ispc_options::{Options, Paths, read_options, wrong_arguments};
 use std::alloc::AllocError;
 use std::io::Read;
 use std::process::ExitCode;
 use std::{env, fs, io};
-use streams::{StreamReader, StreamWriter};
 use transcript::Ending;
 
 fn main(rt: HostRuntime) -> ExitCode {

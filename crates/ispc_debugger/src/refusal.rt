@@ -5,9 +5,9 @@ ghost use Rattle.gang_model.specs.Texts.RunRefusals.{FromSource, run_refusal_tex
 ghost use Rattle.ispc_debugger.specs.Refusals.{refusal_view};
 
 use debug_machine::{AnswerWriter, WriteFault};
+use debug_texts::write_pieces;
 use gang_model::{RefusalNumber, SourceRefusal};
 use itoa::Buffer;
-use transcript::write_pieces;
 
 /// Why a run is refused before its first command.
 #[derive(Clone, Copy, Debug, PartialEq, Eq, Drop)]

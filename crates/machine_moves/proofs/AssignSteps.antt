@@ -22,8 +22,8 @@ use Rattle.machine_states.specs.Shows.{AreSized}
 use Rattle.machine_states.specs.Effects.{assigned_in, assigned_region, declared_in, declared_region, region_of, sent_on}
 use Rattle.machine_states.specs.Steps.{FailsWith, GoesTo, waiting_in}
 use Rattle.machine_states.proofs.PutSteps.{assignment_fails, assigns, changes, declaration_fails, declares, operand_fails, operated, operation_fails, result_words}
-use Rattle.expression_code.specs.Read.{place_in}
-use Rattle.expression_code.specs.declared.code.Instruction.{Instruction}
+use Rattle.expression_instructions.specs.Read.{place_in}
+use Rattle.expression_instructions.specs.declared.code.Instruction.{Instruction}
 use Rattle.codegen.specs.Codes.{IsOptionValue, IsValue}
 use Rattle.codegen.specs.declared.code.Change.{Change}
 use Rattle.codegen.specs.declared.code.StepCode.TheVariants as code

@@ -12,10 +12,10 @@ use Rattle.undo_log.specs.History.{History}
 use Rattle.mask_states.specs.Masked.{Masked}
 use Rattle.typed_tree.specs.declared.expressions.Expr.{Expr as TypedExpr}
 use Rattle.typed_tree.specs.Views.{expr_view}
-use Rattle.expression_code.specs.declared.code.Instruction.{Instruction}
-use Rattle.expression_code.specs.Code.{reads_arrays}
-use Rattle.expression_code.specs.Correct.{Computes}
-use Rattle.expression_code.specs.Room.{HasRoom}
+use Rattle.expression_instructions.specs.declared.code.Instruction.{Instruction}
+use Rattle.expression_machine.specs.Arrays.{reads_arrays}
+use Rattle.expression_machine.specs.Correct.{Computes}
+use Rattle.expression_machine.specs.Room.{HasRoom}
 use Rattle.machine_states.specs.Declared.{IsThere, declared_before}
 use Rattle.machine_states.specs.Effects.{region_of}
 use Rattle.machine_states.specs.Regions.{Regions}

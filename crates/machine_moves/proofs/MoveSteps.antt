@@ -13,7 +13,7 @@ use Rattle.machine_states.specs.Regions.{NumbersOf, OfHead, Regions}
 use Rattle.machine_states.specs.Effects.{sent_on}
 use Rattle.machine_states.specs.Steps.{FailsWith, waiting_in}
 use Rattle.machine_states.proofs.PutSteps.{branch_fails, branches, goes}
-use Rattle.expression_code.specs.declared.code.Instruction.{Instruction}
+use Rattle.expression_instructions.specs.declared.code.Instruction.{Instruction}
 use Rattle.codegen.specs.declared.code.StepCode.TheVariants as code
 use Rattle.machine_words.specs.declared.words.MachineWords.{MachineWords}
 use Rattle.machine_words.specs.Words.{Writes, regions_in}

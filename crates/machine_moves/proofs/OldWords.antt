@@ -8,7 +8,7 @@ use Rattle.gang_model.specs.Running.Lanes.{Fault, ◌>>=◌, at}
 use Rattle.gang_model.specs.Running.State.{seen}
 use Rattle.cross_lane.specs.AttemptLaws.{attempts_same}
 use Rattle.cross_lane.specs.EachLaws.{lane_kept}
-use Rattle.expression_code.specs.Read.{place_in}
+use Rattle.expression_instructions.specs.Read.{place_in}
 use Rattle.codegen.specs.declared.code.Change.{Change}
 use Rattle.machine_states.proofs.PutSteps.{operated, result_words}
 use Rattle.machine_moves.specs.Results.{changed}

@@ -16,7 +16,7 @@ use Rattle.machine_states.specs.Effects.{returned_in, sent_on}
 use Rattle.machine_states.specs.Regions.{NumbersOf, OfHead, Regions, ReturnedOf, lanes_in, with_region}
 use Rattle.machine_states.specs.Steps.{KeepsBoth, waiting_in}
 use Rattle.machine_states.proofs.PutSteps.{returns}
-use Rattle.expression_code.specs.declared.code.Instruction.{Instruction}
+use Rattle.expression_instructions.specs.declared.code.Instruction.{Instruction}
 use Rattle.codegen.specs.Codes.{IsOptionValue, IsValue}
 use Rattle.machine_words.specs.declared.words.MachineWords.{MachineWords}
 use Rattle.machine_words.specs.Words.{Writes, regions_in}

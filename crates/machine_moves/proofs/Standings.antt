@@ -40,8 +40,8 @@ use Rattle.machine_states.proofs.NextPoints.{same_word}
 use Rattle.machine_states.proofs.PutSteps.{some_lane}
 use Rattle.machine_states.specs.Plain.{IsPlainExpr, ArgsPlain, IsPlainPoint}
 use Rattle.machine_states.specs.Declared.{NamesDeclared, ArgsDeclared, declared_before}
-use Rattle.expression_code.specs.declared.code.Instruction.{Instruction}
-use Rattle.expression_code.specs.Room.{HasRoom}
+use Rattle.expression_instructions.specs.declared.code.Instruction.{Instruction}
+use Rattle.expression_machine.specs.Room.{HasRoom}
 use Rattle.expression_code.specs.ProgramRoom.{ArgsHaveRoom, HaveRoom}
 use Rattle.codegen.specs.declared.code.ArgCode.{ArgCode}
 use Rattle.codegen.specs.declared.code.Change.{Change}

@@ -22,8 +22,8 @@ use Rattle.machine_states.specs.Plain.{IsPlainExpr}
 use Rattle.machine_states.specs.Regions.{Depth, Regions}
 use Rattle.machine_states.specs.Shows.{Shows}
 use Rattle.machine_states.specs.Steps.{IsNext, GoesTo, FailsWith, waiting_in}
-use Rattle.expression_code.specs.declared.code.Instruction.{Instruction}
-use Rattle.expression_code.specs.Room.{HasRoom}
+use Rattle.expression_instructions.specs.declared.code.Instruction.{Instruction}
+use Rattle.expression_machine.specs.Room.{HasRoom}
 use Rattle.codegen.specs.Codes.{Does, IsValue}
 use Rattle.codegen.specs.declared.code.StepCode.{StepCode}
 use Rattle.machine_words.specs.declared.words.MachineWords.{MachineWords}

@@ -11,7 +11,8 @@ use crate::compiled::CompiledProgram;
 use crate::recording::begin;
 use crate::values::value_of;
 use debug_machine::Fault;
-use expression_code::{Instruction, Stacks};
+use expression_instructions::Instruction;
+use expression_machine::Stacks;
 use machine_words::{Head, MachineWords, Region};
 use undo_log::{Timeline, Undone};
 

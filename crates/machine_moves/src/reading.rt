@@ -4,13 +4,13 @@ ghost use Rattle.gang_types.specs.Masks.{IsGangWidth};
 ghost use Rattle.gang_types.specs.declared.places.VarId.{VarId};
 ghost use Rattle.gang_model.specs.Running.Lanes.{at};
 ghost use Rattle.gang_model.specs.Running.State.{words_in};
-ghost use Rattle.expression_code.specs.Read.{place_in};
+ghost use Rattle.expression_instructions.specs.Read.{place_in};
 ghost use Rattle.machine_states.specs.Effects.{region_of};
 ghost use Rattle.machine_words.specs.Views.{region_view};
 ghost use Rattle.machine_words.specs.Words.{AreLaid, regions_in};
 ghost use Rattle.machine_words.proofs.Facts.{laid_fact};
 
-use expression_code::Words;
+use expression_instructions::Words;
 use gang_types::{FaultName, Mask, Rate, VarId};
 use machine_words::{MachineWords, Region};
 use typed_tree::Var;

@@ -11,7 +11,8 @@ use crate::active::Active;
 use crate::compiled::CompiledProgram;
 use crate::reading::TopVariables;
 use debug_machine::Fault;
-use expression_code::{Instruction, Stacks, Stop, evaluate};
+use expression_instructions::Instruction;
+use expression_machine::{Stacks, Stop, evaluate};
 use machine_words::MachineWords;
 use undo_log::Timeline;
 

@@ -16,7 +16,7 @@ ghost use Rattle.machine_steps.specs.Calls.{AreParametersDeclared, ArePassed, Be
 use arrayvec::ArrayVec;
 use codegen::ArgCode;
 use debug_machine::Fault;
-use expression_code::Stacks;
+use expression_machine::Stacks;
 use gang_memory::MOST_FRAMES;
 use gang_types::{FaultName, Mask};
 use machine_moves::{Active, CompiledProgram, begin, value_of};

@@ -7,7 +7,7 @@ use crate::calls::enter;
 use crate::leaving::leave;
 use codegen::StepCode;
 use debug_machine::{Fault, StepEnd};
-use expression_code::Stacks;
+use expression_machine::Stacks;
 use machine_moves::{
     Active, CompiledProgram, assign, branch, change, declare, finish, go, next_step,
 };

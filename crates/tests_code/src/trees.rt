@@ -1,7 +1,9 @@
 //! Expressions and a store in memory.
 ghost use Rattle.gang_types.specs.Masks.{IsGangWidth};
 
-use expression_code::{Stacks, Stop, Words, compile, evaluate};
+use expression_code::compile;
+use expression_instructions::Words;
+use expression_machine::{Stacks, Stop, evaluate};
 use gang_types::{BinaryOp, FaultName, IntType, Mask, Rate, VarId};
 use std::alloc::{AllocError, Global};
 use typed_tree::{Expr, Reduction, Scan, Var};

@@ -3,9 +3,9 @@ use crate::still_machine::{ARRAY, Standing, StillMachine};
 use debug_answers::{Answer, NumberedStop, Refusal, Stop};
 use debug_commands::Target;
 use debug_machine::Fault;
+use debug_texts::write_answer;
 use gang_types::FaultName;
 use tests_devices::PieceWriter;
-use transcript::write_answer;
 
 const ELEMENT: Target<'static> = Target {
     name: b"a",

@@ -1,10 +1,3 @@
 mod CutLines
 mod LineAnswers
 mod PieceAnswers
-pub mod Frames
-pub mod LaneDigits
-pub mod Locals
-pub mod Meant
-pub mod Pieces
-pub mod Stops
-pub mod Writing

@@ -1,4 +1,3 @@
 pub mod Answered
 pub mod Endings
 pub mod Lines
-pub mod Wording

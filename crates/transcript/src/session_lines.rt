@@ -7,12 +7,12 @@ ghost use Rattle.debug_answers.specs.Meanings.{Means};
 ghost use Rattle.debug_session.specs.Sessions.{StandsFor};
 ghost use Rattle.transcript.specs.Lines.{Tells, fails};
 
-use crate::answer_texts::write_answer;
 use crate::debugger::{LineDebugger, Turn};
 use debug_answers::{Answer, Refusal};
 use debug_commands::{Command, read_command};
 use debug_machine::{AnswerWriter, RecordedMachine};
 use debug_session::Session;
+use debug_texts::write_answer;
 
 impl<M: RecordedMachine> LineDebugger for Session<M> {
     ghost use Rattle.debug_session.specs.Sessions.{StandsFor};

@@ -6,7 +6,7 @@ use Rattle.gang_model.specs.Running.Lanes.{at}
 use Rattle.cross_lane.specs.Calls.{answer_of}
 use Rattle.debug_machine.specs.declared.machine.Fault.{Fault}
 use Rattle.debug_machine.specs.Machines.{fault_view}
-use Rattle.expression_code.specs.Read.{place_in}
+use Rattle.expression_instructions.specs.Read.{place_in}
 use Rattle.machine_states.specs.Effects.{region_of}
 use Rattle.machine_words.specs.Views.{region_view}
 use Rattle.machine_words.specs.Words.{regions_in}

@@ -1,7 +1,7 @@
 use Rattle.std.proofs.Common.{◌∙◌, ap, subst, Err}
 use Rattle.gang_types.specs.Masks.{lanes_of}
 use Rattle.gang_model.specs.Running.Value.{value}
-use Rattle.expression_code.specs.Evaluated.{IsValue}
+use Rattle.expression_machine.specs.Evaluated.{IsValue}
 use Rattle.machine_moves.proofs.ExpressionValues.{value_by_code}
 use Rattle.machine_moves.proofs.values.value_of.Goals as goal
 

@@ -1,0 +1,4 @@
+pub mod Seen
+pub mod Idle
+pub mod IdleOperations
+pub mod Inserted

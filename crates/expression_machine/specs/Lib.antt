@@ -1,0 +1,7 @@
+pub mod Arrays
+pub mod Room
+pub mod Machine
+pub mod Correct
+pub mod Bridge
+pub mod Evaluated
+pub mod Stacks
