@@ -1,10 +1,9 @@
 -- One text after another.
-use Rattle.std.proofs.Common.{◌≡◌, ◌≢◌, ◌&&◌, nat_eq, nat_lt, ℕ, ◌+◌, ◌<◌, Bool, true, false, List, ◌++◌, length, take, Option, Result, Ok, Err, refl, sym, subst, ◌∙◌, arith, length-append}
-use Rattle.std.proofs.lemmas.List.{take-append-le, take_at}
+use Rattle.std.proofs.Common.{◌≡◌, ℕ, ◌+◌, Bool, List, ◌++◌, length, take, Option, Result, Ok, Err, sym, subst, arith, length-append}
+use Rattle.std.proofs.lemmas.List.{take-append-le}
 use Rattle.std.proofs.Math.Seq.{take-append-add}
 use Rattle.std.proofs.KnownBytes.{Appends-trans}
 use Rattle.std.specs.Io.KnownBytes.{Appends}
-use Rattle.std.proofs.lemmas.Bool.Decides.{nat_tests}
 use Rattle.debug_machine.specs.Devices.{Writes}
 use Rattle.debug_machine.proofs.Writing.{Broke}
 

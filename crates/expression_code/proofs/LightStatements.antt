@@ -1,10 +1,10 @@
 -- The expressions of a spelled source have at most 256 operators, calls and indexings each.
-use Rattle.std.proofs.Common.{ℕ, zero, suc, ◌≤◌, List, [], ◌∷◌, inl, inr, ◌⊎◌}
+use Rattle.std.proofs.Common.{ℕ, ◌≤◌, List, [], ◌∷◌, inl, inr, ◌⊎◌}
 use Rattle.std.specs.Prelude.{Option, Some, None}
 use Rattle.gang_model.specs.declared.marks.Mark.{Mark}
 use Rattle.gang_model.specs.Source.Tokens.{Lexeme}
 use Rattle.gang_model.specs.Source.Parsed.{ParsedExpr, ParsedDim, ParsedTarget, ParsedStmt, ParsedEmpty, ParsedBlock, ParsedDeclare, ParsedAssign, ParsedChange, ParsedIncrement, ParsedDoCall, ParsedBreak, ParsedContinue, ParsedReturn, ParsedIf, ParsedIfElse, ParsedWhile, ParsedDo, ParsedFor, ParsedSwitch, ParsedForEach, ParsedForEachActive, ParsedForEachUnique, ParsedStmts, ParsedLast, ParsedNext, ParsedSegments, ParsedNoMore, ParsedSegment, ParsedFunction, ParsedSource, ParsedFunctionItem, ParsedGlobalItem, functions_in}
-use Rattle.gang_model.specs.Source.Spells.{Opens, WholeExpr, WholeArgs, AreLight, weight, max_weight}
+use Rattle.gang_model.specs.Source.Spells.{WholeExpr, WholeArgs, AreLight, weight, max_weight}
 use Rattle.gang_model.specs.Source.SpellsStatements.{Maybe, InParens, InBrackets, SpellsList, SpellsValue, SpellsDeclaration, SpellsTarget, TargetThen, ThenTarget, SpellsSimple, SpellsStart, SpellsUpdate, SpellsRounds, SpellsDim, SpellsDims, SpellsDistinct, OpensBody, SpellsStmt, SpellsStmts}
 use Rattle.gang_model.specs.Source.SpellsSource.{SpellsFunction, IsTree, max_nesting}
 use Rattle.gang_model.proofs.StandingLaws.{Each}
