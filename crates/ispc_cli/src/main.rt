@@ -5,8 +5,10 @@ ghost use Rattle.ispc_options.specs.Ranges.{AreInRange};
 
 use clap::error::{Error, ErrorKind};
 use debug_streams::{StreamReader, StreamWriter};
-use ispc_debugger::{MOST_BYTES, Refusal, run, split_script, write_refusal};
+use ispc_debugger::run;
 use ispc_options::{Options, Paths, read_options, wrong_arguments};
+use ispc_refusals::{Refusal, write_refusal};
+use ispc_script::{MOST_BYTES, split_script};
 use std::alloc::AllocError;
 use std::io::Read;
 use std::process::ExitCode;

@@ -7,8 +7,8 @@ use Rattle.gang_model.specs.Texts.Transcript.{Options as ModelOptions}
 use Rattle.ispc_options.specs.declared.options.Options.{Options}
 use Rattle.ispc_options.specs.declared.options.Width.{Width}
 use Rattle.ispc_options.specs.declared.options.Width.TheVariants.{Four, Eight, Sixteen}
-use Rattle.ispc_debugger.specs.declared.refusal.Refusal.{Refusal}
-use Rattle.ispc_debugger.specs.declared.refusal.Refusal.TheVariants as refusal
+use Rattle.ispc_refusals.specs.declared.refusal.Refusal.{Refusal}
+use Rattle.ispc_refusals.specs.declared.refusal.Refusal.TheVariants as refusal
 
 abbrev pub lanes_of : Width → ℕ
 lanes_of Four = 4

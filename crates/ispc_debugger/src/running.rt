@@ -16,12 +16,12 @@ ghost use Rattle.ispc_compiler.specs.Front.{IsReady};
 ghost use Rattle.ispc_options.specs.Ranges.{AreInRange};
 ghost use Rattle.ispc_debugger.specs.Runs.{IsRight, asked_of, options_view};
 
-use crate::refusal::Refusal;
 use debug_machine::{AnswerWriter, CommandReader, READS};
 use debug_session::Session;
 use gang_machine::{Machine, open};
 use ispc_compiler::{Compiled, compile_source};
 use ispc_options::{Options, Width};
+use ispc_refusals::Refusal;
 use source_answers::SourceFault;
 use std::alloc::{AllocError, Global};
 use transcript::{Ending, answer_lines};

@@ -1,8 +1,10 @@
 //! A worked row through devices that fail or give little, and refusals.
 use gang_model::{RefusalNumber, SourceRefusal};
 use gang_types::Place;
-use ispc_debugger::{Refusal, run, split_script, write_refusal};
+use ispc_debugger::run;
 use ispc_options::{Options, Width};
+use ispc_refusals::{Refusal, write_refusal};
+use ispc_script::split_script;
 use tests_devices::{BlankReader, PieceReader, PieceWriter};
 use transcript::Ending;
 

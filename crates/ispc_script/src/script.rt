@@ -1,6 +1,6 @@
 //! A script: a program's source, a line `%%`, and what comes after it.
 ghost use Rattle.std.specs.Prelude.{◌≡◌, ◌+◌, ◌<◌, ℕ, length, take, drop, false, true, MatchOption, ◌⊎◌};
-ghost use Rattle.ispc_debugger.specs.Marks.{mark_at, IsFirstMark, HasNoMark};
+ghost use Rattle.ispc_script.specs.Marks.{mark_at, IsFirstMark, HasNoMark};
 
 /// The most bytes of a script.
 pub const MOST_BYTES: usize = 1_048_576;

@@ -2,7 +2,7 @@
 ghost use Rattle.std.specs.Prelude.{◌≡◌, false};
 ghost use Rattle.debug_machine.specs.Devices.{Writes};
 ghost use Rattle.gang_model.specs.Texts.RunRefusals.{FromSource, run_refusal_text, source_text};
-ghost use Rattle.ispc_debugger.specs.Refusals.{refusal_view};
+ghost use Rattle.ispc_refusals.specs.Refusals.{refusal_view};
 
 use debug_machine::{AnswerWriter, WriteFault};
 use debug_texts::write_pieces;

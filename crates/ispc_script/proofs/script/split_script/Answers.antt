@@ -1,8 +1,8 @@
 use Rattle.std.proofs.Common.{rules, ◌≡◌, ◌+◌, length, drop, refl, ap, ◌∙◌, arith, min, sym}
 use Rattle.std.proofs.lemmas.List.{take_rest, drop_min}
 use Rattle.std.proofs.Math.Nat.{min_comm}
-use Rattle.ispc_debugger.specs.Marks.{IsFirstMark}
-use Rattle.ispc_debugger.proofs.script.split_script.Goals as goal
+use Rattle.ispc_script.specs.Marks.{IsFirstMark}
+use Rattle.ispc_script.proofs.script.split_script.Goals as goal
 
 pub returns-then-is_mark : goal.returns-then-is_mark
 returns-then-is_mark c =

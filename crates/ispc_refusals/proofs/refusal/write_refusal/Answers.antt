@@ -1,4 +1,4 @@
-use Rattle.ispc_debugger.proofs.refusal.write_refusal.Goals as goal
+use Rattle.ispc_refusals.proofs.refusal.write_refusal.Goals as goal
 
 pub returns-in-NoScript : goal.returns-in-NoScript
 returns-in-NoScript g c = rw c.in-NoScript.is c.write_all.ensures
