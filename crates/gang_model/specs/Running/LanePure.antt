@@ -1,14 +1,14 @@
 -- Functions whose lanes do not see each other, and the state in which a call is left (choices of this project).
-use Rattle.std.specs.Prelude.{◌≡◌, ℕ, suc, ◌<◌, Bool, true, false, not, ◌&&◌, ◌==◌, List, [], ◌∷◌, filter, length, Option, Some, None, slice_get, IsTrue}
+use Rattle.std.specs.Prelude.{◌≡◌, ℕ, suc, ◌<◌, Bool, true, false, ◌&&◌, ◌||◌, List, [], ◌∷◌, length, Option, Some, None, slice_get, IsTrue}
 use Rattle.gang_types.specs.declared.types.IntType.{IntType}
 use Rattle.gang_types.specs.declared.types.Rate.{Rate}
 use Rattle.gang_types.specs.Lanes.{Lanes}
 use Rattle.gang_model.specs.Types.Tree.{Expr, Number, ProgramIndex, ProgramCount, LaneMask, Read, Element, Unary, Binary, Convert, And, Or, Choice, OfOne, OfTwo, Select, Target, Scalar, ElementOf, Arg, Value, Array, ResultFor, Nothing, Declares, Assigns, Returns, Stmt, Empty, Then, Declare, Assign, Change, If, Loop, BodyFirst, Break, Continue, Return, Switch, Segment, Call, Function, Program}
 use Rattle.gang_model.specs.Types.Conversions.{is_varying}
-use Rattle.gang_model.specs.Source.Parsed.{ParsedSource, ParsedFunction, functions_in}
+use Rattle.gang_model.specs.Types.Signatures.{declared_rate}
+use Rattle.gang_model.specs.Source.Parsed.{ParsedSource, ParsedParam, ParsedFunction, functions_in}
 use Rattle.gang_model.specs.Running.State.{Frame, State}
 use Rattle.gang_model.specs.Running.Step.{Goes, step, settle, Passed, new_frame}
-use Rattle.gang_model.specs.Texts.InputText.{parameters_of}
 
 -- whether an expression is lane-pure: it names no uniform scalar, and of the library only functions of one lane's values
 abbrev pub is_pure : Expr → Bool
@@ -76,11 +76,15 @@ is_pure_return None rate = true
 is_pure_return (Some type) None = true
 is_pure_return (Some type) (Some rate) = is_varying rate
 
+-- whether the parameters are arrays or varying, as they are written
+abbrev pub are_pure_params : List ParsedParam → Bool
+are_pure_params [] = true
+are_pure_params (param ∷ params) = (param.is_array || is_varying (declared_rate param.spec.rate)) && are_pure_params params
+
 -- whether a function itself is lane-pure: its parameters other than arrays, its result and its body
 abbrev pub is_pure_function : ParsedFunction → Function → Bool
 is_pure_function written f =
-    length (filter (λ v. not v.is_array && not (is_varying v.rate)) (parameters_of (Some f))) == 0
-    && (is_pure_return written.spec.value_type written.spec.rate && is_pure_stmt f.body)
+    are_pure_params written.params && (is_pure_return written.spec.value_type written.spec.rate && is_pure_stmt f.body)
 
 -- a statement has a call of function n in it
 pub data Calls (n : ℕ) : Stmt → Type 0 where
