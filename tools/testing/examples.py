@@ -1,6 +1,8 @@
-"""The programs of examples/: NAME.ispc with the commands NAME.commands, and NAME.args if there, writes NAME.transcript."""
+"""The programs of examples/: NAME.ispc with the commands NAME.commands, and NAME.args if there, writes NAME.transcript. README.md lists them."""
 
 from .tried import Result, Run
+
+PAGE = "README.md"
 
 
 def names(root):
@@ -18,13 +20,15 @@ def script(root, name, lines):
 
 
 def check(root):
-    """A result for each example: its files are there, and each file is of an example."""
-    results = []
+    """A result for each example: its files are there and the page lists it; and each file is the page or of an example."""
+    results, page = [], root / "examples" / PAGE
+    told = page.read_text(encoding="utf-8") if page.is_file() else ""
     for name in names(root):
-        missing = [it for it in ("commands", "transcript") if not (root / f"examples/{name}.{it}").is_file()]
-        results.append(Result(name, not missing, [f"{name}.{it} is missing" for it in missing]))
+        why = [f"{name}.{it} is missing" for it in ("commands", "transcript") if not (root / f"examples/{name}.{it}").is_file()]
+        why += [] if f"`{name}.ispc`" in told else [f"{PAGE} does not list it"]
+        results.append(Result(name, not why, why))
     for file in sorted((root / "examples").iterdir()):
-        if file.stem not in names(root):
+        if file.name != PAGE and file.stem not in names(root):
             results.append(Result(file.name, False, ["it belongs to no NAME.ispc"]))
     return results
 
