@@ -1,0 +1,134 @@
+"""The tables of commands with their answers in README.md and docs/: each is run on the source that is shown or named above it.
+
+A source is shown as a block of text that has a function, and named as `examples/NAME.ispc`; one that is both has to be the same. A place
+and lanes in brackets, as `[4:1 0101]`, stand for `at 4:1 go depth 1 lanes 0101`.
+"""
+
+import pathlib
+import re
+
+from . import examples
+from .tried import Result, Run
+
+PAGES = ("README.md", "docs/LANGUAGE.md", "docs/COMMANDS.md")
+
+# The tables that cannot run yet, each by its page and heading, with the reason. Such a source is refused; once it is not, its table runs.
+NOT_YET = {
+    ("docs/LANGUAGE.md", "Gathers and scatters (not yet)"): "it has arrays, and takes an input",
+    ("docs/LANGUAGE.md", "Tiles (not yet)"): "it has an array and a foreach form",
+    ("docs/LANGUAGE.md", "A packed load (not yet)"): "it has an array and a packed call",
+}
+
+FENCE = "```"
+NAMED = re.compile(r"`[^`]*\bexamples/(\w+)\.ispc\b[^`]*`")
+PLACE = re.compile(r"\[(\d+:\d+) ([01]+)\]")
+
+
+class Table:
+    """A table of commands with answers: its page and heading, its source, the options, and both columns."""
+
+    def __init__(self, page, heading, number, source, options):
+        self.page, self.heading, self.source, self.options = page, heading, source, options
+        self.source_name = f"{pathlib.PurePath(page).stem}-{number:02}.ispc"
+        self.commands, self.answers = [], []
+
+    def add(self, cells):
+        command, answer = (text_of(it) for it in cells[:2])
+        self.commands.append(command)
+        self.answers += [PLACE.sub(r"at \1 go depth 1 lanes \2", answer)] if answer else []
+
+    def name(self):
+        return f"{self.page}, {self.heading}: {self.commands[0]}, .."
+
+    def run(self):
+        lines = ["".join(f"{it}\n" for it in them).encode() for them in (self.commands, self.answers)]
+        words, data = [self.source_name, *self.options], {self.source_name: self.source.encode()}
+        if (self.page, self.heading) in NOT_YET:
+            refused = lambda said: [] if said else ["it is not refused: the table is to be taken from NOT_YET"]
+            return Run(self.name(), lines[0], words, b"", refused, 2, data)
+        return Run(self.name(), lines[0], words, lines[1], b"", 0, data)
+
+
+def text_of(cell):
+    """The text of a cell, without its backticks."""
+    found = re.fullmatch(r"`(.*)`", cell)
+    return (found[1] if found else cell).replace("\\|", "|")
+
+
+def cells(line):
+    return [it.strip() for it in re.split(r"(?<!\\)\|", line.strip())[1:-1]]
+
+
+class Reader:
+    """A page that is read line by line: the heading, the source and the table that it is at, and what was found."""
+
+    def __init__(self, root, page):
+        self.root, self.page = root, page
+        self.heading, self.source, self.options, self.named, self.block, self.table = "", None, [], None, None, None
+        self.tables, self.faults = [], []
+        for line in (root / page).read_text(encoding="utf-8").splitlines():
+            self.read(line)
+
+    def read(self, line):
+        if line.startswith(FENCE) or self.block is not None:
+            self.read_block(line)
+        elif line.startswith("|"):
+            self.read_row(cells(line))
+        else:
+            self.table = None
+            self.read_text(line)
+
+    def read_block(self, line):
+        if not line.startswith(FENCE):
+            self.block.append(line)
+        elif self.block is None:
+            self.block = []
+        else:
+            text, self.block = "".join(f"{it}\n" for it in self.block), None
+            if re.search(r"^(export )?void \w+\(", text, re.M) and "{" in text:
+                self.show(text)
+
+    def show(self, text):
+        """Takes a shown source: the one that was just named, or one of the page's own."""
+        if self.named and self.source != text:
+            self.faults.append(f"{self.heading}: examples/{self.named}.ispc is not what is shown")
+        if not self.named:
+            self.source, self.options = text, []
+        self.named = None
+
+    def read_row(self, row):
+        if self.table is None:
+            is_of_answers = row[:2] == ["Command", "Answer"]
+            self.table = Table(self.page, self.heading, len(self.tables), self.source, self.options) if is_of_answers else ()
+            self.tables += [self.table] if is_of_answers else []
+        elif self.table and not re.fullmatch(r"-*", row[0]):
+            self.table.add(row)
+
+    def read_text(self, line):
+        if line.startswith("#"):
+            self.heading, self.named = line.lstrip("# "), None
+        for self.named in NAMED.findall(line)[:1]:
+            file = self.root / f"examples/{self.named}.ispc"
+            self.source = file.read_text(encoding="utf-8") if file.is_file() else None
+            self.options = examples.arguments(self.root, self.named)
+            self.faults += [] if self.source else [f"{self.heading}: examples/{self.named}.ispc is not there"]
+        if line and not NAMED.search(line):
+            self.named = None
+
+
+def readers(root):
+    return [Reader(root, page) for page in PAGES]
+
+
+def check(root):
+    """A result for each page: its tables have sources, and the sources that it shows and names are the same."""
+    found = readers(root)
+    results = [Result(it.page, it.tables and not it.faults, it.faults or ["it has no table of answers"]) for it in found]
+    headings = {(it.page, it.heading) for page in found for it in page.tables}
+    gone = [f"{page}, {heading}: there is no such table" for page, heading in NOT_YET if (page, heading) not in headings]
+    bare = [f"{it.name()}: no source stands above it" for page in found for it in page.tables if it.source is None]
+    return [*results, Result("the tables of answers", not gone and not bare, gone + bare)]
+
+
+def runs(root):
+    return [it.run() for page in readers(root) for it in page.tables if it.source is not None]

@@ -1,0 +1,75 @@
+"""The pages: README.md, those of docs/ and those that list crates and examples. What they name is there."""
+
+import re
+
+from .tried import Result
+
+LISTS = ("crates/README.md", "examples/README.md")
+DEFINITIONS = "docs/DEFINITIONS.md"
+
+# What stands in a path for any name, or is made when the program is built or proved.
+MADE_OR_ANY = re.compile(r"\b(NAME|CRATE|F|PATH)\b|\.\.$|\bout/|^~|\*")
+CODE = re.compile(r"`([^`\n]+)`")
+LINK = re.compile(r"\]\(([^)#\s]+)[^)]*\)")
+PATH = re.compile(r"(?:[\w.~*+-]*\w[\w.~*+-]*/)+[\w.*+-]*|[\w-]+\.(?:antt|rt|py|md|txt|edit|session)")
+BLOCK = re.compile(r"^```.*?^```", re.M | re.S)
+
+
+def pages(root):
+    return [root / "README.md", *sorted((root / "docs").glob("*.md")), *(root / it for it in LISTS)]
+
+
+def named(text):
+    """The paths that a page names outside its blocks of text: those of links, and those in backticks."""
+    plain = BLOCK.sub("", text)
+    words = [word for code in CODE.findall(plain) for word in code.split()]
+    return LINK.findall(plain), [word for word in words if PATH.fullmatch(word) and not MADE_OR_ANY.search(word)]
+
+
+def is_there(root, path):
+    """Whether a path begins at the top, at the crates, in some crate, or in a folder of tools/."""
+    return any((it / path).exists() for it in (root, root / "crates")) or any(root.glob(f"crates/*/{path}")) or any(root.glob(f"tools/*/{path}"))
+
+
+def missing(root, page):
+    links, words = named(page.read_text(encoding="utf-8"))
+    bad = [it for it in links if "://" not in it and not (page.parent / it).exists()]
+    return [f"{it} is not there" for it in dict.fromkeys([*bad, *(it for it in words if not is_there(root, it.rstrip("/")))])]
+
+
+def rows_of_definitions(root):
+    """The rows of the tables of definitions and laws: the line, the folder of their files, the names, and the files."""
+    folder, at_file = None, None
+    for number, line in enumerate((root / DEFINITIONS).read_text(encoding="utf-8").splitlines(), 1):
+        if line.startswith("#"):
+            folder = None
+        elif found := re.match(r"Files of `([^`]+)`", line):
+            folder = root / found[1]
+        cells = [it.strip() for it in re.split(r"(?<!\\)\|", line)[1:-1]]
+        if "File" in cells:
+            at_file = cells.index("File")
+        elif folder and at_file and len(cells) > at_file and not re.fullmatch(r"-+", cells[0]):
+            files, _, other = cells[at_file].partition(" of ")
+            place = root / other.strip("`") if other else folder
+            yield number, CODE.findall(cells[0]), [place / f"{it.strip()}.antt" for it in files.split(",")]
+
+
+def undefined(root):
+    """What a table of definitions says of a file that has it not."""
+    for number, names, files in rows_of_definitions(root):
+        gone = [it for it in files if not it.is_file()]
+        yield from (f"line {number}: {it.relative_to(root)} is not there" for it in gone)
+        text = "\n".join(it.read_text(encoding="utf-8") for it in files if it not in gone)
+        for name in names:
+            if not re.search(rf"(?<![\w'-]){re.escape(name)}(?![\w'-])", text):
+                yield f"line {number}: {name} is not in {', '.join(it.name for it in files)}"
+
+
+def check(root):
+    """A result for each page: it is there, with the paths that it names; and one for the files of the definitions."""
+    results = []
+    for page in pages(root):
+        why = missing(root, page) if page.is_file() else ["it is not there"]
+        results.append(Result(page.relative_to(root).as_posix(), not why, why))
+    why = list(undefined(root))
+    return [*results, Result("the files of the definitions", not why, why)]
