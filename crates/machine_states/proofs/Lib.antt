@@ -4,6 +4,8 @@ pub mod AwaitedResults
 pub mod Beginnings
 pub mod CallSteps
 pub mod Calls
+mod CellRows
+pub mod Cells
 pub mod ChangedRegions
 pub mod DeclaredLevels
 pub mod DeclaredLists

@@ -5,3 +5,4 @@ pub mod Declared
 pub mod Shows
 pub mod Effects
 pub mod Steps
+pub mod Cells
