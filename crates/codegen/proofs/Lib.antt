@@ -2,3 +2,4 @@ pub mod PlainValues
 pub mod Rows
 pub mod PlainStatements
 pub mod Functions
+pub mod StepWords

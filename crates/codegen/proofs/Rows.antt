@@ -1,8 +1,15 @@
 -- Lists that fit one by one, and what is said of each item of a list.
-use Rattle.std.proofs.Common.{◌≡◌, ℕ, zero, suc, ◌+◌, ◌<◌, List, [], ◌∷◌, ◌++◌, length, get_or, take, map, refl, ap, sym, ◌∙◌, subst, arith}
+use Rattle.std.proofs.Common.{◌≡◌, ℕ, suc, ◌+◌, ◌<◌, List, [], ◌∷◌, ◌++◌, length, get_or, take, map, refl, ap, sym, ◌∙◌, subst}
 use Rattle.std.specs.Prelude.{All}
 use Rattle.std.proofs.lemmas.List.{take_more, map-append}
 use Rattle.codegen.specs.Codes.{Fit}
+
+-- they have the same length
+pub fit_long : {A B : Type 0} (P : A → B → Type 0) (xs : List A) (ys : List B) → Fit P xs ys → length xs ≡ length ys
+fit_long P [] [] h = refl
+fit_long P [] (y ∷ ys) h = absurd h
+fit_long P (x ∷ xs) [] h = absurd h
+fit_long P (x ∷ xs) (y ∷ ys) h = ap suc (fit_long P xs ys h.1)
 
 pub fit_more : {A B : Type 0} (P : A → B → Type 0) (xs : List A) (ys : List B) (x : A) (y : B) → Fit P xs ys → P x y → Fit P (xs ++ x ∷ []) (ys ++ y ∷ [])
 fit_more P [] [] x y h k = (k, tt)

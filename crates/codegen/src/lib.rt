@@ -3,8 +3,10 @@
 
 mod code;
 mod compiling;
+mod counting;
 mod steps;
 mod values;
 
 pub use code::{ArgCode, Change, Code, StepCode};
 pub use compiling::compile;
+pub use counting::cells;

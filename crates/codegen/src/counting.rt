@@ -1,0 +1,54 @@
+//! How many words the steps of a program set.
+ghost use Rattle.std.specs.Prelude.{◌≡◌, ℕ, ◌+◌, ◌*◌, ◌≤◌, map};
+ghost use Rattle.gang_types.specs.Masks.{IsGangWidth};
+ghost use Rattle.gang_model.specs.Types.Tree.{Program};
+ghost use Rattle.machine_states.specs.Cells.{cells_of};
+ghost use Rattle.machine_states.specs.Plain.{IsPlainProgram};
+ghost use Rattle.machine_states.specs.Variables.{Variables};
+ghost use Rattle.mask_states.specs.Points.{points_in};
+ghost use Rattle.codegen.specs.Cells.{most_set, words_set_by};
+ghost use Rattle.codegen.specs.Codes.{DoEach};
+
+use crate::code::{Code, StepCode};
+
+/// The most words that one event of a plain program with this code sets, at a width: a step, leaving a frame, or a poke.
+pub fn cells(code: &Code, width: usize) -> usize
+    requires width { IsGangWidth width }
+    requires plain { (variables : Variables) × (most : ℕ) × (program : Program) × IsPlainProgram variables most program
+        × DoEach code.now.functions.items (map points_in program.functions) }
+    ensures exact { (program : Program) → DoEach code.now.functions.items (map points_in program.functions) → result ≡ cells_of width program }
+    ensures few { result ≤ 9 * width + 16 }
+{
+    let mut most = 2 * width + 2;
+    for steps in &code.functions {
+        most = most.max(most_set(steps, width));
+    }
+    most
+}
+
+/// The most words that one of these steps sets.
+fn most_set(steps: &[StepCode], width: usize) -> usize
+    requires width { IsGangWidth width }
+    requires few { most_set width steps.now ≤ 9 * width + 16 }
+    ensures { result ≡ most_set width steps.now }
+{
+    let mut most = 0;
+    for step in steps {
+        most = most.max(words_set(step, width));
+    }
+    most
+}
+
+/// How many words a step sets: a scalar, the numbers that lanes wait for and each argument have one for each lane.
+fn words_set(step: &StepCode, width: usize) -> usize
+    requires width { IsGangWidth width }
+    requires few { words_set_by width step.now ≤ 9 * width + 16 }
+    ensures { result ≡ words_set_by width step.now }
+{
+    match step {
+        StepCode::Go { .. } | StepCode::Branch { .. } => width,
+        StepCode::Declare { .. } | StepCode::Assign { .. } | StepCode::Change { .. } => 2 * width,
+        StepCode::Return { .. } => 2 * width + 1,
+        StepCode::Enter { args, .. } => args.len() * width + width + 4,
+    }
+}
