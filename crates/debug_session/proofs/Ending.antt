@@ -8,7 +8,7 @@ use Rattle.gang_model.specs.Running.State.{Frame}
 use Rattle.gang_model.specs.Debugger.Positions.{frame_spot, frame_lanes, standing_at}
 use Rattle.gang_model.specs.Texts.Text.{Bytes, frames_text, standing_text}
 use Rattle.debug_machine.specs.declared.machine.Position.{Position}
-use Rattle.debug_machine.specs.Machines.{position_text}
+use Rattle.debug_machine.specs.Machines.{line_of_position, position_text}
 
 abbrev first_byte : Bytes → ℕ
 first_byte [] = 0
@@ -32,9 +32,14 @@ ended_by p (frame ∷ frames) None e =
     absurd (no_e_first (standing_at p (frame_spot p frame)) (slice_get p.functions (frame_spot p frame).function.0) (length (frame ∷ frames)) (frame_lanes frame) (ap first_byte e))
 ended_by p (frame ∷ frames) (Some at) e = grind (arith, nat_tests)
 
+-- there is a line where there is a position
+pub line_by : (position : Option Position) → is_none (line_of_position position) ≡ is_none position
+line_by None = refl
+line_by (Some at) = refl
+
 -- where there is none, as a test tells it
-pub none_by : (position : Option Position) (b : Bool) → is_some position ≡ not b → b ≡ is_none position
+pub none_by : {X : Type 0} (option : Option X) (b : Bool) → is_some option ≡ not b → b ≡ is_none option
 none_by None true e = refl
 none_by None false e = cc e
-none_by (Some at) true e = cc e
-none_by (Some at) false e = refl
+none_by (Some x) true e = cc e
+none_by (Some x) false e = refl

@@ -1,8 +1,9 @@
 -- The words that watches show, one watch after the other.
-use Rattle.std.proofs.Common.{◌≡◌, refl, sym, subst, ap, ◌∙◌, ℕ, zero, suc, ◌+◌, ◌<◌, Bool, false, List, [], ◌∷◌, ◌++◌, length, get_or, drop, Option, Some, arith}
+use Rattle.std.proofs.Common.{◌≡◌, refl, sym, subst, ap, ◌∙◌, ℕ, zero, suc, ◌+◌, ◌<◌, Bool, true, false, List, [], ◌∷◌, ◌++◌, length, get_or, drop, Option, Some, None, arith}
 use Rattle.std.specs.Prelude.{if◌then◌else◌, not}
 use Rattle.arrayvec.specs.ArrayVec.{ArrayVec}
 use Rattle.gang_model.specs.Source.Names.{same_text}
+use Rattle.gang_model.proofs.SameTexts.{same_text-equal}
 use Rattle.gang_model.specs.Types.Tree.{Variable}
 use Rattle.gang_model.specs.Running.State.{State}
 use Rattle.gang_model.specs.Debugger.Debugger as model
@@ -52,6 +53,37 @@ module _ (s : Setting) (x : NumberedStop) (stops : List NumberedStop) (rest : Li
 
   pub test_of_line : (old new : State) → ((variable : ℕ) (at : Option ℕ) → x.stop ≡ stop.Watch variable at → ⊥) → first_stop (differs old new) rest ≡ first_stop (differs old new) t.rest
   test_of_line old new other = let (l, e) = line_of x.stop t.entry.1 other t.stop in first_stop_at (differs old new) rest t.entry t.rest false t.is (ap (differs old new) e)
+
+-- ---- words that are the same, or not
+
+-- words that are not equal are not the same
+pub not_same : (xs ys : List ℕ) → (xs ≡ ys → ⊥) → false ≡ same_text xs ys
+not_same xs ys other = go (same_text xs ys) refl
+  where
+    go : (b : Bool) → same_text xs ys ≡ b → false ≡ b
+    go true h = absurd (other (same_text-equal xs ys h))
+    go false h = refl
+
+not_not : (b : Bool) → not b ≡ false → b ≡ true
+not_not true h = refl
+not_not false h = cc h
+
+stop_stays : (old new : State) (stop : model.Stop) → differs old new stop ≡ false → stop_words old stop ≡ stop_words new stop
+stop_stays old new (model.Line line) h = refl
+stop_stays old new (model.Watch target v) h =
+    ap (λ words. words ∷ []) (same_text-equal (target_words old target v) (target_words new target v) (not_not (same_text (target_words old target v) (target_words new target v)) h))
+
+-- where no watch differs, they show the same words
+pub words_stay : (old new : State) (meant : List (ℕ × model.Stop)) → first_stop (differs old new) meant ≡ None → watch_words old meant ≡ watch_words new meant
+words_stay old new [] h = refl
+words_stay old new (entry ∷ meant) h = go (words_stay old new meant) (differs old new entry.1) refl
+  where
+    go : (first_stop (differs old new) meant ≡ None → watch_words old meant ≡ watch_words new meant)
+        → (b : Bool) → differs old new entry.1 ≡ b → watch_words old (entry ∷ meant) ≡ watch_words new (entry ∷ meant)
+    go others true e = absurd (cc (sym (ap (λ b. if b then Some entry.0 else first_stop (differs old new) meant) e) ∙ h))
+    go others false e =
+        let later : first_stop (differs old new) meant ≡ None = sym (ap (λ b. if b then Some entry.0 else first_stop (differs old new) meant) e) ∙ h in
+        ap (λ words. words ++ watch_words old meant) (stop_stays old new entry.1 e) ∙ ap (λ words. stop_words new entry.1 ++ words) (others later)
 
 -- ---- noted words
 

@@ -1,14 +1,16 @@
--- What moves come to, and what watches show before them.
-use Rattle.std.specs.Prelude.{◌≡◌, ℕ, false, List, [], ◌∷◌, ◌++◌, map, Option, Some, None}
+-- What moves come to, where they lead, and what watches show before them.
+use Rattle.std.specs.Prelude.{◌≡◌, ℕ, false, List, [], ◌∷◌, ◌++◌, map, Option, Some, None, is_none}
 use Rattle.arrayvec.specs.ArrayVec.{ArrayVec}
 use Rattle.gang_model.specs.Running.State.{State}
 use Rattle.gang_model.specs.Debugger.Debugger as model
-use Rattle.gang_model.specs.Debugger.Debugger.{Debugger, Reply, Setting, target_words}
+use Rattle.gang_model.specs.Debugger.Debugger.{Debugger, Reply, Setting, depth, has_ended, now, target_words}
+use Rattle.gang_model.specs.Debugger.Positions.{line_now}
 use Rattle.debug_answers.specs.declared.answer.Answer.{Answer}
 use Rattle.debug_answers.specs.declared.answer.Refusal.{Refusal}
 use Rattle.debug_answers.specs.Meanings.{Means, refusal_view}
 use Rattle.debug_session.specs.declared.moving.AfterMove.{AfterMove}
 use Rattle.debug_session.specs.declared.moving.AfterMove.TheVariants.{Ends, GoesOn}
+use Rattle.debug_session.specs.declared.places.Reached.{Reached}
 use Rattle.debug_session.specs.Goals.{goal_view}
 use Rattle.debug_session.specs.Sessions.{bare, is_refused}
 
@@ -22,6 +24,12 @@ pub record Follows {M : Type 0} (stands : M → Setting → Debugger → Type 0)
 pub record Done {M : Type 0} (stands : M → Setting → Debugger → Type 0) (s : Setting) (d : Debugger) (reply : Reply) (given : Answer) (machine : M) : Type 0 where
   pub follows : Follows stands s d machine reply.next
   pub means : Means s reply.next given reply.answer
+
+-- the line and the depth are those where the debugger stands
+pub record IsReached (s : Setting) (d : Debugger) (reached : Reached) : Type 0 where
+  pub line : line_now s.program (now s d) ≡ reached.line
+  pub depth : depth (now s d) ≡ reached.depth
+  pub ended : has_ended (now s d) ≡ is_none reached.line
 
 -- what ends a command after a move, or the goal that is left, means that of the definitions
 abbrev pub MeansAfter : Setting → Debugger → AfterMove → model.AfterMove → Type 0

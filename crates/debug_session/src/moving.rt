@@ -1,16 +1,16 @@
 //! Moves forward and backward.
-ghost use Rattle.std.specs.Prelude.{◌≡◌, ℕ, suc, ◌-◌, ◌<◌, true, false, Option, Bool, IfSome};
+ghost use Rattle.std.specs.Prelude.{◌≡◌, ℕ, suc, ◌-◌, ◌<◌, true, false, Option, Bool, IfSome, None};
 ghost use Rattle.gang_model.specs.Running.State.{State};
 ghost use Rattle.gang_model.specs.Debugger.Debugger as model;
 ghost use Rattle.gang_model.specs.Debugger.Debugger.{Debugger, Setting, after_move, backward, ends_or_goes_on, forward, kept_steps, moved, now, stepped_back};
 ghost use Rattle.gang_model.specs.Debugger.Events.{Step};
 ghost use Rattle.debug_answers.specs.Meanings.{AreStops, Means};
 ghost use Rattle.debug_session.specs.Goals.{goal_option, goal_view};
-ghost use Rattle.debug_session.specs.Moves.{Done, IfGoesOn, IsPlainEnd, MeansAfter, Moved, noted, watch_words};
+ghost use Rattle.debug_session.specs.Moves.{Done, IfGoesOn, IsPlainEnd, IsReached, MeansAfter, Moved, noted, watch_words};
 ghost use Rattle.debug_session.specs.Sessions.{bare, is_refused};
 
 use crate::goal::Goal;
-use crate::places::{depth_of, line_of};
+use crate::places::{Reached, reached_by};
 use crate::table::StopTable;
 use crate::watching::{WordsBefore, changed_watch, note_words};
 use debug_answers::Answer;
@@ -28,6 +28,7 @@ enum AfterMove<'a> {
 pub(crate) fn move_forward<'a, M: RecordedMachine>(
     machine: &mut M,
     stops: &StopTable,
+    before: &mut WordsBefore,
     most_steps: u32,
     goal: Goal,
 ) -> Answer<'a>
@@ -35,10 +36,10 @@ pub(crate) fn move_forward<'a, M: RecordedMachine>(
         → Done M.stands s d (forward most_steps s (goal_view goal) d) result machine.new }
     ensures plain { is_refused result ≡ false }
 {
-    let mut before = WordsBefore::new();
+    note_words(machine, stops, before);
     let mut left = goal;
     for _done in 0..most_steps {
-        match step_forward(machine, stops, &mut before, left) {
+        match step_forward(machine, stops, before, left) {
             AfterMove::Ends(answer) => return answer,
             AfterMove::GoesOn(next) => left = next,
         }
@@ -50,16 +51,17 @@ pub(crate) fn move_forward<'a, M: RecordedMachine>(
 pub(crate) fn move_backward<'a, M: RecordedMachine>(
     machine: &mut M,
     stops: &StopTable,
+    before: &mut WordsBefore,
     goal: Goal,
 ) -> Answer<'a>
     ensures replied { (s : Setting) (d : Debugger) → M.stands machine.old s (bare d) → AreStops s stops.now.items d.stops → 0 < kept_steps d
         → Done M.stands s d (backward d.kept s (goal_view goal) d) result machine.new }
     ensures plain { is_refused result ≡ false }
 {
-    let mut before = WordsBefore::new();
+    note_words(machine, stops, before);
     let mut left = goal;
     for _done in 0..machine.kept() {
-        match step_backward(machine, stops, &mut before, left) {
+        match step_backward(machine, stops, before, left) {
             AfterMove::Ends(answer) => return answer,
             AfterMove::GoesOn(next) => left = next,
         }
@@ -71,20 +73,24 @@ pub(crate) fn move_backward<'a, M: RecordedMachine>(
 fn step_forward<'a, M: RecordedMachine>(
     machine: &mut M,
     stops: &StopTable,
-    before: &mut WordsBefore,
+    before: &WordsBefore,
     goal: Goal,
 ) -> AfterMove<'a>
     ensures moved { (s : Setting) (d : Debugger) (n : ℕ) → M.stands machine.old s (bare d) → AreStops s stops.now.items d.stops
+        → noted before.now.items ≡ watch_words (now s d) d.stops
         → Moved M.stands s d (moved Step d) (forward (suc n) s (goal_view goal) d) (forward n s) result machine.new }
+    ensures noted { (s : Setting) (d : Debugger) → M.stands machine.old s (bare d) → AreStops s stops.now.items d.stops
+        → noted before.now.items ≡ watch_words (now s d) d.stops
+        → IfGoesOn result (noted before.now.items ≡ watch_words (now s (moved Step d)) d.stops) }
     ensures plain { IsPlainEnd result }
 {
-    note_words(machine, stops, before);
     match machine.step() {
         StepEnd::Fault(fault) => AfterMove::Ends(Answer::AtFault(fault)),
         StepEnd::Ended => AfterMove::Ends(Answer::Here),
         StepEnd::Done => {
-            let has_ended = machine.position().is_none();
-            after_move(machine, stops, before, goal, has_ended, Answer::Here)
+            let at = reached_by(machine);
+            let has_ended = at.line.is_none();
+            after_move(machine, stops, before, at, goal, has_ended, Answer::Here)
         }
     }
 }
@@ -93,18 +99,30 @@ fn step_forward<'a, M: RecordedMachine>(
 fn step_backward<'a, M: RecordedMachine>(
     machine: &mut M,
     stops: &StopTable,
-    before: &mut WordsBefore,
+    before: &WordsBefore,
     goal: Goal,
 ) -> AfterMove<'a>
     ensures moved { (s : Setting) (d : Debugger) (n : ℕ) → M.stands machine.old s (bare d) → AreStops s stops.now.items d.stops → 0 < kept_steps d
+        → noted before.now.items ≡ watch_words (now s d) d.stops
         → Moved M.stands s d (stepped_back d) (backward (suc n) s (goal_view goal) d) (backward n s) result machine.new }
     ensures more { (s : Setting) (d : Debugger) → M.stands machine.old s (bare d) → 0 < kept_steps d → IfGoesOn result (0 < kept_steps (stepped_back d)) }
+    ensures noted { (s : Setting) (d : Debugger) → M.stands machine.old s (bare d) → AreStops s stops.now.items d.stops → 0 < kept_steps d
+        → noted before.now.items ≡ watch_words (now s d) d.stops
+        → IfGoesOn result (noted before.now.items ≡ watch_words (now s (stepped_back d)) d.stops) }
     ensures plain { IsPlainEnd result }
 {
-    note_words(machine, stops, before);
     take_step_back(machine);
+    let at = reached_by(machine);
     let none_kept = machine.kept_steps() == 0;
-    after_move(machine, stops, before, goal, none_kept, Answer::HistoryEnd)
+    after_move(
+        machine,
+        stops,
+        before,
+        at,
+        goal,
+        none_kept,
+        Answer::HistoryEnd,
+    )
 }
 
 /// Takes back the values that were set since the last step, and that step.
@@ -114,31 +132,28 @@ fn take_step_back<M: RecordedMachine>(machine: &mut M)
     while let Ok(Undone::Poke) = machine.undo() {}
 }
 
-/// What ends a command after a move; `last` does where there is no other move.
+/// What ends a command after a move that led there; `last` does where there is no other move. A changed watch ends it, so
+/// where the command goes on, what was noted is what the watches show now.
 fn after_move<'a, M: RecordedMachine>(
     machine: &M,
     stops: &StopTable,
     before: &WordsBefore,
+    at: Reached,
     goal: Goal,
     no_move: bool,
     last: Answer<'a>,
 ) -> AfterMove<'a>
     ensures means { (s : Setting) (d : Debugger) (old : State) (meant : model.Answer) → M.stands machine.now s (bare d) → AreStops s stops.now.items d.stops
-        → noted before.now.items ≡ watch_words old d.stops → Means s d last.entry meant
+        → noted before.now.items ≡ watch_words old d.stops → IsReached s d at → Means s d last.entry meant
         → MeansAfter s d result (after_move s.program (goal_view goal) old (now s d) d.stops no_move meant) }
+    ensures noted { (s : Setting) (d : Debugger) (old : State) → M.stands machine.now s (bare d) → AreStops s stops.now.items d.stops
+        → noted before.now.items ≡ watch_words old d.stops → IfGoesOn result (noted before.now.items ≡ watch_words (now s d) d.stops) }
     ensures plain { is_refused last.entry ≡ false → IsPlainEnd result }
     ensures more { IfGoesOn result (no_move ≡ false) }
 {
-    let position = machine.position();
-    let breakpoint = stops.breakpoint_on(line_of(position));
+    let breakpoint = stops.breakpoint_on(at.line);
     let watch = changed_watch(machine, stops, before);
-    end_or_go_on(
-        goal.towards(depth_of(position)),
-        breakpoint,
-        watch,
-        no_move,
-        last,
-    )
+    end_or_go_on(goal.towards(at.depth), breakpoint, watch, no_move, last)
 }
 
 /// What ends a command, in this order: its goal, a breakpoint, a watch, and that there is no other move.
@@ -153,6 +168,7 @@ fn end_or_go_on<'a>(
         → MeansAfter s d result (ends_or_goes_on (goal_option goal) breakpoint watch no_move meant) }
     ensures plain { is_refused last.entry ≡ false → IsPlainEnd result }
     ensures more { IfGoesOn result (no_move ≡ false) }
+    ensures unchanged { IfGoesOn result (watch ≡ None) }
 {
     match (goal, breakpoint, watch) {
         (None, _, _) => AfterMove::Ends(Answer::Here),

@@ -12,6 +12,7 @@ use crate::refusing::{backward_refusal, depth, forward_refusal};
 use crate::showing::print;
 use crate::stopping::{delete, set_breakpoint, set_watch};
 use crate::table::StopTable;
+use crate::watching::WordsBefore;
 use debug_answers::{Answer, NumberedStop};
 use debug_commands::Command;
 use debug_machine::RecordedMachine;
@@ -22,6 +23,8 @@ pub struct Session<M: RecordedMachine> {
     machine: M,
     most_steps: u32,
     stops: StopTable,
+    /// Kept from command to command, since a new one costs its whole room; each command notes its own words.
+    before: WordsBefore,
 }
 
 impl<M: RecordedMachine> Session<M> {
@@ -34,6 +37,7 @@ impl<M: RecordedMachine> Session<M> {
             machine,
             most_steps,
             stops: StopTable::new(),
+            before: WordsBefore::new(),
         }
     }
 
@@ -99,7 +103,13 @@ impl<M: RecordedMachine> Session<M> {
     {
         match forward_refusal(&self.machine, needs_frame) {
             Some(refusal) => Answer::Refused(refusal),
-            None => move_forward(&mut self.machine, &self.stops, self.most_steps, goal),
+            None => move_forward(
+                &mut self.machine,
+                &self.stops,
+                &mut self.before,
+                self.most_steps,
+                goal,
+            ),
         }
     }
 
@@ -111,7 +121,7 @@ impl<M: RecordedMachine> Session<M> {
     {
         match backward_refusal(&self.machine, needs_frame) {
             Some(refusal) => Answer::Refused(refusal),
-            None => move_backward(&mut self.machine, &self.stops, goal),
+            None => move_backward(&mut self.machine, &self.stops, &mut self.before, goal),
         }
     }
 }

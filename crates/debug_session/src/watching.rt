@@ -1,4 +1,4 @@
-//! What watches show, before a move and after it.
+//! What watches show, before the moves of a command and after each of them.
 ghost use Rattle.std.specs.Prelude.{◌≡◌, ℕ, ◌≤◌, ◌∷◌, List, drop, slice_index};
 ghost use Rattle.gang_model.specs.Source.Names.{same_text};
 ghost use Rattle.gang_model.specs.Types.Tree.{Variable};
@@ -83,7 +83,7 @@ pub(crate) fn note_words<M: RecordedMachine>(
     }
 }
 
-/// The least number of a watch that shows other words than were noted.
+/// The least number of a watch that shows other words than were noted. Where there is none, what was noted is what they show.
 pub(crate) fn changed_watch<M: RecordedMachine>(
     machine: &M,
     stops: &StopTable,
@@ -95,8 +95,7 @@ pub(crate) fn changed_watch<M: RecordedMachine>(
     let mut next = 0;
     for entry in stops.as_slice() {
         if let Stop::Watch { variable, at } = entry.stop {
-            let words = watched_words(machine, variable, at);
-            if !shows(before, next, &words) {
+            if !shows(machine, variable, at, noted_at(before, next)) {
                 return Some(entry.number);
             }
             next += 1;
@@ -105,12 +104,42 @@ pub(crate) fn changed_watch<M: RecordedMachine>(
     None
 }
 
-/// Whether these are the words that were noted at a place.
-fn shows(before: &WordsBefore, place: usize, words: &Words) -> bool
-    ensures { (old : List ℕ) (others : List (List ℕ)) → drop place (noted before.now.items) ≡ old ∷ others → result ≡ same_text old words.now.items }
+/// The words that were noted at a place.
+fn noted_at(before: &WordsBefore, place: usize) -> &[u64]
+    ensures { (old : List ℕ) (others : List (List ℕ)) → drop place (noted before.now.items) ≡ old ∷ others → result.now ≡ old }
 {
     match before.get(place) {
-        Some(noted) => noted.as_slice() == words.as_slice(),
-        None => false,
+        Some(noted) => noted.as_slice(),
+        None => &[],
     }
+}
+
+/// Whether a file-scope scalar, or one of its lanes or elements, shows these words.
+fn shows<M: RecordedMachine>(machine: &M, variable: usize, at: Option<u32>, noted: &[u64]) -> bool
+    ensures { (s : Setting) (d : Debugger) (target : model.Target) (v : Variable) → M.stands machine.now s (bare d) → IsWatch s variable at target v
+        → result ≡ same_text noted.now (target_words (now s d) target v) }
+{
+    let Some(named) = machine.file_variable(variable) else {
+        return false;
+    };
+    match at {
+        None => scalar_shows(machine, named.shown, noted),
+        Some(index) => noted == [word_or_zero(machine, named.shown, index as usize)].as_slice(),
+    }
+}
+
+/// Whether all words of a variable are these.
+fn scalar_shows<M: RecordedMachine>(machine: &M, shown: Shown, noted: &[u64]) -> bool
+    ensures { (s : Setting) (d : Debugger) (v : Variable) → M.stands machine.now s (bare d) → IsShown s d v shown
+        → result ≡ same_text noted.now (shown_words (now s d) v) }
+{
+    if noted.len() != shown.count {
+        return false;
+    }
+    for (index, old) in noted.iter().enumerate() {
+        if machine.word(shown, index) != *old {
+            return false;
+        }
+    }
+    true
 }

@@ -8,13 +8,13 @@ use Rattle.debug_session.proofs.Moves.{backward_goes, goes_on, moved_by, moved_s
 use Rattle.debug_session.proofs.moving.step_backward.Goals as goal
 
 pub returns-clause-moved : goal.returns-clause-moved
-returns-clause-moved g c s d n st are some =
+returns-clause-moved g c s d n st are some first =
     let stands = g.M.RecordedMachine.stands in
     let e = stepped_back d in
     let there = c.take_step_back.ensures s d st some in
-    let noted = c.note_words.ensures s d d.stops st are in
+    let reached = c.reached_by-at.ensures s e there in
     let kept = c.kept_steps-none_kept.ensures s (bare e) there in
-    let means = c.after_move.ensures.means s e (now s d) HistoryEnd there are noted refl in
+    let means = c.after_move.ensures.means s e (now s d) HistoryEnd there are first reached refl in
     moved_so stands s d e c.take_step_back.new.machine c.after_move.result (backward n s) _ _
     (backward_goes s d n (goal_view c.args.goal) (c.kept_steps-none_kept.result == 0) (ap (λ k. k == 0) kept))
     (moved_by stands s d e c.take_step_back.new.machine c.after_move.result _ (backward n s) (record { there = there; stops = refl; next = refl }) means)
@@ -26,3 +26,7 @@ returns-clause-more g c s d st some =
   where
     more : (k n : ℕ) → k ≡ n → (k == 0) ≡ false → 0 < n
     more k n e h = grind (arith, nat_tests)
+
+pub returns-clause-noted : goal.returns-clause-noted
+returns-clause-noted g c s d st are some first =
+    c.after_move.ensures.noted s (stepped_back d) (now s d) (c.take_step_back.ensures s d st some) are first

@@ -16,12 +16,12 @@ loop-entry-preserved g c = elim c.match-entry.branch [
         let (rest, here, same, words) = c.loop-entry.invariant.same s d old meant st are first in
         let t = turn s c.as_slice-entry-items.result.now c.loop-entry.entry-index _ rest c.loop-entry-test.true here in
         let found = watch_turn s _ _ rest w.in-Watch.variable w.in-Watch.at t w.in-Watch.is in
-        let shows = w.watched_words-words.ensures s d found.target found.v st found.watch in
         let before = words ∙ words_of_watch s _ _ rest t old found.target found.v found.is in
-        let told = w.shows.ensures (target_words old found.target found.v) (watch_words old t.rest) before in (
+        let told = w.shows.ensures s d found.target found.v st found.watch
+        ∙ ap (λ words. same_text words (target_words (now s d) found.target found.v)) (w.noted_at.ensures (target_words old found.target found.v) (watch_words old t.rest) before) in (
           t.rest,
           t.others,
-          same ∙ test_of_watch s _ _ rest t old (now s d) found.target found.v true found.is (sym (ap (same_text (target_words old found.target found.v)) shows) ∙ sym told ∙ w.if-not-shows.false),
+          same ∙ test_of_watch s _ _ rest t old (now s d) found.target found.v true found.is (sym told ∙ w.if-not-shows.false),
           ap (λ k. drop k (noted c.args.before.now.items)) w.next-is ∙ noted_on (noted c.args.before.now.items) c.loop-entry.next _ _ before,
         );
   }
@@ -43,7 +43,7 @@ returns-then-not-shows g c s d old meant st are first =
     let (rest, here, same, words) = c.loop-entry.invariant.same s d old meant st (subst (λ items. AreStops s items meant) (sym c.as_slice-entry-items.ensures.value) are) first in
     let t = turn s c.as_slice-entry-items.result.now c.loop-entry.entry-index _ rest c.loop-entry-test.true here in
     let found = watch_turn s _ _ rest c.in-Watch.variable c.in-Watch.at t c.in-Watch.is in
-    let shows = c.watched_words-words.ensures s d found.target found.v st found.watch in
     let before = words ∙ words_of_watch s _ _ rest t old found.target found.v found.is in
-    let told = c.shows.ensures (target_words old found.target found.v) (watch_words old t.rest) before in
-    sym (same ∙ test_of_watch s _ _ rest t old (now s d) found.target found.v false found.is (sym (ap (same_text (target_words old found.target found.v)) shows) ∙ sym told ∙ c.if-not-shows.true))
+    let told = c.shows.ensures s d found.target found.v st found.watch
+    ∙ ap (λ words. same_text words (target_words (now s d) found.target found.v)) (c.noted_at.ensures (target_words old found.target found.v) (watch_words old t.rest) before) in
+    sym (same ∙ test_of_watch s _ _ rest t old (now s d) found.target found.v false found.is (sym told ∙ c.if-not-shows.true))
