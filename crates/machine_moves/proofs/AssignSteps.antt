@@ -1,5 +1,5 @@
 -- Declarations, assignments and changes of variables.
-use Rattle.std.proofs.Common.{ℕ, suc, ◌+◌, ◌<◌, Bool, true, false, cond, ◌≡◌, refl, sym, ◌∙◌, ap, subst, List, [], ◌∷◌, length, slice_index, Option, Some, None, Vec, Global}
+use Rattle.std.proofs.Common.{ℕ, suc, ◌+◌, ◌<◌, Bool, true, false, cond, ◌≡◌, refl, sym, ◌∙◌, ap, subst, arith, List, [], ◌∷◌, length, slice_index, Option, Some, None, Vec, Global}
 use Rattle.std.specs.Prelude.{Result, Ok, Err, replicate}
 use Rattle.std.proofs.lemmas.Option.{none-some}
 use Rattle.gang_types.specs.Lanes.{Lanes}
@@ -127,13 +127,13 @@ module _ {T : Type 0} (history : T → History) (left : T → ℕ) (width : ℕ)
 
     module _ (mid : MachineWords T) (begins : Begins history left width undone.Step old mid) (region : Region) (region_is : region ≡ region_of active.frame variable.id) where
       pub may_declare : MayPut history left width variable.rate region active.lanes mid
-      may_declare = may_put_first history left width compiled old sound active declaring declaration declares_here (var_view variable) own_here.1.scalar mid begins region region_is
+      may_declare = may_put_first history left width compiled old sound active declaring declaration declares_here (var_view variable) own_here.1.scalar (omega arith) mid begins region region_is
 
       module _ (values : List ℕ) (put : MachineWords T)
           (made : Writes history left width region (declared_region variable.rate (lanes_of width active.lanes) values (regions_in history width mid region)) width mid put) where
         pub declared_may_send : MaySend history left width active.frame active.lanes put
         declared_may_send =
-            may_send_then history left width compiled old sound active declaring declaration declares_here (var_view variable) own_here.1.scalar mid begins region region_is
+            may_send_then history left width compiled old sound active declaring declaration declares_here (var_view variable) own_here.1.scalar (omega arith) mid begins region region_is
             (λ l ws. declared_region variable.rate l values ws) put made
 
         pub declared_ends : (new : MachineWords T) (numbers : List ℕ) → length numbers ≡ width → ((k : ℕ) → k < width → at numbers k ≡ next)
@@ -143,7 +143,7 @@ module _ {T : Type 0} (history : T → History) (left : T → ℕ) (width : ℕ)
         declared_ends new numbers long each_number wrote_numbers masked shown is =
             ends_well history left width compiled masked
             (sent_on active.frame lanes (λ k. next) (declared_in active.frame variable.id variable.rate lanes values regions)) (0 + width + width) old new
-            (sent_then history left width compiled old sound active declaring declaration declares_here (var_view variable) own_here.1.scalar mid begins region region_is
+            (sent_then history left width compiled old sound active declaring declaration declares_here (var_view variable) own_here.1.scalar (omega arith) mid begins region region_is
             (λ l ws. declared_region variable.rate l values ws) put made new numbers next long each_number wrote_numbers)
             (declares (program_of compiled) (variables_of compiled) width regions masked shown.shows active.frame active.function declaring active.step
             found_declaration.1.0 (var_view variable) declared_value next declares_here.next
@@ -188,13 +188,13 @@ module _ {T : Type 0} (history : T → History) (left : T → ℕ) (width : ℕ)
 
     module _ (mid : MachineWords T) (begins : Begins history left width undone.Step old mid) (region : Region) (region_is : region ≡ region_of active.frame variable.id) where
       pub may_assign : MayPut history left width variable.rate region active.lanes mid
-      may_assign = may_put_first history left width compiled old sound active assigning assignment assigns_here (var_view variable) scalar_here mid begins region region_is
+      may_assign = may_put_first history left width compiled old sound active assigning assignment assigns_here (var_view variable) scalar_here (omega arith) mid begins region region_is
 
       module _ (values : List ℕ) (put : MachineWords T)
           (made : Writes history left width region (assigned_region variable.rate (lanes_of width active.lanes) values (regions_in history width mid region)) width mid put) where
         pub assigned_may_send : MaySend history left width active.frame active.lanes put
         assigned_may_send =
-            may_send_then history left width compiled old sound active assigning assignment assigns_here (var_view variable) scalar_here mid begins region region_is
+            may_send_then history left width compiled old sound active assigning assignment assigns_here (var_view variable) scalar_here (omega arith) mid begins region region_is
             (λ l ws. assigned_region variable.rate l values ws) put made
 
         pub assigned_ends : (new : MachineWords T) (numbers : List ℕ) → length numbers ≡ width → ((k : ℕ) → k < width → at numbers k ≡ next)
@@ -204,7 +204,7 @@ module _ {T : Type 0} (history : T → History) (left : T → ℕ) (width : ℕ)
         assigned_ends new numbers long each_number wrote_numbers masked shown is =
             ends_well history left width compiled masked
             (sent_on active.frame lanes (λ k. next) (assigned_in active.frame variable.id variable.rate lanes values regions)) (0 + width + width) old new
-            (sent_then history left width compiled old sound active assigning assignment assigns_here (var_view variable) scalar_here mid begins region region_is
+            (sent_then history left width compiled old sound active assigning assignment assigns_here (var_view variable) scalar_here (omega arith) mid begins region region_is
             (λ l ws. assigned_region variable.rate l values ws) put made new numbers next long each_number wrote_numbers)
             (assigns (program_of compiled) (variables_of compiled) width regions masked shown.shows active.frame active.function assigning active.step
             found_assignment.1.0 (var_view variable) assigned_value next assigns_here.next
@@ -289,13 +289,13 @@ module _ {T : Type 0} (history : T → History) (left : T → ℕ) (width : ℕ)
 
     module _ (mid : MachineWords T) (begins : Begins history left width undone.Step old mid) (region : Region) (region_is : region ≡ region_of active.frame variable.id) where
       pub may_change : MayPut history left width variable.rate region active.lanes mid
-      may_change = may_put_first history left width compiled old sound active changing changing_point changes_here (var_view variable) changed_scalar mid begins region region_is
+      may_change = may_put_first history left width compiled old sound active changing changing_point changes_here (var_view variable) changed_scalar (omega arith) mid begins region region_is
 
       module _ (values : List ℕ) (put : MachineWords T)
           (made : Writes history left width region (assigned_region variable.rate (lanes_of width active.lanes) values (regions_in history width mid region)) width mid put) where
         pub changed_may_send : MaySend history left width active.frame active.lanes put
         changed_may_send =
-            may_send_then history left width compiled old sound active changing changing_point changes_here (var_view variable) changed_scalar mid begins region region_is
+            may_send_then history left width compiled old sound active changing changing_point changes_here (var_view variable) changed_scalar (omega arith) mid begins region region_is
             (λ l ws. assigned_region variable.rate l values ws) put made
 
         pub changed_ends : (new : MachineWords T) (numbers : List ℕ) → length numbers ≡ width → ((k : ℕ) → k < width → at numbers k ≡ next)
@@ -308,6 +308,6 @@ module _ {T : Type 0} (history : T → History) (left : T → ℕ) (width : ℕ)
         changed_ends new numbers long each_number wrote_numbers masked goes =
             ends_well history left width compiled masked
             (sent_on active.frame lanes (λ k. next) (assigned_in active.frame variable.id variable.rate lanes values regions)) (0 + width + width) old new
-            (sent_then history left width compiled old sound active changing changing_point changes_here (var_view variable) changed_scalar mid begins region region_is
+            (sent_then history left width compiled old sound active changing changing_point changes_here (var_view variable) changed_scalar (omega arith) mid begins region region_is
             (λ l ws. assigned_region variable.rate l values ws) put made new numbers next long each_number wrote_numbers)
             goes

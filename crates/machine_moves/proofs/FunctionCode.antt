@@ -8,17 +8,11 @@ use Rattle.mask_states.proofs.PlacedPoints.{length-points_of}
 use Rattle.machine_states.proofs.DeclaredLists.{same_some}
 use Rattle.codegen.specs.declared.code.StepCode.{StepCode}
 use Rattle.codegen.specs.Codes.{DoAll, Does, Fit}
+use Rattle.codegen.proofs.Rows.{fit_long}
 use Rattle.machine_moves.specs.declared.compiled.CompiledProgram.{CompiledProgram}
 use Rattle.machine_moves.specs.Compiled.{IsCompiled, function_of, program_of}
 
--- lists that fit have the same length
-pub fit_long : {A B : Type 0} (P : A → B → Type 0) (xs : List A) (ys : List B) → Fit P xs ys → length xs ≡ length ys
-fit_long P [] [] h = refl
-fit_long P [] (y ∷ ys) h = absurd h
-fit_long P (x ∷ xs) [] h = absurd h
-fit_long P (x ∷ xs) (y ∷ ys) h = let rest = fit_long P xs ys h.1 in omega (arith, rest)
-
--- and their items fit
+-- the items of lists that fit do
 pub fit_at : {A B : Type 0} (P : A → B → Type 0) (xs : List A) (ys : List B) (k : ℕ) (x : A) (y : B) → Fit P xs ys → slice_get xs k ≡ Some x → slice_get ys k ≡ Some y → P x y
 fit_at P [] ys k x y h e d = absurd (none-some x e)
 fit_at P (a ∷ xs) [] k x y h e d = absurd h

@@ -26,7 +26,7 @@ use Rattle.machine_moves.specs.Compiled.{IsCompiled, program_of, variables_of}
 use Rattle.machine_moves.specs.Results.{Returns}
 use Rattle.machine_moves.specs.Standing.{AreSound, Begins, EndsAs, IsActive, IsShown, IsValueAt}
 use Rattle.machine_moves.proofs.Heads.{sent_to}
-use Rattle.machine_moves.proofs.Standings.{IsUnderWay, begun_left, begun_regions, ends_well, lanes_long, under_way_alike, value_at, wrote}
+use Rattle.machine_moves.proofs.Standings.{IsUnderWay, begun_regions, ends_well, lanes_long, under_way_alike, value_at, wrote}
 
 -- ---- the value
 
@@ -84,7 +84,7 @@ module _ {T : Type 0} (history : T → History) (left : T → ℕ) (w : ℕ) (co
     layout = gave.layout ∙ begins.layout;
     laid = gave.laid;
     recorded = gave.rest ∙ begins.recorded;
-    left_is = omega (arith, gave.few, begun_left history left w compiled undone.Step old mid sound.lie begins);
+    left_is = omega (arith, gave.few, begins.left_is);
   }
 
   abbrev returned_on : Regions

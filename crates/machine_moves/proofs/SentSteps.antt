@@ -19,6 +19,7 @@ use Rattle.debug_machine.specs.declared.machine.Fault.{Fault}
 use Rattle.debug_machine.specs.Machines.{fault_view}
 use Rattle.mask_states.specs.Points.{Point}
 use Rattle.mask_states.specs.Masked.{Masked, sent}
+use Rattle.machine_states.specs.Cells.{words_set}
 use Rattle.machine_states.specs.Variables.{IsScalar, Variables, variable_of}
 use Rattle.machine_states.specs.Regions.{NumbersOf, OfHead, Region, Regions, with_region}
 use Rattle.gang_model.specs.Running.State.{words_for}
@@ -31,7 +32,7 @@ use Rattle.machine_moves.specs.declared.active.Active.{Active}
 use Rattle.machine_moves.specs.declared.compiled.CompiledProgram.{CompiledProgram}
 use Rattle.machine_moves.specs.Compiled.{program_of, variables_of}
 use Rattle.machine_moves.specs.Standing.{AreSound, Begins, EndsAs, IsActive}
-use Rattle.machine_moves.proofs.Standings.{IsUnderWay, begun, frame_below, head_sized, lanes_long, may_write, sized, some_active, wrote}
+use Rattle.machine_moves.proofs.Standings.{IsUnderWay, begun, frame_below, head_sized, lanes_long, may_write, sized, some_active, step_within, wrote}
 use Rattle.machine_moves.proofs.GangLanes.{words_few}
 
 -- ---- lanes
@@ -111,12 +112,12 @@ module _ {T : Type 0} (history : T → History) (left : T → ℕ) (width : ℕ)
   abbrev lanes : Lanes
   lanes = waiting_in (regions_in history width old) active.frame active.step
 
-  module _ (regions : Regions) (writes : ℕ) (mid : MachineWords T) (so_far : IsUnderWay history left width undone.Step regions writes old mid) (few : writes ≤ width) where
+  module _ (regions : Regions) (writes : ℕ) (mid : MachineWords T) (so_far : IsUnderWay history left width undone.Step regions writes old mid) (few : writes + width ≤ words_set width point) where
     wide : width * 8 < 9223372036854775808
     wide = omega (arith, gang_width-le width sound.lie.gang)
 
     still : width ≤ left_of history left mid
-    still = may_write history left width undone.Step regions writes old mid so_far width (omega (arith, few))
+    still = may_write history left width undone.Step regions writes old mid so_far width (omega (arith, few, step_within history width compiled old sound.lie active f point is_active))
 
     pub may_send : MaySend history left width active.frame active.lanes mid
     may_send = (
@@ -162,23 +163,23 @@ module _ {T : Type 0} (history : T → History) (left : T → ℕ) (width : ℕ)
         (make (lanes_of width active.lanes)) (make lanes) (λ ws. ap (λ l. make l ws) is_active.lanes) width made
 
   -- a step that writes a scalar and then sends its lanes on
-  module _ (x : Var) (scalar : IsScalar (variables_of compiled) active.function x) (mid : MachineWords T) (begins : Begins history left width undone.Step old mid)
+  module _ (x : Var) (scalar : IsScalar (variables_of compiled) active.function x) (both : width + width ≤ words_set width point) (mid : MachineWords T) (begins : Begins history left width undone.Step old mid)
       (region : Region) (region_is : region ≡ region_of active.frame x.id) where
     opened : IsUnderWay history left width undone.Step (regions_in history width old) 0 old mid
     opened = begun history left width compiled undone.Step old mid sound.lie begins
 
     pub may_put_first : MayPut history left width x.rate region active.lanes mid
-    may_put_first = may_put (regions_in history width old) 0 mid opened (omega arith) x scalar region region_is
+    may_put_first = may_put (regions_in history width old) 0 mid opened (omega (arith, both)) x scalar region region_is
 
     module _ (make : Lanes → List ℕ → List ℕ) (put : MachineWords T) (made : Writes history left width region (make (lanes_of width active.lanes) (regions_in history width mid region)) width mid put) where
       abbrev with_put : Regions
       with_put = with_region (region_of active.frame x.id) (make lanes (regions_in history width old (region_of active.frame x.id))) (regions_in history width old)
 
       is_put : IsUnderWay history left width undone.Step with_put (0 + width) old put
-      is_put = put_so (regions_in history width old) 0 mid opened (omega arith) put region x.id region_is make made
+      is_put = put_so (regions_in history width old) 0 mid opened (omega (arith, both)) put region x.id region_is make made
 
       pub may_send_then : MaySend history left width active.frame active.lanes put
-      may_send_then = may_send with_put (0 + width) put is_put (omega arith)
+      may_send_then = may_send with_put (0 + width) put is_put (omega (arith, both))
 
       pub sent_then : (new : MachineWords T) (numbers : List ℕ) (next : StepNumber) → length numbers ≡ width → ((k : ℕ) → k < width → at numbers k ≡ next)
           → Writes history left width (OfHead active.frame NumbersOf) (merged (lanes_of width active.lanes) numbers (regions_in history width put (OfHead active.frame NumbersOf))) width put new
@@ -186,7 +187,7 @@ module _ {T : Type 0} (history : T → History) (left : T → ℕ) (width : ℕ)
           (sent_on active.frame (waiting_in (regions_in history width old) active.frame active.step) (λ k. next)
           (with_region (region_of active.frame x.id) (make (waiting_in (regions_in history width old) active.frame active.step) (regions_in history width old (region_of active.frame x.id))) (regions_in history width old)))
           (0 + width + width) old new
-      sent_then new numbers next long each_number wrote_numbers = sent_so with_put (0 + width) put is_put (omega arith) new numbers (λ k. next) long each_number wrote_numbers
+      sent_then new numbers next long each_number wrote_numbers = sent_so with_put (0 + width) put is_put (omega (arith, both)) new numbers (λ k. next) long each_number wrote_numbers
 
 -- ---- faults
 

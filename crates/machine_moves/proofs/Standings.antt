@@ -26,11 +26,13 @@ use Rattle.gang_memory.specs.Recorded.{left_in, without_words}
 use Rattle.mask_states.specs.Points.{Point, Put, Go, Branch, Turn, Enter, Ways, before_step, entry_of, body_ways, update_ways, round_ways, points_of, function_ways, points_in}
 use Rattle.mask_states.specs.Masked.{Level, Masked}
 use Rattle.mask_states.specs.MaskedStep.{Goes, masked_step}
+use Rattle.machine_states.specs.Cells.{cells_of, words_left, words_set}
 use Rattle.machine_states.specs.Variables.{Variables, or_none, own_of}
 use Rattle.machine_states.specs.Regions.{Head, FunctionOf, OfFile, Depth, OfHead, OfLocal, Region, Regions, same_region, with_region}
 use Rattle.machine_states.specs.Shows.{AreSized, ShowsFrames}
 use Rattle.machine_states.specs.Steps.{GoesTo}
 use Rattle.machine_states.proofs.AlwaysDeclared.{next_names}
+use Rattle.machine_states.proofs.Cells.{cells_enough, cells_few, leaving_enough}
 use Rattle.machine_states.proofs.DeclaredNames.{NamesBefore}
 use Rattle.machine_states.proofs.PlainPoints.{points_in-plain, point_at}
 use Rattle.machine_states.proofs.DeclaredLists.{same_some}
@@ -56,7 +58,26 @@ use Rattle.machine_words.proofs.Sizes.{depth_words, file_words, head_words, loca
 use Rattle.machine_moves.specs.declared.active.Active.{Active}
 use Rattle.machine_moves.specs.declared.compiled.CompiledProgram.{CompiledProgram}
 use Rattle.machine_moves.specs.Compiled.{IsCompiled, program_of, variables_of}
-use Rattle.machine_moves.specs.Standing.{AreFor, AreSound, Begins, EndsAs, IsActive, IsShown, IsValueAt, DoesNext, Records, most_writes}
+use Rattle.machine_moves.specs.Standing.{AreFor, AreSound, Begins, EndsAs, IsActive, IsShown, IsValueAt, DoesNext, Records, event_room}
+
+-- ---- how many words an event sets
+
+module _ {T : Type 0} (history : T → History) (width : ℕ) (compiled : CompiledProgram) (old : MachineWords T) (lie : AreFor history width compiled old) where
+  cells_within : cells_of width (program_of compiled) ≤ event_room history old
+  cells_within =
+      let small = gang_width-le width lie.gang in
+      let few = cells_few width (variables_of compiled) lie.compiled_is.runnable.most (program_of compiled) lie.compiled_is.runnable.plain in
+      omega (arith, small, few, lie.room)
+
+  -- leaving a frame sets no more than there is room for
+  pub leaving_within : words_left width ≤ event_room history old
+  leaving_within = omega (arith, cells_within, leaving_enough width (program_of compiled))
+
+  -- nor does the next step
+  pub step_within : (active : Active) (f : Function) (point : Point) → IsActive width compiled (regions_in history width old) active f (Some point) → words_set width point ≤ event_room history old
+  step_within active f point at =
+      let enough = cells_enough width (program_of compiled) active.function f at.next.is_function active.step point at.next.is_point in
+      omega (arith, cells_within, enough)
 
 -- ---- events
 
@@ -71,7 +92,7 @@ pub record IsUnderWay {T : Type 0} (history : T → History) (left : T → ℕ) 
   pub layout : new.layout ≡ old.layout
   pub laid : AreLaid history width new
   pub recorded : without_words (history new.store.timeline) ≡ without_words (marked event (history old.store.timeline))
-  pub left_is : most_writes width ≤ left_of history left new + writes
+  pub left_is : event_room history old ≤ left_of history left new + writes
 
 -- it was opened
 module _ {T : Type 0} (history : T → History) (left : T → ℕ) (width : ℕ) (compiled : CompiledProgram) (event : Undone) (old new : MachineWords T)
@@ -84,22 +105,19 @@ module _ {T : Type 0} (history : T → History) (left : T → ℕ) (width : ℕ)
   pub begun_regions : regions_in history width new ≡ regions_in history width old
   begun_regions = ap₂ (λ l ws. regions_of width l ws) begins.layout begins.words
 
-  pub begun_left : most_writes width ≤ left_of history left new
-  begun_left = let small = gang_width-le width lie.gang in omega (arith, small, lie.room, begins.left_is)
-
   pub begun : IsUnderWay history left width event (regions_in history width old) 0 old new
   begun = record {
     regions_are = λ r. ap (λ regions. regions r) begun_regions;
     layout = begins.layout;
     laid = begun_laid;
     recorded = begins.recorded;
-    left_is = omega (arith, begun_left);
+    left_is = omega (arith, begins.left_is);
   }
 
 module _ {T : Type 0} (history : T → History) (left : T → ℕ) (width : ℕ) (event : Undone) (regions : Regions) (writes : ℕ) (old mid : MachineWords T)
     (so_far : IsUnderWay history left width event regions writes old mid) where
   -- so many words may still be set
-  pub may_write : (more : ℕ) → writes + more ≤ most_writes width → more ≤ left_of history left mid
+  pub may_write : (more : ℕ) → writes + more ≤ event_room history old → more ≤ left_of history left mid
   may_write more h = omega (arith, h, so_far.left_is)
 
   -- one more region is written, with what is made of its words

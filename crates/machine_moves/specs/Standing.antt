@@ -1,5 +1,5 @@
 -- Where the words of a machine stand, and what a step leaves.
-use Rattle.std.specs.Prelude.{◌≡◌, ℕ, ◌+◌, ◌-◌, ◌*◌, ◌^◌, ◌≤◌, false, min, List, [], ◌∷◌, Option, Some, None, Result, Ok, Err, slice_get}
+use Rattle.std.specs.Prelude.{◌≡◌, ℕ, ◌-◌, ◌^◌, ◌≤◌, false, min, List, [], ◌∷◌, Option, Some, None, Result, Ok, Err, slice_get}
 use Rattle.gang_types.specs.Lanes.{no_lane}
 use Rattle.gang_types.specs.Masks.{IsGangWidth, lanes_of}
 use Rattle.gang_model.specs.Types.Tree.{Expr, Function}
@@ -17,6 +17,7 @@ use Rattle.gang_memory.specs.Recorded.{without_words}
 use Rattle.mask_states.specs.Points.{Point, points_in}
 use Rattle.mask_states.specs.Masked.{Masked}
 use Rattle.mask_states.specs.MaskedStep.{Goes, Over, masked_step}
+use Rattle.machine_states.specs.Cells.{cells_of}
 use Rattle.machine_states.specs.Declared.{AreDeclared, NamesDeclared, declared_before}
 use Rattle.machine_states.specs.Plain.{IsPlainExpr}
 use Rattle.machine_states.specs.Regions.{Depth, Regions}
@@ -38,17 +39,14 @@ pub record IsShown {T : Type 0} (history : T → History) (width : ℕ) (compile
   pub shows : Shows (program_of compiled) (variables_of compiled) width (regions_in history width words) masked
   pub declared : AreDeclared (variables_of compiled) (program_of compiled) masked
 
--- how many words a step sets at most
-abbrev pub most_writes : (width : ℕ) → ℕ
-most_writes width = 9 * width + 16
-
--- the words lie as the program's layout says, and have room for what a step sets; the code is that of a program that a machine runs
+-- the words lie as the program's layout says, and have room for what one event of it sets; the code is that of a program that a
+-- machine runs
 pub record AreFor {T : Type 0} (history : T → History) (width : ℕ) (compiled : CompiledProgram) (words : MachineWords T) : Type 0 where
   pub gang : IsGangWidth width
   pub compiled_is : IsCompiled compiled
   pub layout : IsLayoutOf width compiled.program [] machine_sizes (head_sizes width) words.layout
   pub laid : AreLaid history width words
-  pub room : most_writes width ≤ (history words.store.timeline).room
+  pub room : cells_of width (program_of compiled) ≤ (history words.store.timeline).room
 
 -- each frame was made for some lane
 abbrev pub HaveLanes : List Frame → Type 0
@@ -101,13 +99,16 @@ IsAnswer (Err fault) meant = meant ≡ Err (fault_view fault)
 
 -- ---- records
 
--- Nothing is changed but what is kept: this event, with all words before it. As many words may be set as there is room for, or
--- 2 ^ 64 - 1 where there is room for more.
+-- as many words may be set in an event as there is room for, or 2 ^ 64 - 1 where there is room for more
+abbrev pub event_room : {T : Type 0} → (history : T → History) → MachineWords T → ℕ
+event_room history words = min (history words.store.timeline).room (2 ^ 64 - 1)
+
+-- nothing is changed but what is kept: this event, with all words before it
 pub record Begins {T : Type 0} (history : T → History) (left : T → ℕ) (width : ℕ) (event : Undone) (old new : MachineWords T) : Type 0 where
   pub words : (history new.store.timeline).words ≡ (history old.store.timeline).words
   pub layout : new.layout ≡ old.layout
   pub recorded : without_words (history new.store.timeline) ≡ without_words (marked event (history old.store.timeline))
-  pub left_is : min (history old.store.timeline).room (2 ^ 64 - 1) ≤ left_of history left new
+  pub left_is : event_room history old ≤ left_of history left new
 
 -- this event is kept with all words before it, and the words lie as before
 pub record Records {T : Type 0} (history : T → History) (width : ℕ) (event : Undone) (old new : MachineWords T) : Type 0 where

@@ -30,7 +30,7 @@ use Rattle.machine_moves.specs.declared.compiled.CompiledProgram.{CompiledProgra
 use Rattle.machine_moves.specs.Compiled.{program_of, variables_of}
 use Rattle.machine_moves.specs.Standing.{AreSound, Begins, HaveLanes, IsShown, Records}
 use Rattle.machine_moves.proofs.CalledFrames.{words_called}
-use Rattle.machine_moves.proofs.Standings.{IsUnderWay, begun, begun_laid, begun_regions, lie_behind, may_write, recorded_so_far, sized, wrote}
+use Rattle.machine_moves.proofs.Standings.{IsUnderWay, begun, begun_laid, begun_regions, leaving_within, lie_behind, may_write, recorded_so_far, sized, wrote}
 use Rattle.machine_shown.specs.Seen.{IsNoScalar, IsPartOf, IsScalarAt, IsSeen, IsSetIn, has_part}
 use Rattle.machine_shown.proofs.SameScalars.{no_scalar, same_scalar}
 use Rattle.machine_shown.proofs.ScalarRoom.{scalar_room}
@@ -155,7 +155,7 @@ module _ {T : Type 0} (history : T → History) (left : T → ℕ) (width : ℕ)
     mid_laid = begun_laid history left width compiled undone.Poke old mid sound.lie begins
 
     pub mid_left : (writes : ℕ) → writes ≤ width → writes ≤ left_of history left mid
-    mid_left writes few = may_write history left width undone.Poke regions 0 old mid opened writes (omega (arith, few))
+    mid_left writes few = may_write history left width undone.Poke regions 0 old mid opened writes (omega (arith, few, leaving_within history width compiled old sound.lie))
 
     module _ (id : VarId) (region : Region) (rate : Rate) (found : IsScalarAt width compiled regions id region rate) where
       pub seen_rate : (masked : Masked) (v : Variable) → IsShown history width compiled old masked → IsSeen compiled masked v → v.id ≡ id → v.rate ≡ rate

@@ -1,7 +1,6 @@
 -- A call: its arguments have values, its parameters are those of the function that is called, and its frame begins.
 use Rattle.std.proofs.Common.{◌≡◌, refl, sym, ap, ◌∙◌, subst, ℕ, zero, suc, ◌+◌, ◌*◌, ◌<◌, ◌≤◌, true, false, List, [], ◌∷◌, length, Some, Vec, Global, add-one, add-zero, zero-add, arith}
 use Rattle.std.specs.Prelude.{Ok, Err, ◌==◌, ◌||◌, nat_lt, slice_get, if◌then◌else◌}
-use Rattle.std.proofs.Math.Nat.{mul-le-mul_right}
 use Rattle.std.proofs.lemmas.Bool.{and_left, ne_eqb}
 use Rattle.std.proofs.lemmas.Option.{slice_get_within}
 use Rattle.gang_types.specs.declared.places.VarId.TheVariants.{Local}
@@ -38,10 +37,10 @@ use Rattle.machine_words.specs.Words.{AreLaid, left_of, regions_in}
 use Rattle.machine_moves.specs.declared.active.Active.{Active}
 use Rattle.machine_moves.specs.declared.compiled.CompiledProgram.{CompiledProgram}
 use Rattle.machine_moves.specs.Compiled.{IsCompiled, function_of, program_of, variables_of}
-use Rattle.machine_moves.specs.Standing.{AreSound, Begins, DoesNext, EndsAs, IsActive, IsShown, IsValueAt}
-use Rattle.machine_moves.proofs.FunctionCode.{fit_long}
+use Rattle.machine_moves.specs.Standing.{AreSound, Begins, DoesNext, EndsAs, IsActive, IsShown, IsValueAt, event_room}
+use Rattle.codegen.proofs.Rows.{fit_long}
 use Rattle.machine_moves.proofs.GangLanes.{gang_wide}
-use Rattle.machine_moves.proofs.Standings.{active_plain, begun_laid, begun_left, begun_regions, enters_at, frame_below, lanes_long, own_sized, some_active, value_at}
+use Rattle.machine_moves.proofs.Standings.{active_plain, begun_laid, begun_regions, enters_at, frame_below, lanes_long, own_sized, some_active, step_within, value_at}
 use Rattle.machine_steps.specs.Calls.{AreParametersDeclared, BeginsFrame, IsArgumentAt, IsArgumentValue}
 use Rattle.machine_steps.proofs.PassedArguments.{all_passed, parameters_with}
 
@@ -76,9 +75,6 @@ module _ (width : ℕ) (compiled : CompiledProgram) (is : IsCompiled compiled) (
 
     pub few_arguments : length args ≤ 8
     few_arguments = omega (arith, fit_long IsArg args meant fits, call_plain.few)
-
-    pub few_words : length args * width ≤ 8 * width
-    few_words = mul-le-mul_right width few_arguments
 
 -- ---- parameters
 
@@ -226,8 +222,11 @@ module _ {T : Type 0} (history : T → History) (left : T → ℕ) (width : ℕ)
   pub call_few : length args ≤ 8
   call_few = few_arguments width compiled sound.lie.compiled_is regions active call.f called call.meant call.for call.next call.at args call.fits
 
-  pub call_words : length args * width ≤ 8 * width
-  call_words = few_words width compiled sound.lie.compiled_is regions active call.f called call.meant call.for call.next call.at args call.fits
+  -- its arguments and its frame have as many words as may be set
+  call_words : length args * width + width + 4 ≤ event_room history old
+  call_words =
+      subst (λ n. n * width + width + 4 ≤ event_room history old) (sym (fit_long IsArg args call.meant call.fits))
+      (step_within history width compiled old sound.lie active call.f (Enter called call.meant call.for call.next) call.at)
 
   -- a fault of an argument
   pub call_fails : (masked : Masked) → IsShown history width compiled old masked → (fault : ModelFault) → passed call.meant lanes masked.state ≡ Err fault → FailsWith (program_of compiled) masked fault
@@ -263,11 +262,11 @@ module _ {T : Type 0} (history : T → History) (left : T → ℕ) (width : ℕ)
         (ap (slice_get (own_of (variables_of compiled) called)) (sym (zero-add k)) ∙ variable.1)
 
     pub parameters_left : length args * width ≤ left_of history left open'
-    parameters_left = omega (arith, call_words, begun_left history left width compiled undone.Step old open' sound.lie opened)
+    parameters_left = omega (arith, call_words, opened.left_is)
 
     module _ (given : List (List ℕ)) (mid : MachineWords T) (declared : AreParametersDeclared history left width (active.frame + 1) (length args) args given lanes open' mid) where
       pub frame_left : width + 4 ≤ left_of history left mid
-      frame_left = omega (arith, call_words, begun_left history left width compiled undone.Step old open' sound.lie opened, declared.few)
+      frame_left = omega (arith, call_words, opened.left_is, declared.few)
 
       -- a frame has begun
       module _ (g : Function) (is : function_of compiled called ≡ Some g) (new : MachineWords T) (begins : BeginsFrame history left (variables_of compiled) width (active.frame + 1) called g lanes mid new) where

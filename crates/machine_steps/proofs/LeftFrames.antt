@@ -21,7 +21,7 @@ use Rattle.machine_moves.specs.declared.compiled.CompiledProgram.{CompiledProgra
 use Rattle.machine_moves.specs.Compiled.{IsCompiled, program_of, variables_of}
 use Rattle.machine_moves.specs.Standing.{AreSound, Begins, IsActive, IsClosing, IsShown}
 use Rattle.machine_moves.proofs.Heads.{only_word}
-use Rattle.machine_moves.proofs.Standings.{IsUnderWay, begun, begun_left, begun_regions, lie_behind, recorded_so_far, shown_alike, sized, under_way_alike, wrote}
+use Rattle.machine_moves.proofs.Standings.{IsUnderWay, begun, begun_regions, lie_behind, recorded_so_far, shown_alike, sized, under_way_alike, wrote}
 use Rattle.machine_steps.specs.Leaving.{GoesPastCall, lanes_called, result_seen}
 use Rattle.machine_steps.proofs.Callers.{call_declared, call_plain}
 
@@ -95,7 +95,7 @@ module _ {T : Type 0} (history : T → History) (left : T → ℕ) (w : ℕ) (co
     layout = gone.layout ∙ begins.layout;
     laid = gone.laid;
     recorded = gone.rest ∙ begins.recorded;
-    left_is = omega (arith, gone.few, begun_left history left w compiled undone.Step old mid sound.lie begins);
+    left_is = omega (arith, gone.few, begins.left_is);
   }
 
 -- the number of frames is set

@@ -16,7 +16,8 @@ use Rattle.machine_moves.specs.declared.active.Active.{Active}
 use Rattle.machine_moves.specs.declared.compiled.CompiledProgram.{CompiledProgram}
 use Rattle.machine_moves.specs.Standing.{AreSound, DoesNext, Ends, IsActive, IsClosing, IsNextOf, IsShown, Steps}
 use Rattle.machine_moves.proofs.CalledFrames.{called_behind}
-use Rattle.machine_moves.proofs.FunctionCode.{fit_long, fit_with}
+use Rattle.codegen.proofs.Rows.{fit_long}
+use Rattle.machine_moves.proofs.FunctionCode.{fit_with}
 use Rattle.machine_moves.proofs.Standings.{lie_behind, shown_behind}
 
 module _ (width : ℕ) (compiled : CompiledProgram) (regions : Regions) (active : Active) (next : IsNextOf width compiled regions (Some active)) where

@@ -20,7 +20,7 @@ use Rattle.machine_moves.proofs.FrameResults.{function_is, function_within}
 use Rattle.machine_moves.proofs.Heads.{head_long}
 use Rattle.machine_moves.proofs.ReturnSteps.{each_zero, no_value, returns_well, value_there}
 use Rattle.machine_moves.proofs.GangLanes.{stacks_small}
-use Rattle.machine_moves.proofs.Standings.{begun_laid, begun_left, frame_below, lanes_long, returns_at, some_active}
+use Rattle.machine_moves.proofs.Standings.{begun_laid, frame_below, lanes_long, returns_at, some_active, step_within}
 use Rattle.machine_moves.proofs.assignments.finish.Goals.{in-Some+in_ok-values-in-Some, in-None}
 use Rattle.machine_moves.proofs.assignments.finish.Goals as goal
 
@@ -79,7 +79,7 @@ give_result-requires g c =
     let sound = c.requires.sound in
     let returning = returns_at w compiled (regions_in history w old) active c.args.value.now c.args.next c.requires.does in
     let point = Put (Return returning.1.0 returning.1.1) c.args.next in
-    let room = begun_left history left w compiled undone.Step old mid sound.lie c.begin.ensures in (
+    let room = step_within history w compiled old sound.lie active returning.0 point returning.1.3 in (
       omega (arith, gang_width-le w sound.lie.gang),
       (
         sound.lie.gang,
@@ -87,7 +87,7 @@ give_result-requires g c =
           begun_laid history left w compiled undone.Step old mid sound.lie c.begin.ensures,
           (
             frame_below history w compiled old sound active returning.0 (Some point) returning.1.3,
-            (some_active history w compiled old sound active returning.0 point returning.1.3, omega (arith, room)),
+            (some_active history w compiled old sound active returning.0 point returning.1.3, omega (arith, room, c.begin.ensures.left_is)),
           ),
         ),
       ),
@@ -105,7 +105,7 @@ set_lanes-requires g c =
     let sound = c.requires.sound in
     let returning = returns_at w compiled (regions_in history w old) active c.args.value.now c.args.next c.requires.does in
     let point = Put (Return returning.1.0 returning.1.1) c.args.next in
-    let room = begun_left history left w compiled undone.Step old mid sound.lie c.begin.ensures in
+    let room = step_within history w compiled old sound.lie active returning.0 point returning.1.3 in
     let there = frame_below history w compiled old sound active returning.0 (Some point) returning.1.3 in (
       omega (arith, gang_width-le w sound.lie.gang),
       (
@@ -114,7 +114,7 @@ set_lanes-requires g c =
           c.give_result.ensures.laid,
           (
             head_long history left w c.give_result.new.words c.give_result.ensures.laid active.frame NumbersOf there,
-            (some_active history w compiled old sound active returning.0 point returning.1.3, omega (arith, room, c.give_result.ensures.few)),
+            (some_active history w compiled old sound active returning.0 point returning.1.3, omega (arith, room, c.begin.ensures.left_is, c.give_result.ensures.few)),
           ),
         ),
       ),

@@ -10,7 +10,8 @@ use Rattle.machine_words.specs.Words.{regions_in}
 use Rattle.machine_steps.specs.Calls.{ArePassed, IsArgumentAt, IsArgumentValue}
 use Rattle.codegen.specs.Codes.{Fit}
 use Rattle.machine_moves.specs.Standing.{IsValueAt}
-use Rattle.machine_moves.proofs.FunctionCode.{fit_long, fit_with}
+use Rattle.codegen.proofs.Rows.{fit_long}
+use Rattle.machine_moves.proofs.FunctionCode.{fit_with}
 use Rattle.machine_moves.proofs.GangLanes.{stacks_small}
 use Rattle.machine_steps.proofs.PassedArguments.{argument_fault, argument_value, fault_passed, one_passed, some_value, whole}
 use Rattle.machine_steps.proofs.calls.arguments.Goals as goal
