@@ -1,4 +1,5 @@
 pub mod Agreeing
+pub mod Beginnings
 pub mod Finding
 pub mod Keeping
 pub mod Placing

@@ -5,4 +5,4 @@ mod machine;
 mod opening;
 
 pub use machine::Machine;
-pub use opening::open;
+pub use opening::{PreparedProgram, open};
