@@ -117,6 +117,7 @@ fn elements_at(rt: &impl Abort, store: &mut Vec<u64>, len: usize, value: i128, w
 fn part_at(rt: &impl Abort, len: usize, value: i128, word: u64) {
     assert!(rt; len < 70_000);
     let mask = Mask::from_word::<4>(0b1010);
+    assert!(rt; !mask.is_empty::<4>());
     let part = part_from::<4>(Part { first: 1, len }, mask, word);
     if 0 <= value && value <= len as i128 {
         let passed = value as usize;

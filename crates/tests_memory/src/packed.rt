@@ -23,13 +23,12 @@ fn same_at<const W: usize>(
     let lanes: [bool; W] = plain::lanes_in(word);
     let below = plain::lanes_below(lanes);
     let mut store = Vec::from_array(alloc, plain::words_before())?;
-    let loaded = packed_load::<W, _>(&store, part, mask);
+    let loaded = packed_load::<W, _>(&store, part, mask).map(|loaded| loaded.words);
+    let many = packed_load::<W, _>(&store, part, mask).map(|loaded| loaded.count);
     let stored = packed_store(&mut store, part, mask, plain::values::<W>());
     if let Some(fault) = plain::missing(lanes, below, len) {
-        assert!(rt;
-            loaded.err() == Some(fault),
-            "loaded by mask {word} of {len}"
-        );
+        assert!(rt; loaded == Err(fault), "loaded by mask {word} of {len}");
+        assert!(rt; many == Err(fault), "loaded by mask {word} of {len}");
         assert!(rt; stored == Err(fault), "stored by mask {word} of {len}");
         assert!(rt;
             store.as_slice() == plain::words_before().as_slice(),
@@ -37,12 +36,10 @@ fn same_at<const W: usize>(
         );
     } else {
         let words = plain::stored(lanes, below, len);
-        let got = loaded.map(|loaded| loaded.words);
         assert!(rt;
-            got == Ok(plain::loaded(lanes, below, len)),
+            loaded == Ok(plain::loaded(lanes, below, len)),
             "mask {word} of {len}"
         );
-        let many = loaded.map(|loaded| loaded.count);
         assert!(rt;
             many == Ok(plain::count(lanes)),
             "loaded by mask {word} of {len}"

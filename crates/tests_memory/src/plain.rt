@@ -16,11 +16,16 @@ pub fn words_before() -> Words {
     words
 }
 
+// The value that a lane stores: less by 1 for each lane.
+fn value_of(lane: usize) -> u64 {
+    1_000_000u64.saturating_sub(lane as u64)
+}
+
 /// The value that each lane stores.
 pub fn values<const W: usize>() -> [u64; W] {
     let mut values = [0; W];
     for lane in 0..W {
-        values[lane] = 1_000_000 - lane as u64;
+        values[lane] = value_of(lane);
     }
     values
 }
@@ -44,9 +49,10 @@ pub fn count<const W: usize>(lanes: [bool; W]) -> usize {
 /// In each lane how many lanes of the mask are below it.
 pub fn lanes_below<const W: usize>(lanes: [bool; W]) -> [u64; W] {
     let mut below = [0; W];
+    let mut lower: u64 = 0;
     for lane in 0..W {
-        let lower = lanes.iter().take(lane).filter(|is_in| **is_in).count();
-        below[lane] = lower as u64;
+        below[lane] = lower;
+        lower = lower.saturating_add(u64::from(lanes[lane]));
     }
     below
 }
@@ -102,7 +108,7 @@ fn highest_value<const W: usize>(
     for passed in 0..W {
         let lane = W - 1 - passed;
         if lanes[lane] && indices[lane] == element as u64 {
-            return Some(1_000_000 - lane as u64);
+            return Some(value_of(lane));
         }
     }
     None
