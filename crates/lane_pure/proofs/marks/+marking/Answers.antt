@@ -1,0 +1,8 @@
+use Rattle.std.proofs.Common.{ap, sym, ◌∙◌}
+use Rattle.lane_pure.specs.Marks.{marked}
+use Rattle.lane_pure.proofs.Rows.{block_is}
+use Rattle.lane_pure.proofs.marks.+marking.Goals as goal
+
+pub mark_statement-returns-in-Block : goal.mark_statement-returns-in-Block
+mark_statement-returns-in-Block t c =
+    c.mark_statements.ensures ∙ ap (λ s. marked s c.args.marks.now) (sym (block_is c.args.statement.now c.in-Block.statements c.deref.result.now c.in-Block.is c.deref.ensures.value))
