@@ -5,6 +5,7 @@ pub mod ExpressionValues
 pub mod FrameResults
 pub mod FunctionCode
 pub mod GangLanes
+pub mod GivenResults
 pub mod Heads
 pub mod MoveSteps
 pub mod NextLanes

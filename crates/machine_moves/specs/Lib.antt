@@ -1,3 +1,4 @@
 pub mod Compiled
+pub mod Delivering
 pub mod Results
 pub mod Standing

@@ -5,6 +5,7 @@
 mod active;
 mod assignments;
 mod compiled;
+mod delivering;
 mod moves;
 mod reading;
 mod recording;
@@ -13,6 +14,7 @@ mod values;
 pub use active::{Active, least, next_step, waiting_for};
 pub use assignments::{assign, change, declare, finish, give_result, region_of};
 pub use compiled::CompiledProgram;
+pub use delivering::deliver_values;
 pub use moves::{branch, go};
 pub use reading::TopVariables;
 pub use recording::begin;

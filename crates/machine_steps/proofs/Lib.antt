@@ -3,7 +3,6 @@ pub mod EnteredCalls
 pub mod EnteredNumbers
 pub mod FirstWords
 pub mod FrameHeads
-pub mod GivenResults
 pub mod LeftFrames
 pub mod Parameters
 pub mod PassedArguments

@@ -21,11 +21,12 @@ use Rattle.machine_words.specs.Words.{regions_in}
 use Rattle.machine_moves.specs.declared.active.Active.{Active}
 use Rattle.machine_moves.specs.declared.compiled.CompiledProgram.{CompiledProgram}
 use Rattle.machine_moves.specs.Compiled.{IsCompiled, function_of, program_of, variables_of}
+use Rattle.machine_moves.specs.Delivering.{TakesResult}
 use Rattle.machine_moves.specs.Standing.{AreSound, IsClosing}
 use Rattle.machine_moves.proofs.FunctionCode.{code_long, fit_at}
 use Rattle.machine_moves.proofs.Heads.{first_word, head_long}
 use Rattle.machine_moves.proofs.Standings.{frame_below, sized}
-use Rattle.machine_steps.specs.Leaving.{IsAbove, IsAtCall, lanes_called}
+use Rattle.machine_steps.specs.Leaving.{IsAtCall, lanes_called}
 use Rattle.machine_steps.proofs.Callers.{IsCalling, call_plain, call_within, calls_below, some_called}
 
 -- ---- the frame at its closing brace
@@ -114,12 +115,11 @@ module _ (compiled : CompiledProgram) (regions : Regions) (below : ℕ) (steps :
       (subst (λ r. IsAtCall (program_of compiled) regions below reads.n reads.g r reads.next) enters.2 reads.call)
 
 -- the frame below has what the result is for
-pub is_above : (compiled : CompiledProgram) → IsCompiled compiled → (regions : Regions) (frame function n : ℕ) (f g : Function) (for : ResultFor) (next : StepNumber)
-    → IsAtCall (program_of compiled) regions (frame - 1) n g for next → function_of compiled function ≡ Some f → IsAbove compiled regions frame function for f g
-is_above compiled is regions frame function n f g for next call found = record {
-  callee = found;
+pub takes_result : (compiled : CompiledProgram) → IsCompiled compiled → (regions : Regions) (below n : ℕ) (g : Function) (for : ResultFor) (next : StepNumber)
+    → IsAtCall (program_of compiled) regions below n g for next → TakesResult compiled regions below for g
+takes_result compiled is regions below n g for next call = record {
   n = n;
   runs = call.runs;
-  caller = call.is_function;
-  plain = call_plain (program_of compiled) regions (frame - 1) n g for next call (variables_of compiled) is.runnable.most is.runnable.plain;
+  is_function = call.is_function;
+  plain = call_plain (program_of compiled) regions below n g for next call (variables_of compiled) is.runnable.most is.runnable.plain;
 }

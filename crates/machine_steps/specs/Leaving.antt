@@ -10,14 +10,13 @@ use Rattle.gang_memory.specs.Recorded.{without_words}
 use Rattle.mask_states.specs.Points.{Enter, closing_number, points_in}
 use Rattle.mask_states.specs.Masked.{least}
 use Rattle.machine_states.specs.Effects.{sent_on}
-use Rattle.machine_states.specs.Plain.{ResultPlain}
 use Rattle.machine_states.specs.Regions.{FunctionOf, LanesOf, NumbersOf, OfHead, Region, Regions, ResultOf, ReturnedOf, lanes_in}
 use Rattle.machine_states.specs.Shows.{result_of}
-use Rattle.machine_states.specs.Steps.{Delivers, waiting_in}
+use Rattle.machine_states.specs.Steps.{Delivers, converted_values, waiting_in}
 use Rattle.machine_words.specs.declared.words.MachineWords.{MachineWords}
 use Rattle.machine_words.specs.Words.{AreLaid, left_of, regions_in}
 use Rattle.machine_moves.specs.declared.compiled.CompiledProgram.{CompiledProgram}
-use Rattle.machine_moves.specs.Compiled.{function_of, program_of, variables_of}
+use Rattle.machine_moves.specs.Compiled.{program_of}
 
 -- ---- the result
 
@@ -30,24 +29,9 @@ abbrev pub result_seen : (width : ℕ) → Regions → (frame : ℕ) → Rate �
 result_seen width regions frame rate lanes =
     seen rate lanes (result_of rate (lanes_in width regions (OfHead frame ReturnedOf)) (regions (OfHead frame ResultOf)))
 
--- a frame of f stands on one of g, which has what the result is for
-pub record IsAbove (compiled : CompiledProgram) (regions : Regions) (frame function : ℕ) (for : ResultFor) (f g : Function) : Type 0 where
-  pub callee : function_of compiled function ≡ Some f
-  pub n : ℕ
-  pub runs : regions (OfHead (frame - 1) FunctionOf) ≡ n ∷ []
-  pub caller : function_of compiled n ≡ Some g
-  pub plain : ResultPlain (variables_of compiled) n for
-
--- A result of this type is given to what it is for, by the lanes of its call; nothing else is changed but what `Delivers` says. At most
--- w + 1 words were set.
-pub record GivesResult {T : Type 0} (history : T → History) (left : T → ℕ) (width below : ℕ) (g : Function) (for : ResultFor) (type : IntType) (lanes : Lanes) (values : List ℕ) (old new : MachineWords T) : Type 0 where
-  pub delivered : Regions
-  pub delivers : Delivers width below g for type lanes values (regions_in history width old) delivered
-  pub regions : (r : Region) → regions_in history width new r ≡ delivered r
-  pub layout : new.layout ≡ old.layout
-  pub laid : AreLaid history width new
-  pub rest : without_words (history new.store.timeline) ≡ without_words (history old.store.timeline)
-  pub few : left_of history left old ≤ left_of history left new + (width + 1)
+-- lanes see the same values: so they are, converted in them
+abbrev pub AreSameIn : Lanes → (values others : List ℕ) → Type 0
+AreSameIn lanes values others = (from to : IntType) → converted_values from to lanes values ≡ converted_values from to lanes others
 
 -- ---- the call
 

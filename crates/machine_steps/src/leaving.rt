@@ -1,21 +1,21 @@
 //! A frame is left: its result is given, and the lanes of the call go on behind it.
-ghost use Rattle.std.specs.Prelude.{◌≡◌, ◌+◌, ◌-◌, ◌<◌, ◌≤◌, None, Ok, Some, false};
-ghost use Rattle.gang_types.specs.Lanes.{no_lane};
-ghost use Rattle.gang_types.specs.Masks.{IsGangWidth, lanes_of};
+ghost use Rattle.std.specs.Prelude.{◌≡◌, ◌+◌, ◌-◌, ◌<◌, ◌≤◌, None, Ok, Some, false, length};
+ghost use Rattle.gang_types.specs.Lanes.{Lanes, no_lane};
+ghost use Rattle.gang_types.specs.Masks.{IsGangWidth};
 ghost use Rattle.gang_model.specs.Types.Tree.{Function as ModelFunction};
 ghost use Rattle.machine_states.specs.Shows.{AreSized};
-ghost use Rattle.machine_states.specs.Steps.{converted_values};
 ghost use Rattle.typed_tree.specs.Views.{result_view};
 ghost use Rattle.machine_words.specs.Words.{AreLaid, left_of, regions_in};
 ghost use Rattle.machine_moves.specs.Compiled.{function_of, variables_of};
+ghost use Rattle.machine_moves.specs.Delivering.{GivesResult, TakesResult};
 ghost use Rattle.machine_moves.specs.Standing.{AreSound, Ends, IsActive, IsClosing};
-ghost use Rattle.machine_steps.specs.Leaving.{GivesResult, GoesPastCall, IsAbove, lanes_called, result_seen};
+ghost use Rattle.machine_steps.specs.Leaving.{AreSameIn, GoesPastCall, lanes_called, result_seen};
 
 use codegen::StepCode;
-use gang_types::{IntType, Mask, Rate};
-use machine_moves::{Active, CompiledProgram, begin, give_result, least, region_of, waiting_for};
+use gang_types::{Mask, Rate};
+use machine_moves::{Active, CompiledProgram, begin, deliver_values, least, waiting_for};
 use machine_words::{Head, MachineWords, Region};
-use masked_operations::{convert, only};
+use masked_operations::only;
 use typed_tree::ResultFor;
 use undo_log::{Timeline, Undone};
 
@@ -81,62 +81,47 @@ fn deliver<const W: usize, T: Timeline + Drop>(
     requires sized { AreSized (variables_of compiled.now) W (regions_in T.history W words.old) }
     requires there { active.frame < 64 }
     requires above { 0 < active.frame }
-    requires call { (f : ModelFunction) × (g : ModelFunction)
-        × IsAbove compiled.now (regions_in T.history W words.old) active.frame active.function (result_view result_for) f g }
+    requires callee { (f : ModelFunction) × (function_of compiled.now active.function ≡ Some f) }
+    requires takes { (g : ModelFunction) × TakesResult compiled.now (regions_in T.history W words.old) (active.frame - 1) (result_view result_for) g }
     requires lane { no_lane (lanes_called W (regions_in T.history W words.old) active.frame) ≡ false }
     requires left { W + 1 ≤ left_of T.history T.left words.old }
     ensures { (f : ModelFunction) (g : ModelFunction)
-        → IsAbove compiled.now (regions_in T.history W words.old) active.frame active.function (result_view result_for) f g
+        → function_of compiled.now active.function ≡ Some f
+        → TakesResult compiled.now (regions_in T.history W words.old) (active.frame - 1) (result_view result_for) g
         → GivesResult T.history T.left W (active.frame - 1) g (result_view result_for) f.result_type (lanes_called W (regions_in T.history W words.old) active.frame)
         (result_seen W (regions_in T.history W words.old) active.frame f.result (lanes_called W (regions_in T.history W words.old) active.frame))
         words.old words.new }
 {
-    let below = active.frame - 1;
+    let callee = &compiled.program.functions[active.function];
     let lanes = Mask::from_word::<W>(words.word::<W>(Region::Head(active.frame, Head::Lanes), 0));
-    match result_for {
-        ResultFor::Nothing => {}
-        ResultFor::Declares(variable) => {
-            let values = result_words::<W, T>(compiled, active, variable.value_type, lanes, words);
-            words.declare::<W>(region_of(below, variable.id), variable.rate, lanes, values);
-        }
-        ResultFor::Assigns(variable) => {
-            let values = result_words::<W, T>(compiled, active, variable.value_type, lanes, words);
-            words.assign::<W>(region_of(below, variable.id), variable.rate, lanes, values);
-        }
-        ResultFor::Returns => {
-            let caller = words.word::<W>(Region::Head(below, Head::Function), 0) as usize;
-            let function = &compiled.program.functions[caller];
-            let values = result_words::<W, T>(compiled, active, function.result_type, lanes, words);
-            give_result::<W, T>(below, function.result, lanes, values, words);
-        }
-    }
+    let values = result_words::<W, T>(active.frame, callee.result, words);
+    deliver_values::<W, T>(
+        compiled,
+        active.frame - 1,
+        result_for,
+        callee.result_type,
+        lanes,
+        values,
+        words,
+    );
 }
 
-/// The result of a frame in the lanes of its call, converted to this type; it is 0 in lanes that have not returned.
+/// The result of a frame of a function with a result of this rate; it is 0 in lanes that have not returned.
 fn result_words<const W: usize, T: Timeline + Drop>(
-    compiled: &CompiledProgram,
-    active: Active,
-    to: IntType,
-    lanes: Mask,
+    frame: usize,
+    rate: Rate,
     words: &MachineWords<T>,
 ) -> [u64; W]
     requires width { IsGangWidth W }
     requires laid { AreLaid T.history W words.now }
-    requires there { active.frame < 64 }
-    requires callee { (f : ModelFunction) × (function_of compiled.now active.function ≡ Some f) }
-    ensures { (f : ModelFunction) → function_of compiled.now active.function ≡ Some f
-        → result ≡ converted_values f.result_type to (lanes_of W lanes) (result_seen W (regions_in T.history W words.now) active.frame f.result (lanes_of W lanes)) }
+    requires there { frame < 64 }
+    ensures { (lanes : Lanes) → length lanes ≡ W → AreSameIn lanes result (result_seen W (regions_in T.history W words.now) frame rate lanes) }
 {
-    let callee = &compiled.program.functions[active.function];
-    let result = words.lanes::<W>(Region::Head(active.frame, Head::Result));
-    let returned = Mask::from_word::<W>(words.word::<W>(
-        Region::Head(active.frame, Head::Returned),
-        0,
-    ));
-    let values = match callee.result {
+    let result = words.lanes::<W>(Region::Head(frame, Head::Result));
+    let returned = Mask::from_word::<W>(words.word::<W>(Region::Head(frame, Head::Returned), 0));
+    match rate {
         Rate::Uniform if returned.is_empty::<W>() => [0; W],
         Rate::Uniform => [result[0]; W],
         Rate::Varying => only(returned, result),
-    };
-    convert(lanes, callee.result_type, to, values)
+    }
 }

@@ -14,7 +14,7 @@ use Rattle.machine_words.specs.Words.{regions_in}
 use Rattle.machine_moves.specs.Compiled.{program_of}
 use Rattle.machine_moves.proofs.Heads.{alike, head_long, regions_after, sent_to}
 use Rattle.machine_steps.proofs.Callers.{only_enters, some_calls}
-use Rattle.machine_steps.proofs.PassedCalls.{call_made, caller, caller_found, closing_there, function_word, is_above, numbers_long, reads_call, regions_sized, some_lanes_called}
+use Rattle.machine_steps.proofs.PassedCalls.{call_made, caller, caller_found, closing_there, function_word, takes_result, numbers_long, reads_call, regions_sized, some_lanes_called}
 use Rattle.machine_steps.proofs.leaving.go_past_call.Goals as goal
 
 pub word-caller-requires-clause-within : goal.word-caller-requires-clause-within
@@ -71,8 +71,11 @@ pub deliver-requires-clause-lane : goal.deliver-requires-clause-lane
 deliver-requires-clause-lane g c =
     some_lanes_called g.T.Timeline.history g.T.Timeline.left g.row.W c.args.compiled.now c.args.words.now c.requires.sound c.args.active c.requires.closing
 
-pub deliver-requires-clause-call : goal.deliver-requires-clause-call
-deliver-requires-clause-call g c =
+pub deliver-requires-clause-callee : goal.deliver-requires-clause-callee
+deliver-requires-clause-callee g c = (c.requires.closing.0, c.requires.closing.1.next.is_function)
+
+pub deliver-requires-clause-takes : goal.deliver-requires-clause-takes
+deliver-requires-clause-takes g c =
     let compiled = c.args.compiled.now in
     let active = c.args.active in
     let sound = c.requires.sound in
@@ -83,11 +86,8 @@ deliver-requires-clause-call g c =
     let reads = reads_call compiled regions below calling c.word-caller.result c.word-caller.ensures c.lanes-numbers.result c.lanes-numbers.ensures
     c.closing.result c.closing.ensures c.least-number.result c.least-number.ensures c.steps.result.now c.steps.ensures in
     let call = call_made compiled regions below c.steps.result.now c.least-number.result reads c.in-Enter.function c.in-Enter.args c.in-Enter.result_for c.in-Enter.next
-    c.index-steps-number.result c.index-steps-number.is c.in-Enter.is in (
-      closing.0,
-      reads.g,
-      is_above compiled sound.lie.compiled_is regions active.frame active.function reads.n closing.0 reads.g (result_view c.in-Enter.result_for) c.in-Enter.next call closing.1.next.is_function,
-    )
+    c.index-steps-number.result c.index-steps-number.is c.in-Enter.is in
+    (reads.g, takes_result compiled sound.lie.compiled_is regions below reads.n reads.g (result_view c.in-Enter.result_for) c.in-Enter.next call)
 
 pub set_lanes-requires : goal.set_lanes-requires
 set_lanes-requires g c =
@@ -107,8 +107,7 @@ set_lanes-requires g c =
     c.closing.result c.closing.ensures c.least-number.result c.least-number.ensures c.steps.result.now c.steps.ensures in
     let call = call_made compiled regions below c.steps.result.now c.least-number.result reads c.in-Enter.function c.in-Enter.args c.in-Enter.result_for next
     c.index-steps-number.result c.index-steps-number.is c.in-Enter.is in
-    let gave = c.deliver.ensures closing.0 reads.g
-    (is_above compiled sound.lie.compiled_is regions active.frame active.function reads.n closing.0 reads.g for next call closing.1.next.is_function) in
+    let gave = c.deliver.ensures closing.0 reads.g closing.1.next.is_function (takes_result compiled sound.lie.compiled_is regions below reads.n reads.g for next call) in
     let there = closing_there history left w compiled c.args.words.now sound active closing in
     let waits : no_lane (lanes_of w c.waiting_for.result) ≡ false =
     ap no_lane (c.waiting_for.ensures ∙ ap (λ m. waiting_for m c.lanes-numbers.result) reads.number_is ∙ ap (waiting_for (least (closing_number reads.g) (regions (OfHead below NumbersOf)))) c.lanes-numbers.ensures)
@@ -137,8 +136,7 @@ returns g c = λ f is_active.
     c.closing.result c.closing.ensures c.least-number.result c.least-number.ensures c.steps.result.now c.steps.ensures in
     let call = call_made compiled regions below c.steps.result.now c.least-number.result reads c.in-Enter.function c.in-Enter.args c.in-Enter.result_for next
     c.index-steps-number.result c.index-steps-number.is c.in-Enter.is in
-    let gave = c.deliver.ensures f reads.g
-    (is_above compiled sound.lie.compiled_is regions active.frame active.function reads.n f reads.g for next call is_active.next.is_function) in
+    let gave = c.deliver.ensures f reads.g is_active.next.is_function (takes_result compiled sound.lie.compiled_is regions below reads.n reads.g for next call) in
     let number = least (closing_number reads.g) (regions (OfHead below NumbersOf)) in
     let lanes = waiting_in regions below number in
     let there : lanes_of w c.waiting_for.result ≡ lanes =
