@@ -12,6 +12,7 @@ MADE_OR_ANY = re.compile(r"\b(NAME|CRATE|F|PATH)\b|\.\.$|\bout/|^~|\*")
 CODE = re.compile(r"`([^`\n]+)`")
 LINK = re.compile(r"\]\(([^)#\s]+)[^)]*\)")
 PATH = re.compile(r"(?:[\w.~*+-]*\w[\w.~*+-]*/)+[\w.*+-]*|[\w-]+\.(?:antt|rt|py|md|txt|edit|session)")
+NAMES_IN = re.compile(r"((?:`[\w>=-]+`(?:,| and) )*`[\w>=-]+`) \(`([\w/.]+\.(?:antt|rt))`\)")
 BLOCK = re.compile(r"^```.*?^```", re.M | re.S)
 
 
@@ -31,10 +32,22 @@ def is_there(root, path):
     return any((it / path).exists() for it in (root, root / "crates")) or any(root.glob(f"crates/*/{path}")) or any(root.glob(f"tools/*/{path}"))
 
 
+def has(text, name):
+    return bool(re.search(rf"(?<![\w'-]){re.escape(name)}(?![\w'-])", text))
+
+
 def missing(root, page):
-    links, words = named(page.read_text(encoding="utf-8"))
+    """The links and paths of a page that are not there, and the names that the file behind them has not."""
+    text = page.read_text(encoding="utf-8")
+    links, words = named(text)
     bad = [it for it in links if "://" not in it and not (page.parent / it).exists()]
-    return [f"{it} is not there" for it in dict.fromkeys([*bad, *(it for it in words if not is_there(root, it.rstrip("/")))])]
+    gone = [it for it in words if not is_there(root, it.rstrip("/"))]
+    why = [f"{it} is not there" for it in dict.fromkeys([*bad, *gone])]
+    for names, path in NAMES_IN.findall(text):
+        file = root / "crates" / path
+        there = file.read_text(encoding="utf-8") if file.is_file() else ""
+        why += [f"{name} is not in {path}" for name in CODE.findall(names) if there and not has(there, name)]
+    return why
 
 
 def rows_of_definitions(root):
@@ -61,7 +74,7 @@ def undefined(root):
         yield from (f"line {number}: {it.relative_to(root)} is not there" for it in gone)
         text = "\n".join(it.read_text(encoding="utf-8") for it in files if it not in gone)
         for name in names:
-            if not re.search(rf"(?<![\w'-]){re.escape(name)}(?![\w'-])", text):
+            if not has(text, name):
                 yield f"line {number}: {name} is not in {', '.join(it.name for it in files)}"
 
 
