@@ -1,4 +1,4 @@
-"""The pages: README.md, those of docs/ and those that list crates and examples. What they name is there."""
+"""The pages: README.md, those of docs/ and those that list crates and examples. What they name is there, and no paragraph is long."""
 
 import re
 
@@ -6,6 +6,9 @@ from .tried import Result
 
 LISTS = ("crates/README.md", "examples/README.md")
 DEFINITIONS = "docs/DEFINITIONS.md"
+
+# The most characters of a paragraph or an item of a list. Rows of tables are not counted.
+MOST = 500
 
 # What stands in a path for any name, or is made when the program is built or proved.
 MADE_OR_ANY = re.compile(r"\b(NAME|CRATE|F|PATH)\b|\.\.$|\bout/|^~|\*")
@@ -30,6 +33,26 @@ def named(text):
 def is_there(root, path):
     """Whether a path begins at the top, at the crates, in some crate, or in a folder of tools/."""
     return any((it / path).exists() for it in (root, root / "crates")) or any(root.glob(f"crates/*/{path}")) or any(root.glob(f"tools/*/{path}"))
+
+
+def paragraphs(text):
+    """The paragraphs and items of a page, each with its line; headings, rows of tables and blocks of text are none."""
+    found, is_block = [], False
+    for number, line in enumerate(text.splitlines(), 1):
+        is_fence = line.startswith("```")
+        if is_block or is_fence or not line.strip() or line.startswith(("#", "|")):
+            is_block ^= is_fence
+            found.append(None)
+        elif found and found[-1] and not re.match(r"\s*([-*]|\d+\.) ", line):
+            found[-1] = (found[-1][0], f"{found[-1][1]} {line.strip()}")
+        else:
+            found.append((number, line.strip()))
+    return [it for it in found if it]
+
+
+def long_ones(page):
+    found = paragraphs(page.read_text(encoding="utf-8"))
+    return [f"line {at}: {len(text)} characters, and {MOST} are the most: {text[:60]} .." for at, text in found if len(text) > MOST]
 
 
 def has(text, name):
@@ -79,10 +102,10 @@ def undefined(root):
 
 
 def check(root):
-    """A result for each page: it is there, with the paths that it names; and one for the files of the definitions."""
+    """A result for each page: it is there, with what it names, and its paragraphs are short; and one for the files of the definitions."""
     results = []
     for page in pages(root):
-        why = missing(root, page) if page.is_file() else ["it is not there"]
+        why = missing(root, page) + long_ones(page) if page.is_file() else ["it is not there"]
         results.append(Result(page.relative_to(root).as_posix(), not why, why))
     why = list(undefined(root))
     return [*results, Result("the files of the definitions", not why, why)]
