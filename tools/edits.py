@@ -1,43 +1,31 @@
-"""Must-fail edits, several in one check: those that change the bodies of different functions.
+"""Must-fail edits: wrong bodies that a clause must refuse, several in one check where they change the bodies of different functions.
 
 A function's proof rests on the contracts of the others and not on their bodies, so a body that is refused beside other wrong bodies is
-refused alone. Functions of one cycle have one proof: of them one is edited at a time. An edit counts as refused where something is not
-proved in a function that it changes; every other edit is tried alone, as the toolchain's own gate does it. An edit that is refused only
-by a limit of the prover, or only because a proof names what the edit took away, has not shown that a clause refuses it, and fails.
+refused alone. Functions of one cycle have one proof: of them one is edited at a time. An edit of which a check of several cannot tell is
+tried alone.
+
+Refused means refused at a clause: a goal of a function that the edit changes is not proved, in the prover's words 'it is not proved that'
+what the function ensures, a call requires or an invariant says holds there. Nothing else counts: not what the borrow checker does not
+cover, a text that cannot be read, a limit of the prover, or a proof that names what went. Where a written answer no longer proves its
+goal, that may be the answer's fault: the edit is tried once more without that answer, and the prover must leave the goal open.
 """
 
 import dataclasses
 import os
 import re
 import shutil
+import signal
 import tempfile
 
 from toolchain import rt, rtlib
 
-WENT = "has no field|is not in scope|has no `|was not admitted"
-NAMES_WHAT_WENT = rf"(\./)?proofs/.*({WENT})"
-ONLY_A_NAME = "only because a proof file names what the edit took away"
-GAP = r"(?: |\n +)"
-# What the toolchain answers of an edit that is refused: a word, or in some of its versions that it is so.
-REFUSED = getattr(rt, "REFUSED", True)
-SPREAD = re.compile(rf"^((?:\./)?proofs/.*?){GAP}({WENT.replace(' ', GAP)})", re.M)
-
-checked_by_the_gate = rt.checked
-
-
-def in_one_line(said):
-    """Returns what the prover said with the words of a lost name on the first line of their message: behind a long name they stand on the next."""
-    return SPREAD.sub(lambda it: f"{it[1]} {' '.join(it[2].split())}", said)
-
-
-def checked(*words):
-    """Checks a copy of a crate as the toolchain's gate does, and reads what it said by whole messages."""
-    ran = checked_by_the_gate(*words)
-    ran.stdout = in_one_line(ran.stdout)
-    return ran
-
-
-rt.checked = checked
+NOT_PROVED = "it is not proved that "
+FALSE_AT = "the facts known there allow values at which this goal is false"
+NOT_COVERED = "does not cover this function yet"
+NAME_WENT = re.compile(r"has no field|is not in scope|has no `|was not admitted")
+AT = re.compile(r"(?:note: )?(?:\./)?(\S+?):(\d+):\d+: (.*)")
+UNCOVERED = re.compile(rf"fn \S+: no proof: .*?{NOT_COVERED}: (?:\./)?(\S+?):(\d+):\d+: (.*)")
+ANSWER = re.compile(r"error: `([^`\s]+)`: ")
 
 
 @dataclasses.dataclass(frozen=True)
@@ -61,6 +49,37 @@ class Body:
         module = os.path.splitext(self.file)[0].removeprefix("src/").removeprefix("lib")
         inside = path.startswith(f"proofs/{module}/" if module else "proofs/")
         return inside and any(f"/{it}/" in f"/{path}" for it in (self.name, f"+{self.cycle}"))
+
+
+@dataclasses.dataclass(frozen=True)
+class Message:
+    """What the prover said of a place: the file and line, and its words in one line."""
+
+    file: str
+    line: int
+    said: str
+
+    def is_about(self, bodies):
+        return not bodies or any(it.has_goal(self.file, self.line) for it in bodies)
+
+    def leaves_a_goal(self):
+        """Whether a goal of a function is not proved."""
+        return self.file.startswith("src/") and self.said.startswith(NOT_PROVED)
+
+    def answer(self):
+        """Returns the goal whose written answer does not prove it, or None."""
+        found = ANSWER.match(self.said)
+        return found[1] if found and os.path.basename(self.file) == "Answers.antt" and not NAME_WENT.search(self.said) else None
+
+    def __str__(self):
+        return f"{self.file}:{self.line}: {self.said[:300]}"
+
+
+def messages_in(said):
+    """Returns the messages that name a place; the lines that a message goes on in are indented."""
+    whole = re.sub(r"\n[ \t]+", " ", said).split("\n")
+    found = [("", AT.match(it)) for it in whole] + [(f"{NOT_COVERED}: ", UNCOVERED.match(it)) for it in whole]
+    return [Message(it[1], int(it[2]), before + " ".join(it[3].split())) for before, it in found if it]
 
 
 def bodies_in(file, text):
@@ -99,7 +118,7 @@ def bodies_changed(folder, texts):
 
 
 def batches(crate, edits):
-    """Returns the edits in lists that may be tried in one check, each with the bodies that it changes; one alone has none."""
+    """Returns the edits in lists that may be tried in one check, each with the bodies that it changes; one that changes more is alone."""
     changes, alone = {}, []
     for edit in edits:
         texts, why = rt.read_edit(edit, crate.folder)
@@ -126,7 +145,7 @@ def together(changes):
 
 
 def applied(crate, batch):
-    """Returns the texts of the files with all edits of a batch made, or None where they do not go together."""
+    """Returns the texts of the files with all edits of a batch made, or none and why they cannot be made."""
     made = {}
     with tempfile.TemporaryDirectory(prefix="edits-") as room:
         for part in rtlib.PARTS:
@@ -135,38 +154,99 @@ def applied(crate, batch):
         for edit, _ in batch:
             texts, why = rt.read_edit(edit, room)
             if why:
-                return None
+                return None, why
             made.update(texts)
             for path, text in texts.items():
                 with open(f"{room}/{path}", "w", encoding="utf-8") as it:
                     it.write(text)
+    return made, None
+
+
+def without_answers(crate, texts, failing):
+    """Returns these texts and those of the files of answers without the answers to some goals: each a pair of a file and a goal."""
+    made = dict(texts)
+    for file, goal in failing:
+        if file not in made:
+            with open(f"{crate.folder}/{file}", encoding="utf-8") as it:
+                made[file] = it.read()
+        made[file] = re.sub(rf"^(?:pub )?{re.escape(goal)}\s(?:.*\n)(?:[ \t)}}].*\n|\n)*", "", made[file], flags=re.M)
     return made
 
 
-def refused_in(lines, bodies):
-    """Returns the first line that says that something of these bodies is not proved, or None; a proof that names what went does not count."""
-    for line in lines:
-        at = re.match(r"(?:note: )?(?:\./)?(\S+?):(\d+):\d+:", line)
-        tells = at and (": error" in line or line.startswith("note: ")) and not re.match(NAMES_WHAT_WENT, line)
-        if tells and any(it.has_goal(at[1], int(at[2])) for it in bodies):
-            return line
+def why_unheard(ran, texts):
+    """Returns why what a check said tells nothing of a clause, or None where it tells which goals are not proved."""
+    lines = ran.stdout.rstrip("\n").split("\n")
+    unread = next((it for it in lines if rt.unread(it, texts)), None)
+    if ran.returncode == 0:
+        return "NOT REFUSED: the crate is still proved with it (one that means the same as before is to be removed)"
+    if unread:
+        return f"it cannot be read: {unread[:300]}"
+    if rtlib.STALE.search(ran.stdout):
+        return "the kept work of a library could not be used"
+    if ran.returncode != 1 or not lines[-1].startswith("logic=not-proved"):
+        limit = next((it for it in lines if rt.LIMITS.search(it)), "")
+        return f"its check ended with status {ran.returncode} and no verdict{f', at a limit: {limit[:300]}' if limit else ''}"
     return None
 
 
+class Trial:
+    """The check of a crate with the edits of a batch made, and what it says of each."""
+
+    def __init__(self, crate, batch, jobs, kept):
+        self.crate, self.batch, self.jobs, self.kept = crate, batch, jobs, kept
+        self.texts, self.why = applied(crate, batch)
+        self.messages = self.check(self.texts) if self.texts else []
+
+    def check(self, texts):
+        """Returns the messages of a check with these texts, none where it tells nothing of a clause."""
+        ran = rt.checked(self.crate, texts, self.jobs, self.kept)
+        if ran.returncode == -signal.SIGKILL:  # most likely for memory
+            ran = rt.checked(self.crate, texts, self.jobs, self.kept)
+        self.why = why_unheard(ran, texts)
+        return [] if self.why else messages_in(ran.stdout)
+
+    def open_goal(self, bodies):
+        """Returns the message of a goal of these bodies that is not proved, first of one at which values are known that make it false."""
+        found = [it for it in self.messages if it.leaves_a_goal() and it.is_about(bodies)]
+        return next((it for it in found if FALSE_AT in it.said), found[0] if found else None)
+
+    def failing_answers(self, bodies):
+        """Returns the written answers of these bodies that do not prove their goals."""
+        return {(it.file, it.answer()) for it in self.messages if it.answer() and it.is_about(bodies)}
+
+    def leave_out(self, failing):
+        """Checks once more without these answers."""
+        self.messages = self.check(without_answers(self.crate, self.texts, failing))
+
+    def why_not(self, bodies):
+        """Returns why what was said does not count as a refusal of these bodies."""
+        told = [it for it in self.messages if it.is_about(bodies)]
+        for words, why in ((NOT_COVERED, "the borrow checker does not cover it"), (NAME_WENT.pattern, "a proof names what went")):
+            found = next((it for it in told if re.search(words, it.said)), None)
+            if found:
+                return f"{why}: {found}"
+        return self.why or f"no goal of the function is left open{f': {told[0]}' if told else ''}"
+
+
 def tried(crate, batch, jobs, kept):
-    """Tries the edits of a batch over kept work; returns each edit, whether it is refused, and what was said."""
-    lines, answers = [], []
-    texts = applied(crate, batch) if len(batch) > 1 else None
-    if texts:
-        ran = rt.checked(crate, texts, jobs, kept)
-        lines = ran.stdout.rstrip("\n").split("\n")
-        is_whole = ran.returncode == 1 and lines[-1].startswith("logic=not-proved") and not rtlib.STALE.search(ran.stdout)
-        lines = lines if is_whole and not any(rt.unread(it, texts) for it in lines) else []
+    """Tries the edits of a batch over kept work; returns each edit, whether a clause refuses it, and what was said."""
+    trial, refused = Trial(crate, batch, jobs, kept), {}
+    first = {edit: trial.open_goal(bodies) for edit, bodies in batch}
+    refused.update({edit: f"refused: {it}" for edit, it in first.items() if it})
+    failing = {edit: trial.failing_answers(bodies) for edit, bodies in batch if not first[edit]}
+    why = {edit: trial.why_not(bodies) for edit, bodies in batch}
+    if any(failing.values()):
+        trial.leave_out(set().union(*failing.values()))
+        for edit, bodies in batch:
+            found = trial.open_goal(bodies)
+            if edit not in refused and failing[edit]:
+                goals = ", ".join(sorted(goal for _, goal in failing[edit]))
+                refused.update({edit: f"refused, without the answer to {goals}: {found}"} if found else {})
+                why[edit] = f"without the answer to {goals}: {trial.why_not(bodies)}"
+    answers = [(edit, True, f"must-fail {crate.name}/{os.path.basename(edit)}: {said}") for edit, said in refused.items()]
     for edit, bodies in batch:
-        told = refused_in(lines, bodies)
-        if told:
-            answers.append((edit, True, f"must-fail {crate.name}/{os.path.basename(edit)}: refused beside others: {told[:160]}"))
-        else:
-            comes_to, said = rt.must_fail(crate, edit, jobs, kept)
-            answers.append((edit, comes_to == REFUSED and ONLY_A_NAME not in said, said))
+        if edit not in refused and len(batch) > 1:
+            answers += tried(crate, [(edit, bodies)], jobs, kept)
+        elif edit not in refused:
+            answers.append((edit, False, f"must-fail {crate.name}/{os.path.basename(edit)}: does not count: {why[edit]}"))
     return answers
