@@ -7,7 +7,6 @@ import shutil
 import subprocess
 import threading
 
-PROVED = ("src", "specs", "proofs")
 RUN = ("data", "stdin", "stdout", "args", "status")
 LARGEST = 4_000_000_000
 
@@ -31,15 +30,6 @@ def sum_of(words, folder, parts):
         with open(file, "rb") as it:
             made.update(repr((os.path.relpath(file, folder), it.read())).encode())
     return made.hexdigest()
-
-
-def digests_of(crates, version):
-    """Returns each crate's digest: of its files, its line of crates.txt, the digests of the crates it stands on, and the toolchain."""
-    found = {}
-    for crate in crates:
-        below = [found[it.name] for it in crate.deps]
-        found[crate.name] = sum_of((version, crate.name, crate.said.get("deps", []), below), crate.folder, PROVED)
-    return found
 
 
 class Store:

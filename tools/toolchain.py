@@ -1,10 +1,9 @@
-"""The toolchain's own gate as a module: its checks of texts, its words for the prover, its runs and its edits."""
+"""The toolchain's own gate as a module, what it sums of a crate, and what it wants of a repository's files."""
 
 import collections
 import importlib.machinery
 import importlib.util
 import os
-import re
 import shutil
 import subprocess
 import sys
@@ -43,15 +42,16 @@ def load():
 
 
 rt, rtlib = load()
-# A verdict of the gate takes nothing from earlier checks. Here the crate's own kept work counts, and nothing else does.
-rtlib.VERDICT = re.compile(rtlib.VERDICT.pattern.replace(r"\n\Z", r"( incremental=trusted)?\n\Z"), re.M)
 rtlib.stop = rt.stop
 rtlib.Crate = rt.Crate
 sum_of_crate, sums = rtlib.Crate.stamp, {}
 
 
 def remembered_stamp(crate):
-    """The toolchain's sum of all that a crate is made from, taken once: it walks every path of the graph of crates."""
+    """The toolchain's sum of what a library is made from, taken once: it walks every path of the graph of crates.
+
+    It names the libraries that were built in a clone. What counts as passed is named by `digests_of`, which is taken anew each time.
+    """
     if crate.folder not in sums:
         sums[crate.folder] = sum_of_crate(crate)
     return sums[crate.folder]
@@ -60,39 +60,28 @@ def remembered_stamp(crate):
 rt.Crate.stamp = remembered_stamp
 
 
-def version():
-    """Returns the toolchain's line of identity."""
-    with open(f"{rt.KIT}/KIT-ID", encoding="utf-8") as it:
-        return it.read().strip()
+def digests_of(crates):
+    """Returns each crate's digest, as the toolchain's own gate sums what a verdict rests on.
+
+    It is of the crate's files and its whole line of crates.txt, HANDLES, the kit with the sizes and times of its files, and the digests
+    of the crates that it stands on.
+    """
+    rt.kit_sum.cache_clear()
+    seen = {}
+    return {it.name: rt.stamp_of(it, seen) for it in crates}
 
 
 def crates_at(root):
-    """Returns the repository's crates, lowest first, held until this run ends."""
-    rt.Crate.allowed = rt.handles_of(root)
+    """Returns the repository's crates, lowest first, held until this run ends, where its files are as the toolchain's gate wants them."""
+    for it in (rtlib.ALLOW_C, rtlib.BACKEND, "RT_SECONDS"):
+        os.environ.pop(it, None)
     rtlib.guarded()
-    crates = sorted(rtlib.crates_below(root), key=lambda it: len(it.below()))
+    rt.Crate.allowed = rt.handles_of(root)
+    crates = rt.crates_of(root)
     crates_at.held = rtlib.lock(crates)
     for name in sorted(os.listdir(root)):
         if name != ".git" and os.path.isdir(f"{root}/{name}"):
             rtlib.stop_on_unread(f"{root}/{name}", crates)
+        elif name.endswith((".rt", ".antt")):
+            rtlib.stop(f"no check reads {name}")
     return crates
-
-
-def why_refused(crate, crates):
-    """Returns why the gate refuses the crate's text before any proof, or None."""
-    try:
-        rtlib.stop_on_links(crate.folder)
-        rtlib.stop_on_unread(crate.folder, crates)
-        rtlib.stop_on_text(crate, "verdict")
-        rt.stop_on_words(crate)
-    except SystemExit:
-        return "its text is refused"
-    code = rtlib.code_of(crate.folder)
-    if re.search(rt.RENAMES, code):
-        return "it renames std, or takes it whole"
-    if re.search(rt.IGNORED, code):
-        return "it has a test under #[ignore]"
-    for handle, words in rt.REACHES.items():
-        if handle not in crate.allowed and re.search(words, code):
-            return f"it names what only the handle {handle} reaches"
-    return "run rt fmt in the crate's folder" if rtlib.fmt(crate.folder, "--check", crate.out) else None
