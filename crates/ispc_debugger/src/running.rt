@@ -18,14 +18,14 @@ ghost use Rattle.ispc_debugger.specs.Runs.{IsRight, asked_of, options_view};
 
 use debug_machine::{AnswerWriter, CommandReader, READS};
 use debug_session::Session;
-use gang_machine::{Machine, open};
+use gang_machine::{Machine, PreparedProgram, open};
 use ispc_compiler::{Compiled, compile_source};
 use ispc_options::{Options, Width};
 use ispc_refusals::Refusal;
 use source_answers::SourceFault;
 use std::alloc::{AllocError, Global};
 use transcript::{Ending, answer_lines};
-use undo_log::SnapshotRing;
+use undo_log::DeltaRing;
 
 /// Compiles a source, and answers the command lines that the reader gives. It begins with the exported function of the name
 /// that the options ask for, or with the first exported one where they ask for none.
@@ -115,7 +115,7 @@ fn begun<const W: usize>(
     alloc: Global,
     compiled: Compiled,
     options: &Options<'_>,
-) -> Result<Session<Machine<W, SnapshotRing>>, AllocError>
+) -> Result<Session<Machine<W, DeltaRing>>, AllocError>
     requires width { IsGangWidth W }
     requires ready { IsReady compiled }
     requires range { AreInRange options.now }
@@ -123,6 +123,13 @@ fn begun<const W: usize>(
         (setting (program_view compiled.program) compiled.entry.0 [] (record { width = W; history = options.now.history; steps = options.now.steps }))
         (fresh options.now.history)) }
 {
-    let machine = open::<W>(alloc, compiled.program, compiled.entry, options.history)?;
+    let prepared = PreparedProgram::new::<W>(alloc, compiled.program)?;
+    let timeline = DeltaRing::new(
+        alloc,
+        prepared.words(),
+        options.history as usize,
+        prepared.cells::<W>(),
+    )?;
+    let machine = open::<W, DeltaRing>(alloc, prepared, compiled.entry, timeline)?;
     Ok(Session::open(machine, options.steps))
 }
