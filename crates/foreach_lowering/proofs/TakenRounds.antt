@@ -14,7 +14,7 @@ use Rattle.mask_states.specs.Masked.{turns_taken}
 use Rattle.foreach_lowering.specs.Grids.{Grid, grid, in_order}
 use Rattle.foreach_lowering.specs.Domains.{count_of, parts_of, index_of, nth_of, behind, corner, row_grid, row_slot, row_place, tile_grid, in_tile, tiled_slot, tile_place}
 use Rattle.foreach_lowering.specs.Kept.{lane_turn, value_turn}
-use Rattle.foreach_lowering.proofs.Bounds.{part_begins}
+use Rattle.foreach_lowering.proofs.BelowBounds.{part_begins}
 
 -- a lane takes part
 abbrev pub HasLane : Turn → Type 0

@@ -1,6 +1,6 @@
 //! The index values of one dimension.
-ghost use Rattle.std.specs.Prelude.{◌≡◌, ◌≤◌, [], ◌∷◌, option_map};
-ghost use Rattle.foreach_lowering.specs.Domains.{count_of, nth_of, parts_of};
+ghost use Rattle.std.specs.Prelude.{◌≡◌, ◌<◌, ◌≤◌, ◌^◌, [], ◌∷◌, option_map};
+ghost use Rattle.foreach_lowering.specs.Domains.{count_of, index_of, nth_of, parts_of};
 
 /// The whole numbers from `low` up to `high`, without it.
 #[derive(Clone, Copy, Debug, PartialEq, Eq)]
@@ -27,12 +27,22 @@ impl Range {
         self.count().div_ceil(size)
     }
 
-    /// The n-th of them, if there are so many.
-    pub fn nth(self, n: u64) -> Option<i128>
+    /// The n-th number from `low` on.
+    pub fn at(self, n: u128) -> i128
+        requires { n < 2 ^ 70 }
+        ensures { result ≡ index_of (self.low, self.high) n }
+    {
+        i128::from(self.low) + n as i128
+    }
+
+    /// The n-th of them, if there are so many: the index is compared with the bound before it is made a word.
+    pub fn nth(self, n: u128) -> Option<i128>
+        requires { n < 2 ^ 70 }
         ensures { option_map (λ z. z ∷ []) result ≡ nth_of (self.low, self.high) n }
     {
-        if n < self.count() {
-            Some(i128::from(self.low) + i128::from(n))
+        let index = self.at(n);
+        if index < i128::from(self.high) {
+            Some(index)
         } else {
             None
         }
