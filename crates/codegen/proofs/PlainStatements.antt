@@ -28,27 +28,28 @@ module _ (variables : Variables) (n : ℕ) where
   row_is_none count end_of-Stmt next h = h
   row_is_none count (more_of-Stmt s ss) next h = h
 
-  -- a statement that moves no lane is a declaration, an assignment, a change or a return
-  pub one_of_four : (s : Stmt) (next : ℕ) → IsPlainPoint variables n (Put (stmt_view s) next)
+  -- a statement that moves no lane is a declaration, an assignment, a change, a return or `assert`
+  pub one_of_five : (s : Stmt) (next : ℕ) → IsPlainPoint variables n (Put (stmt_view s) next)
       → ((a : _) (b : _) (c : _) → s ≡ Declare a b c → ⊥) → ((a : _) (b : _) (c : _) → s ≡ Assign a b c → ⊥)
-      → ((a : _) (b : _) (c : _) (d : _) (e : _) (f : _) → s ≡ Change a b c d e f → ⊥) → ((a : _) (b : _) → s ≡ Return a b → ⊥) → ⊥
-  one_of_four Empty next h d a c r = h
-  one_of_four (Block' shape row) next h d a c r = row_is_none _ row next h
-  one_of_four (Then' p first q rest) next h d a c r = h
-  one_of_four (Declare x y z) next h d a c r = d x y z refl
-  one_of_four (Assign x y z) next h d a c r = a x y z refl
-  one_of_four (Change x y z u v w) next h d a c r = c x y z u v w refl
-  one_of_four (If' k e p x q y) next h d a c r = h
-  one_of_four (Loop' k e p update q body) next h d a c r = h
-  one_of_four (BodyFirst' k e p body) next h d a c r = h
-  one_of_four (Break k) next h d a c r = h
-  one_of_four (Continue k) next h d a c r = h
-  one_of_four (Return x y) next h d a c r = r x y refl
-  one_of_four (ForEach' k rounds p body) next h d a c r = h
-  one_of_four (Call k f args result) next h d a c r = h
-  one_of_four (Check k e) next h d a c r = h
-  one_of_four (PackedStore k array from e result) next h d a c r = h
-  one_of_four (PackedLoad k array from v result) next h d a c r = h
+      → ((a : _) (b : _) (c : _) (d : _) (e : _) (f : _) → s ≡ Change a b c d e f → ⊥) → ((a : _) (b : _) → s ≡ Return a b → ⊥)
+      → ((a : _) (b : _) → s ≡ Check a b → ⊥) → ⊥
+  one_of_five Empty next h d a c r ch = h
+  one_of_five (Block' shape row) next h d a c r ch = row_is_none _ row next h
+  one_of_five (Then' p first q rest) next h d a c r ch = h
+  one_of_five (Declare x y z) next h d a c r ch = d x y z refl
+  one_of_five (Assign x y z) next h d a c r ch = a x y z refl
+  one_of_five (Change x y z u v w) next h d a c r ch = c x y z u v w refl
+  one_of_five (If' k e p x q y) next h d a c r ch = h
+  one_of_five (Loop' k e p update q body) next h d a c r ch = h
+  one_of_five (BodyFirst' k e p body) next h d a c r ch = h
+  one_of_five (Break k) next h d a c r ch = h
+  one_of_five (Continue k) next h d a c r ch = h
+  one_of_five (Return x y) next h d a c r ch = r x y refl
+  one_of_five (ForEach' k rounds p body) next h d a c r ch = h
+  one_of_five (Call k f args result) next h d a c r ch = h
+  one_of_five (Check k e) next h d a c r ch = ch k e refl
+  one_of_five (PackedStore k array from e result) next h d a c r ch = h
+  one_of_five (PackedLoad k array from v result) next h d a c r ch = h
 
   pub args_at : (called j : ℕ) (args : List Arg) → ArgsPlain variables n called j (map arg_view args) → (k : ℕ) (d : Arg) → k < length args → IsPlainArg (arg_view (get_or args k d))
   args_at called j [] h k d below = absurd (omega arith)

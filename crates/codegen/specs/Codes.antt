@@ -46,6 +46,7 @@ Does (step.Declare variable value next) (p.Put (t.Declare number x e) then) = (x
 Does (step.Assign variable value next) (p.Put (t.Assign number (t.Scalar x) e) then) = (x ≡ var_view variable) × IsValue e value.items × (then ≡ next)
 Does (step.Change variable change value next) (p.Put (t.Change number (t.Scalar x) type op in_type e) then) =
     (x ≡ var_view variable) × (change ≡ record { operator = op; value_type = in_type; target_type = type }) × IsValue e value.items × (then ≡ next)
+Does (step.Check test next) (p.Put (t.Check number e) then) = IsValue e test.items × (then ≡ next)
 Does (step.Return value next) (p.Put (t.Return number e) then) = IsOptionValue e value × (then ≡ next)
 Does (step.Go next) (p.Go then) = then ≡ next
 Does (step.Branch test yes' no') (p.Branch e on off) = IsValue e test.items × (on ≡ yes') × (off ≡ no')

@@ -39,6 +39,11 @@ pub enum StepCode {
         value: Vec<Instruction>,
         next: usize,
     },
+    /// `assert`.
+    Check {
+        test: Vec<Instruction>,
+        next: usize,
+    },
     /// The function's result in the lanes of the step, which return.
     Return {
         value: Option<Vec<Instruction>>,

@@ -85,6 +85,10 @@ fn put(alloc: Global, statement: &Stmt, next: usize) -> Result<StepCode, AllocEr
             value: optional(alloc, value)?,
             next,
         }),
+        Stmt::Check { test, .. } => Ok(StepCode::Check {
+            test: value(alloc, test)?,
+            next,
+        }),
         _ => unreachable!(),
     }
 }

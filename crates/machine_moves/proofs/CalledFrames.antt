@@ -9,7 +9,7 @@ use Rattle.gang_types.specs.declared.places.VarId.TheVariants.{File, Local}
 use Rattle.gang_types.specs.declared.types.IntType.{IntType}
 use Rattle.gang_types.specs.Lanes.{Lanes, lowest, no_lane}
 use Rattle.gang_types.specs.LaneLaws.{some_lane}
-use Rattle.gang_model.specs.Types.Tree.{Assign, Assigns, Call, Change, Declare, Declares, ElementOf, Function, Nothing, Program, ResultFor, Return, Returns, Scalar, StepNumber, Stmt}
+use Rattle.gang_model.specs.Types.Tree.{Assign, Assigns, Call, Change, Check, Declare, Declares, ElementOf, Function, Nothing, Program, ResultFor, Return, Returns, Scalar, StepNumber, Stmt}
 use Rattle.gang_model.specs.Running.Lanes.{Fault, try_each}
 use Rattle.gang_model.specs.Running.State.{Frame, State, Store, with_words_in}
 use Rattle.gang_model.specs.Running.Step.{Passed, deliver, entered, initial, left, passed, returned_on, run}
@@ -91,6 +91,7 @@ module _ (variables : Variables) (p : Program) (m : ℕ) (memory : Store) (frame
       if_ok_after After (value e lanes state) _ (λ y. if_ok_after After (try_each lanes _) _ (λ values. words_called state x.id _ h))
   run_called (Change number (ElementOf array rate index) type op in_type e) lanes plain = absurd plain
   run_called (Return number e) lanes plain = if_ok_after After (initial e lanes state) _ (λ values. h)
+  run_called (Check number e) lanes plain = if_ok_after After (value e lanes state) _ (λ c. if_ok_after After (try_each lanes _) _ (λ passes. h))
   run_called s lanes plain = absurd plain
 
   entered_called : (o : Option Function) (n : ℕ) (number : StepNumber) (result_for : ResultFor) (a : Passed) (lanes : Lanes) → no_lane lanes ≡ false

@@ -1,6 +1,7 @@
 pub mod AssignSteps
 pub mod CalledFrames
 pub mod ChangedValues
+pub mod CheckSteps
 pub mod ExpressionValues
 pub mod FrameResults
 pub mod FunctionCode

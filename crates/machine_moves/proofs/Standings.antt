@@ -371,6 +371,7 @@ IsValueOf (Put (Declare number x (Some v)) next) e = v ≡ e
 IsValueOf (Put (Assign number target v) next) e = v ≡ e
 IsValueOf (Put (ModelChange number target type op in_type v) next) e = v ≡ e
 IsValueOf (Put (Return number (Some v)) next) e = v ≡ e
+IsValueOf (Put (Check number v) next) e = v ≡ e
 IsValueOf (Branch test yes' no') e = test ≡ e
 IsValueOf (Enter called args result_for next) e = (k : ℕ) × (x : ModelVar) × (slice_get args k ≡ Some (Value x e))
 IsValueOf point e = ⊥
@@ -403,6 +404,7 @@ module _ (variables : Variables) (n : ℕ) (before : StepNumber → List ℕ) (n
   good_value (Put (ModelChange m (Scalar x) type op in_type v) next) e plain names room same = good variables n (before number) v e same plain.1 names.1 room.1
   good_value (Put (ModelChange m (ElementOf array rate index) type op in_type v) next) e plain names room same = absurd plain
   good_value (Put (Return m (Some v)) next) e plain names room same = good variables n (before number) v e same plain names room
+  good_value (Put (Check m v) next) e plain names room same = good variables n (before number) v e same plain names room
   good_value (Branch test yes' no') e plain names room same = good variables n (before number) test e same plain names room
   good_value (Enter called args result_for next) e plain names room given =
       good_argument variables n (before number) called 0 args given.0 given.1 e given.2 plain.0.args_plain names.0 room

@@ -1,3 +1,4 @@
+pub mod Checks
 pub mod Compiled
 pub mod Delivering
 pub mod Results

@@ -1,9 +1,10 @@
 //! The step that comes next in the words of a machine, the values of its expressions, and the steps that stay in their frame: moves,
-//! and those that write a variable or a result. What they change is recorded.
+//! `assert`, and those that write a variable or a result. What they change is recorded.
 #![tactic(auto)]
 
 mod active;
 mod assignments;
+mod checks;
 mod compiled;
 mod delivering;
 mod moves;
@@ -13,6 +14,7 @@ mod values;
 
 pub use active::{Active, least, next_step, waiting_for};
 pub use assignments::{assign, change, declare, finish, give_result, region_of};
+pub use checks::check;
 pub use compiled::CompiledProgram;
 pub use delivering::deliver_values;
 pub use moves::{branch, go};

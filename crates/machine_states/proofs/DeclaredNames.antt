@@ -64,7 +64,7 @@ module _ (before : StepNumber → List ℕ) (variables : Variables) (m : ℕ) wh
   names_points (ForEach number form body) ways n d e p h f = absurd p
   names_points (Call number function args result_for) ways n d e p h f =
       let same = sym h.0 in ((subst (λ ds. ArgsDeclared ds args) same f.0, subst (λ ds. ResultDeclared ds result_for) same f.1), tt)
-  names_points (Check number v) ways n d e p h f = absurd p
+  names_points (Check number v) ways n d e p h f = (subst (λ ds. DeclaresFirst ds (Check number v)) (sym h.0) f, tt)
   names_points (PackedStore number array from v result_for) ways n d e p h f = absurd p
   names_points (PackedLoad number array from v result_for) ways n d e p h f = absurd p
 

@@ -53,6 +53,7 @@ IsPlainPut variables m (Declare number x e) = IsPlain variables m (Declare numbe
 IsPlainPut variables m (Assign number target e) = IsPlain variables m (Assign number target e)
 IsPlainPut variables m (Change number target type op in_type e) = IsPlain variables m (Change number target type op in_type e)
 IsPlainPut variables m (Return number e) = IsPlain variables m (Return number e)
+IsPlainPut variables m (Check number e) = IsPlain variables m (Check number e)
 IsPlainPut variables m s = ⊥
 
 abbrev pub IsPlainPoint : Variables → (function : ℕ) → StepNumber → Point → Type 0
@@ -91,7 +92,7 @@ module _ (variables : Variables) (m : ℕ) where
   plain_points (Segment label body rest) ways n p = absurd p
   plain_points (ForEach number form body) ways n p = absurd p
   plain_points (Call number function args result_for) ways n p = ((p.0, p.1), tt)
-  plain_points (Check number e) ways n p = absurd p
+  plain_points (Check number e) ways n p = (p, tt)
   plain_points (PackedStore number array from e result_for) ways n p = absurd p
   plain_points (PackedLoad number array from v result_for) ways n p = absurd p
 
@@ -298,7 +299,7 @@ module _ (before : StepNumber → List ℕ) where
   leads_points variables m (Call number function args (Assigns x)) ways n d e p h g = (here n (before ways.next) [] d h.0 g.next, tt)
   leads_points variables m (Call number function args Returns) ways n d e p h g =
       (here n (before (unwrap_or ways.on_return ways.next)) [] d h.0 (of_way (λ k. IsWithin (before k) d) ways.on_return ways.next g.next (λ way is. g.on_return way is refl)), tt)
-  leads_points variables m (Check number v) ways n d e p h g = absurd p
+  leads_points variables m (Check number v) ways n d e p h g = (here n (before ways.next) [] d h.0 g.next, tt)
   leads_points variables m (PackedStore number array from v result_for) ways n d e p h g = absurd p
   leads_points variables m (PackedLoad number array from v result_for) ways n d e p h g = absurd p
 

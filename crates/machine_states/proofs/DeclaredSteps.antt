@@ -7,7 +7,7 @@ use Rattle.gang_types.specs.declared.places.VarId.TheVariants.{File, Local}
 use Rattle.gang_types.specs.declared.faults.FaultName.TheVariants.{CallDepth}
 use Rattle.gang_types.specs.Lanes.{Lanes, lowest}
 use Rattle.gang_model.specs.Running.Lanes.{Fault, holds, try_each}
-use Rattle.gang_model.specs.Types.Tree.{StepNumber, Scalar, ElementOf, ResultFor, Nothing, Declares, Assigns, Returns, Stmt, Declare, Assign, Change, Return, Call, Function, Program}
+use Rattle.gang_model.specs.Types.Tree.{StepNumber, Scalar, ElementOf, ResultFor, Nothing, Declares, Assigns, Returns, Stmt, Declare, Assign, Change, Return, Call, Check, Function, Program}
 use Rattle.gang_model.specs.Running.State.{Store, Frame, State, with_words, with_var, with_words_in}
 use Rattle.gang_model.specs.Running.Value.{value}
 use Rattle.gang_model.specs.Running.RunningOrder.{IsNumberedProgram}
@@ -71,6 +71,7 @@ module _ (memory : Store) (frame : Frame) (frames : List Frame) where
   run_grows variables m p (Change number (ElementOf array rate index) type op in_type e) lanes plain = absurd plain
   run_grows variables m p (Return number e) lanes plain = if_ok_after _ (initial e lanes state) _ (λ values.
       record { top = _; are = refl; function = refl; keeps = keeps_itself frame.vars; has_all = λ k among. absurd among })
+  run_grows variables m p (Check number e) lanes plain = if_ok_after _ (value e lanes state) _ (λ c. if_ok_after _ (try_each lanes _) _ (λ passes. stays frame frames))
   run_grows variables m p s lanes plain = absurd plain
 
   returned_grows : (f : Option Function) (type : IntType) (lanes : Lanes) (values : List ℕ) → Grows frame frames [] (returned_on f type lanes values frame ∷ frames)

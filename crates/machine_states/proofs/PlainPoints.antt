@@ -2,7 +2,7 @@
 use Rattle.std.proofs.Common.{ℕ, zero, suc, List, [], ◌∷◌, ◌≡◌, true≢false, sym, ap, subst}
 use Rattle.std.specs.Prelude.{is_some, Some, slice_get}
 use Rattle.gang_model.proofs.StandingLaws.{Each, each_join}
-use Rattle.gang_model.specs.Types.Tree.{Scalar, Stmt, Empty, Then, Declare, Assign, Change, If, Loop, BodyFirst, Break, Continue, Return, Call, Function}
+use Rattle.gang_model.specs.Types.Tree.{Scalar, Stmt, Empty, Then, Declare, Assign, Change, If, Loop, BodyFirst, Break, Continue, Return, Call, Check, Function}
 use Rattle.mask_states.specs.Points.{Point, Ways, before_step, body_ways, update_ways, entry_of, points_of, points_in, function_ways}
 use Rattle.machine_states.specs.Variables.{Variables}
 use Rattle.machine_states.specs.Plain.{IsPlain, IsPlainPoint, IsPlainFunction}
@@ -32,6 +32,7 @@ module _ (variables : Variables) (n : ℕ) where
   points_plain (Continue number) ways h = (tt, tt)
   points_plain (Return number e) ways h = (h, tt)
   points_plain (Call number called args result_for) ways h = (h, tt)
+  points_plain (Check number e) ways h = (h, tt)
   points_plain s ways h = absurd h
 
   pub points_in-plain : (f : Function) → IsPlainFunction variables n f → ArePlain (points_in f)

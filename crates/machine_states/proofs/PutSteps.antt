@@ -2,12 +2,13 @@
 use Rattle.std.proofs.Common.{◌≡◌, refl, ap, ◌∙◌, subst, ℕ, suc, ◌<◌, false, List, [], ◌∷◌, length, Option, arith}
 use Rattle.std.specs.Prelude.{Some, None, slice_get, Result, Ok, Err, IfOk, if◌then◌else◌, ◌==◌}
 use Rattle.gang_types.specs.declared.types.IntType.{IntType}
+use Rattle.gang_types.specs.declared.faults.FaultName.TheVariants.{Assert}
 use Rattle.gang_types.specs.declared.operators.BinaryOp.{BinaryOp}
 use Rattle.gang_types.specs.declared.places.VarId.{VarId}
 use Rattle.gang_types.specs.declared.places.VarId.TheVariants.{File, Local}
 use Rattle.gang_types.specs.Lanes.{Lanes, no_lane}
 use Rattle.gang_types.specs.Values.{converted, binary_result}
-use Rattle.gang_model.specs.Types.Tree.{Var, Expr, StepNumber, Scalar, Stmt, Declare, Assign, Change, Return, Function, Program}
+use Rattle.gang_model.specs.Types.Tree.{Var, Expr, StepNumber, Scalar, Stmt, Declare, Assign, Change, Return, Check, Function, Program}
 use Rattle.gang_model.specs.Running.Lanes.{Fault, ◌>>=◌, each, try_each, at, holds}
 use Rattle.gang_model.specs.Running.State.{State, words_in, with_words_in, on_top, seen, declared_words, assigned_words}
 use Rattle.gang_model.specs.Running.Value.{value}
@@ -40,6 +41,10 @@ initial_fills (Some e) lanes state values is = value_fills e lanes state values 
 -- an operation in each lane, by a variable's old values and the operand's, and its results as the variable's new values
 abbrev pub operated : Lanes → (type : IntType) → BinaryOp → (in_type : IntType) → (old y : List ℕ) → Result (List ℕ) Fault
 operated lanes type op in_type old y = try_each lanes (λ k. binary_result op in_type (converted type in_type (at old k)) (at y k))
+
+-- a test holds in each of some lanes, or the fault of the lowest in which it does not
+abbrev pub asserted : Lanes → List ℕ → Result (List ℕ) Fault
+asserted lanes c = try_each lanes (λ k. if holds c k then Ok 0 else Err Assert)
 
 abbrev pub result_words : Lanes → (type in_type : IntType) → List ℕ → List ℕ
 result_words lanes type in_type r = each lanes (λ k. converted in_type type (at r k))
@@ -204,3 +209,21 @@ module _ (p : Program) (variables : Variables) (w : ℕ) (regions : Regions) (ma
 
     pub return_fails : (fault : Fault) → initial e (waiting_in regions i number) masked.state ≡ Err fault → FailsWith p masked fault
     return_fails fault is = put_fails (Return number' e) target next fault (ap (λ r. r >>= returning) is)
+
+  module _ (number' : StepNumber) (e : Expr) (target : StepNumber) (next : IsNext p regions i n f number (Some (Put (Check number' e) target))) where
+    abbrev checking : List ℕ → Result State Fault
+    checking c = asserted lanes c >>= λ passes. Ok masked.state
+
+    pub check_value_fails : (fault : Fault) → value e (waiting_in regions i number) masked.state ≡ Err fault → FailsWith p masked fault
+    check_value_fails fault is = put_fails (Check number' e) target next fault (ap (λ r. r >>= checking) is)
+
+    module _ (c : List ℕ) (value_is : value e (waiting_in regions i number) masked.state ≡ Ok c) where
+      run_checks : (r : Result (List ℕ) Fault) → asserted lanes c ≡ r → run p (Check number' e) lanes masked.state ≡ (r >>= λ passes. Ok masked.state)
+      run_checks r is = ap (λ r. r >>= checking) value_is ∙ ap (λ r. r >>= λ passes. Ok masked.state) is
+
+      -- nothing is changed but where the lanes go on
+      pub checks : (passes : List ℕ) → asserted (waiting_in regions i number) c ≡ Ok passes → GoesTo p variables w masked (sent_on i (waiting_in regions i number) (λ j. target) regions)
+      checks passes is = put_goes (Check number' e) target next masked.state regions (run_checks (Ok passes) is) shows next.depth
+
+      pub check_fails : (fault : Fault) → asserted (waiting_in regions i number) c ≡ Err fault → FailsWith p masked fault
+      check_fails fault is = put_fails (Check number' e) target next fault (run_checks (Err fault) is)

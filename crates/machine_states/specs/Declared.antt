@@ -3,7 +3,7 @@ use Rattle.std.specs.Prelude.{◌≡◌, ℕ, suc, zero, ◌<◌, Bool, true, fa
 use Rattle.gang_types.specs.declared.places.VarId.{VarId}
 use Rattle.gang_types.specs.declared.places.VarId.TheVariants.{File, Local}
 use Rattle.gang_model.specs.Running.State.{Frame, Store, same_id}
-use Rattle.gang_model.specs.Types.Tree.{StepNumber, Expr, Read, Element, Unary, Binary, Convert, And, Or, Choice, Reduce, Scan, OfOne, OfTwo, Extract, Insert, Rotate, Shift, Shuffle, ShuffleTwo, Select, Target, Scalar, ElementOf, Arg, Value, Array, ResultFor, Declares, Assigns, Returns, Stmt, Empty, Then, Declare, Assign, Change, If, Loop, BodyFirst, Return, Switch, Segment, ForEach, Call, PackedStore, PackedLoad, Variable, Standing, Function, Program}
+use Rattle.gang_model.specs.Types.Tree.{StepNumber, Expr, Read, Element, Unary, Binary, Convert, And, Or, Choice, Reduce, Scan, OfOne, OfTwo, Extract, Insert, Rotate, Shift, Shuffle, ShuffleTwo, Select, Target, Scalar, ElementOf, Arg, Value, Array, ResultFor, Declares, Assigns, Returns, Stmt, Empty, Then, Declare, Assign, Change, If, Loop, BodyFirst, Return, Switch, Segment, ForEach, Call, Check, PackedStore, PackedLoad, Variable, Standing, Function, Program}
 use Rattle.mask_states.specs.Masked.{Level, Masked, next_in}
 use Rattle.machine_states.specs.Variables.{Variables, parameters_of}
 
@@ -113,6 +113,7 @@ DeclaresFirst d (Loop number test update body) = NamesDeclared d test × Declare
 DeclaresFirst d (BodyFirst number test body) = NamesDeclared d test × DeclaresFirst d body
 DeclaresFirst d (Return number e) = OptionDeclared d e
 DeclaresFirst d (Call number called args result_for) = ArgsDeclared d args × ResultDeclared d result_for
+DeclaresFirst d (Check number e) = NamesDeclared d e
 DeclaresFirst d s = Unit {0}
 
 -- for each step of a statement, in running order, what is declared before it

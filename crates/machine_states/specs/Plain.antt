@@ -1,8 +1,8 @@
--- Programs over scalars: functions and file-scope variables without arrays, all statements but the foreach forms, `switch`, `assert`
+-- Programs over scalars: functions and file-scope variables without arrays, all statements but the foreach forms, `switch`
 -- and the packed calls, and expressions that read no array (a choice of this project: the forms that the machine runs today).
 use Rattle.std.specs.Prelude.{◌≡◌, ℕ, suc, ◌≤◌, false, List, [], ◌∷◌, All, Option, Some, None, length, slice_get}
 use Rattle.gang_types.specs.declared.places.VarId.TheVariants.{File, Local}
-use Rattle.gang_model.specs.Types.Tree.{Expr, Read, Element, Unary, Binary, Convert, And, Or, Choice, Reduce, Scan, OfOne, OfTwo, Extract, Insert, Rotate, Shift, Shuffle, ShuffleTwo, Select, Scalar, Arg, Value, Array, ResultFor, Nothing, Declares, Assigns, Returns, Stmt, Empty, Then, Declare, Assign, Change, If, Loop, BodyFirst, Break, Continue, Return, Call, Variable, Standing, Function, Program}
+use Rattle.gang_model.specs.Types.Tree.{Expr, Read, Element, Unary, Binary, Convert, And, Or, Choice, Reduce, Scan, OfOne, OfTwo, Extract, Insert, Rotate, Shift, Shuffle, ShuffleTwo, Select, Scalar, Arg, Value, Array, ResultFor, Nothing, Declares, Assigns, Returns, Stmt, Empty, Then, Declare, Assign, Change, If, Loop, BodyFirst, Break, Continue, Return, Call, Check, Variable, Standing, Function, Program}
 use Rattle.mask_states.specs.Points.{Point, Put, Go, Branch, Enter}
 use Rattle.machine_states.specs.Variables.{Variables, IsScalar, IsOwn, own_of, parameters_of}
 
@@ -66,6 +66,7 @@ IsPlain variables n (Break number) = Unit {0}
 IsPlain variables n (Continue number) = Unit {0}
 IsPlain variables n (Return number e) = IsPlainOption variables n e
 IsPlain variables n (Call number called args result_for) = CallPlain variables n called args × ResultPlain variables n result_for
+IsPlain variables n (Check number e) = IsPlainExpr variables n e
 IsPlain variables n s = ⊥
 
 -- what a step of a function does
@@ -74,6 +75,7 @@ IsPlainPoint variables n (Put (Declare number x e) next) = ((k : ℕ) × IsOwn v
 IsPlainPoint variables n (Put (Assign number (Scalar x) e) next) = IsScalar variables n x × IsPlainExpr variables n e
 IsPlainPoint variables n (Put (Change number (Scalar x) type op in_type e) next) = IsScalar variables n x × IsPlainExpr variables n e
 IsPlainPoint variables n (Put (Return number e) next) = IsPlainOption variables n e
+IsPlainPoint variables n (Put (Check number e) next) = IsPlainExpr variables n e
 IsPlainPoint variables n (Go next) = Unit {0}
 IsPlainPoint variables n (Branch test yes' no') = IsPlainExpr variables n test
 IsPlainPoint variables n (Enter called args result_for next) = CallPlain variables n called args × ResultPlain variables n result_for

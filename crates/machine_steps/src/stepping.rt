@@ -9,7 +9,7 @@ use codegen::StepCode;
 use debug_machine::{Fault, StepEnd};
 use expression_machine::Stacks;
 use machine_moves::{
-    Active, CompiledProgram, assign, branch, change, declare, finish, go, next_step,
+    Active, CompiledProgram, assign, branch, change, check, declare, finish, go, next_step,
 };
 use machine_words::MachineWords;
 use undo_log::Timeline;
@@ -68,6 +68,7 @@ fn perform<const W: usize, T: Timeline + Drop>(
         } => change(
             compiled, active, *variable, *operation, value, *next, words, stacks,
         ),
+        StepCode::Check { test, next } => check(compiled, active, test, *next, words, stacks),
         StepCode::Return { value, next } => finish(compiled, active, value, *next, words, stacks),
         StepCode::Go { next } => go::<W, T>(compiled, active, *next, words),
         StepCode::Branch { test, yes, no } => {

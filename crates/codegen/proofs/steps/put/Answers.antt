@@ -2,7 +2,7 @@ use Rattle.std.proofs.Common.{ap, subst}
 use Rattle.mask_states.specs.Points.{Put}
 use Rattle.typed_tree.specs.Views.{boxed_view, stmt_view, target_view}
 use Rattle.machine_states.specs.Plain.{IsPlainPoint}
-use Rattle.codegen.proofs.PlainStatements.{one_of_four, scalar_assigned, scalar_changed}
+use Rattle.codegen.proofs.PlainStatements.{one_of_five, scalar_assigned, scalar_changed}
 use Rattle.codegen.proofs.steps.put.Goals as goal
 
 pub scalar-requires : goal.scalar-requires
@@ -18,4 +18,5 @@ scalar-requires-in-Change c =
 
 pub unreachable-requires : goal.unreachable-requires
 unreachable-requires c =
-    one_of_four c.requires.0 c.requires.1 c.args.statement.now c.args.next c.requires.2 c.in_default.not-Declare c.in_default.not-Assign c.in_default.not-Change c.in_default.not-Return
+    one_of_five c.requires.0 c.requires.1 c.args.statement.now c.args.next c.requires.2 c.in_default.not-Declare c.in_default.not-Assign c.in_default.not-Change c.in_default.not-Return
+    c.in_default.not-Check

@@ -28,6 +28,14 @@ change-requires g c =
 pub returns-in-Change : goal.returns-in-Change
 returns-in-Change g c = c.change.ensures
 
+pub check-requires : goal.check-requires
+check-requires g c =
+    let small = gang_width-le g.row.W c.requires.sound.lie.gang in
+    (omega (arith, small), (c.requires.sound, subst (λ code. DoesNext g.row.W c.args.compiled.now (regions_in g.T.Timeline.history g.row.W c.args.words.now) c.args.active code) c.in-Check.is c.requires.does))
+
+pub returns-in-Check : goal.returns-in-Check
+returns-in-Check g c = c.check.ensures
+
 pub finish-requires : goal.finish-requires
 finish-requires g c =
     let small = gang_width-le g.row.W c.requires.sound.lie.gang in
