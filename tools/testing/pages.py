@@ -1,5 +1,7 @@
 """The pages: README.md, those of docs/ and those that list crates and examples. What they name is there, and no paragraph is long."""
 
+import importlib.machinery
+import importlib.util
 import re
 
 from .tried import Result
@@ -90,15 +92,23 @@ def rows_of_definitions(root):
             yield number, CODE.findall(cells[0]), [place / f"{it.strip()}.antt" for it in files.split(",")]
 
 
+def tool(root, name):
+    """A tool as a module."""
+    loader = importlib.machinery.SourceFileLoader(name, str(root / "tools" / name))
+    module = importlib.util.module_from_spec(importlib.util.spec_from_loader(name, loader))
+    loader.exec_module(module)
+    return module
+
+
 def undefined(root):
-    """What a table of definitions says of a file that has it not."""
+    """What a table of definitions and laws says of a file in which `tools/where` finds no such one."""
+    where = tool(root, "where")
     for number, names, files in rows_of_definitions(root):
         gone = [it for it in files if not it.is_file()]
         yield from (f"line {number}: {it.relative_to(root)} is not there" for it in gone)
-        text = "\n".join(it.read_text(encoding="utf-8") for it in files if it not in gone)
-        for name in names:
-            if not has(text, name):
-                yield f"line {number}: {name} is not in {', '.join(it.name for it in files)}"
+        there = {unit.name for file in files if file not in gone for how in (where.DEFINED, where.STATED) for unit in where.units(file, how)}
+        for name in (it for it in names if it.strip("◌") not in there):
+            yield f"line {number}: {name} is not in {', '.join(it.name for it in files)}"
 
 
 def check(root):
