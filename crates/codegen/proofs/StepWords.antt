@@ -45,6 +45,7 @@ module _ (width : ℕ) where
   step_sets (step.Assign variable value next) (p.Put (t.Assign number (t.Scalar x) e) then) h = refl
   step_sets (step.Change variable change value next) (p.Put (t.Change number (t.Scalar x) type op in_type e) then) h = refl
   step_sets (step.Return value next) (p.Put (t.Return number e) then) h = refl
+  step_sets (step.Check test next) (p.Put (t.Check number e) then) h = refl
   step_sets (step.Go next) (p.Go then) h = refl
   step_sets (step.Branch test yes' no') (p.Branch e on off) h = refl
   step_sets (step.Enter function args result_for next) (p.Enter called given for then) h = ap (λ n. n * width + width + 4) (fit_long IsArg args.items given h.1)

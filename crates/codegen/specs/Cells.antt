@@ -10,6 +10,7 @@ words_set_by width (step.Declare variable value next) = 2 * width
 words_set_by width (step.Assign variable value next) = 2 * width
 words_set_by width (step.Change variable change value next) = 2 * width
 words_set_by width (step.Return value next) = 2 * width + 1
+words_set_by width (step.Check test next) = width
 words_set_by width (step.Go next) = width
 words_set_by width (step.Branch test yes' no') = width
 words_set_by width (step.Enter function args result_for next) = length args.items * width + width + 4

@@ -46,7 +46,7 @@ fn words_set(step: &StepCode, width: usize) -> usize
     ensures { result ≡ words_set_by width step.now }
 {
     match step {
-        StepCode::Go { .. } | StepCode::Branch { .. } => width,
+        StepCode::Check { .. } | StepCode::Go { .. } | StepCode::Branch { .. } => width,
         StepCode::Declare { .. } | StepCode::Assign { .. } | StepCode::Change { .. } => 2 * width,
         StepCode::Return { .. } => 2 * width + 1,
         StepCode::Enter { args, .. } => args.len() * width + width + 4,
