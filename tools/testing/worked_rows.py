@@ -5,12 +5,9 @@ import re
 
 from .tried import Run
 
-# What stands in a source with a form that is not there yet: an array, a call of the library, a `switch` or a foreach form, or an
-# exported function with parameters.
-FORM_TO_COME = re.compile(
-    r"\[|\b(foreach\w*|switch|assert|abs|min|max|clamp|select|any|all|none|popcnt|lanemask|packmask|packed_\w+|reduce_\w+"
-    r"|exclusive_scan_\w+|extract|insert|broadcast|rotate|shift|shuffle)\b|export void \w+\([^)]+\)"
-)
+# What stands in a source with a form that is not there yet: an array or a part of one, a `switch` or a foreach form, or an exported
+# function with parameters.
+FORM_TO_COME = re.compile(r"\[|[(,]\s*&|\b(foreach\w*|switch)\b|export void \w+\([^)]+\)")
 
 
 def rows(root):

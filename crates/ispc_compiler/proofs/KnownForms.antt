@@ -1,10 +1,10 @@
 -- Forms of the parts of statements.
-use Rattle.std.proofs.Common.{◌≡◌, ◌&&◌, ◌||◌, ◌==◌, ℕ, suc, Bool, true, false, List, [], ◌∷◌, length, map, refl, sym, ap, ap₂, ◌∙◌, Vec, Global, arith}
+use Rattle.std.proofs.Common.{◌≡◌, ◌&&◌, ◌||◌, ◌==◌, ℕ, suc, Bool, false, List, [], ◌∷◌, length, map, refl, sym, ap, ap₂, ◌∙◌, Vec, Global, arith}
 use Rattle.std.proofs.lemmas.Bool.Decides.{nat_tests}
 use Rattle.std.specs.List.{list_all}
 use Rattle.std.specs.Prelude.{not}
 use Rattle.gang_types.specs.declared.places.Place.{Place}
-use Rattle.gang_model.specs.Source.Known.{known_args, known_call, known_expr, known_params, known_stmt, known_stmts}
+use Rattle.gang_model.specs.Source.Known.{known_args, known_expr, known_params, known_stmt, known_stmts}
 use Rattle.source_tree.specs.declared.expressions.Arg.{Arg}
 use Rattle.source_tree.specs.declared.expressions.Expr.{Expr, Call}
 use Rattle.source_tree.specs.Expressions.{args_view, expr_view}
@@ -21,12 +21,11 @@ pub in_block : (s : Stmt) (stmts : Vec Stmt Global) (items : List Stmt) (known :
 in_block s stmts items known is same found =
     found ∙ (ap (λ xs. known_stmts (stmts_view xs) plain_forms) same ∙ sym (ap (λ x. known_stmt x plain_forms) (ap stmt_view is ∙ view_block stmts)))
 
--- a call whose name is let through has the forms of its arguments
-pub in_call : (e : Expr) (at : Place) (name : Vec ℕ Global) (args : Vec Arg Global) (items : List Arg) (known : Bool) → e ≡ Call at name args → known_call name.items plain_forms ≡ true
+-- a call has the forms of its arguments
+pub in_call : (e : Expr) (at : Place) (name : Vec ℕ Global) (args : Vec Arg Global) (items : List Arg) (known : Bool) → e ≡ Call at name args
     → items ≡ args.items → known ≡ known_args (args_view items) plain_forms → known ≡ known_expr (expr_view e) plain_forms
-in_call e at name args items known is named same found =
+in_call e at name args items known is same found =
     found ∙ ap (λ xs. known_args (args_view xs) plain_forms) same
-    ∙ sym (ap (λ b. b && known_args (args_view args.items) plain_forms) named)
     ∙ sym (ap (λ x. known_expr x plain_forms) (ap expr_view is ∙ view_call at name args))
 
 -- all images pass where what they are made of does

@@ -1,14 +1,13 @@
 //! Forms of the language that are let through, and those that are not there yet.
 ghost use Rattle.std.specs.List.{list_all};
-ghost use Rattle.std.specs.Prelude.{◌≡◌, ◌&&◌, is_ok, map, not, option_map};
+ghost use Rattle.std.specs.Prelude.{◌≡◌, is_ok, map, not, option_map};
 ghost use Rattle.source_tree.specs.Expressions.{args_view, expr_view};
-ghost use Rattle.gang_model.specs.Source.Known.{is_known, known_args, known_call, known_expr, known_form, known_function, known_item, known_params, known_some, known_stmt, known_stmts, known_target};
+ghost use Rattle.gang_model.specs.Source.Known.{is_known, known_args, known_expr, known_form, known_function, known_item, known_params, known_some, known_stmt, known_stmts, known_target};
 ghost use Rattle.plain_programs.specs.Sources.{plain_forms};
 ghost use Rattle.source_tree.specs.Tree.{function_view, item_view, param_view, stmt_view, stmts_view, target_view, tree_view};
 
 use gang_model::GlobalForm;
 use gang_types::Place;
-use ispc_names_scopes::{is_library_name, statement_call};
 use source_tree::{Arg, Expr, Function, GlobalVariable, Item, Param, Stmt, Target, Tree};
 
 /// Whether all forms of a source are let through.
@@ -94,7 +93,7 @@ fn check_statement(statement: &Stmt) -> Result<(), Place>
             check_expression(value)
         }
         Stmt::Increment { target, .. } => check_target(target),
-        Stmt::Call { place, name, args } => check_call(*place, name, args),
+        Stmt::Call { args, .. } => check_args(args),
         Stmt::Break { .. } | Stmt::Continue { .. } => Ok(()),
         Stmt::Return { value, .. } => check_some(value),
         Stmt::If {
@@ -146,24 +145,6 @@ fn check_target(target: &Target) -> Result<(), Place>
     }
 }
 
-/// A call of a function of the source, whose arguments are let through.
-fn check_call(place: Place, name: &[u8], args: &[Arg]) -> Result<(), Place>
-    ensures { is_ok result ≡ (known_call name.now plain_forms && known_args (args_view args.now) plain_forms) }
-{
-    check_name(place, name)?;
-    check_args(args)
-}
-
-/// No call of the library is let through.
-fn check_name(place: Place, name: &[u8]) -> Result<(), Place>
-    ensures { is_ok result ≡ known_call name.now plain_forms }
-{
-    if is_library_name(name) || statement_call(name).is_some() {
-        return Err(place);
-    }
-    Ok(())
-}
-
 /// The expression, if there is one.
 fn check_some(expression: &Option<Expr>) -> Result<(), Place>
     ensures { is_ok result ≡ known_some (option_map expr_view expression.now) plain_forms }
@@ -188,7 +169,7 @@ fn check_args(args: &[Arg]) -> Result<(), Place>
     Ok(())
 }
 
-/// No indexing and no call of the library is let through.
+/// No indexing is let through.
 #[cycle(expression)]
 fn check_expression(expression: &Expr) -> Result<(), Place>
     ensures { is_ok result ≡ known_expr (expr_view expression.now) plain_forms }
@@ -196,10 +177,7 @@ fn check_expression(expression: &Expr) -> Result<(), Place>
     match expression {
         Expr::Number { .. } | Expr::Truth { .. } | Expr::Name { .. } => Ok(()),
         Expr::Index { place, .. } => Err(*place),
-        Expr::Call { place, name, args } => {
-            check_name(*place, name)?;
-            check_args(args)
-        }
+        Expr::Call { args, .. } => check_args(args),
         Expr::Paren { inner, .. } => check_expression(inner),
         Expr::Unary { operand, .. } | Expr::Cast { operand, .. } => check_expression(operand),
         Expr::Binary { left, right, .. } => {

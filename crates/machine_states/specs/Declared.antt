@@ -74,6 +74,8 @@ abbrev pub declared_by : Stmt → List ℕ
 declared_by (Then first rest) = declared_by rest ++ declared_by first
 declared_by (Declare number x e) = own_number x.id
 declared_by (Call number called args result_for) = declared_by_result result_for
+declared_by (PackedStore number array from e result_for) = declared_by_result result_for
+declared_by (PackedLoad number array from x result_for) = declared_by_result result_for
 declared_by s = []
 
 -- whether a result is returned

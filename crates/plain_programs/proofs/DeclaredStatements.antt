@@ -20,10 +20,9 @@ use Rattle.gang_model.specs.Types.TypeFaults.{variable_faults}
 use Rattle.gang_model.specs.Types.Statements.{declaration, assignment, target_of, rate_of, operand_for, changed, number_one, returning, test_of, Made, made, scope_after, statement, statements}
 use Rattle.machine_states.specs.Declared.{IsThere, declared_by, may_return, declared_before_return, DeclaresFirst, declared_at}
 use Rattle.plain_programs.specs.Sources.{plain_forms}
-use Rattle.plain_programs.proofs.KnownCalls.{no_library}
 use Rattle.plain_programs.proofs.QuietHeads.{IsQuiet, AreQuiet}
 use Rattle.plain_programs.proofs.ThereNames.{ScopeThere, NamesThere, scope_more, names_more, there_listed, AreListed, listed_join, listed_last}
-use Rattle.plain_programs.proofs.StepsNamed.{Before, IsStep, IsNamed, test-named, call-step, declaration-step, assignment-step, change-step, increment-step, returning-step}
+use Rattle.plain_programs.proofs.StepsNamed.{Before, IsStep, IsNamed, test-named, alone-step, declaration-step, assignment-step, change-step, increment-step, returning-step}
 
 -- what follows for a sound part
 on_more : {A : Type 0} (j : Judged A) (P Q : A → Type 0) → OnSound j P → ((a : A) → P a → Q a) → OnSound j Q
@@ -231,11 +230,11 @@ mutual
   statement_first (ParsedDeclare p spec at name e) context scope k n known quiet =
       let v = declared name (Local k) spec false false in
       on_pair (unless (variable_faults at spec) v) (declaration context scope (var_of v.variable) e n) _ (λ w. Unit {0}) (IsStep scope (k ∷ []) false) (StatementFirst (ParsedDeclare p spec at name e) scope k)
-      (on_any (unless (variable_faults at spec) v)) (declaration-step context scope (var_of v.variable) e n known)
+      (on_any (unless (variable_faults at spec) v)) (declaration-step context scope (var_of v.variable) e n)
       (λ w s _ step. declaration_first scope k p name v s refl step)
   statement_first (ParsedAssign p target e) context scope k n known quiet =
       on_then (assignment context scope target e n) _ (IsStep scope [] false) (StatementFirst (ParsedAssign p target e) scope k)
-      (assignment-step context scope target e n (and_true (known_target target plain_forms) (known_expr e plain_forms) known).1) (λ s step. one_first scope k p false s step)
+      (assignment-step context scope target e n) (λ s step. one_first scope k p false s step)
   statement_first (ParsedChange p target op e) context scope k n known quiet =
       let aim = target_of scope target.at target.name target.index in
       on_then (both aim (operand_for (rate_of aim) e scope)) _ (λ parts. IsStep scope [] false (changed op n parts.0 parts.1)) (StatementFirst (ParsedChange p target op e) scope k)
@@ -245,14 +244,14 @@ mutual
       (increment-step scope target op n) (λ a step. one_first scope k p false (changed op n a number_one) step)
   statement_first (ParsedDoCall p name args) context scope k n known quiet =
       on_then (call_of context scope p name args Nothing n) _ (λ c. IsStep scope [] false c.stmt) (StatementFirst (ParsedDoCall p name args) scope k)
-      (call-step context scope p name args Nothing n (no_library name (and_true (known_call name plain_forms) (known_args args plain_forms) known).0) (λ b. tt))
+      (alone-step context scope p name args n)
       (λ c step. one_first scope k p false c.stmt step)
   statement_first (ParsedBreak p) context scope k n known quiet =
       one_first scope k p false (Break n) (record { alone = λ there. refl; declares = refl; returned = refl; first = λ b. tt })
   statement_first (ParsedContinue p) context scope k n known quiet =
       one_first scope k p false (Continue n) (record { alone = λ there. refl; declares = refl; returned = refl; first = λ b. tt })
   statement_first (ParsedReturn p e) context scope k n known quiet =
-      on_then (returning context scope p e n) _ (IsStep scope [] true) (StatementFirst (ParsedReturn p e) scope k) (returning-step context scope p e n known) (λ s step. one_first scope k p true s step)
+      on_then (returning context scope p e n) _ (IsStep scope [] true) (StatementFirst (ParsedReturn p e) scope k) (returning-step context scope p e n) (λ s step. one_first scope k p true s step)
   statement_first (ParsedIf p e a) context scope k n known quiet =
       let parts = and_true (known_expr e plain_forms) (known_stmt a plain_forms) known in
       on_pair (test_of scope (Some e)) (statement a context scope k (n + 1)) _ (IsNamed scope) (StatementFirst a scope k) (StatementFirst (ParsedIf p e a) scope k)

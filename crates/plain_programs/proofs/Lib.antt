@@ -4,7 +4,6 @@ pub mod DeclaredStatements
 pub mod Elements
 pub mod EntryFunctions
 pub mod FewVariables
-pub mod KnownCalls
 pub mod KnownFunctions
 pub mod OwnParameters
 pub mod OwnVariables

@@ -1,5 +1,5 @@
 -- The typed form of a sound statement of the known forms has the forms of plain statements, and declares scalars of its function.
-use Rattle.std.proofs.Common.{ℕ, ◌+◌, true≢false, true, false, ◌&&◌, List, [], ◌++◌, ◌≡◌, refl, sym, ap}
+use Rattle.std.proofs.Common.{ℕ, ◌+◌, true≢false, true, false, ◌&&◌, List, [], ◌∷◌, ◌++◌, ◌≡◌, refl, sym, ap}
 use Rattle.std.specs.Prelude.{is_some, Option, Some, None}
 use Rattle.gang_types.specs.declared.types.IntType.{IntType}
 use Rattle.gang_types.specs.declared.types.IntType.TheVariants as t
@@ -7,23 +7,23 @@ use Rattle.gang_types.specs.declared.types.Rate.{Rate}
 use Rattle.gang_types.specs.declared.types.Rate.TheVariants.{Varying}
 use Rattle.gang_types.specs.declared.places.Place.{Place}
 use Rattle.gang_types.specs.declared.places.VarId.TheVariants.{Local}
-use Rattle.gang_model.specs.Types.Tree.{Var, ResultFor, Nothing, Declares, Assigns, Returns, StepNumber, Stmt, Empty, Then, Declare, Assign, Change, If, Loop, BodyFirst, Break, Continue, Return, Call, Variable}
+use Rattle.gang_model.specs.declared.refusals.RefusalNumber.TheVariants.{S9}
+use Rattle.gang_model.specs.Types.Tree.{Var, ResultFor, Nothing, Declares, Assigns, Returns, StepNumber, Stmt, Empty, Then, Declare, Assign, Change, If, Loop, BodyFirst, Break, Continue, Return, Call, Check, PackedStore, PackedLoad, Variable}
 use Rattle.gang_model.specs.Source.Parsed.{Name, ParsedExpr, ParsedArgs, ParsedTarget, ParsedStmt, ParsedEmpty, ParsedBlock, ParsedDeclare, ParsedAssign, ParsedChange, ParsedIncrement, ParsedDoCall, ParsedBreak, ParsedContinue, ParsedReturn, ParsedIf, ParsedIfElse, ParsedWhile, ParsedDo, ParsedFor, ParsedSwitch, ParsedForEach, ParsedForEachActive, ParsedForEachUnique, ParsedStmts, ParsedLast, ParsedNext}
 use Rattle.gang_model.specs.Source.Known.{known_call, known_expr, known_args, known_some, known_target, known_stmt, known_stmts}
 use Rattle.gang_model.specs.Running.Numbering.{steps_in}
 use Rattle.gang_model.specs.Names.Scope.{locals_in}
-use Rattle.gang_model.specs.Source.Judged.{Judged, Sound, unless, both, ◌>>=◌}
-use Rattle.gang_model.proofs.JudgedLaws.{OnSound, on_any, on_then, on_both, on_unless, on_pair, and_true}
+use Rattle.gang_model.specs.Source.Judged.{Judged, Sound, refused, unless, both, ◌>>=◌}
+use Rattle.gang_model.proofs.JudgedLaws.{OnSound, on_any, on_then, on_both, on_unless, on_pair, on_if, and_true}
 use Rattle.gang_model.proofs.StandingLaws.{Each, each_join}
-use Rattle.gang_model.specs.Types.LibraryTable.{StatementCall, statement_call}
+use Rattle.gang_model.specs.Types.LibraryTable.{StatementCall, Asserts, PackedStores, PackedLoads, statement_call}
 use Rattle.gang_model.specs.Types.Signatures.{ResultType}
-use Rattle.gang_model.specs.Types.Typing.{Scope, Passing, arguments, given_value, first_of, var_of, declared}
+use Rattle.gang_model.specs.Types.Typing.{Scope, Passing, Scalar, View, Reference, arguments, given_value, first_of, var_of, declared}
 use Rattle.gang_model.specs.Types.Overloads.{candidates, overload}
-use Rattle.gang_model.specs.Types.Calls.{Context, Called, call_of_kind, call_of, WholeCall, whole_call, right_call, result_faults}
+use Rattle.gang_model.specs.Types.Calls.{Context, Called, stored_to, takes_elements, packed, library_statement, call_of_kind, call_of, WholeCall, whole_call, right_call, result_faults}
 use Rattle.gang_model.specs.Types.TypeFaults.{variable_faults}
 use Rattle.gang_model.specs.Types.Statements.{first_value, declaration, scalar_target, target_of, rate_of, assigned_type, variable_of, call_for, assigned_by, operand_for, empty_return, returned_value, returned, value_return, returning, test_of, Made, made, scope_after, statement, statements}
 use Rattle.plain_programs.specs.Sources.{plain_forms}
-use Rattle.plain_programs.proofs.KnownCalls.{IsUserCall, no_library, user_call, user_call_for}
 
 -- ---- forms
 
@@ -50,6 +50,9 @@ HasPlainForm (Break number) = Unit {0}
 HasPlainForm (Continue number) = Unit {0}
 HasPlainForm (Return number e) = Unit {0}
 HasPlainForm (Call number called args result_for) = DeclaresLocal result_for
+HasPlainForm (Check number e) = Unit {0}
+HasPlainForm (PackedStore number array from e result_for) = DeclaresLocal result_for
+HasPlainForm (PackedLoad number array from x result_for) = DeclaresLocal result_for
 HasPlainForm s = ⊥
 
 abbrev pub IsNoArray : Variable → Type 0
@@ -68,70 +71,77 @@ MadePlain m = HasPlainForm m.stmt × Each IsDeclaredScalar m.variables
 abbrev CalledPlain : Called → Type 0
 CalledPlain c = HasPlainForm c.stmt
 
+library_plain : (p : Place) (call : StatementCall) (given : List Passing) (result_for : ResultFor) (n : StepNumber) → DeclaresLocal result_for
+    → OnSound (library_statement p call given result_for n) CalledPlain
+library_plain p Asserts (Scalar q e ∷ []) result_for n local = tt
+library_plain p PackedStores (View q v from ∷ Scalar r e ∷ []) result_for n local = on_unless (stored_to q v) _ CalledPlain local
+library_plain p PackedLoads (View q v from ∷ Reference r w ∷ []) result_for n local =
+    on_if (takes_elements w v) (unless (stored_to r w) (packed (PackedLoad n v.variable.id from (var_of w.variable) result_for))) (refused S9 p) CalledPlain
+    (on_unless (stored_to r w) _ CalledPlain local) tt
+library_plain p call given result_for n local = tt
+
 kind_plain : (kind : Option StatementCall) (context : Context) (p : Place) (name : Name) (given : List Passing) (result_for : ResultFor) (n : StepNumber)
-    → kind ≡ None → DeclaresLocal result_for → OnSound (call_of_kind kind context p name given result_for n) CalledPlain
-kind_plain None context p name given result_for n none local =
+    → DeclaresLocal result_for → OnSound (call_of_kind kind context p name given result_for n) CalledPlain
+kind_plain None context p name given result_for n local =
     on_then (overload p (candidates 0 context.functions name given)) _ (λ c. Unit {0}) CalledPlain (on_any (overload p (candidates 0 context.functions name given))) (λ c _. local)
-kind_plain (Some call) context p name given result_for n none local = absurd (true≢false (ap is_some none))
+kind_plain (Some call) context p name given result_for n local = library_plain p call given result_for n local
 
 call_plain : (context : Context) (scope : Scope) (p : Place) (name : Name) (args : ParsedArgs) (result_for : ResultFor) (n : StepNumber)
-    → statement_call name ≡ None → DeclaresLocal result_for → OnSound (call_of context scope p name args result_for n) CalledPlain
-call_plain context scope p name args result_for n none local =
+    → DeclaresLocal result_for → OnSound (call_of context scope p name args result_for n) CalledPlain
+call_plain context scope p name args result_for n local =
     on_then (arguments args scope) _ (λ given. Unit {0}) CalledPlain (on_any (arguments args scope))
-    (λ given _. kind_plain (statement_call name) context p name given result_for n none local)
+    (λ given _. kind_plain (statement_call name) context p name given result_for n local)
 
 right_plain : (context : Context) (scope : Scope) (p : Place) (call : WholeCall) (rate : Rate) (result_for : ResultFor) (n : StepNumber)
-    → IsUserCall (Some call) → DeclaresLocal result_for → OnSound (right_call context scope p call rate result_for n) HasPlainForm
-right_plain context scope p call rate result_for n none local =
-    on_then (call_of context scope call.at call.name call.args result_for n) _ CalledPlain HasPlainForm (call_plain context scope call.at call.name call.args result_for n none local)
+    → DeclaresLocal result_for → OnSound (right_call context scope p call rate result_for n) HasPlainForm
+right_plain context scope p call rate result_for n local =
+    on_then (call_of context scope call.at call.name call.args result_for n) _ CalledPlain HasPlainForm (call_plain context scope call.at call.name call.args result_for n local)
     (λ c h. on_unless (result_faults p c.result rate) c.stmt HasPlainForm h)
 
 -- ---- statements of one step
 
-first_plain : (call : Option WholeCall) (context : Context) (scope : Scope) (v : Var) (e : ParsedExpr) (n : StepNumber) → IsUserCall call → IsLocal v
+first_plain : (call : Option WholeCall) (context : Context) (scope : Scope) (v : Var) (e : ParsedExpr) (n : StepNumber) → IsLocal v
     → OnSound (first_value call context scope v e n) HasPlainForm
-first_plain (Some call) context scope v e n user local = right_plain context scope (first_of e) call v.rate (Declares v) n user local
-first_plain None context scope v e n user local =
+first_plain (Some call) context scope v e n local = right_plain context scope (first_of e) call v.rate (Declares v) n local
+first_plain None context scope v e n local =
     on_then (given_value e scope v.type v.rate) _ (λ x. Unit {0}) HasPlainForm (on_any (given_value e scope v.type v.rate)) (λ x _. local)
 
-declaration_plain : (context : Context) (scope : Scope) (v : Var) (e : Option ParsedExpr) (n : StepNumber) → known_some e plain_forms ≡ true → IsLocal v
+declaration_plain : (context : Context) (scope : Scope) (v : Var) (e : Option ParsedExpr) (n : StepNumber) → IsLocal v
     → OnSound (declaration context scope v e n) HasPlainForm
-declaration_plain context scope v None n known local = local
-declaration_plain context scope v (Some e) n known local =
-    first_plain (whole_call context.functions e) context scope v e n (user_call context.functions e known) local
+declaration_plain context scope v None n local = local
+declaration_plain context scope v (Some e) n local = first_plain (whole_call context.functions e) context scope v e n local
 
-assigned_plain : (call : Option WholeCall) (context : Context) (scope : Scope) (target : ParsedTarget) (e : ParsedExpr) (n : StepNumber) → IsUserCall call
+assigned_plain : (call : Option WholeCall) (context : Context) (scope : Scope) (target : ParsedTarget) (e : ParsedExpr) (n : StepNumber)
     → OnSound (assigned_by call context scope target e n) HasPlainForm
-assigned_plain (Some call) context scope target e n user =
+assigned_plain (Some call) context scope target e n =
     let v = scalar_target scope target.at target.name in
     on_pair v (right_call context scope (first_of e) call (variable_of v).rate (Assigns (variable_of v)) n) _ (λ x. Unit {0}) HasPlainForm HasPlainForm (on_any v)
-    (right_plain context scope (first_of e) call (variable_of v).rate (Assigns (variable_of v)) n user tt) (λ x s _ h. h)
-assigned_plain None context scope target e n user =
+    (right_plain context scope (first_of e) call (variable_of v).rate (Assigns (variable_of v)) n tt) (λ x s _ h. h)
+assigned_plain None context scope target e n =
     let aim = target_of scope target.at target.name target.index in
     let given = given_value e scope (assigned_type aim) (rate_of aim) in
     on_pair aim given _ (λ x. Unit {0}) (λ x. Unit {0}) HasPlainForm (on_any aim) (on_any given) (λ a x _ _. tt)
 
-returned_plain : (call : Option WholeCall) (context : Context) (scope : Scope) (e : ParsedExpr) (r : IntType × Rate) (n : StepNumber) → IsUserCall call
+returned_plain : (call : Option WholeCall) (context : Context) (scope : Scope) (e : ParsedExpr) (r : IntType × Rate) (n : StepNumber)
     → OnSound (returned_value call context scope e r n) HasPlainForm
-returned_plain (Some call) context scope e r n user = right_plain context scope (first_of e) call r.1 Returns n user tt
-returned_plain None context scope e r n user =
+returned_plain (Some call) context scope e r n = right_plain context scope (first_of e) call r.1 Returns n tt
+returned_plain None context scope e r n =
     on_then (given_value e scope r.0 r.1) _ (λ x. Unit {0}) HasPlainForm (on_any (given_value e scope r.0 r.1)) (λ x _. tt)
 
-value_return_plain : (context : Context) (scope : Scope) (e : ParsedExpr) (result : ResultType) (n : StepNumber) → known_expr e plain_forms ≡ true
+value_return_plain : (context : Context) (scope : Scope) (e : ParsedExpr) (result : ResultType) (n : StepNumber)
     → OnSound (value_return context scope e result n) HasPlainForm
-value_return_plain context scope e None n known =
+value_return_plain context scope e None n =
     on_then (returned context scope e (t.Int32, Varying) n) _ (λ s. Unit {0}) HasPlainForm (on_any (returned context scope e (t.Int32, Varying) n)) (λ s _. tt)
-value_return_plain context scope e (Some r) n known =
-    returned_plain (whole_call context.functions e) context scope e r n (user_call context.functions e known)
+value_return_plain context scope e (Some r) n = returned_plain (whole_call context.functions e) context scope e r n
 
 empty_return_plain : (p : Place) (result : ResultType) (n : StepNumber) → OnSound (empty_return p result n) HasPlainForm
 empty_return_plain p None n = tt
 empty_return_plain p (Some r) n = tt
 
-returning_plain : (context : Context) (scope : Scope) (p : Place) (e : Option ParsedExpr) (n : StepNumber) → known_some e plain_forms ≡ true
+returning_plain : (context : Context) (scope : Scope) (p : Place) (e : Option ParsedExpr) (n : StepNumber)
     → OnSound (returning context scope p e n) HasPlainForm
-returning_plain context scope p None n known = empty_return_plain p context.result n
-returning_plain context scope p (Some e) n known = value_return_plain context scope e context.result n known
+returning_plain context scope p None n = empty_return_plain p context.result n
+returning_plain context scope p (Some e) n = value_return_plain context scope e context.result n
 
 alone_plain : (j : Judged Stmt) → OnSound j HasPlainForm → OnSound (j >>= (λ s. Sound (made s []))) MadePlain
 alone_plain j h = on_then j _ HasPlainForm MadePlain h (λ s k. (k, tt))
@@ -148,12 +158,10 @@ mutual
       let v = declared name (Local k) spec false false in
       let sound = unless (variable_faults at spec) v in
       on_pair sound (declaration context scope (var_of v.variable) e n) _ (λ w. Unit {0}) HasPlainForm MadePlain (on_any sound)
-      (declaration_plain context scope (var_of v.variable) e n known (k, refl)) (λ w s _ h. (h, ((refl, refl), tt)))
+      (declaration_plain context scope (var_of v.variable) e n (k, refl)) (λ w s _ h. (h, ((refl, refl), tt)))
   statement_plain (ParsedAssign p target e) context scope k n known =
       let call = call_for target.index (whole_call context.functions e) in
-      let parts = and_true (known_target target plain_forms) (known_expr e plain_forms) known in
-      alone_plain (assigned_by call context scope target e n)
-      (assigned_plain call context scope target e n (user_call_for target.index (whole_call context.functions e) (user_call context.functions e parts.1)))
+      alone_plain (assigned_by call context scope target e n) (assigned_plain call context scope target e n)
   statement_plain (ParsedChange p target op e) context scope k n known =
       let aim = target_of scope target.at target.name target.index in
       let operand = operand_for (rate_of aim) e scope in
@@ -162,12 +170,11 @@ mutual
       let aim = target_of scope target.at target.name target.index in
       on_then aim _ (λ a. Unit {0}) MadePlain (on_any aim) (λ a _. (tt, tt))
   statement_plain (ParsedDoCall p name args) context scope k n known =
-      let user = no_library name (and_true (known_call name plain_forms) (known_args args plain_forms) known).0 in
-      on_then (call_of context scope p name args Nothing n) _ CalledPlain MadePlain (call_plain context scope p name args Nothing n user tt) (λ c h. (h, tt))
+      on_then (call_of context scope p name args Nothing n) _ CalledPlain MadePlain (call_plain context scope p name args Nothing n tt) (λ c h. (h, tt))
   statement_plain (ParsedBreak p) context scope k n known = (tt, tt)
   statement_plain (ParsedContinue p) context scope k n known = (tt, tt)
   statement_plain (ParsedReturn p e) context scope k n known =
-      alone_plain (returning context scope p e n) (returning_plain context scope p e n known)
+      alone_plain (returning context scope p e n) (returning_plain context scope p e n)
   statement_plain (ParsedIf p e a) context scope k n known =
       let parts = and_true (known_expr e plain_forms) (known_stmt a plain_forms) known in
       on_pair (test_of scope (Some e)) (statement a context scope k (n + 1)) _ (λ x. Unit {0}) MadePlain MadePlain (on_any (test_of scope (Some e)))

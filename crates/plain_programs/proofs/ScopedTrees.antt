@@ -3,7 +3,7 @@ use Rattle.std.proofs.Common.{ℕ, suc, ◌+◌, ◌≤◌, true≢false, false,
 use Rattle.std.specs.Prelude.{Option, Some, None, slice_get}
 use Rattle.gang_types.specs.declared.places.VarId.{VarId}
 use Rattle.gang_types.specs.declared.places.VarId.TheVariants.{Local}
-use Rattle.gang_model.specs.Types.Tree.{Var, Expr, Number, ProgramIndex, ProgramCount, LaneMask, Read, Element, Unary, Binary, Convert, And, Or, Choice, Reduce, Scan, OfOne, OfTwo, Extract, Insert, Rotate, Shift, Shuffle, ShuffleTwo, Select, Scalar, ElementOf, Arg, Value, Array, ResultFor, Nothing, Declares, Assigns, Returns, Stmt, Empty, Then, Declare, Assign, Change, If, Loop, BodyFirst, Break, Continue, Return, Call, Variable}
+use Rattle.gang_model.specs.Types.Tree.{Var, Expr, Number, ProgramIndex, ProgramCount, LaneMask, Read, Element, Unary, Binary, Convert, And, Or, Choice, Reduce, Scan, OfOne, OfTwo, Extract, Insert, Rotate, Shift, Shuffle, ShuffleTwo, Select, Scalar, ElementOf, Arg, Value, Array, ResultFor, Nothing, Declares, Assigns, Returns, Stmt, Empty, Then, Declare, Assign, Change, If, Loop, BodyFirst, Break, Continue, Return, Call, Check, PackedStore, PackedLoad, Variable}
 use Rattle.gang_model.specs.Types.WellScoped.{Table, variable_at, IsScalar as IsTableScalar, IsArray, ExprScoped, SomeScoped, ArgsScoped, ResultScoped, StmtScoped}
 use Rattle.machine_states.specs.Variables.{Variables, own_of, parameters_of, variable_of, IsScalar}
 use Rattle.machine_states.specs.Plain.{IsPlainExpr, IsPlainOption, ArgsPlain, CallPlain, ResultPlain, IsPlain}
@@ -119,4 +119,7 @@ module _ (variables : Variables) (n : ℕ) (table : Table) (of : IsTable variabl
   stmt_plain (Return number e) form h = option_plain e h
   stmt_plain (Call number called args result_for) form h =
       (call_plain called h.0 args (of.parameters called h.0 h.1) h.2, result_plain result_for form h.3)
+  stmt_plain (Check number e) form h = expr_plain e h
+  stmt_plain (PackedStore number array from e result_for) form h = absurd (no_array array h.0)
+  stmt_plain (PackedLoad number array from x result_for) form h = absurd (no_array array h.0)
   stmt_plain s form h = absurd form

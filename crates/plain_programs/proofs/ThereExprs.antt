@@ -37,7 +37,7 @@ module _ (there : List ℕ) where
   converted_if true e from to u = u
   converted_if false e from to u = u
 
-  as_type-there : (type : IntType) (e : Typed) → TypedThere e → NamesDeclared there (as_type type e)
+  pub as_type-there : (type : IntType) (e : Typed) → TypedThere e → NamesDeclared there (as_type type e)
   as_type-there type e u = converted_if (same_type e.type type) e.expr e.type type u
 
   pub right_operand-there : (operation : BinaryOp) (type : IntType) (e : Typed) → TypedThere e → NamesDeclared there (right_operand operation type e)

@@ -12,9 +12,9 @@ use Rattle.machine_states.specs.Variables.{Variables, own_of}
 use Rattle.codegen.specs.Programs as programs
 use Rattle.typed_tree.specs.declared.program.Program.{Program}
 
--- functions over scalars alone: control flow, and calls of the source's own functions
+-- functions over scalars alone: control flow, and calls of the source's own functions and of the library
 abbrev pub plain_forms : Forms
-plain_forms = record { arrays = false; rounds = false; library = false; switches = false }
+plain_forms = record { arrays = false; rounds = false; library = true; switches = false }
 
 -- the variables that a body declares
 abbrev pub variables_made : Judged Made → List Variable

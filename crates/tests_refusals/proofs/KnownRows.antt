@@ -182,7 +182,7 @@ tree_16 =
     (ParsedNext (ParsedDeclare (at 1 20) (spec false false false false None (Some t.Int32)) (at 1 24) (codes "x") (Some (ParsedCall (at 1 28) (codes "any") (ParsedValue (ParsedNumber (at 1 32) 1 false false) ParsedEnd))))
     ParsedLast) (at 1 36)) ∷ []
 
-row_16 : is_known scalar_forms tree_16 ≡ false
+row_16 : is_known scalar_forms tree_16 ≡ true
 row_16 = refl
 
 -- uniform int a[3];
@@ -328,7 +328,7 @@ tree_31 =
     (ParsedNext (ParsedDoCall (at 1 20) (codes "assert") (ParsedValue (ParsedBool (at 1 27) true) ParsedEnd))
     ParsedLast) (at 1 34)) ∷ []
 
-row_31 : is_known scalar_forms tree_31 ≡ false
+row_31 : is_known scalar_forms tree_31 ≡ true
 row_31 = refl
 
 -- export void go() { foreach_active (i) ; }
@@ -369,5 +369,5 @@ tree_35 =
     ParsedLast)))
     ParsedLast) (at 1 73)) ∷ []
 
-row_35 : is_known scalar_forms tree_35 ≡ false
+row_35 : is_known scalar_forms tree_35 ≡ true
 row_35 = refl

@@ -14,7 +14,7 @@ use Rattle.tests_transcripts.proofs.Forms.{at}
 
 -- functions over scalars alone
 abbrev pub scalar_forms : Forms
-scalar_forms = record { arrays = false; rounds = false; library = false; switches = false }
+scalar_forms = record { arrays = false; rounds = false; library = true; switches = false }
 
 -- a refusal and its place
 abbrev pub refused : RefusalNumber → ℕ → ℕ → Option SourceRefusal
