@@ -687,7 +687,7 @@ row(
 row(
     "LibraryReductions",
     "library calls by lanes 1 and 3 of four",
-    """uniform int m[4];
+    """uniform int m;
 export void go() {
 int v = programIndex == 0 ? 5 : programIndex == 1 ? -2 : programIndex == 2 ? 7 : 3;
 int w = programIndex + 1;
@@ -716,7 +716,7 @@ w = 0;
 row(
     "LibraryTests",
     "library calls by lanes 1 and 3 of four",
-    """uniform int m[4];
+    """uniform int m;
 export void go() {
 int v = programIndex == 0 ? 5 : programIndex == 1 ? -2 : programIndex == 2 ? 7 : 3;
 int w = programIndex + 1;
@@ -745,7 +745,7 @@ w = 0;
 row(
     "LibraryLanes",
     "library calls by lanes 1 and 3 of four",
-    """uniform int m[4];
+    """uniform int m;
 export void go() {
 int v = programIndex == 0 ? 5 : programIndex == 1 ? -2 : programIndex == 2 ? 7 : 3;
 int w = programIndex + 1;
@@ -774,7 +774,7 @@ w = 0;
 row(
     "LibraryMasks",
     "library calls by lanes 1 and 3 of four",
-    """uniform int m[4];
+    """uniform int m;
 export void go() {
 int v = programIndex == 0 ? 5 : programIndex == 1 ? -2 : programIndex == 2 ? 7 : 3;
 int w = programIndex + 1;
@@ -803,7 +803,7 @@ w = 0;
 row(
     "LibraryShuffles",
     "library calls by lanes 1 and 3 of four",
-    """uniform int m[4];
+    """uniform int m;
 export void go() {
 int v = programIndex == 0 ? 5 : programIndex == 1 ? -2 : programIndex == 2 ? 7 : 3;
 int w = programIndex + 1;
@@ -832,7 +832,7 @@ w = 0;
 row(
     "LibraryScans",
     "library calls by lanes 1 and 3 of four",
-    """uniform int m[4];
+    """uniform int m;
 export void go() {
 int v = programIndex == 0 ? 5 : programIndex == 1 ? -2 : programIndex == 2 ? 7 : 3;
 int w = programIndex + 1;
@@ -861,7 +861,7 @@ w = 0;
 row(
     "LibraryOneLane",
     "library calls by lanes 1 and 3 of four",
-    """uniform int m[4];
+    """uniform int m;
 export void go() {
 int v = programIndex == 0 ? 5 : programIndex == 1 ? -2 : programIndex == 2 ? 7 : 3;
 int w = programIndex + 1;

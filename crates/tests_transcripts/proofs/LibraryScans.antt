@@ -7,11 +7,11 @@ use Rattle.gang_types.specs.declared.types.IntType.TheVariants as t
 use Rattle.gang_types.specs.declared.operators.UnaryOp.TheVariants as unary
 use Rattle.gang_types.specs.declared.operators.BinaryOp.TheVariants as op
 use Rattle.gang_model.specs.declared.forms.Infix.TheVariants.{Op}
-use Rattle.gang_model.specs.declared.forms.GlobalForm.TheVariants.{Array}
+use Rattle.gang_model.specs.declared.forms.GlobalForm.TheVariants.{Plain}
 use Rattle.gang_model.specs.Source.Parsed.{ParsedNumber, ParsedName, ParsedCall, ParsedUnary, ParsedBinary, ParsedChoice, ParsedEnd, ParsedValue, ParsedEmpty, ParsedBlock, ParsedDeclare, ParsedAssign, ParsedIf, ParsedLast, ParsedNext, ParsedSource}
 use Rattle.tests_transcripts.proofs.Forms.{at, spec, target, function, file_variable, options, run}
 
--- uniform int m[4];
+-- uniform int m;
 -- export void go() {
 -- int v = programIndex == 0 ? 5 : programIndex == 1 ? -2 : programIndex == 2 ? 7 : 3;
 -- int w = programIndex + 1;
@@ -28,7 +28,7 @@ use Rattle.tests_transcripts.proofs.Forms.{at, spec, target, function, file_vari
 -- }
 abbrev pub source : ParsedSource
 source =
-    (file_variable (at 1 13) (codes "m") (spec false false false false (Some Uniform) (Some t.Int32)) (Array 4)) ∷
+    (file_variable (at 1 13) (codes "m") (spec false false false false (Some Uniform) (Some t.Int32)) Plain) ∷
     (function (at 2 13) (codes "go") (spec true false false false None None) ([])
     (ParsedNext (ParsedDeclare (at 3 1) (spec false false false false None (Some t.Int32)) (at 3 5) (codes "v") (Some (ParsedChoice (ParsedBinary (Op op.Equal) (ParsedName (at 3 9) (codes "programIndex")) (ParsedNumber (at 3 25) 0 false false)) (ParsedNumber (at 3 29) 5 false false) (ParsedChoice (ParsedBinary (Op op.Equal) (ParsedName (at 3 33) (codes "programIndex")) (ParsedNumber (at 3 49) 1 false false)) (ParsedUnary (at 3 53) unary.Negate (ParsedNumber (at 3 54) 2 false false)) (ParsedChoice (ParsedBinary (Op op.Equal) (ParsedName (at 3 58) (codes "programIndex")) (ParsedNumber (at 3 74) 2 false false)) (ParsedNumber (at 3 78) 7 false false) (ParsedNumber (at 3 82) 3 false false))))))
     (ParsedNext (ParsedDeclare (at 4 1) (spec false false false false None (Some t.Int32)) (at 4 5) (codes "w") (Some (ParsedBinary (Op op.Add) (ParsedName (at 4 9) (codes "programIndex")) (ParsedNumber (at 4 24) 1 false false))))
