@@ -4,8 +4,10 @@
 mod checked;
 mod entry;
 mod globals;
+mod purity;
 mod typed;
 
 pub use checked::{Checked, check};
 pub use entry::entry_of;
+pub use purity::is_lane_pure;
 pub use typed::typed_program;
