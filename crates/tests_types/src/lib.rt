@@ -8,6 +8,8 @@ mod expressions;
 #[cfg(test)]
 mod library;
 #[cfg(test)]
+mod purity;
+#[cfg(test)]
 mod scopes;
 #[cfg(test)]
 mod sources;
