@@ -7,7 +7,8 @@ use Rattle.std.proofs.lemmas.Int.{ints}
 use Rattle.gang_model.specs.Running.Rounds.{distance, tile_slot}
 use Rattle.foreach_lowering.specs.Domains.{count_of, parts_of, index_of, nth_of, corner}
 
-same_test : (a b : Bool) → (a ≡ true → b ≡ true) → (a ≡ false → b ≡ false) → a ≡ b
+-- two tests that pass alike
+pub same_test : (a b : Bool) → (a ≡ true → b ≡ true) → (a ≡ false → b ≡ false) → a ≡ b
 same_test true b h g = sym (h refl)
 same_test false b h g = sym (g refl)
 

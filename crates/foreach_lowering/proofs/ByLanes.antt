@@ -2,7 +2,9 @@
 use Rattle.std.proofs.Common.{◌≡◌, refl, sym, ap, ap₂, ◌∙◌, ℕ, suc, ◌+◌, ◌<◌, ◌≤◌, Bool, true, false, ℤ, List, [], ◌∷◌, map, length, slice_index, slice_set, Option, is_some, inl, inr, arith}
 use Rattle.std.proofs.lemmas.Bool.{cases_lt}
 use Rattle.std.proofs.lemmas.List.{get_or-set_same, get_or-set_other}
-use Rattle.gang_types.specs.Lanes.{Lanes, has}
+use Rattle.std.specs.Prelude.{◌&&◌}
+use Rattle.gang_types.specs.Lanes.{Lanes, has, lanes_where}
+use Rattle.gang_types.specs.LaneLaws.{same_lanes, has_past, length-lanes_where, has-lanes_where}
 use Rattle.gang_model.specs.Running.Rounds.{counted, slot_word}
 use Rattle.foreach_lowering.proofs.Counting.{map_map}
 
@@ -56,3 +58,12 @@ no_lane_more lanes test i e (below, past) = (
   ],
   λ k h. past k (omega (arith, h)),
 )
+
+-- the lanes of a set that pass a test
+pub where_by_lane : (xs lanes : Lanes) (test : ℕ → Bool) (width : ℕ) → length xs ≡ width → length lanes ≡ width → ((k : ℕ) → k < width → has xs k ≡ (has lanes k && test k)) → xs ≡ lanes_where lanes test
+where_by_lane xs lanes test width e f h =
+    same_lanes xs (lanes_where lanes test) (e ∙ sym (length-lanes_where lanes test ∙ f))
+    (λ k. elim (cases_lt k width) [
+      | inl within ↦ h k within ∙ sym (has-lanes_where lanes test k)
+      | inr past ↦ has_past xs k (omega (arith, e, past)) ∙ sym (has_past (lanes_where lanes test) k (omega (arith, f, past, length-lanes_where lanes test)))
+    ])

@@ -15,7 +15,7 @@ use Rattle.foreach_lowering.specs.Domains.{row_grid, row_place, tile_grid, tile_
 use Rattle.foreach_lowering.specs.Kept.{Kept, lane_turn, value_turn, turns_left, kept_of, kept_lanes}
 use Rattle.foreach_lowering.specs.Law.{HasDimensions, first_kept, IsKept, IsNth, CountsRounds}
 use Rattle.foreach_lowering.proofs.Grids.{all_is_left}
-use Rattle.foreach_lowering.proofs.Rounds.{IsDomain, rows_listed, tiles_listed, rows_kept, tiles_kept}
+use Rattle.foreach_lowering.proofs.KeptRounds.{IsDomain, rows_listed, tiles_listed, rows_kept, tiles_kept}
 use Rattle.foreach_lowering.proofs.TakenRounds.{HasLane, all_taken, row_has_lane, tile_has_lane, rounds_have_lanes, lanes_have_lanes, values_have_lanes}
 
 -- ---- domains
