@@ -1,5 +1,5 @@
 -- The forms that a plain program may have, and the variables of a source, which its typed program has too.
-use Rattle.std.specs.Prelude.{◌≡◌, ℕ, suc, true, false, List, [], ◌∷◌, ◌++◌, Some, length, map, slice_get}
+use Rattle.std.specs.Prelude.{◌≡◌, ℕ, suc, false, List, [], ◌∷◌, ◌++◌, Some, length, map, slice_get}
 use Rattle.gang_types.specs.declared.places.VarId.TheVariants.{Local}
 use Rattle.gang_model.specs.Types.Tree.{Variable}
 use Rattle.gang_model.specs.Source.Parsed.{ParsedFunction, ParsedGlobal, ParsedSource, functions_in, globals_in}
@@ -14,7 +14,7 @@ use Rattle.typed_tree.specs.declared.program.Program.{Program}
 
 -- functions over scalars alone: control flow, and calls of the source's own functions and of the library
 abbrev pub plain_forms : Forms
-plain_forms = record { arrays = false; rounds = false; library = true; switches = false }
+plain_forms = record { arrays = false; rounds = false; switches = false }
 
 -- the variables that a body declares
 abbrev pub variables_made : Judged Made → List Variable

@@ -1,5 +1,5 @@
 -- What is wanted of a source, and what the definitions give for it.
-use Rattle.std.specs.Prelude.{ℕ, Bool, true, false, List, [], ◌∷◌, map, Option, Some, None, slice_get}
+use Rattle.std.specs.Prelude.{ℕ, Bool, false, List, [], ◌∷◌, map, Option, Some, None, slice_get}
 use Rattle.gang_types.specs.declared.types.Rate.{Rate}
 use Rattle.gang_types.specs.declared.types.IntType.{IntType}
 use Rattle.gang_model.specs.declared.refusals.RefusalNumber.{RefusalNumber}
@@ -14,7 +14,7 @@ use Rattle.tests_transcripts.proofs.Forms.{at}
 
 -- functions over scalars alone
 abbrev pub scalar_forms : Forms
-scalar_forms = record { arrays = false; rounds = false; library = true; switches = false }
+scalar_forms = record { arrays = false; rounds = false; switches = false }
 
 -- a refusal and its place
 abbrev pub refused : RefusalNumber → ℕ → ℕ → Option SourceRefusal

@@ -1,26 +1,20 @@
 -- Which forms of the language a source has; the definitions have the whole language
 -- (a choice of this project: forms are let through in the order in which their running code is proved).
-use Rattle.std.specs.Prelude.{Bool, true, not, ◌&&◌, ◌||◌, List, [], ◌∷◌, length, ◌==◌, Option, Some, None, is_none, is_some}
+use Rattle.std.specs.Prelude.{Bool, true, not, ◌&&◌, ◌||◌, List, [], ◌∷◌, length, ◌==◌, Option, Some, None, is_none}
 use Rattle.std.specs.List.{list_all}
 use Rattle.gang_model.specs.declared.forms.GlobalForm.{GlobalForm}
 use Rattle.gang_model.specs.declared.forms.GlobalForm.TheVariants.{Array}
-use Rattle.gang_model.specs.Types.LibraryTable.{is_library_name, statement_call}
-use Rattle.gang_model.specs.Source.Parsed.{Name, ParsedExpr, ParsedNumber, ParsedBool, ParsedName, ParsedIndex, ParsedCall, ParsedParen, ParsedUnary, ParsedCast, ParsedBinary, ParsedChoice, ParsedArgs, ParsedEnd, ParsedValue, ParsedPart, ParsedPartFrom, ParsedDim, ParsedTarget, ParsedStmt, ParsedEmpty, ParsedBlock, ParsedDeclare, ParsedAssign, ParsedChange, ParsedIncrement, ParsedDoCall, ParsedBreak, ParsedContinue, ParsedReturn, ParsedIf, ParsedIfElse, ParsedWhile, ParsedDo, ParsedFor, ParsedSwitch, ParsedForEach, ParsedForEachActive, ParsedForEachUnique, ParsedStmts, ParsedLast, ParsedNext, ParsedSegments, ParsedNoMore, ParsedSegment, ParsedParam, ParsedFunction, ParsedItem, ParsedFunctionItem, ParsedGlobalItem, ParsedSource}
+use Rattle.gang_model.specs.Source.Parsed.{ParsedExpr, ParsedNumber, ParsedBool, ParsedName, ParsedIndex, ParsedCall, ParsedParen, ParsedUnary, ParsedCast, ParsedBinary, ParsedChoice, ParsedArgs, ParsedEnd, ParsedValue, ParsedPart, ParsedPartFrom, ParsedDim, ParsedTarget, ParsedStmt, ParsedEmpty, ParsedBlock, ParsedDeclare, ParsedAssign, ParsedChange, ParsedIncrement, ParsedDoCall, ParsedBreak, ParsedContinue, ParsedReturn, ParsedIf, ParsedIfElse, ParsedWhile, ParsedDo, ParsedFor, ParsedSwitch, ParsedForEach, ParsedForEachActive, ParsedForEachUnique, ParsedStmts, ParsedLast, ParsedNext, ParsedSegments, ParsedNoMore, ParsedSegment, ParsedParam, ParsedFunction, ParsedItem, ParsedFunctionItem, ParsedGlobalItem, ParsedSource}
 
--- which groups of forms are let through, beside functions over scalars: every type and rate, every expression without indexing and calls
--- of the library, file-scope scalars, every assignment, `++`, `--`, block and empty statement, `if`, the loops, `break`, `continue`,
--- `return`, and calls of the source's own functions
+-- which groups of forms are let through, beside functions over scalars: every type and rate, every expression without indexing,
+-- file-scope scalars, every assignment, `++`, `--`, block and empty statement, `if`, the loops, `break`, `continue`, `return`, and
+-- calls of the source's own functions and of the library
 pub record Forms : Type 0 where
   -- arrays, indexing, parameters of exported functions
   pub arrays : Bool
   -- the four foreach forms
   pub rounds : Bool
-  pub library : Bool
   pub switches : Bool
-
--- a call of one of the source's functions, or of the library
-abbrev pub known_call : Name → Forms → Bool
-known_call name forms = forms.library || not (is_library_name name || is_some (statement_call name))
 
 abbrev mutual
   -- whether an expression has forms that are let through alone
@@ -29,7 +23,7 @@ abbrev mutual
   known_expr (ParsedBool p b) forms = true
   known_expr (ParsedName p name) forms = true
   known_expr (ParsedIndex p name e) forms = forms.arrays && known_expr e forms
-  known_expr (ParsedCall p name args) forms = known_call name forms && known_args args forms
+  known_expr (ParsedCall p name args) forms = known_args args forms
   known_expr (ParsedParen p e) forms = known_expr e forms
   known_expr (ParsedUnary p op e) forms = known_expr e forms
   known_expr (ParsedCast p rate type e) forms = known_expr e forms
@@ -66,7 +60,7 @@ abbrev mutual
   known_stmt (ParsedAssign p target e) forms = known_target target forms && known_expr e forms
   known_stmt (ParsedChange p target op e) forms = known_target target forms && known_expr e forms
   known_stmt (ParsedIncrement p target op) forms = known_target target forms
-  known_stmt (ParsedDoCall p name args) forms = known_call name forms && known_args args forms
+  known_stmt (ParsedDoCall p name args) forms = known_args args forms
   known_stmt (ParsedBreak p) forms = true
   known_stmt (ParsedContinue p) forms = true
   known_stmt (ParsedReturn p e) forms = known_some e forms
