@@ -30,10 +30,10 @@ pub(crate) fn next_lane<const W: usize>(lanes: Mask) -> Option<LaneRound>
     if lanes.is_empty::<W>() {
         return None;
     }
-    let lane = lanes.lowest::<W>();
+    let lowest = lanes.lowest::<W>();
     Some(LaneRound {
-        lane,
-        later: lanes.without(Mask::only::<W>(lane)),
+        lane: lowest,
+        later: lanes.without(Mask::only::<W>(lowest)),
     })
 }
 

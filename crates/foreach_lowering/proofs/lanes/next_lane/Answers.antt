@@ -14,8 +14,8 @@ pub returns : goal.returns
 returns g c =
     let some = sym c.is_empty.ensures ∙ c.if-is_empty.false in
     let rest : lanes_of g.row.W c.without.result ≡ without (lanes_of g.row.W c.args.lanes) (slice_set (replicate g.row.W false) (lowest (lanes_of g.row.W c.args.lanes)) true) =
-    c.without.ensures g.row.W ∙ ap (without (lanes_of g.row.W c.args.lanes)) (c.only.ensures ∙ ap (λ k. slice_set (replicate g.row.W false) k true) c.lowest-lane.ensures.value) in (
-      λ i. subst (λ k. Takes (EachLane i) g.row.W (kept_lanes (lanes_of g.row.W c.args.lanes) []) (lane_turn i g.row.W k) (kept_lanes (lanes_of g.row.W c.without.result) [])) (sym c.lowest-lane.ensures.value)
+    c.without.ensures g.row.W ∙ ap (without (lanes_of g.row.W c.args.lanes)) (c.only.ensures ∙ ap (λ k. slice_set (replicate g.row.W false) k true) c.lowest-lowest.ensures.value) in (
+      λ i. subst (λ k. Takes (EachLane i) g.row.W (kept_lanes (lanes_of g.row.W c.args.lanes) []) (lane_turn i g.row.W k) (kept_lanes (lanes_of g.row.W c.without.result) [])) (sym c.lowest-lowest.ensures.value)
           (lane_next i g.row.W (lanes_of g.row.W c.args.lanes) (lanes_of g.row.W c.without.result) (length-lanes_of_word g.row.W c.args.lanes.word) some rest),
-      c.lowest-lane.ensures.within,
+      c.lowest-lowest.ensures.within,
     )
