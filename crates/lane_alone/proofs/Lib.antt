@@ -4,6 +4,7 @@ mod Effects
 mod Follows
 mod Forms
 mod Frames
+pub mod Gangs
 mod LaneValues
 mod LeavingTasks
 mod PureCalls
