@@ -1,0 +1,3 @@
+mod SameBytes
+mod SplitWords
+pub mod DigitRuns
