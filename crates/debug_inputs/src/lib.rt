@@ -1,0 +1,15 @@
+//! The input text: what it gives the entry's parameters and the variables of the file.
+#![tactic(auto)]
+
+mod fault;
+mod lines;
+mod numbers;
+mod parameters;
+mod reading;
+mod receivers;
+mod row;
+mod values;
+
+pub use fault::InputFault;
+pub use reading::read_inputs;
+pub use row::InputRow;
