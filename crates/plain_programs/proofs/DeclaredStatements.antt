@@ -8,7 +8,7 @@ use Rattle.gang_types.specs.declared.places.VarId.{VarId}
 use Rattle.gang_types.specs.declared.places.VarId.TheVariants.{Local}
 use Rattle.gang_model.specs.Types.Tree.{Expr, Nothing, StepNumber, Stmt, Empty, Then, If, Loop, BodyFirst, Break, Continue, Variable}
 use Rattle.gang_model.specs.Source.Parsed.{Name, ParsedExpr, ParsedStmt, ParsedEmpty, ParsedBlock, ParsedDeclare, ParsedAssign, ParsedChange, ParsedIncrement, ParsedDoCall, ParsedBreak, ParsedContinue, ParsedReturn, ParsedIf, ParsedIfElse, ParsedWhile, ParsedDo, ParsedFor, ParsedSwitch, ParsedForEach, ParsedForEachActive, ParsedForEachUnique, ParsedStmts, ParsedLast, ParsedNext}
-use Rattle.gang_model.specs.Source.Known.{known_expr, known_some, known_args, known_target, known_stmt, known_stmts}
+use Rattle.gang_model.specs.Source.Known.{known_expr, known_some, known_stmt, known_stmts}
 use Rattle.gang_model.specs.Running.Numbering.{steps_in}
 use Rattle.gang_model.specs.Names.Scope.{Site, with_name, enclosed, past, locals_in, after, after_all, NameStanding, standing, at_test, in_for, standings_in, standings_in_all, has_return, one_returns, before_return}
 use Rattle.gang_model.specs.Source.Judged.{Judged, Sound, Faulty, unless, both}
