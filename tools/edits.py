@@ -162,6 +162,15 @@ def applied(crate, batch):
     return made, None
 
 
+def without_answer(text, goal):
+    """Returns a text of answers without the one to a goal; where the name is only what answers cite, without any."""
+    is_goal = re.search(rf"^(?:pub )?{re.escape(goal)} : goal\.", text, re.M)
+    goals = [goal] if is_goal else re.findall(r"^(?:pub )?(\S+) : goal\.", text, re.M)
+    for it in goals:
+        text = re.sub(rf"^(?:pub )?{re.escape(it)}\s.*\n(?:[ \t)}}].*\n|\n)*", "", text, flags=re.M)
+    return text
+
+
 def without_answers(crate, texts, failing):
     """Returns these texts and those of the files of answers without the answers to some goals: each a pair of a file and a goal."""
     made = dict(texts)
@@ -169,7 +178,7 @@ def without_answers(crate, texts, failing):
         if file not in made:
             with open(f"{crate.folder}/{file}", encoding="utf-8") as it:
                 made[file] = it.read()
-        made[file] = re.sub(rf"^(?:pub )?{re.escape(goal)}\s(?:.*\n)(?:[ \t)}}].*\n|\n)*", "", made[file], flags=re.M)
+        made[file] = without_answer(made[file], goal)
     return made
 
 
