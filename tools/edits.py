@@ -211,7 +211,7 @@ class Trial:
         ran = rt.checked(self.crate, texts, self.jobs, self.kept)
         if ran.returncode == -signal.SIGKILL:  # most likely for memory
             ran = rt.checked(self.crate, texts, self.jobs, self.kept)
-        self.why = why_unheard(ran, texts)
+        self.why = why_unheard(ran, self.texts)
         return [] if self.why else messages_in(ran.stdout)
 
     def open_goal(self, bodies):
