@@ -15,6 +15,7 @@ use Rattle.gang_model.specs.Debugger.Debugger.{Debugger, Setting, bad_part, foun
 use Rattle.gang_model.specs.Texts.Text.{Bytes, bits, call_line, line, line_and_column}
 use Rattle.debug_machine.specs.declared.machine.Fault.{Fault}
 use Rattle.debug_machine.specs.declared.machine.NamedVariable.{NamedVariable}
+use Rattle.debug_machine.specs.declared.machine.NextLocal.{NextLocal}
 use Rattle.debug_machine.specs.declared.machine.Position.{Position}
 use Rattle.debug_machine.specs.declared.machine.Shown.{Shown}
 use Rattle.debug_machine.specs.declared.machine.StepEnd.{StepEnd}
@@ -59,6 +60,11 @@ abbrev pub ShowsNamed : Setting → Debugger → Option Variable → Option Name
 ShowsNamed s d None None = Unit {0}
 ShowsNamed s d (Some v) (Some given) = (given.name.now ≡ v.name) × IsShown s d v given.shown
 ShowsNamed s d v given = ⊥
+
+-- the first of the variables from a place on is told by its name, with the place from which on the others are; or there is none
+abbrev pub ShowsNext : Setting → Debugger → (from : ℕ → List Variable) → (place : ℕ) → Option NextLocal → Type 0
+ShowsNext s d from place None = from place ≡ []
+ShowsNext s d from place (Some local) = (v : Variable) × (from place ≡ v ∷ from local.next) × ShowsNamed s d (Some v) (Some local.variable)
 
 -- a whole scalar, a lane of a varying one, or an element, inside what can be shown
 abbrev pub IsPart : Option ℕ → Shown → Type 0

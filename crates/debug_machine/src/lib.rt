@@ -5,4 +5,4 @@ mod devices;
 mod machine;
 
 pub use devices::{AnswerWriter, CommandReader, READS, ReadFault, WriteFault};
-pub use machine::{Fault, NamedVariable, Position, RecordedMachine, Shown, StepEnd};
+pub use machine::{Fault, NamedVariable, NextLocal, Position, RecordedMachine, Shown, StepEnd};

@@ -1,11 +1,11 @@
 //! A machine whose events are recorded.
-ghost use Rattle.std.specs.Prelude.{◌≡◌, ℕ, ◌<◌, ◌≤◌, false, is_none, length, slice_get, slice_index, IfSome, None};
+ghost use Rattle.std.specs.Prelude.{◌≡◌, ℕ, ◌<◌, ◌≤◌, false, is_none, length, List, slice_get, slice_index, IfSome, None};
 ghost use Rattle.gang_types.specs.Masks.{IsGangWidth};
 ghost use Rattle.gang_model.specs.Types.Tree.{Variable};
 ghost use Rattle.gang_model.specs.Debugger.Positions.{line_now};
 ghost use Rattle.gang_model.specs.Debugger.Debugger.{Debugger, Setting, bad_part, depth, found, has_ended, kept_steps, least_from, now, shown_words, step_lines};
 ghost use Rattle.gang_model.specs.Texts.Text.{where_text};
-ghost use Rattle.debug_machine.specs.Machines.{Finds, FindsInFile, IsPart, IsShown, Pokes, PokesWords, ShowsNamed, Steps, StepsWords, Undoes, UndoesWords, call_text, depth_of, file_variables, line_of_position, listed, position_line, position_text};
+ghost use Rattle.debug_machine.specs.Machines.{Finds, FindsInFile, IsPart, IsShown, Pokes, PokesWords, ShowsNamed, ShowsNext, Steps, StepsWords, Undoes, UndoesWords, call_text, depth_of, file_variables, line_of_position, listed, position_line, position_text};
 
 use gang_types::{FaultName, IntType, Mask, Place, Rate, VarId};
 use thiserror::Error;
@@ -58,6 +58,13 @@ pub struct NamedVariable<'a> {
     pub shown: Shown,
 }
 
+/// A local variable, and the place from which on those after it are.
+#[derive(Clone, Copy, Debug)]
+pub struct NextLocal<'a> {
+    pub variable: NamedVariable<'a>,
+    pub next: usize,
+}
+
 /// Runs a program step by step, takes values from outside, and takes both back. No call takes memory.
 ///
 /// What a call tells of a variable or of a place is said of each state of the debugger of the definitions that the machine
@@ -65,6 +72,7 @@ pub struct NamedVariable<'a> {
 pub trait RecordedMachine {
     ghost use Rattle.undo_log.specs.History.{History};
     ghost use Rattle.gang_model.specs.Debugger.Debugger.{Debugger, Setting};
+    ghost use Rattle.gang_model.specs.Types.Tree.{Variable};
 
     // Whether it stands where the debugger of the definitions stands: its words show the state after the events, and the
     // words that it keeps show the states before the events that can be taken back.
@@ -72,6 +80,9 @@ pub trait RecordedMachine {
 
     // All its words, and the words before each event that can be taken back.
     ghost history: { Self → History };
+
+    // The local variables in scope from a place on, parameters left out, where it stands for such a debugger.
+    ghost locals_from: { Self → Setting → Debugger → ℕ → List Variable };
 
     /// Does the next step and records it.
     fn step(&mut self) -> StepEnd
@@ -126,13 +137,11 @@ pub trait RecordedMachine {
         ensures shown { (s : Setting) (d : Debugger) → stands self.now s d → ShowsNamed s d (slice_get (file_variables s) number) result }
         ensures few { IfSome result (λ v. v.shown.is_array ≡ false → v.shown.count ≤ 16) };
 
-    /// How many local variables are in scope where it stands, parameters left out.
-    fn local_count(&self) -> usize
-        ensures { (s : Setting) (d : Debugger) → stands self.now s d → result ≡ length (listed s d) };
-
-    /// A local variable in scope where it stands, parameters left out, by its number among them.
-    fn local_variable(&self, number: usize) -> Option<NamedVariable<'_>>
-        ensures { (s : Setting) (d : Debugger) → stands self.now s d → ShowsNamed s d (slice_get (listed s d) number) result };
+    /// The first local variable in scope where it stands, parameters left out, from a place on. The places begin at 0.
+    fn next_local(&self, from: usize) -> Option<NextLocal<'_>>
+        ensures all { (s : Setting) (d : Debugger) → stands self.now s d → locals_from self.now s d 0 ≡ listed s d }
+        ensures next { (s : Setting) (d : Debugger) → stands self.now s d → ShowsNext s d (locals_from self.now s d) from result }
+        ensures further { IfSome result (λ local. from < local.next) };
 
     /// A word of a variable.
     fn word(&self, shown: Shown, index: usize) -> u64

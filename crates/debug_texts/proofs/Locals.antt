@@ -1,5 +1,5 @@
 -- The lines of local variables.
-use Rattle.std.proofs.Common.{◌≡◌, refl, List, [], ◌∷◌, length, Option, Some, None, arith}
+use Rattle.std.proofs.Common.{◌≡◌, refl, ap, ◌∙◌, List, [], ◌∷◌, ◌++◌, Option, Some, None}
 use Rattle.std.specs.Prelude.{codes, flat_map}
 use Rattle.gang_model.specs.Types.Tree.{Variable}
 use Rattle.gang_model.specs.Debugger.Debugger.{Debugger, Setting, now}
@@ -22,10 +22,13 @@ module _ (s : Setting) (d : Debugger) where
   named_some None given named = absurd named
   named_some (Some v) given named = (v, refl, named.0, named.1)
 
-  pub no_locals : (variables : List Variable) → length variables ≡ 0 → or_none (lines_of_all s d variables) ≡ line (codes "none")
-  no_locals [] none = refl
-  no_locals (v ∷ variables) none = absurd (omega (arith, none))
+  -- the lines of one and of the others
+  pub lines_at : (variables : List Variable) (v : Variable) (others : List Variable) → variables ≡ v ∷ others → lines_of_all s d variables ≡ shown_line (now s d) (whole v) v ++ lines_of_all s d others
+  lines_at variables v others e = ap (lines_of_all s d) e
 
-  pub some_locals : (variables : List Variable) → (length variables ≡ 0 → ⊥) → or_none (lines_of_all s d variables) ≡ lines_of_all s d variables
-  some_locals [] some = absurd (some refl)
-  some_locals (v ∷ variables) some = or_none_line _ (lines_of_all s d variables)
+  pub no_locals : (variables : List Variable) → variables ≡ [] → or_none (lines_of_all s d variables) ≡ line (codes "none")
+  no_locals variables e = ap (λ vs. or_none (lines_of_all s d vs)) e
+
+  pub some_locals : (variables : List Variable) (v : Variable) (others : List Variable) → variables ≡ v ∷ others
+      → or_none (lines_of_all s d variables) ≡ shown_line (now s d) (whole v) v ++ lines_of_all s d others
+  some_locals variables v others e = ap (λ vs. or_none (lines_of_all s d vs)) e ∙ or_none_line _ (lines_of_all s d others)

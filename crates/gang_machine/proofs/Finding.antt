@@ -1,26 +1,21 @@
 -- The variables that names and numbers stand for.
-use Rattle.std.proofs.Common.{◌≡◌, refl, sym, ap, subst, ◌∙◌, ℕ, zero, suc, ◌⊎◌, inl, inr, Bool, true, false, List, [], ◌∷◌, Option, Some, None}
-use Rattle.std.specs.Prelude.{cond, filter, not, slice_get}
+use Rattle.std.proofs.Common.{◌≡◌, refl, sym, ap, subst, ◌∙◌, ℕ, ◌⊎◌, inl, inr, List, [], ◌∷◌, Option, Some, None}
+use Rattle.std.specs.Prelude.{filter, not, slice_get}
 use Rattle.gang_model.specs.Debugger.Debugger.{Debugger, Setting, found, global_named, now, or_else}
 use Rattle.gang_model.specs.Debugger.Positions.{scope_now}
 use Rattle.gang_model.specs.Source.Names.{named}
 use Rattle.gang_model.specs.Types.Tree.{Variable}
-use Rattle.debug_machine.specs.Machines.{Finds, FindsInFile, IsOneOf, IsShown, ShowsNamed, file_variables as variables_of_file, listed}
+use Rattle.debug_machine.specs.Machines.{Finds, FindsInFile, IsOneOf, IsShown, ShowsNamed, ShowsNext, file_variables as variables_of_file, listed}
 use Rattle.debug_machine.specs.declared.machine.NamedVariable.{NamedVariable}
+use Rattle.debug_machine.specs.declared.machine.NextLocal.{NextLocal}
 use Rattle.debug_machine.specs.declared.machine.Shown.{Shown}
+use Rattle.typed_tree.specs.declared.program.Function.{Function}
 use Rattle.machine_names.specs.Found.{FindsNumber, IsSeen, SeesFound, SeesNamed}
+use Rattle.machine_names.specs.Listed.{SeesNext, listed_from}
 use Rattle.machine_names.proofs.FirstNamed.{named_there}
-use Rattle.gang_machine.specs.Nexts.{Sees}
-
--- one of those that pass is one of all
-pub one_of_all : (test : Variable → Bool) (vs : List Variable) (k : ℕ) (v : Variable) → slice_get (filter test vs) k ≡ Some v → IsOneOf vs v
-one_of_all test [] k v e = cc
-one_of_all test (u ∷ vs) k v e = either (test u) k e (λ k. one_of_all test vs k v)
-  where
-    either : (b : Bool) (k : ℕ) → slice_get (cond b (u ∷ filter test vs) (filter test vs)) k ≡ Some v → ((k : ℕ) → slice_get (filter test vs) k ≡ Some v → IsOneOf vs v) → IsOneOf (u ∷ vs) v
-    either true zero e more = (0, e)
-    either true (suc k) e more = let (n, get) = more k e in (suc n, get)
-    either false k e more = let (n, get) = more k e in (suc n, get)
+use Rattle.machine_names.proofs.Listed.{listed_all, listed_in_scope}
+use Rattle.gang_machine.specs.Nexts.{HasEnded, IsNext, Sees, locals_at, locals_left, locals_of}
+use Rattle.gang_machine.specs.Standings.{View}
 
 seen_found : (w : ℕ) (o : Option Variable) (shown : Shown) → SeesFound w o (Some shown) → (v : Variable) × (o ≡ Some v) × IsSeen w v shown
 seen_found w None shown h = absurd h
@@ -86,11 +81,36 @@ module _ (w : ℕ) (scope file : List Variable) (s : Setting) (d : Debugger) (se
   pub listed_is : filter (λ v. not v.is_parameter) scope ≡ listed s d
   listed_is = sym (ap (filter (λ v. not v.is_parameter)) sees.scope_is)
 
-  pub shows_listed : (number : ℕ) (result : Option NamedVariable) → SeesNamed w (slice_get (filter (λ v. not v.is_parameter) scope) number) result
-      → ShowsNamed s d (slice_get (listed s d) number) result
-  shows_listed number result seen =
-      subst (λ vs. ShowsNamed s d (slice_get vs number) result) listed_is
-      (shows_named (slice_get (filter (λ v. not v.is_parameter) scope) number) result (λ v get. inl (one_of_all (λ v. not v.is_parameter) scope number v get)) seen)
+  -- the first of those from a place on, each of which is in scope
+  pub shows_next : (from : ℕ → List Variable) (place : ℕ) (result : Option NextLocal) → ((v : Variable) (rest : List Variable) → from place ≡ v ∷ rest → IsOneOf scope v)
+      → SeesNext w from place result → ShowsNext s d from place result
+  shows_next from place None there none = none
+  shows_next from place (Some local) there (v, is, given) = (v, is, (given.name, shows v local.variable.shown (inl (there v (from local.next) is)) given.seen))
+
+-- ---- what is listed from a number on
+
+module _ (w : ℕ) (m : View) (s : Setting) (d : Debugger) where
+  locals_here : (f : Function) (step place : ℕ) → IsNext w m s d f step → locals_left m s d place ≡ listed_from f step place
+  locals_here f step place next =
+      ap (λ spot. locals_at m.program.functions.items spot place) next.stands ∙ ap (λ f. locals_of f step place) next.is_function
+
+  pub all_listed : (f : Function) (step : ℕ) → IsNext w m s d f step → locals_left m s d 0 ≡ listed s d
+  all_listed f step next = locals_here f step 0 next ∙ listed_all f step ∙ listed_is w _ _ s d next.sees
+
+  pub none_listed : HasEnded w m s d → locals_left m s d 0 ≡ listed s d
+  none_listed ended = ap (λ spot. locals_at m.program.functions.items spot 0) ended.stands ∙ listed_is w _ _ s d ended.sees
+
+  pub none_left : (place : ℕ) → HasEnded w m s d → locals_left m s d place ≡ []
+  none_left place ended = ap (λ spot. locals_at m.program.functions.items spot place) ended.stands
+
+  pub shows_left : (f : Function) (step place : ℕ) (result : Option NextLocal) → IsNext w m s d f step → SeesNext w (listed_from f step) place result
+      → ShowsNext s d (locals_left m s d) place result
+  shows_left f step place result next seen =
+      moved result (shows_next w _ _ s d next.sees (listed_from f step) place result (listed_in_scope f step place) seen)
+    where
+      moved : (result : Option NextLocal) → ShowsNext s d (listed_from f step) place result → ShowsNext s d (locals_left m s d) place result
+      moved None h = locals_here f step place next ∙ h
+      moved (Some local) (v, is, given) = (v, locals_here f step place next ∙ is ∙ ap (λ us. v ∷ us) (sym (locals_here f step local.next next)), given)
 
 -- some variables are in scope, and of a name it was said what they have
 abbrev pub SeesLocal : (w : ℕ) → (file : List Variable) → Setting → Debugger → (name : List ℕ) → Option Shown → Type 0

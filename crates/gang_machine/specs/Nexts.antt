@@ -1,13 +1,15 @@
 -- The step that comes next, and what is seen there.
-use Rattle.std.specs.Prelude.{◌≡◌, ◌⊎◌, ℕ, List, [], length, Some, None, slice_get}
+use Rattle.std.specs.Prelude.{◌≡◌, ◌⊎◌, ℕ, List, [], length, Option, Some, None, slice_get}
 use Rattle.debug_machine.specs.Machines.{IsOneOf, file_variables as variables_of_file}
 use Rattle.gang_model.specs.Debugger.Debugger.{Debugger, Setting, now, shown_words}
 use Rattle.gang_model.specs.Debugger.Positions.{scope_now, scope_of, spot_in, spot_now}
+use Rattle.gang_types.specs.declared.places.Spot.{Spot}
 use Rattle.gang_model.specs.Types.Tree.{Variable}
 use Rattle.typed_tree.specs.declared.program.Function.{Function}
 use Rattle.typed_tree.specs.Views.{function_view}
 use Rattle.gang_model.specs.Running.State.{words_for}
 use Rattle.machine_names.specs.Found.{file_variables}
+use Rattle.machine_names.specs.Listed.{listed_from}
 use Rattle.gang_machine.specs.Standings.{View}
 
 -- what a debugger sees: these variables in scope, these of the file, and of each as many words as its rate says
@@ -27,3 +29,17 @@ pub record IsNext (w : ℕ) (m : View) (s : Setting) (d : Debugger) (function : 
 pub record HasEnded (w : ℕ) (m : View) (s : Setting) (d : Debugger) : Type 0 where
   pub stands : spot_now s.program (now s d) ≡ None
   pub sees : Sees w [] (file_variables m.program.globals.items) s d
+
+-- the variables of a function that are listed at a step, from a number on; none of no function
+abbrev pub locals_of : Option Function → (step from : ℕ) → List Variable
+locals_of None step from = []
+locals_of (Some function) step from = listed_from function step from
+
+-- those of the function of a spot, at its step; none without a spot
+abbrev pub locals_at : List Function → Option Spot → (from : ℕ) → List Variable
+locals_at functions None from = []
+locals_at functions (Some spot) from = locals_of (slice_get functions spot.function.0) spot.number from
+
+-- the local variables that are listed where the debugger stands, from a number on
+abbrev pub locals_left : View → Setting → Debugger → (from : ℕ) → List Variable
+locals_left m s d from = locals_at m.program.functions.items (spot_now s.program (now s d)) from

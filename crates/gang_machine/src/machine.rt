@@ -6,16 +6,14 @@ ghost use Rattle.gang_model.specs.Types.Tree.{Variable};
 ghost use Rattle.gang_model.specs.Debugger.Debugger.{Debugger, Setting, depth, kept_steps, least_from, now, shown_words, step_lines};
 ghost use Rattle.gang_model.specs.Debugger.Positions.{line_now};
 ghost use Rattle.gang_model.specs.Texts.Text.{where_text};
-ghost use Rattle.debug_machine.specs.Machines.{Finds, FindsInFile, IsPart, IsShown, Pokes, PokesWords, ShowsNamed, Steps, StepsWords, Undoes, UndoesWords, call_text, depth_of, file_variables, line_of_position, listed, position_line, position_text};
-ghost use Rattle.gang_machine.specs.Nexts.{HasEnded, IsNext};
+ghost use Rattle.debug_machine.specs.Machines.{Finds, FindsInFile, IsPart, IsShown, Pokes, PokesWords, ShowsNamed, ShowsNext, Steps, StepsWords, Undoes, UndoesWords, call_text, depth_of, file_variables, line_of_position, listed, position_line, position_text};
+ghost use Rattle.gang_machine.specs.Nexts.{HasEnded, IsNext, locals_left};
 ghost use Rattle.gang_machine.specs.Standings.{Stands, history_of};
 
-use debug_machine::{NamedVariable, Position, RecordedMachine, Shown, StepEnd};
+use debug_machine::{NamedVariable, NextLocal, Position, RecordedMachine, Shown, StepEnd};
 use expression_machine::Stacks;
 use machine_moves::{CompiledProgram, next_step};
-use machine_names::{
-    file_named, file_number, least_from, listed_count, listed_local, local_named, named,
-};
+use machine_names::{file_named, file_number, least_from, local_named, named, next_listed};
 use machine_shown::{call, poke, position, word};
 use machine_steps::step;
 use machine_words::MachineWords;
@@ -67,6 +65,8 @@ impl<const W: usize, T: Timeline + Drop> RecordedMachine for Machine<W, T> {
     ghost stands = { Stands };
 
     ghost history = { history_of };
+
+    ghost locals_from = { locals_left };
 
     fn step(&mut self) -> StepEnd {
         step::<W, T>(&self.compiled, &mut self.words, &mut self.stacks)
@@ -121,16 +121,9 @@ impl<const W: usize, T: Timeline + Drop> RecordedMachine for Machine<W, T> {
         Some(named::<W>(&global.variable))
     }
 
-    fn local_count(&self) -> usize {
-        match self.next() {
-            Some((function, step)) => listed_count(function, step),
-            None => 0,
-        }
-    }
-
-    fn local_variable(&self, number: usize) -> Option<NamedVariable<'_>> {
+    fn next_local(&self, from: usize) -> Option<NextLocal<'_>> {
         let (function, step) = self.next()?;
-        listed_local::<W>(function, step, number)
+        next_listed::<W>(function, step, from)
     }
 
     fn word(&self, shown: Shown, index: usize) -> u64 {

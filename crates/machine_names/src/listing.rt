@@ -1,50 +1,36 @@
 //! The variables of a function that are listed at a step.
-ghost use Rattle.std.specs.Prelude.{◌≡◌, filter, length, map, not, slice_get};
-ghost use Rattle.gang_model.specs.Debugger.Positions.{scope_of};
+ghost use Rattle.std.specs.Prelude.{◌≡◌, ◌<◌, map, IfSome};
 ghost use Rattle.gang_model.specs.Types.Resolved.{local_at};
 ghost use Rattle.gang_types.specs.declared.places.VarId.TheVariants.{Local};
-ghost use Rattle.typed_tree.specs.Views.{function_view, variable_view};
-ghost use Rattle.machine_names.specs.Found.{IsNamed, SeesNamed};
+ghost use Rattle.typed_tree.specs.Views.{variable_view};
+ghost use Rattle.machine_names.specs.Found.{IsNamed};
+ghost use Rattle.machine_names.specs.Listed.{SeesNext, listed_from};
 
 use crate::names::{NOTHING, named};
-use debug_machine::NamedVariable;
+use debug_machine::{NamedVariable, NextLocal};
 use typed_tree::{Function, Variable};
 
-/// The variable of a number among those in scope at a step, parameters left out.
-pub fn listed_local<const W: usize>(
+/// The first variable that is listed at a step, parameters left out, of those whose numbers are at least this one. Those
+/// after it are the ones from the number behind its own.
+pub fn next_listed<const W: usize>(
     function: &Function,
     step: usize,
-    wanted: usize,
-) -> Option<NamedVariable<'_>>
-    ensures { SeesNamed W (slice_get (filter (λ v. not v.is_parameter) (scope_of (slice_get (function_view function.now).standings step))) wanted) result }
+    from: usize,
+) -> Option<NextLocal<'_>>
+    ensures next { SeesNext W (listed_from function.now step) from result }
+    ensures further { IfSome result (λ local. from < local.next) }
 {
     let scopes = &function.scopes;
-    let mut left = wanted;
-    for (number, declaration) in scopes.declarations.iter().enumerate() {
-        let is_listed = scopes.find(step, &declaration.name) == Some(number);
-        if is_listed && !is_parameter(&function.variables, number) {
-            if left == 0 {
-                return Some(named_local::<W>(&function.variables, number));
-            }
-            left -= 1;
+    for number in from..scopes.declarations.len() {
+        let found = scopes.find(step, &scopes.declarations[number].name);
+        if found == Some(number) && !is_parameter(&function.variables, number) {
+            return Some(NextLocal {
+                variable: named_local::<W>(&function.variables, number),
+                next: number + 1,
+            });
         }
     }
     None
-}
-
-/// How many variables are in scope at a step, parameters left out.
-pub fn listed_count(function: &Function, step: usize) -> usize
-    ensures { result ≡ length (filter (λ v. not v.is_parameter) (scope_of (slice_get (function_view function.now).standings step))) }
-{
-    let scopes = &function.scopes;
-    let mut count = 0;
-    for (number, declaration) in scopes.declarations.iter().enumerate() {
-        let found = scopes.find(step, &declaration.name);
-        if found == Some(number) && !is_parameter(&function.variables, number) {
-            count += 1;
-        }
-    }
-    count
 }
 
 /// Whether a variable of a function is a parameter.

@@ -1,5 +1,5 @@
 //! A machine that stands still.
-use debug_machine::{NamedVariable, Position, RecordedMachine, Shown, StepEnd};
+use debug_machine::{NamedVariable, NextLocal, Position, RecordedMachine, Shown, StepEnd};
 use gang_types::{IntType, Mask, Place, Rate, VarId};
 use undo_log::{NoHistory, Undone};
 
@@ -56,6 +56,8 @@ impl RecordedMachine for StillMachine {
     ghost stands = { λ _ _ _. ⊥ };
 
     ghost history = { λ _. record { words = []; past = []; limit = 0; room = 0 } };
+
+    ghost locals_from = { λ _ _ _ _. [] };
 
     fn step(&mut self) -> StepEnd {
         StepEnd::Ended
@@ -130,18 +132,17 @@ impl RecordedMachine for StillMachine {
         }
     }
 
-    fn local_count(&self) -> usize {
-        if self.has_ended() { 0 } else { 1 }
-    }
-
-    fn local_variable(&self, number: usize) -> Option<NamedVariable<'_>> {
-        match number {
-            0 if !self.has_ended() => Some(NamedVariable {
+    fn next_local(&self, from: usize) -> Option<NextLocal<'_>> {
+        if from > 0 || self.has_ended() {
+            return None;
+        }
+        Some(NextLocal {
+            variable: NamedVariable {
                 name: b"on",
                 shown: CONSTANT,
-            }),
-            _ => None,
-        }
+            },
+            next: 1,
+        })
     }
 
     fn word(&self, shown: Shown, index: usize) -> u64 {

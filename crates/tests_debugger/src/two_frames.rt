@@ -1,7 +1,7 @@
 //! A machine of two functions, with an array, a constant and an index variable.
 ghost use Rattle.std.specs.Prelude.{◌≡◌, ◌≤◌, ◌<◌, ◌^◌, ◌-◌, IfSome, length};
 
-use debug_machine::{Fault, NamedVariable, Position, RecordedMachine, Shown, StepEnd};
+use debug_machine::{Fault, NamedVariable, NextLocal, Position, RecordedMachine, Shown, StepEnd};
 use gang_types::{FaultName, IntType, Mask, Place, Rate, VarId};
 use std::alloc::{AllocError, Global};
 use undo_log::{NoHistory, SnapshotRing, Timeline, Undone};
@@ -97,9 +97,13 @@ fn of_main(number: usize) -> Option<NamedVariable<'static>> {
 
 // It stands for no program, so that only its answers count.
 impl RecordedMachine for TwoFrames {
+    ghost use Rattle.std.specs.Prelude.{[]};
+
     ghost stands = { λ _ _ _. ⊥ };
 
     ghost history = { λ m. m.words };
+
+    ghost locals_from = { λ _ _ _ _. [] };
 
     fn step(&mut self) -> StepEnd {
         let at = self.words.word(0);
@@ -200,12 +204,16 @@ impl RecordedMachine for TwoFrames {
         of_file(number)
     }
 
-    fn local_count(&self) -> usize {
-        2
-    }
-
-    fn local_variable(&self, number: usize) -> Option<NamedVariable<'_>> {
-        of_main(number)
+    fn next_local(&self, from: usize) -> Option<NextLocal<'_>> {
+        let next = match from {
+            0 => 1,
+            1 => 2,
+            _ => return None,
+        };
+        Some(NextLocal {
+            variable: of_main(from)?,
+            next,
+        })
     }
 
     fn word(&self, shown: Shown, index: usize) -> u64 {
