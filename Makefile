@@ -26,7 +26,7 @@ build:
 	@echo "The proved program is crates/ispc_cli/out/ispc_cli"
 
 # Times of the lane kernels and of an expression's code beside their plain loops, as ratios; and of the built program: steps, prints
-# and moves a second.
+# and moves a second, and ratios, also to gdb where it is on the path.
 bench:
 	cd crates/kernel_bench && rt run -- signed && rt run -- unsigned
 	cd crates/expression_bench && rt run -- 1000000

@@ -5,7 +5,9 @@ use std::io;
 use std::rt::Clock;
 use std::time::Instant;
 
-const REPEATS: u64 = 200_000;
+const REPEATS: u64 = 40_000;
+
+const ROUNDS: u32 = 5;
 
 // The second operand of every round.
 const SECOND: Lanes = [7, 3, 1, 9, 2, 4, 6, 5];
@@ -34,9 +36,24 @@ fn timed<R: Clock>(
     Ok((picos.min(1 << 50) as u64, words))
 }
 
+// The least time of one lane in so many rounds, and the words at the end.
+fn least<R: Clock>(
+    rt: &R,
+    operation: Operation,
+    way: Way,
+    ty: IntType,
+) -> io::Result<(u64, Lanes)> {
+    let (mut least, words) = timed(rt, operation, way, ty)?;
+    for _round in 1..ROUNDS {
+        let (picos, _) = timed(rt, operation, way, ty)?;
+        least = least.min(picos);
+    }
+    Ok((least, words))
+}
+
 fn row<R: Clock + Print>(rt: &R, name: &str, operation: Operation, ty: IntType) -> io::Result<()> {
-    let (fast, words) = timed(rt, operation, Way::Vectors, ty)?;
-    let (slow, same) = timed(rt, operation, Way::Loop, ty)?;
+    let (fast, words) = least(rt, operation, Way::Vectors, ty)?;
+    let (slow, same) = least(rt, operation, Way::Loop, ty)?;
     let hundredths = slow.saturating_mul(100) / fast.max(1);
     let verdict = if words == same {
         ""
@@ -50,7 +67,8 @@ fn row<R: Clock + Print>(rt: &R, name: &str, operation: Operation, ty: IntType) 
     )
 }
 
-/// Prints the time of each operation on a type for a lane, of its vectors and of its plain loop.
+/// Prints the time of each operation on a type for a lane, of its vectors and of its plain loop, each the least of some
+/// rounds.
 ///
 /// # Errors
 ///

@@ -1,0 +1,80 @@
+"""The works that are timed, each as a source for gangs with its commands, and some as a C program with those of gdb."""
+
+STATEMENTS = 2_000
+TURNS = 2_000
+LATE_TURNS = 10_000  # of five steps each, so that a late watch has 50,000 steps before it
+DEPTH = 60
+
+
+class Work:
+    """A source, the commands before those that are measured, the measured ones, and how many things these do."""
+
+    def __init__(self, text, first, measured, count, history=2_048, width=4):
+        self.text, self.first, self.measured, self.count = text, first, measured, count
+        self.history, self.width = history, width
+
+    def at(self, width):
+        return Work(self.text, self.first, self.measured, self.count, self.history, width)
+
+
+def straight(variables):
+    """A function that declares so many variables and then does the statements, with a variable of the file that it leaves alone."""
+    declared = "".join(f"int v{number} = {number};\n" for number in range(variables))
+    changed = "".join(f"v{number % variables} += 1;\n" for number in range(STATEMENTS - variables))
+    return f"uniform int t = 0;\nexport void go() {{\n{declared}{changed}}}\n"
+
+
+def loop(turns=TURNS):
+    """A function whose `while` takes so many turns of five statements, after which a variable of the file changes."""
+    body = "x += i;\nx ^= 5;\nx -= 3;\ni += 1;\n"
+    return f"uniform int t = 0;\nexport void go() {{\nint i = 0;\nint x = 0;\nwhile (i < {turns}) {{\n{body}}}\nt = 1;\n}}\n"
+
+
+def steps_of_loop(turns):
+    """How many steps such a function has up to its closing brace."""
+    return 2 + 5 * turns + 2
+
+
+def recursion():
+    """A function that calls itself down to a depth, and the line of its innermost frame."""
+    text = "int down(int n) {\nif (n < 1) {\nreturn 0;\n}\nint r = down(n - 1);\nreturn r + 1;\n}\n"
+    return text + f"export void go() {{\nint x = down({DEPTH - 2});\n}}\n", 3
+
+
+def both_ways(text, steps, rounds, history=2_048):
+    moves = [f"step {steps}", f"reverse-step {steps}"] * rounds
+    return Work(text, [], moves, 2 * steps * rounds, history)
+
+
+def forward(history):
+    """Steps of a long loop, many more than are kept."""
+    return Work(loop(180_000), [], ["step 900000"], 900_000, history)
+
+
+def continued(stops, rounds=2):
+    moves = ["continue", "reverse-continue"] * rounds
+    return Work(straight(4), stops, moves, 2 * (STATEMENTS + 1) * rounds)
+
+
+def printed(variables):
+    return Work(straight(variables), ["step 300"], [f"print v{variables - 1}"] * 4_000, 4_000)
+
+
+def locals_listed(variables, times):
+    return Work(straight(variables), ["step 300"], ["info locals"] * times, times)
+
+
+# ---- the same in C
+
+def c_straight(statements):
+    return "int v;\nint main(void) {\n" + "v += 1;\n" * statements + "return 0;\n}\n"
+
+
+def c_loop(turns):
+    body = "x += i;\nx ^= 5;\nx -= 3;\ni += 1;\n"
+    return f"int t = 0;\nint main(void) {{\nint i = 0;\nint x = 0;\nwhile (i < {turns}) {{\n{body}}}\nt = 1;\nreturn 0;\n}}\n"
+
+
+def c_recursion():
+    text = "int down(int n) {\nif (n < 1) {\nreturn 0;\n}\nint r = down(n - 1);\nreturn r + 1;\n}\n"
+    return text + f"int main(void) {{\nint x = down({DEPTH - 2});\nreturn x == 0;\n}}\n"
