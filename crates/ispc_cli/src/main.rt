@@ -10,7 +10,7 @@ use ispc_options::{Options, Paths, read_options, wrong_arguments};
 use ispc_refusals::{Refusal, write_refusal};
 use ispc_script::{MOST_BYTES, split_script};
 use std::alloc::AllocError;
-use std::io::Read;
+use std::io::{LineWriter, Read};
 use std::process::ExitCode;
 use std::{env, fs, io};
 use transcript::Ending;
@@ -60,22 +60,18 @@ fn run_form(rt: &HostRuntime, options: &Options<'_>, paths: &Paths<'_>) -> ExitC
 fn run_script(rt: &HostRuntime, options: &Options<'_>) -> ExitCode
     requires { AreInRange options.now }
 {
-    let mut text = Vec::new(rt.alloc());
-    let most = MOST_BYTES as u64 + 1;
-    if let Err(fault) = rt.reader().take(most).read_to_end(&mut text) {
-        return match fault.kind() {
-            io::ErrorKind::OutOfMemory => refuse(rt, &Refusal::Memory),
-            _ => finish(rt, Ok(Ending::ReadFault)),
-        };
-    }
+    let text = match front(rt, rt.reader()) {
+        Ok(text) => text,
+        Err(fault) => {
+            return match fault.kind() {
+                io::ErrorKind::OutOfMemory => refuse(rt, &Refusal::Memory),
+                _ => finish(rt, Ok(Ending::ReadFault)),
+            };
+        }
+    };
     match split_script(text.as_slice()) {
         None => refuse(rt, &Refusal::NoScript),
-        Some((source, commands)) => {
-            let mut reader = StreamReader::new(commands);
-            let mut writer = StreamWriter::new(rt.stdout());
-            let end = run(rt.alloc(), source, b"", options, &mut reader, &mut writer);
-            finish(rt, end)
-        }
+        Some((source, commands)) => answer(rt, source, commands, options),
     }
 }
 
@@ -83,26 +79,45 @@ fn run_script(rt: &HostRuntime, options: &Options<'_>) -> ExitCode
 fn run_file(rt: &HostRuntime, path: &str, options: &Options<'_>) -> ExitCode
     requires { AreInRange options.now }
 {
-    let source = match fs::read(rt, path) {
-        Ok(source) => source,
-        Err(fault) if fault.kind() == io::ErrorKind::OutOfMemory => {
-            return refuse(rt, &Refusal::Memory);
-        }
+    match read_source(rt, path) {
+        Ok(source) => answer(rt, source.as_slice(), rt.reader(), options),
+        Err(fault) if fault.kind() == io::ErrorKind::OutOfMemory => refuse(rt, &Refusal::Memory),
         Err(_) => {
             let _ = eprintln!(rt; "cannot read {path}");
-            return ExitCode::from(2);
+            ExitCode::from(2)
         }
+    }
+}
+
+/// The bytes of a file, as far as a source may be long.
+fn read_source(rt: &HostRuntime, path: &str) -> io::Result<Vec<u8>> {
+    let file = fs::File::open(rt, path)?;
+    front(rt, file)
+}
+
+/// What a reader gives, up to one byte more than a script may have. A source may have fewer: a longer text is refused for
+/// its length, whatever follows.
+fn front<R: Read + Drop>(rt: &HostRuntime, reader: R) -> io::Result<Vec<u8>> {
+    let mut text = Vec::new(rt.alloc());
+    reader.take(MOST_BYTES as u64 + 1).read_to_end(&mut text)?;
+    Ok(text)
+}
+
+/// The answers to commands, written line by line: each line goes out as it ends.
+fn answer<R: Read + Drop>(
+    rt: &HostRuntime,
+    source: &[u8],
+    commands: R,
+    options: &Options<'_>,
+) -> ExitCode
+    requires { AreInRange options.now }
+{
+    let Ok(lines) = LineWriter::new(rt.alloc(), rt.stdout()) else {
+        return refuse(rt, &Refusal::Memory);
     };
-    let mut reader = StreamReader::new(rt.reader());
-    let mut writer = StreamWriter::new(rt.stdout());
-    let end = run(
-        rt.alloc(),
-        source.as_slice(),
-        b"",
-        options,
-        &mut reader,
-        &mut writer,
-    );
+    let mut reader = StreamReader::new(commands);
+    let mut writer = StreamWriter::new(lines);
+    let end = run(rt.alloc(), source, b"", options, &mut reader, &mut writer);
     finish(rt, end)
 }
 
