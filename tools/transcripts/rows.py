@@ -1279,6 +1279,81 @@ foreach (i = 0 ... n) a[i] += n;
             refused("input 1: I1 BadLine", "c = 1"),
             refused("input 1: I1 BadLine", "v = 1"),
             refused("input 1: I1 BadLine", " # n = 1"),
+            refused("input 1: I1 BadLine", "t = 1 2 3 4 x"),
+            refused("input 1: I1 BadLine", "t = 128 x"),
+            refused("input 1: I1 BadLine", "n = 3000000000 1"),
+            refused("input 1: I3 Range", "t = 128\nz = 1"),
+            refused("input 1: I1 BadLine", "z = 1\nt = 128"),
+            refused("input 1: I4 TooLarge", "t = 1 2 3 4\nz = 1"),
+            refused("input: I2 Missing a", "\n# a = 1\nn=true\n"),
+        ],
+    ),
+)
+
+INPUT_ENDS = """uniform bool b;
+uniform int8 c;
+uniform int16 s;
+uniform int i;
+uniform int64 l;
+uniform uint8 d;
+uniform uint16 t;
+uniform uint32 j;
+uniform uint64 m;
+export void go() { }"""
+
+rows(
+    "InputEnds",
+    "the ends of each type in an input, and the numbers beyond them",
+    (
+        INPUT_ENDS,
+        [
+            Run(
+                [
+                    ("print c", "c = -128"),
+                    ("print s", "s = -32768"),
+                    ("print i", "i = -2147483648"),
+                    ("print l", "l = -9223372036854775808"),
+                ],
+                input="b = 0\nc = -128\ns = -32768\ni = -2147483648\nl = -9223372036854775808\nd = 0\nt = 0\nj = 0\nm = 0",
+            ),
+            Run(
+                [
+                    ("print b", "b = true"),
+                    ("print c", "c = 127"),
+                    ("print s", "s = 32767"),
+                    ("print i", "i = 2147483647"),
+                    ("print l", "l = 9223372036854775807"),
+                    ("print d", "d = 255"),
+                    ("print t", "t = 65535"),
+                    ("print j", "j = 4294967295"),
+                    ("print m", "m = 18446744073709551615"),
+                ],
+                input="b = 1\nc = 127\ns = 32767\ni = 2147483647\nl = 9223372036854775807\n"
+                "d = 255\nt = 65535\nj = 4294967295\nm = 18446744073709551615",
+            ),
+        ]
+        + [
+            refused("input 1: I3 Range", line)
+            for line in (
+                "b = 2",
+                "b = -1",
+                "c = 128",
+                "c = -129",
+                "s = 32768",
+                "s = -32769",
+                "i = 2147483648",
+                "i = -2147483649",
+                "l = 9223372036854775808",
+                "l = -9223372036854775809",
+                "d = 256",
+                "d = -1",
+                "t = 65536",
+                "t = -1",
+                "j = 4294967296",
+                "j = -1",
+                "m = 18446744073709551616",
+                "m = -1",
+            )
         ],
     ),
 )

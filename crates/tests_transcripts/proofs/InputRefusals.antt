@@ -126,3 +126,45 @@ row_17 : run source (codes " # n = 1") (options 4 64 1000000)
     ≡ codes "input 1: I1 BadLine\n"
 unfolding digits value_of residue word_of value_in wrapped binary_of
 row_17 = refl
+
+row_18 : run source (codes "t = 1 2 3 4 x") (options 4 64 1000000)
+    (codes "")
+    ≡ codes "input 1: I1 BadLine\n"
+unfolding digits value_of residue word_of value_in wrapped binary_of
+row_18 = refl
+
+row_19 : run source (codes "t = 128 x") (options 4 64 1000000)
+    (codes "")
+    ≡ codes "input 1: I1 BadLine\n"
+unfolding digits value_of residue word_of value_in wrapped binary_of
+row_19 = refl
+
+row_20 : run source (codes "n = 3000000000 1") (options 4 64 1000000)
+    (codes "")
+    ≡ codes "input 1: I1 BadLine\n"
+unfolding digits value_of residue word_of value_in wrapped binary_of
+row_20 = refl
+
+row_21 : run source (codes "t = 128\nz = 1") (options 4 64 1000000)
+    (codes "")
+    ≡ codes "input 1: I3 Range\n"
+unfolding digits value_of residue word_of value_in wrapped binary_of
+row_21 = refl
+
+row_22 : run source (codes "z = 1\nt = 128") (options 4 64 1000000)
+    (codes "")
+    ≡ codes "input 1: I1 BadLine\n"
+unfolding digits value_of residue word_of value_in wrapped binary_of
+row_22 = refl
+
+row_23 : run source (codes "t = 1 2 3 4\nz = 1") (options 4 64 1000000)
+    (codes "")
+    ≡ codes "input 1: I4 TooLarge\n"
+unfolding digits value_of residue word_of value_in wrapped binary_of
+row_23 = refl
+
+row_24 : run source (codes "\n# a = 1\nn=true\n") (options 4 64 1000000)
+    (codes "")
+    ≡ codes "input: I2 Missing a\n"
+unfolding digits value_of residue word_of value_in wrapped binary_of
+row_24 = refl

@@ -36,6 +36,7 @@ pub mod InactiveDivision
 pub mod InactiveLanes
 pub mod IndexFaults
 pub mod IndexVariables
+pub mod InputEnds
 pub mod InputForms
 pub mod InputRefusals
 pub mod InputRows
