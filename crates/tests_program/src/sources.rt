@@ -42,12 +42,15 @@ fn arrays_are_no_form_yet(rt: HostRuntime) {
 }
 
 #[test]
-fn library_calls_are_no_form_yet(rt: HostRuntime) {
-    assert!(rt; is_not_yet(rt.alloc(), b"void f() { { } assert(true); }", 16));
-    assert!(rt; is_not_yet(rt.alloc(), b"void f() { x += true ? 1 : abs(2); }", 28));
-    assert!(rt; is_not_yet(rt.alloc(), b"int f() { return popcnt(1); }", 18));
-    assert!(rt; is_not_yet(rt.alloc(), b"void f(int x) { f(abs(x)); }", 19));
-    assert!(rt; is_not_yet(rt.alloc(), b"void f() { do ; while (any(true)); }", 24));
+fn packed_calls_are_no_form_yet(rt: HostRuntime) {
+    assert!(rt; is_not_yet(rt.alloc(), b"void f() { packed_store_active(&x, 1); }", 33));
+    assert!(rt;
+        is_not_yet(
+            rt.alloc(),
+            b"void f() { packed_load_active(&a[1], &x); }",
+            32
+        )
+    );
 }
 
 #[test]
