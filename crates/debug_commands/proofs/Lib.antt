@@ -1,6 +1,3 @@
-mod SameBytes
-mod SplitWords
-mod DigitRuns
 mod WordLists
 mod LongLines
 mod Assignments

@@ -4,7 +4,6 @@
 mod command;
 mod numbers;
 mod reading;
-mod splitting;
 mod table;
 mod targets;
 mod words;

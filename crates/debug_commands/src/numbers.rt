@@ -1,95 +1,27 @@
 //! Numbers and values of command lines.
-ghost use Rattle.std.specs.Prelude.{◌≡◌, ◌-◌, ◌^◌, Some};
+ghost use Rattle.std.specs.Prelude.{◌≡◌, ◌-◌, ◌^◌};
 ghost use Rattle.gang_model.specs.Texts.Spellings as spelling;
 ghost use Rattle.gang_model.specs.Texts.CommandText as text;
-ghost use Rattle.debug_commands.specs.Digits as spec;
+ghost use Rattle.debug_words.specs.Digits as digits;
 
-use crate::words::is_same;
+use debug_words::{Radix, digits_number, is_same};
 
 /// The largest number of a command.
 const LARGEST: u64 = 10_000_000;
 
-#[derive(Clone, Copy)]
-enum Radix {
-    Decimal,
-    Hexadecimal,
-}
-
-fn base(radix: Radix) -> u64
-    ensures { result ≡ spec.base radix }
-{
-    match radix {
-        Radix::Decimal => 10,
-        Radix::Hexadecimal => 16,
-    }
-}
-
-pub(crate) fn is_digit(byte: u8) -> bool
-    ensures { result ≡ spelling.is_digit byte }
-{
-    matches!(byte, b'0'..=b'9')
-}
-
-fn is_hexadecimal(byte: u8) -> bool
-    ensures { result ≡ spelling.is_hexadecimal byte }
-{
-    is_digit(byte) || matches!(byte, b'a'..=b'f' | b'A'..=b'F')
-}
-
-fn is_digit_in(radix: Radix, byte: u8) -> bool
-    ensures { result ≡ spec.is_digit_in radix byte }
-{
-    match radix {
-        Radix::Decimal => is_digit(byte),
-        Radix::Hexadecimal => is_hexadecimal(byte),
-    }
-}
-
-fn digit_value(byte: u8) -> u8
-    ensures { result ≡ spelling.digit_value byte }
-{
-    match byte {
-        b'0'..=b'9' => byte - b'0',
-        b'a'..=b'f' => byte - b'a' + 10,
-        _ => byte.saturating_sub(b'A' - 10),
-    }
-}
-
-fn are_digits(radix: Radix, bytes: &[u8]) -> bool
-    ensures { result ≡ spelling.all_are (spec.is_digit_in radix) bytes.now }
-{
-    bytes.iter().all(|byte| is_digit_in(radix, *byte))
-}
-
-/// The digits' value, if it has 64 bits.
-fn digits_value(radix: Radix, digits: &[u8]) -> Option<u64>
-    ensures { result ≡ spelling.in_range 0 (2 ^ 64 - 1) (Some (spelling.number_after (spec.base radix) 0 digits.now)) }
-{
-    let base = base(radix);
-    let mut value = 0u64;
-    for digit in digits {
-        let shifted = value.checked_mul(base)?;
-        value = shifted.checked_add(u64::from(digit_value(*digit)))?;
-    }
-    Some(value)
-}
-
 /// The number that the whole word is, if it has 64 bits.
-fn digits_number(radix: Radix, word: &[u8]) -> Option<u64>
-    ensures { result ≡ spelling.in_range 0 (2 ^ 64 - 1) (spelling.digits_number (spec.is_digit_in radix) (spec.base radix) word.now) }
+fn word_number(radix: Radix, word: &[u8]) -> Option<u64>
+    ensures { result ≡ spelling.in_range 0 (2 ^ 64 - 1) (spelling.digits_number (digits.is_digit_in radix) (digits.base radix) word.now) }
 {
-    if word.is_empty() || !are_digits(radix, word) {
-        None
-    } else {
-        digits_value(radix, word)
-    }
+    let number = digits_number(radix, word)?;
+    u64::try_from(number).ok()
 }
 
 /// The decimal number, if it is neither too small nor too large for a command.
 fn decimal_from(least: u32, word: &[u8]) -> Option<u32>
     ensures { result ≡ spelling.in_range least 10000000 (spelling.decimal_number word.now) }
 {
-    let number = digits_number(Radix::Decimal, word)?;
+    let number = word_number(Radix::Decimal, word)?;
     if u64::from(least) <= number && number <= LARGEST {
         Some(number as u32)
     } else {
@@ -116,8 +48,8 @@ fn magnitude(word: &[u8]) -> Option<u64>
     ensures { result ≡ text.magnitude word.now }
 {
     match word.strip_prefix(b"0x") {
-        Some(digits) => digits_number(Radix::Hexadecimal, digits),
-        None => digits_number(Radix::Decimal, word),
+        Some(digits) => word_number(Radix::Hexadecimal, digits),
+        None => word_number(Radix::Decimal, word),
     }
 }
 

@@ -8,10 +8,10 @@ ghost use Rattle.debug_commands.specs.Views.{command_view, option_view};
 
 use crate::command::Command;
 use crate::numbers::number;
-use crate::splitting::{begins_blank, is_blank_line};
 use crate::table::{COMMANDS, Entry, Form, Motion};
 use crate::targets::{set_of, target_of};
-use crate::words::{is_same, words_of};
+use crate::words::words_of;
+use debug_words::{is_blank, is_blank_line, is_same};
 
 /// The most bytes of a line.
 const MOST_LINE: usize = 256;
@@ -31,6 +31,16 @@ pub fn read_command(line: &[u8]) -> Option<Command<'_>>
     }
     let words = words_of(line)?;
     command_by(&COMMANDS, words.as_slice())
+}
+
+/// Whether the line begins with a blank.
+fn begins_blank(line: &[u8]) -> bool
+    ensures { result ≡ text.begins_blank line.now }
+{
+    match line {
+        [] => false,
+        [first, ..] => is_blank(*first),
+    }
 }
 
 /// The command of the first entry whose words the line begins with.

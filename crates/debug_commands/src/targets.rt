@@ -7,8 +7,8 @@ ghost use Rattle.debug_commands.specs.Views.{option_view};
 ghost use Rattle.debug_commands.specs.TargetViews.{target_option};
 
 use crate::command::{Command, Target};
-use crate::numbers::{index, is_digit, value};
-use crate::words::is_same;
+use crate::numbers::{index, value};
+use debug_words::{is_digit, is_same};
 
 fn is_letter(byte: u8) -> bool
     ensures { result ≡ spelling.is_letter byte }

@@ -1,19 +1,11 @@
 //! The words of a line.
 ghost use Rattle.std.specs.Prelude.{◌≡◌, ◌<◌, length, MatchOption};
-ghost use Rattle.gang_model.specs.Source.Names.{same_text};
 ghost use Rattle.gang_model.specs.Texts.CommandText.{is_mark};
 ghost use Rattle.gang_model.specs.Texts.Spellings.{words_of_line};
 ghost use Rattle.debug_commands.specs.LineWords.{texts};
 
-use crate::splitting::next_word;
 use arrayvec::ArrayVec;
-
-/// Whether two words have the same bytes.
-pub(crate) fn is_same(left: &[u8], right: &[u8]) -> bool
-    ensures { result ≡ same_text left.now right.now }
-{
-    left == right
-}
+use debug_words::{Marks, next_word};
 
 /// The most words of a command.
 const MOST_WORDS: usize = 8;
@@ -28,7 +20,7 @@ pub(crate) fn words_of(line: &[u8]) -> Option<Words<'_>>
 {
     let mut words = Words::new();
     let mut rest = line;
-    while let Some((word, after)) = next_word(rest) {
+    while let Some((word, after)) = next_word(Marks::OfCommands, rest) {
         if words.is_full() {
             return None;
         }

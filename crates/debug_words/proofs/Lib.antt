@@ -1,3 +1,3 @@
-mod SameBytes
+pub mod SameBytes
 mod SplitWords
 pub mod DigitRuns

@@ -2,7 +2,7 @@ use Rattle.std.proofs.Common.{◌∙◌, ◌||◌, rules, tests}
 use Rattle.std.proofs.lemmas.Iterator.{YieldsList-from_slice}
 use Rattle.std.proofs.lemmas.Iterator.Search.{all_from_yields_List}
 use Rattle.gang_model.specs.Texts.Spellings as spelling
-use Rattle.debug_commands.proofs.SameBytes.{all_same}
+use Rattle.debug_words.proofs.SameBytes.{all_same}
 use Rattle.debug_commands.proofs.targets.are_name_bytes.Goals as goal
 
 pub returns : goal.returns
