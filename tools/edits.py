@@ -46,8 +46,8 @@ class Body:
         """Whether this line of a source or this proof is about the function."""
         if path == self.file:
             return self.first <= line <= self.last
-        module = os.path.splitext(self.file)[0].removeprefix("src/").removeprefix("lib")
-        inside = path.startswith(f"proofs/{module}/" if module else "proofs/")
+        module = os.path.splitext(self.file)[0].removeprefix("src/")
+        inside = path.startswith("proofs/" if module == "lib" else f"proofs/{module}/")
         return inside and any(f"/{it}/" in f"/{path}" for it in (self.name, f"+{self.cycle}"))
 
 
