@@ -30,13 +30,14 @@ ANSWER = re.compile(r"error: `([^`\s]+)`: ")
 
 @dataclasses.dataclass(frozen=True)
 class Body:
-    """A function: its file, name and lines with its attributes, and the cycle that it is in."""
+    """A function: its file, name and lines with its attributes, the cycle that it is in, and the type whose method it is."""
 
     file: str
     name: str
     first: int
     last: int
     cycle: str
+    owner: str
 
     def key(self):
         """What only one edit of a check may change."""
@@ -48,7 +49,9 @@ class Body:
             return self.first <= line <= self.last
         module = os.path.splitext(self.file)[0].removeprefix("src/")
         inside = path.startswith("proofs/" if module == "lib" else f"proofs/{module}/")
-        return inside and any(f"/{it}/" in f"/{path}" for it in (self.name, f"+{self.cycle}"))
+        # (a method's proofs stand under the module of its type, which may be another)
+        method = path.startswith("proofs/") and f"/{self.owner}/{self.name}/" in path if self.owner else False
+        return method or (inside and any(f"/{it}/" in f"/{path}" for it in (self.name, f"+{self.cycle}")))
 
 
 @dataclasses.dataclass(frozen=True)
@@ -84,8 +87,10 @@ def messages_in(said):
 
 def bodies_in(file, text):
     """Returns the bodies of the functions of a source as the formatter lays it out, by their lines from 1 on."""
-    lines, found, cycle = text.split("\n"), [], ""
+    lines, found, cycle, owner = text.split("\n"), [], "", ""
     for at, line in enumerate(lines):
+        begins = re.match(r"(?:unsafe )?impl\b(?:.*\bfor)?[^{]*?(\w+)(?:<[^{]*>)?(?:\s*(?:where\b.*)?\{.*)?$", line)
+        owner = begins[1] if begins else "" if line.startswith("}") else owner
         named = re.match(r"\s*#\[cycle\((\w+)\)\]", line)
         cycle = named[1] if named else cycle
         begun = re.match(r"(\s*)(?:pub(?:\(\w+\))? )?(?:const |unsafe )*fn (\w+)", line)
@@ -96,7 +101,7 @@ def bodies_in(file, text):
             opens = next((i for i in range(at, ends) if lines[i] == f"{begun[1]}{{"), None)
             opens = next(i for i in range(at, ends) if lines[i].endswith("{")) if opens is None else opens
             first = next(i for i in range(at, -1, -1) if i == 0 or not lines[i - 1].lstrip().startswith("#["))
-            found.append((Body(file, begun[2], first + 1, ends + 1, cycle), opens + 1))
+            found.append((Body(file, begun[2], first + 1, ends + 1, cycle, owner), opens + 1))
         cycle = ""
     return found
 
