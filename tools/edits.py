@@ -49,9 +49,9 @@ class Body:
             return self.first <= line <= self.last
         module = os.path.splitext(self.file)[0].removeprefix("src/")
         inside = path.startswith("proofs/" if module == "lib" else f"proofs/{module}/")
-        # (a method's proofs stand under the module of its type, which may be another)
-        method = path.startswith("proofs/") and f"/{self.owner}/{self.name}/" in path if self.owner else False
-        return method or (inside and any(f"/{it}/" in f"/{path}" for it in (self.name, f"+{self.cycle}")))
+        # (a method's proofs stand in a folder of its type, or its type and trait, under the module of the type, which may be another)
+        is_method = self.owner and re.match(rf"proofs/.*\b{self.owner}\w*/{self.name}/", path)
+        return bool(is_method) or (inside and any(f"/{it}/" in f"/{path}" for it in (self.name, f"+{self.cycle}")))
 
 
 @dataclasses.dataclass(frozen=True)
