@@ -27,6 +27,7 @@ impl Frames {
     ghost use Rattle.gang_memory.specs.Layouts.{IsRangeOfFrame, end_of_frames, frame_words};
 
     /// A part of the head of the frame at a depth, where the entry's is at depth 0.
+    #[inline(always)]
     pub fn head<const W: usize>(&self, depth: usize, part: usize) -> Part
         requires width { IsGangWidth W }
         requires depth { depth < self.now.count }
@@ -42,6 +43,7 @@ impl Frames {
     }
 
     /// The words of a variable of the frame at a depth, by its number in its function.
+    #[inline(always)]
     pub fn variable<const W: usize>(&self, depth: usize, number: usize) -> Part
         requires width { IsGangWidth W }
         requires depth { depth < self.now.count }
@@ -56,6 +58,7 @@ impl Frames {
     }
 
     // The first word of the frame at a depth.
+    #[inline(always)]
     fn begin<const W: usize>(&self, depth: usize) -> usize
         requires width { IsGangWidth W }
         requires depth { depth < self.now.count }

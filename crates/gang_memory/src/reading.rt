@@ -8,6 +8,7 @@ use crate::store::WordStore;
 use gang_types::Mask;
 
 // The words at the slots of the lanes of the mask, and 0 in the other lanes.
+#[inline(always)]
 pub(crate) fn words_at<const W: usize, S: WordStore>(
     store: &S,
     mask: Mask,

@@ -21,10 +21,12 @@ impl<T: Timeline + Drop> WordStore for Recorded<T> {
 
     ghost rest = { λ store. without_words (T.history store.timeline) };
 
+    #[inline(always)]
     fn word(&self, index: usize) -> u64 {
         self.timeline.word(index)
     }
 
+    #[inline(always)]
     fn set(&mut self, index: usize, value: u64) {
         self.timeline.set(index, value);
     }

@@ -13,6 +13,7 @@ use gang_types::{Mask, Rate};
 use masked_operations::only;
 
 /// How many words a scalar has: a uniform one has one, a varying one has one for each lane.
+#[inline(always)]
 pub fn word_count<const W: usize>(rate: Rate) -> usize
     ensures { result ≡ words_for W rate }
 {
@@ -90,6 +91,7 @@ pub fn declare_scalar<const W: usize, S: WordStore>(
 }
 
 // The slots from `first` on, one for each lane.
+#[inline(always)]
 fn consecutive<const W: usize>(first: usize) -> [usize; W]
     requires width { IsGangWidth W }
     requires small { first + W < 2 ^ 64 }

@@ -39,10 +39,12 @@ impl WordStore for Vec<u64> {
 
     ghost rest = { λ _. tt };
 
+    #[inline(always)]
     fn word(&self, index: usize) -> u64 {
         self[index]
     }
 
+    #[inline(always)]
     fn set(&mut self, index: usize, value: u64) {
         self[index] = value;
     }

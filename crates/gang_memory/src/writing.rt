@@ -8,6 +8,7 @@ use crate::store::WordStore;
 use gang_types::Mask;
 
 // Sets the words at the slots of the lanes of the mask, from the lowest lane on.
+#[inline(always)]
 pub(crate) fn set_words<const W: usize, S: WordStore>(
     store: &mut S,
     mask: Mask,

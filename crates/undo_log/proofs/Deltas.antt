@@ -1,14 +1,14 @@
 -- Moments of old words, through the edits of the two rings.
-use Rattle.std.proofs.Common.{◌≡◌, ℕ, zero, suc, ◌+◌, ◌-◌, ◌*◌, ◌<◌, ◌≤◌, List, [], ◌∷◌, length, take, drop, set, get_or, slice_get, Some, refl, ap, ◌∙◌, map, All, arith, add-one}
+use Rattle.std.proofs.Common.{◌≡◌, ℕ, zero, suc, ◌+◌, ◌-◌, ◌*◌, ◌<◌, ◌≤◌, List, [], ◌∷◌, length, take, drop, set, get_or, slice_get, Some, None, refl, ap, ◌∙◌, map, All, arith, add-one}
 use Rattle.std.proofs.lemmas.List.{take-take, drop-take, length-set, set-set, set-get_or}
-use Rattle.std.proofs.lemmas.List.Elements.{All-head, All-tail, All-cons, All-drop}
+use Rattle.std.proofs.lemmas.List.Elements.{All-head, All-tail, All-cons}
 use Rattle.std.proofs.Math.Nat.{mul-le-mul_right}
 use Rattle.circular_buffer.specs.Buffer.{last_item}
 use Rattle.undo_log.specs.declared.timeline.Undone.{Undone}
 use Rattle.undo_log.specs.declared.changes.Change.{Change}
 use Rattle.undo_log.specs.declared.events.Mark.{Mark}
 use Rattle.undo_log.specs.History.{Moment, moment, History}
-use Rattle.undo_log.specs.Deltas.{left_of}
+use Rattle.undo_log.specs.Deltas.{left_of, one_more}
 use Rattle.undo_log.specs.DeltaRings.{moments, taken_back, total}
 
 abbrev pub event_of : Mark → Undone
@@ -35,8 +35,11 @@ pub length-taken_back : (cs : List Change) (ws : List ℕ) → length (taken_bac
 length-taken_back [] ws = refl
 length-taken_back (c ∷ cs) ws = length-taken_back cs (set ws c.index c.old) ∙ length-set ws c.index c.old
 
--- a word is set
-pub moments_set : (i v old : ℕ) (m : Mark) (ms : List Mark) (cs : List Change) (ws : List ℕ) → old ≡ get_or ws i 0 → Some m ≡ slice_get ms 0 → moments (mark m.event (m.count + 1) ∷ drop 1 ms) (change i old ∷ cs) (set ws i v) ≡ moments ms cs ws
+-- a word is set: the newest event has one change more
+abbrev pub counted_once : Mark → Mark
+counted_once m = mark m.event (m.count + 1)
+
+pub moments_set : (i v old : ℕ) (m : Mark) (ms : List Mark) (cs : List Change) (ws : List ℕ) → old ≡ get_or ws i 0 → Some m ≡ slice_get ms 0 → moments (set ms 0 (counted_once m)) (change i old ∷ cs) (set ws i v) ≡ moments ms cs ws
 moments_set i v old m [] cs ws o e = cc
 moments_set i v old m (x ∷ ms) cs ws o e =
     let same : x ≡ m = cc in
@@ -114,19 +117,28 @@ abbrev pub seen : List ℕ → ℕ → ℕ → List Moment → History
 seen words limit room past = record { words = words; past = past; limit = limit; room = room }
 
 -- the invariant, by its parts
-pub small_set : (cells : ℕ) (m : Mark) (ms : List Mark) → All (λ m. m.count ≤ cells) ms → m.count < cells → All (λ m. m.count ≤ cells) (mark m.event (m.count + 1) ∷ drop 1 ms)
-small_set cells m ms h l = All-cons (λ m. m.count ≤ cells) (mark m.event (m.count + 1)) (drop 1 ms) (omega arith) (All-drop (λ m. m.count ≤ cells) 1 ms h)
+pub small_set : (cells : ℕ) (m : Mark) (ms : List Mark) → Some m ≡ slice_get ms 0 → All (λ m. m.count ≤ cells) ms → m.count < cells → All (λ m. m.count ≤ cells) (set ms 0 (counted_once m))
+small_set cells m [] e h l = cc
+small_set cells m (x ∷ ms) e h l = All-cons (λ m. m.count ≤ cells) (counted_once m) ms (omega arith) (All-tail (λ m. m.count ≤ cells) x ms h)
 
-pub total_set : (m : Mark) (ms : List Mark) → Some m ≡ slice_get ms 0 → total (mark m.event (m.count + 1) ∷ drop 1 ms) ≡ suc (total ms)
+pub total_set : (m : Mark) (ms : List Mark) → Some m ≡ slice_get ms 0 → total (set ms 0 (counted_once m)) ≡ suc (total ms)
 total_set m [] e = cc
 total_set m (x ∷ ms) e =
     let same : x ≡ m = cc in
     let at : x.count ≡ m.count = ap count_of same in
     omega arith
 
-pub length_set : (m : Mark) (ms : List Mark) → Some m ≡ slice_get ms 0 → length (mark m.event (m.count + 1) ∷ drop 1 ms) ≡ length ms
-length_set m [] e = cc
-length_set m (x ∷ ms) e = refl
+pub counts_set : (m : Mark) (ms : List Mark) → Some m ≡ slice_get ms 0 → map count_of (set ms 0 (counted_once m)) ≡ one_more (map count_of ms)
+counts_set m [] e = cc
+counts_set m (x ∷ ms) e = let same : x ≡ m = cc in rw same refl
+
+pub left_one_more : (cells : ℕ) (counts : List ℕ) → left_of cells counts ≤ left_of cells (one_more counts) + 1
+left_one_more cells [] = omega arith
+left_one_more cells (n ∷ ns) = omega arith
+
+pub none_first : {X : Type 0} (xs : List X) → None ≡ slice_get xs 0 → xs ≡ []
+none_first [] e = refl
+none_first (x ∷ xs) e = cc
 
 -- a mark past the limit
 pub take_short : {X : Type 0} (x : X) (n m : ℕ) (xs : List X) → n ≤ m + 1 → take n (x ∷ take m xs) ≡ take n (x ∷ xs)

@@ -1,5 +1,5 @@
 -- How many steps there are among events, as events come and go.
-use Rattle.std.proofs.Common.{◌≡◌, ℕ, suc, ◌+◌, ◌-◌, Bool, cond, List, [], ◌∷◌, length, take, drop, slice_get, Some, None, refl, sym, ap, ◌∙◌, map, arith}
+use Rattle.std.proofs.Common.{◌≡◌, ℕ, suc, ◌+◌, ◌-◌, Bool, cond, List, [], ◌∷◌, length, take, drop, set, slice_get, Some, None, refl, sym, ap, ◌∙◌, map, arith}
 use Rattle.std.specs.Prelude.{count_by}
 use Rattle.std.proofs.Math.Seq.{take-length}
 use Rattle.std.proofs.lemmas.List.Sums.{sum_by-cons, sum_by_more}
@@ -7,7 +7,7 @@ use Rattle.std.proofs.lemmas.Option.{get_or_from_slice_get, slice_get-get_or}
 use Rattle.circular_buffer.specs.Buffer.{last_item}
 use Rattle.undo_log.specs.declared.events.Mark.{Mark}
 use Rattle.undo_log.specs.History.{is_step}
-use Rattle.undo_log.proofs.Deltas.{mark}
+use Rattle.undo_log.proofs.Deltas.{counted_once}
 
 module _ {X : Type 0} (p : X → Bool) where
   pub count_cons : (x : X) (xs : List X) → count_by p (x ∷ xs) ≡ cond (p x) 1 0 + count_by p xs
@@ -43,5 +43,6 @@ abbrev pub is_step_mark : Mark → Bool
 is_step_mark m = is_step m.event
 
 -- a word is set
-pub steps_set : (m : Mark) (ms : List Mark) → Some m ≡ slice_get ms 0 → count_by is_step_mark (mark m.event (m.count + 1) ∷ drop 1 ms) ≡ count_by is_step_mark ms
-steps_set m ms e = count_cons is_step_mark (mark m.event (m.count + 1)) (drop 1 ms) ∙ sym (count_first is_step_mark m ms e)
+pub steps_set : (m : Mark) (ms : List Mark) → Some m ≡ slice_get ms 0 → count_by is_step_mark (set ms 0 (counted_once m)) ≡ count_by is_step_mark ms
+steps_set m [] e = cc
+steps_set m (x ∷ ms) e = count_cons is_step_mark (counted_once m) ms ∙ sym (count_first is_step_mark m (x ∷ ms) e)

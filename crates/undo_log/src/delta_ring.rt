@@ -122,10 +122,12 @@ impl Timeline for DeltaRing {
 
     ghost left = { λ r. left_of r.history.room r.counts };
 
+    #[inline(always)]
     fn word(&self, index: usize) -> u64 {
         self.words[index]
     }
 
+    #[inline(always)]
     fn set(&mut self, index: usize, value: u64)
         requires in_range { index < length self.old.history.words }
         requires room { 0 < length self.old.history.past → 0 < left_of self.old.history.room self.old.counts }
@@ -135,14 +137,11 @@ impl Timeline for DeltaRing {
     {
         let old = self.words[index];
         self.words[index] = value;
-        let Some(mark) = self.marks.pop_front() else {
+        let Some(newest) = self.marks.get_mut(0) else {
             return;
         };
+        newest.count += 1;
         let _ = self.changes.push_front(Change { index, old });
-        let _ = self.marks.push_front(Mark {
-            event: mark.event,
-            count: mark.count + 1,
-        });
     }
 
     fn mark(&mut self, event: Undone)
@@ -172,14 +171,17 @@ impl Timeline for DeltaRing {
         })
     }
 
+    #[inline(always)]
     fn kept(&self) -> usize {
         self.marks.len()
     }
 
+    #[inline(always)]
     fn kept_steps(&self) -> usize {
         self.steps
     }
 
+    #[inline(always)]
     fn limit(&self) -> usize {
         self.limit
     }
@@ -198,6 +200,7 @@ impl Timeline for DeltaRing {
         self.grow(limit)
     }
 
+    #[inline(always)]
     fn room(&self) -> usize {
         self.cells
     }

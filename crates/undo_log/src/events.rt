@@ -24,6 +24,7 @@ pub(crate) fn steps_among(events: &HeapCircularBuffer<Undone>) -> usize
 }
 
 /// How many steps an event is.
+#[inline(always)]
 pub(crate) fn steps_of(event: Undone) -> usize
     ensures { result ≡ (if is_step event then 1 else 0) }
 {

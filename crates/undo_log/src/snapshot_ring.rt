@@ -80,10 +80,12 @@ impl Timeline for SnapshotRing {
 
     ghost left = { λ r. r.room };
 
+    #[inline(always)]
     fn word(&self, index: usize) -> u64 {
         self.words[index]
     }
 
+    #[inline(always)]
     fn set(&mut self, index: usize, value: u64) {
         self.words[index] = value;
     }
@@ -118,14 +120,17 @@ impl Timeline for SnapshotRing {
         Ok(Back { event, written })
     }
 
+    #[inline(always)]
     fn kept(&self) -> usize {
         self.events.len()
     }
 
+    #[inline(always)]
     fn kept_steps(&self) -> usize {
         self.steps
     }
 
+    #[inline(always)]
     fn limit(&self) -> usize {
         self.limit
     }
@@ -140,6 +145,7 @@ impl Timeline for SnapshotRing {
         self.grow(limit)
     }
 
+    #[inline(always)]
     fn room(&self) -> usize {
         // Reading a field tells the proof what the record's fields mean.
         let _limit = self.limit;
