@@ -1,7 +1,8 @@
 //! Three events over three words, in each kind of record.
 ghost use Rattle.std.specs.Prelude.{◌≡◌, ◌≤◌, length};
 
-use std::test::*;
+use std::alloc::AllocError;
+use std::process::Abort;
 use undo_log::{Back, DeltaRing, NoHistory, SnapshotRing, Timeline, Undone};
 
 /// Three events over three words: the first sets one word twice, the others set a word each.
@@ -29,120 +30,145 @@ fn taken_back(event: Undone, written: usize) -> Result<Back, NoHistory> {
     Ok(Back { event, written })
 }
 
+/// Takes events back, one after the other: `back` answers so each time, and then the words are these.
+fn goes_back<T: Timeline>(
+    rt: &impl Abort,
+    timeline: &mut T,
+    rows: &[(Result<Back, NoHistory>, [u64; 3])],
+)
+    requires { length (T.history timeline.old).words ≡ 3 }
+{
+    for (answer, words) in rows {
+        assert!(rt; timeline.back() == *answer);
+        assert!(rt; words_of(timeline) == *words);
+    }
+}
+
+/// Of the three events two are kept; `written` words are written for each.
+fn forgets_past_two<T: Timeline>(rt: &impl Abort, timeline: &mut T, written: [usize; 2])
+    requires words { length (T.history timeline.old).words ≡ 3 }
+    requires room { 2 ≤ (T.history timeline.old).room }
+{
+    make_events(timeline);
+    assert!(rt; timeline.kept() == 2 && timeline.kept_steps() == 1);
+    assert!(rt; words_of(timeline) == [6, 9, 4]);
+    let rows = [
+        (taken_back(Undone::Step, written[0]), [6, 9, 0]),
+        (taken_back(Undone::Poke, written[1]), [6, 0, 0]),
+        (Err(NoHistory), [6, 0, 0]),
+    ];
+    goes_back(rt, timeline, &rows);
+}
+
+/// All three events are kept; `written` words are written for each.
+fn takes_all_back<T: Timeline>(rt: &impl Abort, timeline: &mut T, written: [usize; 3])
+    requires words { length (T.history timeline.old).words ≡ 3 }
+    requires room { 2 ≤ (T.history timeline.old).room }
+{
+    make_events(timeline);
+    assert!(rt; timeline.kept() == 3 && timeline.kept_steps() == 2);
+    let rows = [
+        (taken_back(Undone::Step, written[0]), [6, 9, 0]),
+        (taken_back(Undone::Poke, written[1]), [6, 0, 0]),
+        (taken_back(Undone::Step, written[2]), [0, 0, 0]),
+        (Err(NoHistory), [0, 0, 0]),
+    ];
+    goes_back(rt, timeline, &rows);
+}
+
 #[test]
-fn a_snapshot_ring_forgets_past_its_limit(rt: HostRuntime) -> Result<(), Fail> {
+fn a_snapshot_ring_forgets_past_its_limit(rt: HostRuntime) -> Result<(), AllocError> {
     let mut timeline = SnapshotRing::new(rt.alloc(), 3, 2)?;
-    make_events(&mut timeline);
-    assert_eq!(rt; timeline.kept(), 2);
-    assert_eq!(rt; timeline.kept_steps(), 1);
-    assert_eq!(rt; words_of(&timeline), [6, 9, 4]);
-    assert_eq!(rt; timeline.back(), taken_back(Undone::Step, 3));
-    assert_eq!(rt; words_of(&timeline), [6, 9, 0]);
-    assert_eq!(rt; timeline.back(), taken_back(Undone::Poke, 3));
-    assert_eq!(rt; words_of(&timeline), [6, 0, 0]);
-    assert_eq!(rt; timeline.back(), Err(NoHistory));
-    assert_eq!(rt; words_of(&timeline), [6, 0, 0]);
+    forgets_past_two(&rt, &mut timeline, [3, 3]);
     Ok(())
 }
 
 #[test]
-fn a_snapshot_ring_takes_all_back(rt: HostRuntime) -> Result<(), Fail> {
-    let mut timeline = SnapshotRing::new(rt.alloc(), 3, 3)?;
-    make_events(&mut timeline);
-    assert_eq!(rt; timeline.kept(), 3);
-    assert_eq!(rt; timeline.kept_steps(), 2);
-    assert_eq!(rt; timeline.back(), taken_back(Undone::Step, 3));
-    assert_eq!(rt; timeline.back(), taken_back(Undone::Poke, 3));
-    assert_eq!(rt; timeline.back(), taken_back(Undone::Step, 3));
-    assert_eq!(rt; words_of(&timeline), [0, 0, 0]);
-    assert_eq!(rt; timeline.back(), Err(NoHistory));
-    Ok(())
-}
-
-#[test]
-fn a_delta_ring_forgets_past_its_limit(rt: HostRuntime) -> Result<(), Fail> {
+fn a_delta_ring_forgets_past_its_limit(rt: HostRuntime) -> Result<(), AllocError> {
     let mut timeline = DeltaRing::new(rt.alloc(), 3, 2, 2)?;
-    make_events(&mut timeline);
-    assert_eq!(rt; timeline.kept(), 2);
-    assert_eq!(rt; timeline.kept_steps(), 1);
-    assert_eq!(rt; words_of(&timeline), [6, 9, 4]);
-    assert_eq!(rt; timeline.back(), taken_back(Undone::Step, 1));
-    assert_eq!(rt; words_of(&timeline), [6, 9, 0]);
-    assert_eq!(rt; timeline.back(), taken_back(Undone::Poke, 1));
-    assert_eq!(rt; words_of(&timeline), [6, 0, 0]);
-    assert_eq!(rt; timeline.back(), Err(NoHistory));
-    assert_eq!(rt; words_of(&timeline), [6, 0, 0]);
+    forgets_past_two(&rt, &mut timeline, [1, 1]);
     Ok(())
 }
 
 #[test]
-fn a_delta_ring_takes_all_back(rt: HostRuntime) -> Result<(), Fail> {
+fn a_snapshot_ring_takes_all_back(rt: HostRuntime) -> Result<(), AllocError> {
+    let mut timeline = SnapshotRing::new(rt.alloc(), 3, 3)?;
+    takes_all_back(&rt, &mut timeline, [3, 3, 3]);
+    Ok(())
+}
+
+#[test]
+fn a_delta_ring_takes_all_back(rt: HostRuntime) -> Result<(), AllocError> {
     let mut timeline = DeltaRing::new(rt.alloc(), 3, 3, 2)?;
-    make_events(&mut timeline);
-    assert_eq!(rt; timeline.kept(), 3);
-    assert_eq!(rt; timeline.kept_steps(), 2);
-    assert_eq!(rt; timeline.back(), taken_back(Undone::Step, 1));
-    assert_eq!(rt; timeline.back(), taken_back(Undone::Poke, 1));
-    assert_eq!(rt; timeline.back(), taken_back(Undone::Step, 2));
-    assert_eq!(rt; words_of(&timeline), [0, 0, 0]);
-    assert_eq!(rt; timeline.back(), Err(NoHistory));
+    takes_all_back(&rt, &mut timeline, [1, 1, 2]);
     Ok(())
 }
 
 #[test]
-fn a_set_that_changes_nothing_is_written_back(rt: HostRuntime) -> Result<(), Fail> {
+fn a_set_that_changes_nothing_is_written_back(rt: HostRuntime) -> Result<(), AllocError> {
     let mut timeline = DeltaRing::new(rt.alloc(), 3, 1, 4)?;
     timeline.set(0, 7);
     timeline.mark(Undone::Poke);
     timeline.set(0, 7);
     timeline.set(1, 0);
-    assert_eq!(rt; timeline.back(), taken_back(Undone::Poke, 2));
-    assert_eq!(rt; words_of(&timeline), [7, 0, 0]);
+    goes_back(
+        &rt,
+        &mut timeline,
+        &[(taken_back(Undone::Poke, 2), [7, 0, 0])],
+    );
     Ok(())
 }
 
 #[test]
-fn the_rooms(rt: HostRuntime) -> Result<(), Fail> {
+fn the_rooms(rt: HostRuntime) -> Result<(), AllocError> {
     let snapshots = SnapshotRing::new(rt.alloc(), 3, 2)?;
     let deltas = DeltaRing::new(rt.alloc(), 3, 2, 5)?;
-    assert_eq!(rt; snapshots.room(), usize::MAX);
-    assert_eq!(rt; deltas.room(), 5);
+    assert!(&rt; snapshots.room() == usize::MAX && deltas.room() == 5);
+    Ok(())
+}
+
+/// The three events under a limit of three; under a smaller one the newest events stay, and under a larger one no more come back.
+fn changes_its_limit<T: Timeline>(
+    rt: &impl Abort,
+    timeline: &mut T,
+    smaller: usize,
+) -> Result<(), AllocError>
+    requires words { length (T.history timeline.old).words ≡ 3 }
+    requires room { 2 ≤ (T.history timeline.old).room }
+    requires smaller { (1 ≤ smaller) × (smaller ≤ 3) }
+    ensures { length (T.history timeline.new).words ≡ 3 }
+{
+    timeline.set_limit(3)?;
+    make_events(timeline);
+    assert!(rt; timeline.limit() == 3 && timeline.kept() == 3);
+    assert!(rt; timeline.set_limit(smaller).is_ok());
+    assert!(rt; timeline.limit() == smaller && timeline.kept() == smaller);
+    timeline.set_limit(4)?;
+    assert!(rt; timeline.kept() == smaller);
     Ok(())
 }
 
 #[test]
-fn a_snapshot_ring_changes_its_limit(rt: HostRuntime) -> Result<(), Fail> {
+fn a_snapshot_ring_changes_its_limit(rt: HostRuntime) -> Result<(), AllocError> {
     let mut timeline = SnapshotRing::new(rt.alloc(), 3, 2)?;
-    timeline.set_limit(3)?;
-    make_events(&mut timeline);
-    assert_eq!(rt; timeline.limit(), 3);
-    assert_eq!(rt; timeline.kept(), 3);
-    assert!(rt; timeline.set_limit(1).is_ok());
-    assert_eq!(rt; timeline.limit(), 1);
-    assert_eq!(rt; timeline.kept(), 1);
-    timeline.set_limit(4)?;
-    assert_eq!(rt; timeline.kept(), 1);
-    assert_eq!(rt; timeline.back(), taken_back(Undone::Step, 3));
-    assert_eq!(rt; words_of(&timeline), [6, 9, 0]);
-    assert_eq!(rt; timeline.back(), Err(NoHistory));
+    changes_its_limit(&rt, &mut timeline, 1)?;
+    let rows = [
+        (taken_back(Undone::Step, 3), [6, 9, 0]),
+        (Err(NoHistory), [6, 9, 0]),
+    ];
+    goes_back(&rt, &mut timeline, &rows);
     Ok(())
 }
 
 #[test]
-fn a_delta_ring_changes_its_limit(rt: HostRuntime) -> Result<(), Fail> {
+fn a_delta_ring_changes_its_limit(rt: HostRuntime) -> Result<(), AllocError> {
     let mut timeline = DeltaRing::new(rt.alloc(), 3, 2, 2)?;
-    timeline.set_limit(3)?;
-    make_events(&mut timeline);
-    assert_eq!(rt; timeline.limit(), 3);
-    assert_eq!(rt; timeline.kept(), 3);
-    assert!(rt; timeline.set_limit(2).is_ok());
-    assert_eq!(rt; timeline.limit(), 2);
-    assert_eq!(rt; timeline.kept(), 2);
-    timeline.set_limit(4)?;
-    assert_eq!(rt; timeline.kept(), 2);
-    assert_eq!(rt; timeline.back(), taken_back(Undone::Step, 1));
-    assert_eq!(rt; timeline.back(), taken_back(Undone::Poke, 1));
-    assert_eq!(rt; words_of(&timeline), [6, 0, 0]);
-    assert_eq!(rt; timeline.back(), Err(NoHistory));
+    changes_its_limit(&rt, &mut timeline, 2)?;
+    let rows = [
+        (taken_back(Undone::Step, 1), [6, 9, 0]),
+        (taken_back(Undone::Poke, 1), [6, 0, 0]),
+        (Err(NoHistory), [6, 0, 0]),
+    ];
+    goes_back(&rt, &mut timeline, &rows);
     Ok(())
 }

@@ -6,7 +6,7 @@ use ispc_names_faults::names_fault;
 use ispc_parser::parse;
 use source_answers::SourceFault;
 use std::alloc::Global;
-use std::test::*;
+use std::process::Abort;
 
 fn fault(alloc: Global, source: &[u8]) -> Result<Option<SourceRefusal>, SourceFault> {
     let tokens = tokens(alloc, source)?;
@@ -14,160 +14,96 @@ fn fault(alloc: Global, source: &[u8]) -> Result<Option<SourceRefusal>, SourceFa
     Ok(names_fault(alloc, &tree)?)
 }
 
-fn is_refused(alloc: Global, source: &[u8], number: RefusalNumber, col: u32) -> bool {
-    let place = Place { line: 1, col };
-    fault(alloc, source) == Ok(Some(SourceRefusal { number, place }))
+/// Each source is refused by the rule, at its column.
+fn are_refused(rt: &impl Abort, alloc: Global, number: RefusalNumber, rows: &[(&[u8], u32)]) {
+    for &(source, col) in rows {
+        let place = Place { line: 1, col };
+        assert!(rt;
+            fault(alloc, source) == Ok(Some(SourceRefusal { number, place })),
+            "at column {col}"
+        );
+    }
 }
 
-fn is_accepted(alloc: Global, source: &[u8]) -> bool {
-    fault(alloc, source) == Ok(None)
+/// No source has a fault of names.
+fn are_accepted(rt: &impl Abort, alloc: Global, sources: &[&[u8]]) {
+    for &source in sources {
+        assert!(rt; fault(alloc, source) == Ok(None));
+    }
 }
 
 #[test]
 fn names_that_nothing_declares(rt: HostRuntime) {
-    let alloc = rt.alloc();
-    assert!(rt; is_refused(alloc, b"void f() { x = 1; }", RefusalNumber::S5, 12));
-    assert!(rt;
-        is_refused(
-            alloc,
-            b"void f() { { int x; } x = 1; }",
-            RefusalNumber::S5,
-            23
-        )
-    );
-    assert!(rt;
-        is_refused(
-            alloc,
-            b"void f() { for (int i = i;;) ; }",
-            RefusalNumber::S5,
-            25
-        )
-    );
-    assert!(rt; is_refused(alloc, b"void f() { g(); }", RefusalNumber::S5, 12));
-    assert!(rt;
-        is_refused(
-            alloc,
-            b"void f() { foreach (i = 0 ... 2, j = i ... 3) ; }",
-            RefusalNumber::S5,
-            38
-        )
-    );
-    assert!(rt;
-        is_accepted(
-            alloc,
-            b"int g; void f(int a) { int x = a + programIndex; { int x = x; g = x; } }"
-        )
-    );
-    assert!(rt;
-        is_accepted(
-            alloc,
-            b"void f() { for (int i = 0; i < 2; i++) { int j = i; } g = 1; } int g;"
-        )
-    );
+    let rows: [(&[u8], u32); 5] = [
+        (b"void f() { x = 1; }", 12),
+        (b"void f() { { int x; } x = 1; }", 23),
+        (b"void f() { for (int i = i;;) ; }", 25),
+        (b"void f() { g(); }", 12),
+        (b"void f() { foreach (i = 0 ... 2, j = i ... 3) ; }", 38),
+    ];
+    are_refused(&rt, rt.alloc(), RefusalNumber::S5, &rows);
+    let sources: [&[u8]; 2] = [
+        b"int g; void f(int a) { int x = a + programIndex; { int x = x; g = x; } }",
+        b"void f() { for (int i = 0; i < 2; i++) { int j = i; } g = 1; } int g;",
+    ];
+    are_accepted(&rt, rt.alloc(), &sources);
 }
 
 #[test]
 fn names_that_stand_twice(rt: HostRuntime) {
-    let alloc = rt.alloc();
-    assert!(rt; is_refused(alloc, b"int g; int g;", RefusalNumber::S6, 12));
-    assert!(rt; is_refused(alloc, b"void f(int a) { int a; }", RefusalNumber::S6, 21));
-    assert!(rt; is_refused(alloc, b"void f(int a, int a) { }", RefusalNumber::S6, 19));
-    assert!(rt; is_refused(alloc, b"void f() { int x; int x; }", RefusalNumber::S6, 23));
-    assert!(rt; is_refused(alloc, b"int programCount;", RefusalNumber::S6, 5));
-    assert!(rt; is_refused(alloc, b"void any() { }", RefusalNumber::S6, 6));
-    assert!(rt;
-        is_refused(
-            alloc,
-            b"void f(int a) { } int f(int32 b) { return b; }",
-            RefusalNumber::S6,
-            23
-        )
-    );
-    assert!(rt;
-        is_accepted(
-            alloc,
-            b"void f(int a) { } void f(uniform int a) { } void f(int64 a) { }"
-        )
-    );
-    assert!(rt; is_accepted(alloc, b"int g; void f(int g) { { int g; } }"));
+    let rows: [(&[u8], u32); 7] = [
+        (b"int g; int g;", 12),
+        (b"void f(int a) { int a; }", 21),
+        (b"void f(int a, int a) { }", 19),
+        (b"void f() { int x; int x; }", 23),
+        (b"int programCount;", 5),
+        (b"void any() { }", 6),
+        (b"void f(int a) { } int f(int32 b) { return b; }", 23),
+    ];
+    are_refused(&rt, rt.alloc(), RefusalNumber::S6, &rows);
+    let sources: [&[u8]; 2] = [
+        b"void f(int a) { } void f(uniform int a) { } void f(int64 a) { }",
+        b"int g; void f(int g) { { int g; } }",
+    ];
+    are_accepted(&rt, rt.alloc(), &sources);
 }
 
 #[test]
 fn statements_that_may_not_stand_there(rt: HostRuntime) {
-    let alloc = rt.alloc();
-    assert!(rt; is_refused(alloc, b"void f() { break; }", RefusalNumber::S11, 12));
-    assert!(rt;
-        is_refused(
-            alloc,
-            b"void f() { foreach (i = 0 ... 2) break; }",
-            RefusalNumber::S11,
-            34
-        )
-    );
-    assert!(rt;
-        is_refused(
-            alloc,
-            b"void f() { foreach (i = 0 ... 2) return; }",
-            RefusalNumber::S11,
-            34
-        )
-    );
-    assert!(rt;
-        is_refused(
-            alloc,
+    let rows: [(&[u8], u32); 4] = [
+        (b"void f() { break; }", 12),
+        (b"void f() { foreach (i = 0 ... 2) break; }", 34),
+        (b"void f() { foreach (i = 0 ... 2) return; }", 34),
+        (
             b"void f() { foreach (i = 0 ... 2) foreach (j = 0 ... 2) ; }",
-            RefusalNumber::S11,
-            34
-        )
-    );
-    assert!(rt;
-        is_accepted(
-            alloc,
-            b"void f() { foreach (i = 0 ... 2) while (true) break; }"
-        )
-    );
-    assert!(rt;
-        is_accepted(
-            alloc,
-            b"void f() { foreach_active (i) { continue; } return; }"
-        )
-    );
+            34,
+        ),
+    ];
+    are_refused(&rt, rt.alloc(), RefusalNumber::S11, &rows);
+    let sources: [&[u8]; 2] = [
+        b"void f() { foreach (i = 0 ... 2) while (true) break; }",
+        b"void f() { foreach_active (i) { continue; } return; }",
+    ];
+    are_accepted(&rt, rt.alloc(), &sources);
 }
 
 #[test]
 fn calls_that_may_not_stand_there(rt: HostRuntime) {
-    let alloc = rt.alloc();
-    assert!(rt;
-        is_refused(
-            alloc,
-            b"int f() { return 1 + f(); }",
-            RefusalNumber::S12,
-            22
-        )
-    );
-    assert!(rt;
-        is_refused(
-            alloc,
-            b"void f(int a) { a = assert(true); }",
-            RefusalNumber::S12,
-            21
-        )
-    );
-    assert!(rt; is_refused(alloc, b"void f(int a) { abs(a); }", RefusalNumber::S12, 17));
-    assert!(rt;
-        is_refused(
-            alloc,
-            b"int b[4]; int f() { b[0] = f(); return 1; }",
-            RefusalNumber::S12,
-            28
-        )
-    );
-    assert!(rt; is_accepted(alloc, b"int f() { int a = (f()); return f(); }"));
+    let rows: [(&[u8], u32); 4] = [
+        (b"int f() { return 1 + f(); }", 22),
+        (b"void f(int a) { a = assert(true); }", 21),
+        (b"void f(int a) { abs(a); }", 17),
+        (b"int b[4]; int f() { b[0] = f(); return 1; }", 28),
+    ];
+    are_refused(&rt, rt.alloc(), RefusalNumber::S12, &rows);
+    let sources: [&[u8]; 1] = [b"int f() { int a = (f()); return f(); }"];
+    are_accepted(&rt, rt.alloc(), &sources);
 }
 
 #[test]
 fn the_first_of_two_faults(rt: HostRuntime) {
-    let alloc = rt.alloc();
-    assert!(rt; is_refused(alloc, b"void f() { x = 1; break; }", RefusalNumber::S5, 12));
-    assert!(rt; is_refused(alloc, b"void f() { break; x = 1; }", RefusalNumber::S11, 12));
+    let rows: [(&[u8], u32); 1] = [(b"void f() { x = 1; break; }", 12)];
+    are_refused(&rt, rt.alloc(), RefusalNumber::S5, &rows);
+    let rows: [(&[u8], u32); 1] = [(b"void f() { break; x = 1; }", 12)];
+    are_refused(&rt, rt.alloc(), RefusalNumber::S11, &rows);
 }

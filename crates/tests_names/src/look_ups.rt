@@ -2,7 +2,6 @@
 use gang_types::Place;
 use ispc_names_table::{Declaration, Standing, StepScopes};
 use std::alloc::{AllocError, Global};
-use std::test::*;
 
 fn declaration(
     alloc: Global,
@@ -36,21 +35,36 @@ fn table(alloc: Global) -> Result<StepScopes, AllocError> {
 }
 
 #[test]
-fn the_innermost_of_a_name_is_found(rt: HostRuntime) {
-    let table = table(rt.alloc()).expect(&rt, "memory");
-    assert_eq!(rt; table.find(0, b"x"), Some(2));
-    assert_eq!(rt; table.find(1, b"x"), Some(0));
-    assert_eq!(rt; table.find(0, b"y"), Some(1));
-    assert_eq!(rt; table.find(0, b"z"), None);
-    assert_eq!(rt; table.find(2, b"x"), None);
+fn the_innermost_of_a_name_is_found(rt: HostRuntime) -> Result<(), AllocError> {
+    let table = table(rt.alloc())?;
+    let rows: [(usize, &[u8], Option<usize>); 5] = [
+        (0, b"x", Some(2)),
+        (1, b"x", Some(0)),
+        (0, b"y", Some(1)),
+        (0, b"z", None),
+        (2, b"x", None),
+    ];
+    for (step, name, found) in rows {
+        assert!(&rt; table.find(step, name) == found, "at step {step}");
+    }
+    Ok(())
 }
 
 #[test]
-fn what_is_hidden_is_not_listed(rt: HostRuntime) {
-    let table = table(rt.alloc()).expect(&rt, "memory");
-    assert_eq!(rt; table.listed(0, 0), Some(1));
-    assert_eq!(rt; table.listed(0, 1), Some(2));
-    assert_eq!(rt; table.listed(0, 2), None);
-    assert_eq!(rt; table.listed(1, 0), Some(0));
-    assert_eq!(rt; table.listed(1, 1), Some(1));
+fn what_is_hidden_is_not_listed(rt: HostRuntime) -> Result<(), AllocError> {
+    let table = table(rt.alloc())?;
+    let rows = [
+        (0, 0, Some(1)),
+        (0, 1, Some(2)),
+        (0, 2, None),
+        (1, 0, Some(0)),
+        (1, 1, Some(1)),
+    ];
+    for (step, number, listed) in rows {
+        assert!(&rt;
+            table.listed(step, number) == listed,
+            "{number} at step {step}"
+        );
+    }
+    Ok(())
 }

@@ -6,7 +6,6 @@ use ispc_names::{Named, resolve};
 use ispc_parser::parse;
 use source_answers::SourceFault;
 use std::alloc::Global;
-use std::test::*;
 
 fn named(alloc: Global, source: &[u8]) -> Result<Named, SourceFault> {
     let tokens = tokens(alloc, source)?;
@@ -22,24 +21,40 @@ fn step(function: usize, number: usize) -> Spot {
 }
 
 #[test]
-fn names_are_found_at_steps_and_in_the_file(rt: HostRuntime) {
+fn names_are_found_at_steps_and_in_the_file(rt: HostRuntime) -> Result<(), SourceFault> {
     let source = b"int g; void e() { } int x; void f(int a) { int x = a; { int g = x; a = g; } }";
-    let named = named(rt.alloc(), source).ok().expect(&rt, "memory");
-    assert_eq!(rt; named.find(None, b"g"), Some(VarId::File(0)));
-    assert_eq!(rt; named.find(None, b"x"), Some(VarId::File(1)));
-    assert_eq!(rt; named.find(None, b"a"), None);
-    assert_eq!(rt; named.find(Some(step(1, 1)), b"g"), Some(VarId::File(0)));
-    assert_eq!(rt; named.find(Some(step(1, 2)), b"g"), Some(VarId::Local(2)));
-    assert_eq!(rt; named.find(Some(step(1, 2)), b"x"), Some(VarId::Local(1)));
-    assert_eq!(rt; named.find(Some(step(0, 0)), b"x"), Some(VarId::File(1)));
-    assert_eq!(rt; named.scope_at(step(1, 2), 2), Some(VarId::Local(2)));
-    assert_eq!(rt; named.scope_at(step(1, 2), 3), None);
-    assert_eq!(rt; named.scope_at(step(2, 0), 0), None);
-    assert_eq!(rt; named.tables().len(), 2);
-    assert_eq!(rt; named.tree().items.len(), 4);
+    let named = named(rt.alloc(), source)?;
+    let rows: [(Option<Spot>, &[u8], Option<VarId>); 7] = [
+        (None, b"g", Some(VarId::File(0))),
+        (None, b"x", Some(VarId::File(1))),
+        (None, b"a", None),
+        (Some(step(1, 1)), b"g", Some(VarId::File(0))),
+        (Some(step(1, 2)), b"g", Some(VarId::Local(2))),
+        (Some(step(1, 2)), b"x", Some(VarId::Local(1))),
+        (Some(step(0, 0)), b"x", Some(VarId::File(1))),
+    ];
+    for (spot, name, variable) in rows {
+        assert!(&rt; named.find(spot, name) == variable);
+    }
+    Ok(())
+}
+
+#[test]
+fn variables_in_scope_are_listed_at_a_step(rt: HostRuntime) -> Result<(), SourceFault> {
+    let source = b"int g; void e() { } int x; void f(int a) { int x = a; { int g = x; a = g; } }";
+    let named = named(rt.alloc(), source)?;
+    let rows = [
+        (step(1, 2), 2, Some(VarId::Local(2))),
+        (step(1, 2), 3, None),
+        (step(2, 0), 0, None),
+    ];
+    for (spot, number, variable) in rows {
+        assert!(&rt; named.scope_at(spot, number) == variable, "number {number}");
+    }
+    assert!(&rt; named.tables().len() == 2 && named.tree().items.len() == 4);
     let (tree, tables) = named.into_parts();
-    assert_eq!(rt; tree.items.len(), 4);
-    assert_eq!(rt; tables.len(), 2);
+    assert!(&rt; tree.items.len() == 4 && tables.len() == 2);
+    Ok(())
 }
 
 #[test]
@@ -50,5 +65,5 @@ fn a_fault_of_names_is_refused(rt: HostRuntime) {
         place,
     };
     let fault = named(rt.alloc(), b"void f() { x = 1; }").err();
-    assert_eq!(rt; fault, Some(SourceFault::Refused(refusal)));
+    assert!(&rt; fault == Some(SourceFault::Refused(refusal)));
 }

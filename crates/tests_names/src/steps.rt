@@ -6,7 +6,7 @@ use ispc_parser::parse;
 use source_answers::SourceFault;
 use source_tree::Item;
 use std::alloc::Global;
-use std::test::*;
+use std::process::Abort;
 
 fn steps(alloc: Global, source: &[u8]) -> Result<StepScopes, SourceFault> {
     let tokens = tokens(alloc, source)?;
@@ -29,45 +29,57 @@ fn lists(steps: &StepScopes, step: usize, numbers: &[usize]) -> bool {
     steps.listed(step, numbers.len()).is_none()
 }
 
+/// The steps of the source's function list these variables, each row those of a step.
+fn list(
+    rt: &impl Abort,
+    alloc: Global,
+    source: &[u8],
+    rows: &[(usize, &[usize])],
+) -> Result<StepScopes, SourceFault> {
+    let steps = steps(alloc, source)?;
+    for &(step, numbers) in rows {
+        assert!(rt; lists(&steps, step, numbers), "at step {step}");
+    }
+    Ok(steps)
+}
+
 #[test]
-fn a_block_ends_its_variables(rt: HostRuntime) {
+fn a_block_ends_its_variables(rt: HostRuntime) -> Result<(), SourceFault> {
     let source = b"void f(int a) { int x = 1; { int x = 2; a = x; } a = x; }";
-    let steps = steps(rt.alloc(), source).expect(&rt, "memory");
-    assert_eq!(rt; steps.declarations.len(), 3);
-    assert_eq!(rt; steps.standings.len(), 5);
-    assert!(rt; lists(&steps, 0, &[0]));
-    assert!(rt; lists(&steps, 1, &[0, 1]));
-    assert!(rt; lists(&steps, 2, &[0, 2]));
-    assert!(rt; lists(&steps, 3, &[0, 1]));
-    assert!(rt; lists(&steps, 4, &[0, 1]));
+    let rows: [(usize, &[usize]); 5] = [
+        (0, &[0]),
+        (1, &[0, 1]),
+        (2, &[0, 2]),
+        (3, &[0, 1]),
+        (4, &[0, 1]),
+    ];
+    let steps = list(&rt, rt.alloc(), source, &rows)?;
+    assert!(&rt; steps.declarations.len() == 3 && steps.standings.len() == 5);
+    Ok(())
 }
 
 #[test]
-fn a_for_variable_is_in_scope_at_test_and_update(rt: HostRuntime) {
+fn a_for_variable_is_in_scope_at_test_and_update(rt: HostRuntime) -> Result<(), SourceFault> {
     let source = b"void f() { for (int i = 0; i < 3; i++) { int x = i; } }";
-    let steps = steps(rt.alloc(), source).expect(&rt, "memory");
-    assert_eq!(rt; steps.standings.len(), 5);
-    assert!(rt; lists(&steps, 0, &[]));
-    assert!(rt; lists(&steps, 1, &[0]));
-    assert!(rt; lists(&steps, 2, &[0]));
-    assert!(rt; lists(&steps, 3, &[0]));
-    assert!(rt; lists(&steps, 4, &[]));
+    let rows: [(usize, &[usize]); 5] = [(0, &[]), (1, &[0]), (2, &[0]), (3, &[0]), (4, &[])];
+    let steps = list(&rt, rt.alloc(), source, &rows)?;
+    assert!(&rt; steps.standings.len() == 5);
+    Ok(())
 }
 
 #[test]
-fn the_closing_brace_lists_what_stands_before_a_return(rt: HostRuntime) {
+fn the_closing_brace_lists_what_stands_before_a_return(rt: HostRuntime) -> Result<(), SourceFault> {
     let source = b"void f() { int x = 1; { return; } int y = 2; }";
-    let steps = steps(rt.alloc(), source).expect(&rt, "memory");
-    assert!(rt; lists(&steps, 2, &[0]));
-    assert!(rt; lists(&steps, 3, &[0]));
+    let rows: [(usize, &[usize]); 2] = [(2, &[0]), (3, &[0])];
+    let _steps = list(&rt, rt.alloc(), source, &rows)?;
+    Ok(())
 }
 
 #[test]
-fn index_variables_are_in_scope_in_the_body(rt: HostRuntime) {
+fn index_variables_are_in_scope_in_the_body(rt: HostRuntime) -> Result<(), SourceFault> {
     let source = b"void f() { foreach (i = 0 ... 4, j = 0 ... 2) { int x = i; } }";
-    let steps = steps(rt.alloc(), source).expect(&rt, "memory");
-    assert!(rt; lists(&steps, 0, &[]));
-    assert!(rt; lists(&steps, 1, &[0, 1]));
-    assert!(rt; lists(&steps, 2, &[]));
-    assert_eq!(rt; steps.find(1, b"j"), Some(1));
+    let rows: [(usize, &[usize]); 3] = [(0, &[]), (1, &[0, 1]), (2, &[])];
+    let steps = list(&rt, rt.alloc(), source, &rows)?;
+    assert!(&rt; steps.find(1, b"j") == Some(1));
+    Ok(())
 }
