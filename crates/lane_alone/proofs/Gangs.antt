@@ -12,7 +12,7 @@ tasks_wide w [] h k d less = absurd (omega (arith, less))
 tasks_wide w (t ∷ ts) h zero d less = h.0
 tasks_wide w (t ∷ ts) h (suc k) d less = tasks_wide w ts h.1 k d (omega (arith, less))
 
-frames_wide : (w : ℕ) (frames : List Frame) → FramesSized w frames → All (IsFrameOfGang w) frames
+pub frames_wide : (w : ℕ) (frames : List Frame) → FramesSized w frames → All (IsFrameOfGang w) frames
 frames_wide w [] h k d less = absurd (omega (arith, less))
 frames_wide w (frame ∷ frames) h zero d less = (h.0.call, tasks_wide w frame.tasks h.0.tasks)
 frames_wide w (frame ∷ frames) h (suc k) d less = frames_wide w frames h.1 k d (omega (arith, less))

@@ -25,15 +25,15 @@ use Rattle.lane_alone.proofs.PureExprs.{known_of, Fine, varying_is}
 use Rattle.lane_alone.proofs.PureStmts.{statements_fits}
 use Rattle.lane_alone.proofs.Whole.{separate}
 
-none_some : {A : Type 0} {v : A} → None ≡ Some v → ⊥
+pub none_some : {A : Type 0} {v : A} → None ≡ Some v → ⊥
 none_some q = cc
 
-some_same : {A : Type 0} {v w : A} → Some v ≡ Some w → v ≡ w
+pub some_same : {A : Type 0} {v w : A} → Some v ≡ Some w → v ≡ w
 some_same q = cc
 
 -- ---- functions, one by one
 
-abbrev EachPair : (ParsedFunction → Function → Type 0) → List ParsedFunction → List Function → Type 0
+abbrev pub EachPair : (ParsedFunction → Function → Type 0) → List ParsedFunction → List Function → Type 0
 EachPair R [] [] = Unit {0}
 EachPair R [] (g ∷ typed) = ⊥
 EachPair R (f ∷ functions) [] = ⊥
@@ -45,7 +45,7 @@ module _ (R : ParsedFunction → Function → Type 0) where
   pairs source go (f ∷ functions) =
       on_pair (judged_function source f) (judged_functions source functions) _ (R f) (EachPair R functions) (EachPair R (f ∷ functions)) (go f) (pairs source go functions) (λ g typed first later. (first, later))
 
-  program_pairs : (source : ParsedSource) (p : Program) → program_of source ≡ Some p → ((f : ParsedFunction) → OnSound (judged_function source f) (R f)) → EachPair R (functions_in source) p.functions
+  pub program_pairs : (source : ParsedSource) (p : Program) → program_of source ≡ Some p → ((f : ParsedFunction) → OnSound (judged_function source f) (R f)) → EachPair R (functions_in source) p.functions
   program_pairs source p e go = on_some (judged_program source) (λ q. EachPair R (functions_in source) q.functions) p
       (on_pair (judged_globals 0 (globals_in source)) (judged_functions source (functions_in source)) _ (λ g. Unit {0}) (EachPair R (functions_in source)) (λ q. EachPair R (functions_in source) q.functions)
       (on_any (judged_globals 0 (globals_in source))) (pairs source go (functions_in source)) (λ gs fs u h. h)) e
@@ -58,7 +58,7 @@ module _ (R : ParsedFunction → Function → Type 0) where
   typed_at (f ∷ functions) (g ∷ typed) h (suc n) w e = typed_at functions typed h.1 n w e
 
   -- and the other way
-  written_at : (functions : List ParsedFunction) (typed : List Function) → EachPair R functions typed → (n : ℕ) (g : Function) → slice_get typed n ≡ Some g → (w : ParsedFunction) × (slice_get functions n ≡ Some w) × R w g
+  pub written_at : (functions : List ParsedFunction) (typed : List Function) → EachPair R functions typed → (n : ℕ) (g : Function) → slice_get typed n ≡ Some g → (w : ParsedFunction) × (slice_get functions n ≡ Some w) × R w g
   written_at [] [] h n g e = absurd (none_some e)
   written_at [] (x ∷ typed) h n g e = absurd h
   written_at (f ∷ functions) [] h n g e = absurd h
@@ -78,17 +78,17 @@ functions_alike source p is =
 
 -- ---- the file's variables
 
-variable_at_global : (globals : List Global) (n : ℕ) (v : Variable) → slice_get (variables_of_globals globals) n ≡ Some v → (g : Global) × (slice_get globals n ≡ Some g) × (g.variable ≡ v)
+pub variable_at_global : (globals : List Global) (n : ℕ) (v : Variable) → slice_get (variables_of_globals globals) n ≡ Some v → (g : Global) × (slice_get globals n ≡ Some g) × (g.variable ≡ v)
 variable_at_global [] n v e = absurd (none_some e)
 variable_at_global (g ∷ globals) zero v e = (g, refl, some_same e)
 variable_at_global (g ∷ globals) (suc n) v e = variable_at_global globals n v e
 
-global_variable : (globals : List Global) (n : ℕ) (g : Global) → slice_get globals n ≡ Some g → slice_get (variables_of_globals globals) n ≡ Some g.variable
+pub global_variable : (globals : List Global) (n : ℕ) (g : Global) → slice_get globals n ≡ Some g → slice_get (variables_of_globals globals) n ≡ Some g.variable
 global_variable [] n g e = absurd (none_some e)
 global_variable (x ∷ globals) zero g e = ap (λ y. Some y.variable) (some_same e)
 global_variable (x ∷ globals) (suc n) g e = global_variable globals n g e
 
-file_numbers : (k : ℕ) (globals : List ParsedGlobal) (n : ℕ) (v : Variable) → slice_get (file_variables k globals) n ≡ Some v → v.id ≡ File (k + n)
+pub file_numbers : (k : ℕ) (globals : List ParsedGlobal) (n : ℕ) (v : Variable) → slice_get (file_variables k globals) n ≡ Some v → v.id ≡ File (k + n)
 file_numbers k [] n v e = absurd (none_some e)
 file_numbers k (g ∷ globals) zero v e = ap (λ y. y.id) (sym (some_same e)) ∙ ap File (omega arith)
 file_numbers k (g ∷ globals) (suc n) v e = file_numbers (suc k) globals n v e ∙ ap File (omega arith)
@@ -179,7 +179,7 @@ module _ (source : ParsedSource) (p : Program) (is : program_of source ≡ Some 
   callee : (n : ℕ) (w : ParsedFunction) → slice_get (functions_in source) n ≡ Some w → (g : Function) × (slice_get p.functions n ≡ Some g) × (g.result ≡ rate_or_uniform (result_of w.spec))
   callee n w e = typed_at ResultRight (functions_in source) p.functions results n w e
 
-  pure_callee : (n : ℕ) (w : ParsedFunction) → Reaches p f n → slice_get (functions_in source) n ≡ Some w → (are_pure_params w.params ≡ true) × ((x : IntType × Rate) → result_of w.spec ≡ Some x → rate_or_uniform (result_of w.spec) ≡ Varying)
+  pub pure_callee : (n : ℕ) (w : ParsedFunction) → Reaches p f n → slice_get (functions_in source) n ≡ Some w → (are_pure_params w.params ≡ true) × ((x : IntType × Rate) → result_of w.spec ≡ Some x → rate_or_uniform (result_of w.spec) ≡ Varying)
   pure_callee n w reached e =
       let g : (g : Function) × (slice_get p.functions n ≡ Some g) × (g.result ≡ rate_or_uniform (result_of w.spec)) = callee n w e in
       let one = and_true (are_pure_params w.params) (is_pure_return w.spec.value_type w.spec.rate && is_pure_stmt g.0.body) (pure n w g.0 reached e g.1) in

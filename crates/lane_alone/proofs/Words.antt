@@ -11,11 +11,11 @@ use Rattle.gang_model.proofs.LaneWords.{none_true}
 use Rattle.lane_alone.specs.Alike.{AlikeAt}
 use Rattle.lane_alone.proofs.TaskLists.{by_bool}
 
-itself : (v : VarId) → same_id v v ≡ true
+pub itself : (v : VarId) → same_id v v ≡ true
 itself (File k) = eq-eqb k k refl
 itself (Local k) = eq-eqb k k refl
 
-another : (u v : VarId) → u ≢ v → same_id u v ≡ false
+pub another : (u v : VarId) → u ≢ v → same_id u v ≡ false
 another (File m) (File k) apart = ne_eqb m k (λ e. apart (ap File e))
 another (File m) (Local k) apart = refl
 another (Local m) (File k) apart = refl

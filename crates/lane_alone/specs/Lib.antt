@@ -1,3 +1,4 @@
 pub mod Alike
 pub mod Fits
+pub mod Indices
 pub mod OwnTasks
