@@ -41,7 +41,7 @@ turn_is ds slots lanes first second third few l p q r =
     ∙ (ap (λ ws. stored ds (ws ∷ map (slot_word 1) slots ∷ map (slot_word 2) slots ∷ [])) (sym p)
     ∙ ap₂ (λ us ws. stored ds (first ∷ us ∷ ws ∷ [])) (sym q) (sym r)))
 
-abbrev kept_by : List (ℤ × ℤ) → Grid → Kept
+abbrev pub kept_by : List (ℤ × ℤ) → Grid → Kept
 kept_by bounds left = record { bounds = bounds; left = left; lanes = []; values = [] }
 
 -- the round of the next place is the next of those that are left

@@ -1,10 +1,11 @@
 -- Worked rows: the rounds of some forms by counters.
 use Rattle.std.specs.Prelude.{◌≡◌, refl, true, false, ℕ, List, [], ◌∷◌, map, is_some, Some, None, ℤ, pos, negsuc}
 use Rattle.gang_types.specs.Lanes.{Lanes}
-use Rattle.gang_model.specs.Types.Tree.{Expr, EachLane, EachValue, Var}
+use Rattle.gang_model.specs.Types.Tree.{Expr, EachLane, EachValue, Var, RoundsOf, Stmt, Empty, Then, Break, ForEach}
 use Rattle.foreach_lowering.specs.Grids.{Grid, grid, to_come, all_left, next}
 use Rattle.foreach_lowering.specs.Domains.{row_grid, row_place, tile_grid, tile_place}
 use Rattle.foreach_lowering.specs.Kept.{turns_left, kept_lanes}
+use Rattle.foreach_lowering.specs.Forms.{forms_round}
 
 -- the lanes of each round
 abbrev lanes_by_rows : (width : ℕ) → List (ℤ × ℤ) → List Lanes
@@ -114,3 +115,11 @@ module _ (v : Var) (e : Expr) where
 
   no_values : map (λ turn. turn.lanes) (turns_left (EachValue v e) 4 (kept_lanes (false ∷ false ∷ false ∷ false ∷ []) (5 ∷ 5 ∷ 5 ∷ 5 ∷ []))) ≡ []
   no_values = refl
+
+-- ---- forms in one another
+
+-- one form in another, and a third one behind them
+module _ (outer inner later : RoundsOf) where
+  nested : forms_round [] (Then (ForEach 0 outer (ForEach 1 inner (Break 2))) (ForEach 5 later Empty))
+      ≡ [] ∷ (outer ∷ []) ∷ (inner ∷ outer ∷ []) ∷ (inner ∷ outer ∷ []) ∷ (outer ∷ []) ∷ [] ∷ (later ∷ []) ∷ []
+  nested = refl

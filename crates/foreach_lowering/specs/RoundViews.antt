@@ -1,9 +1,10 @@
 -- What a form under way keeps, and its rounds, as the definitions have them.
-use Rattle.std.specs.Prelude.{◌≡◌, ℕ, List, [], ◌∷◌, length, Option, Some, None}
+use Rattle.std.specs.Prelude.{◌≡◌, ℕ, Bool, not, List, [], ◌∷◌, length, Option, Some, None}
 use Rattle.gang_types.specs.Masks.{lanes_of}
 use Rattle.gang_model.specs.Running.Rounds.{Turn}
 use Rattle.gang_model.specs.Running.State.{Store}
 use Rattle.gang_model.specs.Types.Tree.{Dimension, Expr, Var, RoundsOf, Rows, Tiles, EachLane, EachValue}
+use Rattle.mask_states.specs.Masked.{no_turn}
 use Rattle.foreach_lowering.specs.declared.rounds.RoundsLeft.{RoundsLeft}
 use Rattle.foreach_lowering.specs.declared.rounds.RoundsLeft.TheVariants.{Domain as DomainLeft, EachLane as LanesLeft, EachValue as ValuesLeft}
 use Rattle.foreach_lowering.specs.declared.rounds.Indices.{Indices}
@@ -47,3 +48,7 @@ IsNextRound width left None = (form : RoundsOf) → IsFormOf width form left →
 IsNextRound width left (Some round) =
     ((form : RoundsOf) → IsFormOf width form left → Takes form width (kept_view width left) (round_turn width form round) (kept_view width round.left) × IsFormOf width form round.left)
     × AreLeft width round.left
+
+-- that a round is left is said exactly where the rounds that are left are not the empty list
+abbrev pub SaysAnyLeft : (width : ℕ) → RoundsLeft width → Bool → Type 0
+SaysAnyLeft width left said = (form : RoundsOf) → IsFormOf width form left → said ≡ not (no_turn (turns_left form width (kept_view width left)))

@@ -7,7 +7,7 @@ ghost use Rattle.foreach_lowering.specs.Law.{CountsRounds};
 ghost use Rattle.foreach_lowering.specs.Views.{bounds_view, grid_view};
 ghost use Rattle.foreach_lowering.specs.DomainViews.{domain_grid};
 ghost use Rattle.foreach_lowering.specs.declared.rounds.RoundsLeft.TheVariants.{Domain as DomainLeft, EachLane as LanesLeft, EachValue as ValuesLeft};
-ghost use Rattle.foreach_lowering.specs.RoundViews.{AreLeft, IsNextRound, kept_view};
+ghost use Rattle.foreach_lowering.specs.RoundViews.{AreLeft, IsNextRound, SaysAnyLeft, kept_view};
 
 use crate::domain::Domain;
 use crate::grid::Grid;
@@ -95,6 +95,19 @@ impl<const W: usize> RoundsLeft<W> {
     {
         let left = domain.grid::<W>().all_left();
         RoundsLeft::Domain { domain, left }
+    }
+
+    /// Whether a round is left, without making it: yes exactly where `next_round` has one.
+    pub fn is_any_left(self) -> bool
+        requires width { IsGangWidth W }
+        requires left { AreLeft W self }
+        ensures { SaysAnyLeft W self.entry result }
+    {
+        match self {
+            RoundsLeft::Domain { left, .. } => left.has_next(),
+            RoundsLeft::EachLane { lanes } => !lanes.is_empty::<W>(),
+            RoundsLeft::EachValue { lanes, .. } => !lanes.is_empty::<W>(),
+        }
     }
 
     /// The next round, the first of those that are left by the meaning, and what is left behind it; none where none is left. So the n-th
