@@ -1,0 +1,10 @@
+pub mod DeclaredVariables
+pub mod Elements
+pub mod EntryLengths
+pub mod EntryParameters
+pub mod InputRows
+pub mod OuterNames
+pub mod RowsRead
+pub mod ThreeLines
+pub mod UniformParameters
+pub mod WordsOfValues
