@@ -7,7 +7,6 @@ use Rattle.gang_types.specs.declared.places.VarId.{VarId}
 use Rattle.gang_types.specs.declared.places.VarId.TheVariants.{File, Local}
 use Rattle.gang_model.specs.Running.State.{State, view_of, words_in}
 use Rattle.gang_model.specs.Types.Tree.{Expr, Number, Read, Element, Binary}
-use Rattle.gang_memory.specs.declared.parts.Part.{Part}
 use Rattle.gang_memory.specs.Elements.{Shows}
 
 -- a varying int32 variable

@@ -36,9 +36,7 @@ impl<const W: usize> Store<W> {
 }
 
 impl<const W: usize> Words<W> for Store<W> {
-    ghost shows = { λ store state. HasVariables store.x store.i state };
-
-    ghost shows_arrays = { λ store state. HasElements store.a.items state };
+    ghost shows = { λ store state. HasVariables store.x store.i state × HasElements store.a.items state };
 
     fn words(&self, variable: Var) -> [u64; W] {
         let words = self.named(variable.id);

@@ -1,6 +1,5 @@
 pub mod Patch
 pub mod Outside
-pub mod Arrays
 pub mod Runs
 pub mod Whole
 pub mod RoomOfWeight

@@ -10,7 +10,6 @@ use Rattle.typed_tree.specs.Views.{expr_view}
 use Rattle.expression_code.specs.Code.{code_of}
 use Rattle.expression_machine.specs.Machine.{exec}
 use Rattle.expression_machine.specs.Correct.{Computes, ended}
-use Rattle.expression_code.proofs.Arrays.{arrays-code}
 use Rattle.expression_code.proofs.Runs.{after, on_top, lands}
 
 ends : (room nested : ℕ) (state : State) (s : Lanes) (r : Result (List ℕ) Fault) → after r (on_top room nested state [] s [] []) ≡ ended s r
@@ -23,5 +22,4 @@ computes e = record {
       sym (ap (λ c. exec room nested state c 0 [] (lanes ∷ [])) (append-nil (code_of e)))
       ∙ lands room nested state e lanes [] [] (omega arith) (omega arith) []
       ∙ ends room nested state lanes (value (expr_view e) lanes state);
-  arrays = arrays-code e;
 }

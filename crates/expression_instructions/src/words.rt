@@ -14,11 +14,8 @@ use typed_tree::Var;
 pub trait Words<const W: usize> {
     ghost use Rattle.gang_model.specs.Running.State.{State};
 
-    // Whether its words are those of the state.
+    // Whether its words and its arrays are those of the state.
     ghost shows: { Self → State → Type 0 };
-
-    // Whether its arrays are those of the state.
-    ghost shows_arrays: { Self → State → Type 0 };
 
     /// The words of a variable, one for each lane; of a uniform one its word in each. A word that the variable does not
     /// have is 0.
@@ -38,5 +35,5 @@ pub trait Words<const W: usize> {
         indices: &[u64; W],
     ) -> Result<[u64; W], (usize, FaultName)>
         requires { IsGangWidth W }
-        ensures { (state : State) → shows_arrays self.now state → answer_of result ≡ element_value array (lanes_of W mask) state indices.now };
+        ensures { (state : State) → shows self.now state → answer_of result ≡ element_value array (lanes_of W mask) state indices.now };
 }

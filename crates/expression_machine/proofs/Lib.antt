@@ -1,2 +1,1 @@
 pub mod Tops
-pub mod Arrays

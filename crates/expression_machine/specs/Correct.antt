@@ -7,7 +7,6 @@ use Rattle.gang_model.specs.Running.Value.{value}
 use Rattle.typed_tree.specs.declared.expressions.Expr.{Expr}
 use Rattle.typed_tree.specs.Views.{expr_view}
 use Rattle.expression_instructions.specs.declared.code.Instruction.{Instruction}
-use Rattle.expression_machine.specs.Arrays.{reads_arrays, has_element}
 use Rattle.expression_machine.specs.Room.{depth, nesting}
 use Rattle.expression_machine.specs.Machine.{Outcome, Done, Faulted, exec}
 
@@ -16,8 +15,7 @@ abbrev pub ended : Lanes → Result (List ℕ) Fault → Outcome
 ended lanes (Ok v) = Done (v ∷ []) (lanes ∷ [])
 ended lanes (Err f) = Faulted f
 
--- the code computes the expression, whatever the lanes and the state, and reads arrays where the expression does
+-- the code computes the expression, whatever the lanes and the state
 pub record Computes (e : Expr) (code : List Instruction) : Type 0 where
   pub run : (room nested : ℕ) (lanes : Lanes) (state : State) → depth (expr_view e) ≤ room → suc (nesting (expr_view e)) ≤ nested
       → exec room nested state code 0 [] (lanes ∷ []) ≡ ended lanes (value (expr_view e) lanes state)
-  pub arrays : has_element code ≡ reads_arrays e

@@ -1,4 +1,3 @@
-pub mod Arrays
 pub mod Room
 pub mod Machine
 pub mod Correct

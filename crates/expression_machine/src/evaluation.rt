@@ -1,11 +1,10 @@
 //! The value of an expression for some lanes of a gang, by its code.
-ghost use Rattle.std.specs.Prelude.{◌≡◌, true};
+ghost use Rattle.std.specs.Prelude.{◌≡◌};
 ghost use Rattle.gang_types.specs.Masks.{IsGangWidth, lanes_of};
 ghost use Rattle.gang_model.specs.Running.State.{State};
 ghost use Rattle.gang_model.specs.Running.Value.{value};
 ghost use Rattle.typed_tree.specs.declared.expressions.Expr.{Expr};
 ghost use Rattle.typed_tree.specs.Views.{expr_view};
-ghost use Rattle.expression_machine.specs.Arrays.{reads_arrays};
 ghost use Rattle.expression_machine.specs.Room.{HasRoom};
 ghost use Rattle.expression_machine.specs.Correct.{Computes};
 ghost use Rattle.expression_machine.specs.Evaluated.{IsValue};
@@ -57,7 +56,7 @@ pub fn evaluate<const W: usize, S: Words<W>>(
     stacks: &mut Stacks<W>,
 ) -> Result<[u64; W], Stop>
     requires { IsGangWidth W }
-    ensures { (e : Expr) (state : State) → Computes e code.now → HasRoom (expr_view e) → S.shows words.now state → (reads_arrays e ≡ true → S.shows_arrays words.now state) → IsValue result (value (expr_view e) (lanes_of W mask) state) }
+    ensures { (e : Expr) (state : State) → Computes e code.now → HasRoom (expr_view e) → S.shows words.now state → IsValue result (value (expr_view e) (lanes_of W mask) state) }
 {
     stacks.vectors.clear();
     stacks.masks.clear();

@@ -1,10 +1,9 @@
 //! The machine: vectors on a stack of fixed room, masks on another.
-ghost use Rattle.std.specs.Prelude.{◌≡◌, ◌<◌, ◌≤◌, ℕ, List, [], ◌∷◌, drop, length, reverse, true, false};
+ghost use Rattle.std.specs.Prelude.{◌≡◌, ◌<◌, ◌≤◌, ℕ, List, [], ◌∷◌, drop, length, reverse};
 ghost use Rattle.arrayvec.specs.ArrayVec.{array_vec_len};
 ghost use Rattle.gang_types.specs.Lanes.{Lanes};
 ghost use Rattle.gang_types.specs.Masks.{IsGangWidth, lanes_of};
 ghost use Rattle.gang_model.specs.Running.State.{State};
-ghost use Rattle.expression_machine.specs.Arrays.{has_element, is_element};
 ghost use Rattle.expression_machine.specs.Machine.{act, apply_one, apply_three, apply_two, deeper, enter, exec, join, open_gate, open_otherwise, open_where, push, push_leaf, read_elements};
 ghost use Rattle.expression_machine.specs.Bridge.{masks_view, next_after, next_of, outcome_of};
 ghost use Rattle.expression_instructions.specs.Values.{where_lanes};
@@ -99,7 +98,7 @@ fn read_elements<const W: usize, const R: usize, const M: usize, S: Words<W>>(
     masks: &ArrayVec<ActiveLanes, M>,
 ) -> Result<(), Stop>
     requires { IsGangWidth W }
-    ensures { (state : State) → S.shows_arrays words.now state → next_after 0 result (reverse stack.new.items) (masks_view W masks.now.items) ≡ read_elements state array (reverse stack.old.items) (masks_view W masks.now.items) }
+    ensures { (state : State) → S.shows words.now state → next_after 0 result (reverse stack.new.items) (masks_view W masks.now.items) ≡ read_elements state array (reverse stack.old.items) (masks_view W masks.now.items) }
 {
     let mask = top(masks)?.mask;
     let indices = take(stack)?;
@@ -214,7 +213,7 @@ fn act<const W: usize, const R: usize, const M: usize, S: Words<W>>(
     masks: &mut ArrayVec<ActiveLanes, M>,
 ) -> Result<usize, Stop>
     requires { IsGangWidth W }
-    ensures { (state : State) → S.shows words.now state → (is_element instruction ≡ true → S.shows_arrays words.now state) → next_of result (reverse stack.new.items) (masks_view W masks.new.items) ≡ act R M state instruction (reverse stack.old.items) (masks_view W masks.old.items) }
+    ensures { (state : State) → S.shows words.now state → next_of result (reverse stack.new.items) (masks_view W masks.new.items) ≡ act R M state instruction (reverse stack.old.items) (masks_view W masks.old.items) }
 {
     match instruction {
         Instruction::Enter(gate, pass) => return open_gate(gate, pass, stack, masks),
@@ -247,7 +246,7 @@ pub(crate) fn run<const W: usize, const R: usize, const M: usize, S: Words<W>>(
     masks: &mut ArrayVec<ActiveLanes, M>,
 ) -> Result<(), Stop>
     requires { IsGangWidth W }
-    ensures { (state : State) → S.shows words.now state → (has_element code.now ≡ true → S.shows_arrays words.now state) → outcome_of result (reverse stack.new.items) (masks_view W masks.new.items) ≡ exec R M state code.now 0 (reverse stack.old.items) (masks_view W masks.old.items) }
+    ensures { (state : State) → S.shows words.now state → outcome_of result (reverse stack.new.items) (masks_view W masks.new.items) ≡ exec R M state code.now 0 (reverse stack.old.items) (masks_view W masks.old.items) }
 {
     let mut rest = code;
     while let Some((first, others)) = rest.split_first() {

@@ -45,8 +45,6 @@ impl<const W: usize> Memory<'_, W> {
 impl<const W: usize> Words<W> for Memory<'_, W> {
     ghost shows = { λ store state. ⊥ };
 
-    ghost shows_arrays = { λ store state. ⊥ };
-
     fn words(&self, variable: Var) -> [u64; W] {
         let number = match variable.id {
             VarId::File(number) => number,
