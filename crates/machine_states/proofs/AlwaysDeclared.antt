@@ -1,5 +1,5 @@
 -- Where a program stands, each variable that its next step names and that is in scope there is declared.
-use Rattle.std.proofs.Common.{◌≡◌, refl, sym, ap, ◌∙◌, subst, ℕ, zero, suc, ◌<◌, true, List, [], ◌∷◌, length, replicate, get_or-take, slice_get, slice_index_or, Option, Some, None, arith}
+use Rattle.std.proofs.Common.{◌≡◌, refl, sym, ap, ◌∙◌, subst, ℕ, zero, suc, ◌<◌, true, false, List, [], ◌∷◌, length, replicate, get_or-take, slice_get, slice_index_or, Option, Some, None, arith}
 use Rattle.std.specs.Prelude.{All}
 use Rattle.gang_types.specs.declared.types.Rate.{Rate}
 use Rattle.gang_types.specs.declared.types.Rate.TheVariants.{Uniform, Varying}
@@ -18,7 +18,7 @@ use Rattle.mask_states.specs.MaskedStep.{untasked, entered_levels, masked_start}
 use Rattle.machine_states.specs.Variables.{Variables, own_of, parameters_of, variable_of, rate_of, IsScalar}
 use Rattle.machine_states.specs.Plain.{IsPlainProgram}
 use Rattle.machine_states.specs.Regions.{FunctionOf, NumbersOf, OfFile, OfHead, OfLocal, Regions}
-use Rattle.machine_states.specs.Declared.{IsThere, first_numbers, declared_before, AreDeclaredFirst, has_entry, HasAll, LevelDeclared, FrameDeclared, FramesDeclared, AreDeclared}
+use Rattle.machine_states.specs.Declared.{IsThere, scalars_below, scalar_parameters, declared_before, AreDeclaredFirst, has_entry, HasAll, LevelDeclared, FrameDeclared, FramesDeclared, AreDeclared}
 use Rattle.machine_states.specs.Shows.{IsScalarIn, body_level, ShowsLocal, ShowsFrames, Shows}
 use Rattle.machine_states.specs.Effects.{region_of}
 use Rattle.machine_states.specs.Steps.{IsNext}
@@ -46,9 +46,9 @@ module _ (variables : Variables) (most : ℕ) (p : Program) (plain : IsPlainProg
   start_declared entry width f is none wide =
       let given : Given = record { passed = record { views = []; vars = [] }; memory = initial_memory width p.globals } in
       let before : StepNumber → List ℕ = declared_before variables entry f in
-      let no_parameter : HasAll (first_numbers (parameters_of variables entry)) [] = subst (λ m. HasAll (first_numbers m) []) (sym none) (λ k among. absurd among) in
+      let no_parameter : HasAll (scalar_parameters variables entry) [] = subst (λ m. HasAll (scalars_below (own_of variables entry) m) []) (sym none) (λ k among. absurd among) in
       let first : HasAll (before (entry_of f.body (closing_number f))) [] =
-      has_all_within (before (entry_of f.body (closing_number f))) (first_numbers (parameters_of variables entry)) [] (first_declared variables entry f (numbered entry f is)) no_parameter in
+      has_all_within (before (entry_of f.body (closing_number f))) (scalar_parameters variables entry) [] (first_declared variables entry f (numbered entry f is)) no_parameter in
       let begun : LevelDeclared before [] (entered_body f (replicate width true)) =
       entered_declared before f (replicate width true) [] (ends_at variables most p plain numbered entry f) 0 (all_lanes width wide) (some_lanes width wide) first in
       subst (λ o. FramesDeclared variables p (untasked (started o entry width given)).frames (entered_levels o (replicate width true))) (sym is)
@@ -140,12 +140,12 @@ HasOwn store v = (k : ℕ) → v ≡ Local k → has_entry store (Local k) ≡ t
 pub there_has : (d : List ℕ) (store : Store) (v : VarId) → HasAll d store → IsThere d v → HasOwn store v
 there_has d store v h there k same = h k (subst (IsThere d) same there)
 
--- the top frame has each variable that is in scope at the next step, also at the closing brace
+-- the top frame has each scalar that is in scope at the next step, also at the closing brace
 pub scope_has : (variables : Variables) (p : Program) → AreDeclaredFirst variables p → (w : ℕ) (regions : Regions) (masked : Masked) (index n : ℕ) (f : Function) (number : StepNumber)
     → slice_get p.functions n ≡ Some f → (top : TopDeclared variables w regions masked index n f number) → (standing : Standing) → slice_get f.standings number ≡ Some standing
-    → All (λ v. HasOwn top.frame.vars v.id) standing.scope
-scope_has variables p first w regions masked index n f number is top standing e k v within =
-    there_has (declared_before variables n f number) top.frame.vars (slice_index_or standing.scope k v).id top.has_all ((first n f is).scopes number standing e k v within)
+    → All (λ v. v.is_array ≡ false → HasOwn top.frame.vars v.id) standing.scope
+scope_has variables p first w regions masked index n f number is top standing e k v within scalar =
+    there_has (declared_before variables n f number) top.frame.vars (slice_index_or standing.scope k v).id top.has_all ((first n f is).scopes number standing e k v within scalar)
 
 -- ---- words
 
@@ -172,7 +172,7 @@ module _ (variables : Variables) (p : Program) (w : ℕ) (regions : Regions) (ma
 
   by_id : (id : VarId) (rate : Rate) (v : Variable) → variable_of variables n id ≡ Some v → v.rate ≡ rate → IsThere (declared_before variables n f number) id
       → AreReadAlike w rate (words_in (record { memory = masked.state.memory; frames = top.frame ∷ top.frames }) id) (regions (region_of index id))
-  by_id (File k) rate v e same there = same_alike rate (words_of masked.state.memory (File k)) (regions (OfFile k)) (shown.file k)
+  by_id (File k) rate v e same there = same_alike rate (words_of masked.state.memory (File k)) (regions (OfFile k)) (shown.memory (File k))
   by_id (Local k) rate v e same there = own_alike k rate (top.has_all k there) (scalar_rate k rate v e same)
 
   pub read_alike : (x : Var) → IsScalar variables n x → IsThere (declared_before variables n f number) x.id → AreReadAlike w x.rate (words_in masked.state x.id) (regions (region_of index x.id))

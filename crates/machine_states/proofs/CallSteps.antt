@@ -9,21 +9,20 @@ use Rattle.gang_types.specs.declared.faults.FaultName.TheVariants.{CallDepth}
 use Rattle.gang_types.specs.Lanes.{Lanes, no_lane, lowest}
 use Rattle.gang_model.specs.Types.Tree.{StepNumber, Arg, ResultFor, Function, Program}
 use Rattle.gang_model.specs.Running.Lanes.{Fault, ◌>>=◌, at, each, words_from}
-use Rattle.gang_types.specs.declared.places.VarId.TheVariants.{File}
-use Rattle.gang_model.specs.Running.State.{Store, Frame, State, words_of}
+use Rattle.gang_types.specs.declared.places.VarId.TheVariants.{File, Local}
+use Rattle.gang_model.specs.Running.State.{Store, Frame, State}
 use Rattle.gang_model.specs.Running.Step.{Passed, passed, no_result, new_frame, entered, rate_of as result_rate_of}
 use Rattle.mask_states.specs.Points.{Enter, points_in, closing_number}
 use Rattle.mask_states.specs.Masked.{Level, Masked, next_in, entered_body}
 use Rattle.mask_states.specs.MaskedStep.{MaskedStepped, Goes, Fails, untasked_frame, untasked, entered_levels, acted, step_levels}
 use Rattle.mask_states.proofs.LaneNumbers.{length-sent, length-waiting_for}
 use Rattle.machine_states.specs.Variables.{Variables}
-use Rattle.machine_states.specs.Regions.{NumbersOf, ResultOf, OfFile, OfHead, Regions}
-use Rattle.machine_states.specs.Plain.{ArgsPlain}
+use Rattle.machine_states.specs.ArrayParts.{AreMemory}
+use Rattle.machine_states.specs.Regions.{NumbersOf, ResultOf, OfHead, Regions}
 use Rattle.machine_states.specs.Shows.{result_of, body_level, ShowsFrame, ShowsFrames, Shows}
 use Rattle.machine_states.specs.Steps.{IsNext, waiting_in, GoesTo, FailsWith, IsBegun, AreSameBelow}
 use Rattle.machine_states.proofs.FramesBelow.{frames_below, same_frames}
 use Rattle.machine_states.proofs.NextPoints.{body_of, frames_untasked, point_is, step_is, on_top}
-use Rattle.machine_states.proofs.Arguments.{no_views}
 
 -- ---- a result that nothing was written to
 
@@ -43,9 +42,9 @@ no_result_shown Varying w lanes region e = zeros 0 lanes (at region) ∙ ap (λ 
 
 module _ (p : Program) (variables : Variables) (w : ℕ) (new : Regions) where
   pub begun_frame : (index n : ℕ) (f : Function) (lanes : Lanes) (call : Option StepNumber) (for : ResultFor) (arguments : Passed)
-      → slice_get p.functions n ≡ Some f → length lanes ≡ w → arguments.views ≡ [] → IsBegun variables w new index n f lanes arguments.vars
+      → slice_get p.functions n ≡ Some f → length lanes ≡ w → IsBegun variables w new index n f lanes arguments
       → ShowsFrame p variables w new index (untasked_frame (new_frame n f lanes call for arguments)) (entered_body f lanes ∷ [])
-  begun_frame index n f lanes call for arguments is size plain begun = record {
+  begun_frame index n f lanes call for arguments is size begun = record {
     function = f;
     is_function = is;
     number = begun.function;
@@ -54,7 +53,7 @@ module _ (p : Program) (variables : Variables) (w : ℕ) (new : Regions) where
     sized = ap length begun.numbers
         ∙ length-sent lanes _ (map (λ b. closing_number f) lanes) (length-map lanes _) ∙ length-map lanes _ ∙ size;
     untasked = refl;
-    views = plain;
+    views = begun.views;
     locals = begun.declared;
     result = no_result_shown f.result w lanes (new (OfHead index ResultOf)) size
         ∙ ap (λ o. result_of (result_rate_of o) (replicate w false) (new (OfHead index ResultOf))) (sym is)
@@ -107,28 +106,32 @@ module _ (p : Program) (variables : Variables) (w : ℕ) (regions : Regions) (n 
 
     call_shown : (frame : Frame) (frames : List Frame) (rest : List (List Level)) (given : Passed) (new : Regions) → frame.function ≡ n
         → slice_get (points_in f) (next_in (body_of regions (length frames) f)) ≡ Some (Enter called args for next)
-        → ((k : ℕ) → words_of memory (File k) ≡ regions (OfFile k))
+        → AreMemory regions memory
         → ShowsFrames p variables w regions (frame ∷ frames) ((body_of regions (length frames) f ∷ []) ∷ rest)
-        → given.views ≡ [] → suc (length frames) < 64
-        → IsBegun variables w new (suc (length frames)) called g (waiting_in regions (length frames) (next_in (body_of regions (length frames) f))) given.vars
+        → suc (length frames) < 64
+        → IsBegun variables w new (suc (length frames)) called g (waiting_in regions (length frames) (next_in (body_of regions (length frames) f))) given
         → AreSameBelow (suc (length frames)) regions new
         → Shows p variables w new (after_call (next_in (body_of regions (length frames) f)) (waiting_in regions (length frames) (next_in (body_of regions (length frames) f)))
         frame frames (body_of regions (length frames) f) rest given)
-    call_shown frame frames rest given new runs at file s plain deep begun same =
+    call_shown frame frames rest given new runs at memory_is s deep begun same =
         let number : StepNumber = next_in (body_of regions (length frames) f) in
         let lanes : Lanes = waiting_in regions (length frames) number in
         record {
-          file = λ k. file k ∙ sym (same.file k);
+          memory = now_memory;
           depth = begun.depth;
           few = omega (arith, deep);
           frames = (
             begun_frame p variables w new (suc (length frames)) called g lanes (Some number) for given is_called
-                (length-waiting_for number (regions (OfHead (length frames) NumbersOf)) ∙ s.0.sized) plain begun,
+                (length-waiting_for number (regions (OfHead (length frames) NumbersOf)) ∙ s.0.sized) begun,
             (next, args, refl, point_is p variables w regions (length frames) frame f (ap (slice_get p.functions) runs ∙ is_function) (Some (Enter called args for next)) at),
             frames_below p variables w regions new (suc (length frames)) (same_frames (suc (length frames)) regions new same) (frame ∷ frames)
                 ((body_of regions (length frames) f ∷ []) ∷ rest) (omega arith) s,
           );
         }
+      where
+        now_memory : AreMemory new memory
+        now_memory (File k) = memory_is (File k) ∙ sym (same.file k)
+        now_memory (Local k) = memory_is (Local k) ∙ sym (same.entry k)
 
 -- ---- the laws
 
@@ -161,12 +164,12 @@ module _ (p : Program) (variables : Variables) (w : ℕ) (regions : Regions) (ma
         masked shows
 
     -- a frame begins, and those below are as before
-    pub enters : (given : Passed) → passed args (waiting_in regions i number) masked.state ≡ Ok given → ArgsPlain variables n called 0 args → suc i < 64
-        → (new : Regions) → IsBegun variables w new (suc i) called g (waiting_in regions i number) given.vars → AreSameBelow (suc i) regions new → GoesTo p variables w masked new
-    enters given e plain deep new =
+    pub enters : (given : Passed) → passed args (waiting_in regions i number) masked.state ≡ Ok given → suc i < 64
+        → (new : Regions) → IsBegun variables w new (suc i) called g (waiting_in regions i number) given → AreSameBelow (suc i) regions new → GoesTo p variables w masked new
+    enters given e deep new =
         on_top p variables w regions i n f number (Some (Enter called args for next)) is_next
         (λ frames levels index m. passed args (waiting_in regions index m) (state_with frames) ≡ Ok given → suc index < 64
-        → IsBegun variables w new (suc index) called g (waiting_in regions index m) given.vars → AreSameBelow (suc index) regions new
+        → IsBegun variables w new (suc index) called g (waiting_in regions index m) given → AreSameBelow (suc index) regions new
         → (after : Masked) × (step_levels p masked.state.memory frames levels ≡ Goes after) × Shows p variables w new after)
         (λ frame frames rest runs at s e deep begun same.
         let number : StepNumber = next_in (body_of regions (length frames) f) in
@@ -177,7 +180,6 @@ module _ (p : Program) (variables : Variables) (w : ℕ) (regions : Regions) (ma
               (body_of regions (length frames) f) rest given false (ne_eqb (suc (length frames)) 64 (λ q. omega (arith, q, deep)))
               ∙ ap (λ old. Goes (record { state = state_with (untasked_frame (new_frame called g lanes (Some number) for given) ∷ old); levels = (entered_body g lanes ∷ []) ∷ (body_of regions (length frames) f ∷ []) ∷ rest }))
               (frames_untasked p variables w regions (frame ∷ frames) ((body_of regions (length frames) f ∷ []) ∷ rest) s),
-          call_shown p variables w regions n called f is_next.is_function args for next masked.state.memory g is_called frame frames rest given new runs at shows.file s
-              (no_views variables n called 0 args lanes (state_with (frame ∷ frames)) given plain e) deep begun same,
+          call_shown p variables w regions n called f is_next.is_function args for next masked.state.memory g is_called frame frames rest given new runs at shows.memory s deep begun same,
         ))
         masked shows e deep

@@ -4,7 +4,7 @@ use Rattle.std.specs.Prelude.{Some, slice_get}
 use Rattle.std.proofs.Math.Nat.{mul-le-mul_right}
 use Rattle.std.proofs.lemmas.List.Recursion.{max_bounds}
 use Rattle.std.proofs.lemmas.Option.{get_or_from_slice_get, slice_get_within}
-use Rattle.gang_model.specs.Types.Tree.{Scalar, Declare, Assign, Change, Return, Check, Function, Program}
+use Rattle.gang_model.specs.Types.Tree.{Scalar, ElementOf, Declare, Assign, Change, Return, Check, PackedStore, PackedLoad, Function, Program}
 use Rattle.mask_states.specs.Points.{Point, Put, Go, Branch, Enter, points_in}
 use Rattle.mask_states.specs.Placed.{HasPoint}
 use Rattle.machine_states.specs.Cells.{cells_of, greatest, words_left, words_set}
@@ -38,7 +38,11 @@ module _ (width : ℕ) (variables : Variables) where
   point_few : (n : ℕ) (point : Point) → IsPlainPoint variables n point → words_set width point ≤ 9 * width + 16
   point_few n (Put (Declare number x e) next) plain = omega arith
   point_few n (Put (Assign number (Scalar x) e) next) plain = omega arith
+  point_few n (Put (Assign number (ElementOf array rate index) e) next) plain = omega arith
   point_few n (Put (Change number (Scalar x) type op in_type e) next) plain = omega arith
+  point_few n (Put (Change number (ElementOf array rate index) type op in_type e) next) plain = omega arith
+  point_few n (Put (PackedStore number array from e result_for) next) plain = omega arith
+  point_few n (Put (PackedLoad number array from x result_for) next) plain = omega arith
   point_few n (Put (Return number e) next) plain = omega arith
   point_few n (Put (Check number e) next) plain = omega arith
   point_few n (Go next) plain = omega arith

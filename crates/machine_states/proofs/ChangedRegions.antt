@@ -1,8 +1,11 @@
 -- What the regions hold once the words of one are changed: that one its new words, the others their old ones.
-use Rattle.std.proofs.Common.{◌≡◌, ◌≢◌, refl, ap, ℕ, ◌<◌, ◌≤◌, Bool, true, false, List, arith}
+use Rattle.std.proofs.Common.{◌≡◌, ◌≢◌, refl, ap, ◌∙◌, ℕ, ◌<◌, ◌≤◌, Bool, true, false, List, length, arith}
 use Rattle.std.specs.Prelude.{◌==◌, ◌&&◌, if◌then◌else◌}
-use Rattle.std.proofs.lemmas.Bool.{eq-eqb, ne_eqb, and_left, and_right, and_from}
-use Rattle.machine_states.specs.Regions.{FunctionOf, LanesOf, ReturnedOf, NumbersOf, ResultOf, Head, OfFile, Depth, OfHead, OfLocal, Region, Regions, same_head, same_region, with_region}
+use Rattle.std.proofs.lemmas.Bool.{eq-eqb, eqb-true, ne_eqb, and_left, and_right, and_from, and_parts}
+use Rattle.gang_types.specs.declared.places.VarId.{VarId}
+use Rattle.gang_types.specs.declared.places.VarId.TheVariants.{File, Local}
+use Rattle.machine_states.specs.ArrayParts.{array_region}
+use Rattle.machine_states.specs.Regions.{FunctionOf, LanesOf, ReturnedOf, NumbersOf, ResultOf, Head, OfFile, OfEntry, Depth, OfHead, OfLocal, Region, Regions, same_head, same_region, with_region}
 
 head_itself : (part : Head) → same_head part part ≡ true
 head_itself FunctionOf = refl
@@ -13,6 +16,7 @@ head_itself ResultOf = refl
 
 region_itself : (region : Region) → same_region region region ≡ true
 region_itself (OfFile k) = eq-eqb k k refl
+region_itself (OfEntry k) = eq-eqb k k refl
 region_itself Depth = refl
 region_itself (OfHead i part) = and_from (i == i) (same_head part part) (eq-eqb i i refl) (head_itself part)
 region_itself (OfLocal i k) = and_from (i == i) (k == k) (eq-eqb i i refl) (eq-eqb k k refl)
@@ -36,15 +40,58 @@ module _ (words : List ℕ) (regions : Regions) where
   pub file_away : (k j : ℕ) → k ≢ j → with_region (OfFile k) words regions (OfFile j) ≡ regions (OfFile j)
   file_away k j h = region_away (OfFile k) (OfFile j) (ne_eqb k j h)
 
--- a region is of no frame below this index
-abbrev pub IsNotBelow : (index : ℕ) → Region → Type 0
-IsNotBelow index (OfFile k) = Unit {0}
-IsNotBelow index Depth = Unit {0}
-IsNotBelow index (OfHead i part) = index ≤ i
-IsNotBelow index (OfLocal i k) = index ≤ i
+-- ---- how many words
 
--- the words of the frames below an index are the same
+head_equal : (a b : Head) → same_head a b ≡ true → a ≡ b
+head_equal FunctionOf FunctionOf e = refl
+head_equal FunctionOf b e = cc
+head_equal LanesOf LanesOf e = refl
+head_equal LanesOf b e = cc
+head_equal ReturnedOf ReturnedOf e = refl
+head_equal ReturnedOf b e = cc
+head_equal NumbersOf NumbersOf e = refl
+head_equal NumbersOf b e = cc
+head_equal ResultOf ResultOf e = refl
+head_equal ResultOf b e = cc
+
+pub region_equal : (r s : Region) → same_region r s ≡ true → r ≡ s
+region_equal (OfFile m) (OfFile n) e = ap OfFile (eqb-true m n e)
+region_equal (OfFile m) s e = cc
+region_equal (OfEntry m) (OfEntry n) e = ap OfEntry (eqb-true m n e)
+region_equal (OfEntry m) s e = cc
+region_equal Depth Depth e = refl
+region_equal Depth s e = cc
+region_equal (OfHead i a) (OfHead j b) e =
+    let both = and_parts (i == j) (same_head a b) e in ap (λ k. OfHead k a) (eqb-true i j both.0) ∙ ap (OfHead j) (head_equal a b both.1)
+region_equal (OfHead i a) s e = cc
+region_equal (OfLocal i m) (OfLocal j n) e =
+    let both = and_parts (i == j) (m == n) e in ap (λ k. OfLocal k m) (eqb-true i j both.0) ∙ ap (OfLocal j) (eqb-true m n both.1)
+region_equal (OfLocal i m) s e = cc
+
+-- where a region has as many words as before, each has
+pub lengths_all : (region : Region) (words : List ℕ) (old : Regions) → length words ≡ length (old region) → (r : Region) → length (with_region region words old r) ≡ length (old r)
+lengths_all region words old same r = by_test (same_region region r) refl
+  where
+    by_test : (b : Bool) → same_region region r ≡ b → length (if b then words else old r) ≡ length (old r)
+    by_test true e = same ∙ ap (λ s. length (old s)) (region_equal region r e)
+    by_test false e = refl
+
+-- a region may have these words without a change of the frames below an index: it is of none of them, and an array has as many words as
+-- before
+abbrev pub MayHave : (index : ℕ) → Region → (words : List ℕ) → Regions → Type 0
+MayHave index (OfFile k) words regions = length words ≡ length (regions (OfFile k))
+MayHave index (OfEntry k) words regions = length words ≡ length (regions (OfEntry k))
+MayHave index Depth words regions = Unit {0}
+MayHave index (OfHead i part) words regions = index ≤ i
+MayHave index (OfLocal i k) words regions = index ≤ i
+
+-- each array has as many words as before
+abbrev pub HaveSameLengths : (old new : Regions) → Type 0
+HaveSameLengths old new = (v : VarId) → length (new (array_region v)) ≡ length (old (array_region v))
+
+-- the words of the frames below an index are the same, and each array has as many as before
 pub record AreFramesSame (index : ℕ) (old new : Regions) : Type 0 where
+  pub lengths : HaveSameLengths old new
   pub heads : (i : ℕ) (part : Head) → i < index → new (OfHead i part) ≡ old (OfHead i part)
   pub locals : (i k : ℕ) → i < index → new (OfLocal i k) ≡ old (OfLocal i k)
 
@@ -52,20 +99,39 @@ module _ (words : List ℕ) (regions : Regions) (index : ℕ) where
   below_away : (i j : ℕ) (rest : Bool) → index ≤ i → j < index → ((i == j) && rest) ≡ false
   below_away i j rest above below = and_left (i == j) rest (ne_eqb i j (λ e. omega (arith, e, above, below)))
 
-  heads_away : (region : Region) → IsNotBelow index region → (j : ℕ) (part : Head) → j < index → same_region region (OfHead j part) ≡ false
+  heads_away : (region : Region) → MayHave index region words regions → (j : ℕ) (part : Head) → j < index → same_region region (OfHead j part) ≡ false
   heads_away (OfFile k) above j part below = refl
+  heads_away (OfEntry k) above j part below = refl
   heads_away Depth above j part below = refl
   heads_away (OfHead i other) above j part below = below_away i j (same_head other part) above below
   heads_away (OfLocal i k) above j part below = refl
 
-  locals_away : (region : Region) → IsNotBelow index region → (j m : ℕ) → j < index → same_region region (OfLocal j m) ≡ false
+  locals_away : (region : Region) → MayHave index region words regions → (j m : ℕ) → j < index → same_region region (OfLocal j m) ≡ false
   locals_away (OfFile k) above j m below = refl
+  locals_away (OfEntry k) above j m below = refl
   locals_away Depth above j m below = refl
   locals_away (OfHead i other) above j m below = refl
   locals_away (OfLocal i k) above j m below = below_away i j (k == m) above below
 
-  pub frames_kept : (region : Region) → IsNotBelow index region → AreFramesSame index regions (with_region region words regions)
-  frames_kept region above = record {
-    heads = λ j part below. region_away words regions region (OfHead j part) (heads_away region above j part below);
-    locals = λ j m below. region_away words regions region (OfLocal j m) (locals_away region above j m below);
+  same_or_here : (b : Bool) (old : List ℕ) → (b ≡ true → length words ≡ length old) → length (if b then words else old) ≡ length old
+  same_or_here true old h = h refl
+  same_or_here false old h = refl
+
+  pub lengths_kept : (region : Region) → MayHave index region words regions → HaveSameLengths regions (with_region region words regions)
+  lengths_kept (OfFile k) may (File j) = same_or_here (k == j) (regions (OfFile j)) (λ e. may ∙ ap (λ m. length (regions (OfFile m))) (eqb-true k j e))
+  lengths_kept (OfFile k) may (Local j) = refl
+  lengths_kept (OfEntry k) may (File j) = refl
+  lengths_kept (OfEntry k) may (Local j) = same_or_here (k == j) (regions (OfEntry j)) (λ e. may ∙ ap (λ m. length (regions (OfEntry m))) (eqb-true k j e))
+  lengths_kept Depth may (File j) = refl
+  lengths_kept Depth may (Local j) = refl
+  lengths_kept (OfHead i part) may (File j) = refl
+  lengths_kept (OfHead i part) may (Local j) = refl
+  lengths_kept (OfLocal i k) may (File j) = refl
+  lengths_kept (OfLocal i k) may (Local j) = refl
+
+  pub frames_kept : (region : Region) → MayHave index region words regions → AreFramesSame index regions (with_region region words regions)
+  frames_kept region may = record {
+    lengths = lengths_kept region may;
+    heads = λ j part below. region_away words regions region (OfHead j part) (heads_away region may j part below);
+    locals = λ j m below. region_away words regions region (OfLocal j m) (locals_away region may j m below);
   }

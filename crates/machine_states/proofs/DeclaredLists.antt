@@ -6,8 +6,8 @@ use Rattle.std.proofs.Math.Seq.{get_or-append_seam}
 use Rattle.gang_model.specs.Types.Tree.{StepNumber, Stmt, Empty, Then, Declare, Assign, Change, If, Loop, BodyFirst, Break, Continue, Return, Switch, Segment, ForEach, Call, Check, PackedStore, PackedLoad, Function}
 use Rattle.gang_model.specs.Running.Step.{steps_of}
 use Rattle.mask_states.specs.Points.{closing_number}
-use Rattle.machine_states.specs.Variables.{Variables, parameters_of}
-use Rattle.machine_states.specs.Declared.{IsAmong, declared_by, may_return, declared_before_return, declared_at, first_numbers, declared_for, declared_at_end, declared_before}
+use Rattle.machine_states.specs.Variables.{Variables}
+use Rattle.machine_states.specs.Declared.{IsAmong, declared_by, may_return, declared_before_return, declared_at, scalar_parameters, declared_for, declared_at_end, declared_before}
 
 -- ---- small facts
 
@@ -122,7 +122,7 @@ module _ (variables : Variables) (n : ℕ) (f : Function) where
   -- at the closing brace, and past it
   pub before_end : (number : StepNumber) → closing_number f ≤ number → declared_before variables n f number ≡ declared_at_end variables n f
   before_end number past = get_or_past (declared_for variables n f) number (declared_at_end variables n f)
-      (omega (arith, past, length-declared_at f.body (first_numbers (parameters_of variables n))))
+      (omega (arith, past, length-declared_at f.body (scalar_parameters variables n)))
 
 -- what is declared before a `return` is declared behind the statement
 if_within : (b : Bool) (xs ys : List ℕ) → IsWithin xs ys → IsWithin (if b then [] else xs) ys

@@ -5,9 +5,9 @@ use Rattle.gang_model.specs.Running.Step.{steps_of}
 use Rattle.gang_model.specs.Running.RunningOrder.{IsNumbered}
 use Rattle.mask_states.specs.Points.{Point, Put, Go, Branch, Choose, Begin, Turn, Enter, Ways, before_step, entry_of, body_ways, update_ways, points_of, function_ways, points_in}
 use Rattle.mask_states.specs.Placed.{HasPoint}
-use Rattle.machine_states.specs.Variables.{Variables, parameters_of}
+use Rattle.machine_states.specs.Variables.{Variables}
 use Rattle.machine_states.specs.Plain.{IsPlain}
-use Rattle.machine_states.specs.Declared.{NamesDeclared, ArgsDeclared, ResultDeclared, declared_by, DeclaresFirst, declared_at, first_numbers, declared_before, IsDeclaredFirst}
+use Rattle.machine_states.specs.Declared.{NamesDeclared, ArgsDeclared, ResultDeclared, declared_by, DeclaresFirst, declared_at, scalar_parameters, declared_before, IsDeclaredFirst}
 use Rattle.machine_states.proofs.DeclaredLists.{AreBefore, before_front, before_after, before_steps}
 use Rattle.machine_states.proofs.DeclaredPoints.{AllPoints, all_behind, all_at}
 
@@ -65,11 +65,11 @@ module _ (before : StepNumber → List ℕ) (variables : Variables) (m : ℕ) wh
   names_points (Call number function args result_for) ways n d e p h f =
       let same = sym h.0 in ((subst (λ ds. ArgsDeclared ds args) same f.0, subst (λ ds. ResultDeclared ds result_for) same f.1), tt)
   names_points (Check number v) ways n d e p h f = (subst (λ ds. DeclaresFirst ds (Check number v)) (sym h.0) f, tt)
-  names_points (PackedStore number array from v result_for) ways n d e p h f = absurd p
-  names_points (PackedLoad number array from v result_for) ways n d e p h f = absurd p
+  names_points (PackedStore number array from v result_for) ways n d e p h f = (subst (λ ds. DeclaresFirst ds (PackedStore number array from v result_for)) (sym h.0) f, tt)
+  names_points (PackedLoad number array from v result_for) ways n d e p h f = (subst (λ ds. DeclaresFirst ds (PackedLoad number array from v result_for)) (sym h.0) f, tt)
 
 pub point_names : (variables : Variables) (m : ℕ) (f : Function) → IsNumbered 0 f.body → IsPlain variables m f.body → IsDeclaredFirst variables m f
     → (number : StepNumber) (point : Point) → HasPoint (points_in f) number point → NamesBefore (declared_before variables m f) number point
 point_names variables m f numbered plain first number point h =
     all_at (NamesBefore (declared_before variables m f)) (points_in f) number point
-    (names_points (declared_before variables m f) variables m f.body (function_ways f) 0 (first_numbers (parameters_of variables m)) numbered plain (before_steps variables m f) first.body) h
+    (names_points (declared_before variables m f) variables m f.body (function_ways f) 0 (scalar_parameters variables m) numbered plain (before_steps variables m f) first.body) h

@@ -8,9 +8,9 @@ use Rattle.gang_model.specs.Running.RunningOrder.{IsNumbered}
 use Rattle.mask_states.specs.Points.{Point, Put, Go, Branch, Choose, Begin, Turn, Enter, Ways, before_step, entry_of, body_ways, update_ways, points_of, closing_number, function_ways, points_in}
 use Rattle.mask_states.specs.Placed.{HasPoint}
 use Rattle.mask_states.proofs.PlacedPoints.{length-points_of}
-use Rattle.machine_states.specs.Variables.{Variables, parameters_of}
+use Rattle.machine_states.specs.Variables.{Variables}
 use Rattle.machine_states.specs.Plain.{IsPlainExpr, CallPlain, ResultPlain, IsPlain}
-use Rattle.machine_states.specs.Declared.{own_number, declared_by_result, declared_by, may_return, declared_before_return, declared_at, first_numbers, declared_at_end, declared_before}
+use Rattle.machine_states.specs.Declared.{own_number, declared_by_result, declared_by, may_return, declared_before_return, declared_at, scalar_parameters, declared_at_end, declared_before}
 use Rattle.machine_states.proofs.DeclaredLists.{same_some, or_front, or_back, IsWithin, within_itself, within_front, within_back, within_both, within_then, within_grouped, AreBefore, before_front, before_after, before_steps, before_end, before_return_within}
 
 -- ---- what holds of each point
@@ -54,6 +54,8 @@ IsPlainPut variables m (Assign number target e) = IsPlain variables m (Assign nu
 IsPlainPut variables m (Change number target type op in_type e) = IsPlain variables m (Change number target type op in_type e)
 IsPlainPut variables m (Return number e) = IsPlain variables m (Return number e)
 IsPlainPut variables m (Check number e) = IsPlain variables m (Check number e)
+IsPlainPut variables m (PackedStore number array from e result_for) = IsPlain variables m (PackedStore number array from e result_for)
+IsPlainPut variables m (PackedLoad number array from x result_for) = IsPlain variables m (PackedLoad number array from x result_for)
 IsPlainPut variables m s = ⊥
 
 abbrev pub IsPlainPoint : Variables → (function : ℕ) → StepNumber → Point → Type 0
@@ -93,8 +95,8 @@ module _ (variables : Variables) (m : ℕ) where
   plain_points (ForEach number form body) ways n p = absurd p
   plain_points (Call number function args result_for) ways n p = ((p.0, p.1), tt)
   plain_points (Check number e) ways n p = (p, tt)
-  plain_points (PackedStore number array from e result_for) ways n p = absurd p
-  plain_points (PackedLoad number array from v result_for) ways n p = absurd p
+  plain_points (PackedStore number array from e result_for) ways n p = (p, tt)
+  plain_points (PackedLoad number array from v result_for) ways n p = (p, tt)
 
   -- a plain function's points are plain
   pub plain_point : (f : Function) → IsPlain variables m f.body → (number : StepNumber) (point : Point) → HasPoint (points_in f) number point → IsPlainPoint variables m number point
@@ -300,16 +302,24 @@ module _ (before : StepNumber → List ℕ) where
   leads_points variables m (Call number function args Returns) ways n d e p h g =
       (here n (before (unwrap_or ways.on_return ways.next)) [] d h.0 (of_way (λ k. IsWithin (before k) d) ways.on_return ways.next g.next (λ way is. g.on_return way is refl)), tt)
   leads_points variables m (Check number v) ways n d e p h g = (here n (before ways.next) [] d h.0 g.next, tt)
-  leads_points variables m (PackedStore number array from v result_for) ways n d e p h g = absurd p
-  leads_points variables m (PackedLoad number array from v result_for) ways n d e p h g = absurd p
+  leads_points variables m (PackedStore number array from v Nothing) ways n d e p h g = (here n (before ways.next) [] d h.0 g.next, tt)
+  leads_points variables m (PackedStore number array from v (Declares x)) ways n d e p h g = (here n (before ways.next) (own_number x.id) d h.0 g.next, tt)
+  leads_points variables m (PackedStore number array from v (Assigns x)) ways n d e p h g = (here n (before ways.next) [] d h.0 g.next, tt)
+  leads_points variables m (PackedStore number array from v Returns) ways n d e p h g =
+      (here n (before (unwrap_or ways.on_return ways.next)) [] d h.0 (of_way (λ k. IsWithin (before k) d) ways.on_return ways.next g.next (λ way is. g.on_return way is refl)), tt)
+  leads_points variables m (PackedLoad number array from v Nothing) ways n d e p h g = (here n (before ways.next) [] d h.0 g.next, tt)
+  leads_points variables m (PackedLoad number array from v (Declares x)) ways n d e p h g = (here n (before ways.next) (own_number x.id) d h.0 g.next, tt)
+  leads_points variables m (PackedLoad number array from v (Assigns x)) ways n d e p h g = (here n (before ways.next) [] d h.0 g.next, tt)
+  leads_points variables m (PackedLoad number array from v Returns) ways n d e p h g =
+      (here n (before (unwrap_or ways.on_return ways.next)) [] d h.0 (of_way (λ k. IsWithin (before k) d) ways.on_return ways.next g.next (λ way is. g.on_return way is refl)), tt)
 
 -- ---- functions
 
 module _ (variables : Variables) (m : ℕ) (f : Function) (numbered : IsNumbered 0 f.body) where
   -- no more is declared at the closing brace than behind the body
-  end_declared : IsWithin (declared_before variables m f (closing_number f)) (declared_by f.body ++ first_numbers (parameters_of variables m))
+  end_declared : IsWithin (declared_before variables m f (closing_number f)) (declared_by f.body ++ scalar_parameters variables m)
   end_declared =
-      let d = first_numbers (parameters_of variables m) in
+      let d = scalar_parameters variables m in
       let behind : IsWithin (declared_at_end variables m f) (declared_by f.body ++ d) =
       within_both (declared_before_return f.body) d (declared_by f.body ++ d)
       (within_then (declared_before_return f.body) (declared_by f.body) (declared_by f.body ++ d) (before_return_within f.body) (within_front (declared_by f.body) d))
@@ -317,10 +327,10 @@ module _ (variables : Variables) (m : ℕ) (f : Function) (numbered : IsNumbered
       subst (λ xs. IsWithin xs (declared_by f.body ++ d)) (sym (before_end variables m f (closing_number f) (omega arith))) behind
 
   -- a call begins with the parameters
-  pub first_declared : IsWithin (declared_before variables m f (entry_of f.body (closing_number f))) (first_numbers (parameters_of variables m))
-  first_declared = entry_declared (declared_before variables m f) f.body 0 (closing_number f) (first_numbers (parameters_of variables m)) numbered (before_steps variables m f) end_declared
+  pub first_declared : IsWithin (declared_before variables m f (entry_of f.body (closing_number f))) (scalar_parameters variables m)
+  first_declared = entry_declared (declared_before variables m f) f.body 0 (closing_number f) (scalar_parameters variables m) numbered (before_steps variables m f) end_declared
 
-  function_good : AreGoodWays (declared_before variables m f) (first_numbers (parameters_of variables m)) f.body (function_ways f)
+  function_good : AreGoodWays (declared_before variables m f) (scalar_parameters variables m) f.body (function_ways f)
   function_good = record {
     next = end_declared;
     on_break = λ way is. absurd cc;
@@ -334,4 +344,4 @@ module _ (variables : Variables) (m : ℕ) (f : Function) (numbered : IsNumbered
   pub point_leads : IsPlain variables m f.body → (number : StepNumber) (point : Point) → HasPoint (points_in f) number point → LeadsDeclared (declared_before variables m f) number point
   point_leads plain number point h =
       all_at (LeadsDeclared (declared_before variables m f)) (points_in f) number point
-      (leads_points (declared_before variables m f) variables m f.body (function_ways f) 0 (first_numbers (parameters_of variables m)) numbered plain (before_steps variables m f) function_good) h
+      (leads_points (declared_before variables m f) variables m f.body (function_ways f) 0 (scalar_parameters variables m) numbered plain (before_steps variables m f) function_good) h

@@ -2,16 +2,18 @@
 use Rattle.std.proofs.Common.{◌≡◌, refl, sym, ap, ◌∙◌, subst, ℕ, zero, suc, ◌<◌, Bool, true, false, List, [], ◌∷◌, ◌++◌, length, slice_get, Option, Some, None, arith}
 use Rattle.std.specs.Prelude.{map, All, Result, Ok, Err, IfOk, ◌==◌, if◌then◌else◌}
 use Rattle.gang_types.specs.declared.types.IntType.{IntType}
+use Rattle.gang_types.specs.declared.types.IntType.TheVariants.{Int32}
+use Rattle.gang_types.specs.Values.{binary_result, converted}
 use Rattle.gang_types.specs.declared.places.VarId.{VarId}
 use Rattle.gang_types.specs.declared.places.VarId.TheVariants.{File, Local}
 use Rattle.gang_types.specs.declared.faults.FaultName.TheVariants.{CallDepth}
 use Rattle.gang_types.specs.Lanes.{Lanes, lowest}
-use Rattle.gang_model.specs.Running.Lanes.{Fault, holds, try_each}
-use Rattle.gang_model.specs.Types.Tree.{StepNumber, Scalar, ElementOf, ResultFor, Nothing, Declares, Assigns, Returns, Stmt, Declare, Assign, Change, Return, Call, Check, Function, Program}
-use Rattle.gang_model.specs.Running.State.{Store, Frame, State, with_words, with_var, with_words_in}
+use Rattle.gang_model.specs.Running.Lanes.{Fault, ◌>>=◌, at, each, holds, try_each}
+use Rattle.gang_model.specs.Types.Tree.{StepNumber, Scalar, ElementOf, ResultFor, Nothing, Declares, Assigns, Returns, Stmt, Declare, Assign, Change, Return, Call, Check, PackedStore, PackedLoad, Function, Program}
+use Rattle.gang_model.specs.Running.State.{Store, Frame, State, view_of, with_words, with_var, with_words_in}
 use Rattle.gang_model.specs.Running.Value.{value}
 use Rattle.gang_model.specs.Running.RunningOrder.{IsNumberedProgram}
-use Rattle.gang_model.specs.Running.Step.{Passed, passed, initial, new_frame, entered, returned_on, deliver, left, leave, run}
+use Rattle.gang_model.specs.Running.Step.{Passed, ToElements, old_values, part, passed, write, initial, new_frame, entered, returned_on, deliver, left, leave, run}
 use Rattle.gang_model.proofs.LaneWords.{if_ok_bind, if_ok_after, if_or_ok}
 use Rattle.mask_states.specs.Points.{Point, Put, Go, Branch, Choose, Begin, Turn, Enter, entry_of, closing_number, function_ways, points_in}
 use Rattle.mask_states.specs.Placed.{HasPoint}
@@ -19,10 +21,10 @@ use Rattle.mask_states.specs.Masked.{Level, Masked, next_in, next_waiting, sent_
 use Rattle.mask_states.specs.MaskedStep.{untasked_frame, untasked, points_at, points_for, Acted, entered_levels, act, past_point, past_call, past_calls, MaskedStepped, Goes, Fails, Over, acted, step_point, step_levels, masked_step}
 use Rattle.mask_states.proofs.LaneNumbers.{length-waiting_for}
 use Rattle.mask_states.proofs.PlacedPoints.{length-points_of}
-use Rattle.machine_states.specs.Variables.{Variables, parameters_of}
+use Rattle.machine_states.specs.Variables.{Variables}
 use Rattle.machine_states.specs.Plain.{IsPlain, IsPlainProgram}
 use Rattle.machine_states.specs.Regions.{NumbersOf, OfHead, Regions}
-use Rattle.machine_states.specs.Declared.{own_number, declared_by_result, declared_by, first_numbers, declared_before, HasAll, LevelDeclared, FrameDeclared, FramesDeclared, AreDeclared}
+use Rattle.machine_states.specs.Declared.{own_number, declared_by_result, declared_by, scalar_parameters, declared_before, HasAll, LevelDeclared, FrameDeclared, FramesDeclared, AreDeclared}
 use Rattle.machine_states.specs.Shows.{body_level, ShowsCall, ShowsFrames, Shows}
 use Rattle.machine_states.proofs.DeclaredLists.{same_some, IsWithin, before_end}
 use Rattle.machine_states.proofs.DeclaredPoints.{IsPlainPut, IsPlainPoint, plain_point, LeadsDeclared, point_leads, first_declared}
@@ -60,20 +62,6 @@ module _ (memory : Store) (frame : Frame) (frames : List Frame) where
     has_all = has_own (Local n) (with_words frame.vars (Local n) words) (with_words_has frame.vars (Local n) words);
   }
 
-  -- a statement is done
-  run_grows : (variables : Variables) (m : ℕ) (p : Program) (s : Stmt) (lanes : Lanes) → IsPlainPut variables m s → IfOk (run p s lanes state) (λ after. Grows frame frames (declared_by s) after.frames)
-  run_grows variables m p (Declare number x e) lanes plain = if_ok_after _ (initial e lanes state) _ (λ values. words_grow x.id _)
-  run_grows variables m p (Assign number (Scalar x) e) lanes plain =
-      if_ok_after _ (value e lanes state) _ (λ values. grows_less frame frames (own_number x.id) _ (words_grow x.id _))
-  run_grows variables m p (Assign number (ElementOf array rate index) e) lanes plain = absurd plain
-  run_grows variables m p (Change number (Scalar x) type op in_type e) lanes plain =
-      if_ok_after _ (value e lanes state) _ (λ y. if_ok_after _ (try_each lanes _) _ (λ values. grows_less frame frames (own_number x.id) _ (words_grow x.id _)))
-  run_grows variables m p (Change number (ElementOf array rate index) type op in_type e) lanes plain = absurd plain
-  run_grows variables m p (Return number e) lanes plain = if_ok_after _ (initial e lanes state) _ (λ values.
-      record { top = _; are = refl; function = refl; keeps = keeps_itself frame.vars; has_all = λ k among. absurd among })
-  run_grows variables m p (Check number e) lanes plain = if_ok_after _ (value e lanes state) _ (λ c. if_ok_after _ (try_each lanes _) _ (λ passes. stays frame frames))
-  run_grows variables m p s lanes plain = absurd plain
-
   returned_grows : (f : Option Function) (type : IntType) (lanes : Lanes) (values : List ℕ) → Grows frame frames [] (returned_on f type lanes values frame ∷ frames)
   returned_grows None type lanes values = stays frame frames
   returned_grows (Some f) type lanes values = record { top = _; are = refl; function = refl; keeps = keeps_itself frame.vars; has_all = λ k among. absurd among }
@@ -89,6 +77,52 @@ module _ (memory : Store) (frame : Frame) (frames : List Frame) where
   left_grows p above f is =
       subst (λ o. Grows frame frames (declared_by_result above.result_for) (left p o above state).frames) (sym is)
       (delivered_grows p f.result_type above.result_for above.lanes _)
+
+-- a variable has words, and then a result is given
+loaded_grows : (memory : Store) (frame : Frame) (frames : List Frame) (p : Program) (v : VarId) (words : List ℕ) (result_for : ResultFor) (lanes : Lanes) (values : List ℕ)
+    → Grows frame frames (declared_by_result result_for) (deliver p Int32 result_for lanes values (with_words_in (record { memory = memory; frames = frame ∷ frames }) v words)).frames
+loaded_grows memory frame frames p (File n) words result_for lanes values = delivered_grows _ frame frames p Int32 result_for lanes values
+loaded_grows memory frame frames p (Local n) words result_for lanes values =
+    let later = delivered_grows memory (with_var (Local n) words frame) frames p Int32 result_for lanes values in
+    record {
+      top = later.top;
+      are = later.are;
+      function = later.function;
+      keeps = λ v h. later.keeps v (with_words_keeps frame.vars (Local n) words v h);
+      has_all = later.has_all;
+    }
+
+module _ (memory : Store) (frame : Frame) (frames : List Frame) where
+  abbrev under_way : State
+  under_way = record { memory = memory; frames = frame ∷ frames }
+
+  -- a statement is done
+  run_grows : (variables : Variables) (m : ℕ) (p : Program) (s : Stmt) (lanes : Lanes) → IsPlainPut variables m s → IfOk (run p s lanes under_way) (λ after. Grows frame frames (declared_by s) after.frames)
+  run_grows variables m p (Declare number x e) lanes plain = if_ok_after _ (initial e lanes under_way) _ (λ values. words_grow memory frame frames x.id _)
+  run_grows variables m p (Assign number (Scalar x) e) lanes plain =
+      if_ok_after _ (value e lanes under_way) _ (λ values. grows_less frame frames (own_number x.id) _ (words_grow memory frame frames x.id _))
+  run_grows variables m p (Assign number (ElementOf array rate index) e) lanes plain = by_index (value index lanes under_way)
+    where
+      by_index : (r : Result (List ℕ) Fault) → IfOk ((r >>= λ x. Ok (ToElements (view_of under_way array) x)) >>= λ written. value e lanes under_way >>= λ y. old_values written lanes under_way >>= λ old. Ok (write written lanes y under_way)) (λ after. Grows frame frames [] after.frames)
+      by_index (Ok x) = if_ok_after _ (value e lanes under_way) _ (λ y. if_ok_after _ (try_each lanes _) _ (λ old. stays frame frames))
+      by_index (Err fault) = tt
+  run_grows variables m p (Change number (Scalar x) type op in_type e) lanes plain =
+      if_ok_after _ (value e lanes under_way) _ (λ y. if_ok_after _ (try_each lanes _) _ (λ values. grows_less frame frames (own_number x.id) _ (words_grow memory frame frames x.id _)))
+  run_grows variables m p (Change number (ElementOf array rate index) type op in_type e) lanes plain = by_index (value index lanes under_way)
+    where
+      by_index : (r : Result (List ℕ) Fault) → IfOk ((r >>= λ x. Ok (ToElements (view_of under_way array) x)) >>= λ written. value e lanes under_way >>= λ y. old_values written lanes under_way >>= λ old.
+          try_each lanes (λ k. binary_result op in_type (converted type in_type (at old k)) (at y k)) >>= λ z. Ok (write written lanes (each lanes (λ k. converted in_type type (at z k))) under_way)) (λ after. Grows frame frames [] after.frames)
+      by_index (Ok x) = if_ok_after _ (value e lanes under_way) _ (λ y. if_ok_after _ (try_each lanes _) _ (λ old. if_ok_after _ (try_each lanes _) _ (λ z. stays frame frames)))
+      by_index (Err fault) = tt
+  run_grows variables m p (Return number e) lanes plain = if_ok_after _ (initial e lanes under_way) _ (λ values.
+      record { top = _; are = refl; function = refl; keeps = keeps_itself frame.vars; has_all = λ k among. absurd among })
+  run_grows variables m p (Check number e) lanes plain = if_ok_after _ (value e lanes under_way) _ (λ c. if_ok_after _ (try_each lanes _) _ (λ passes. stays frame frames))
+  run_grows variables m p (PackedStore number array from e result_for) lanes plain =
+      if_ok_after _ (part from (view_of under_way array) lanes under_way) _ (λ view. if_ok_after _ (value e lanes under_way) _ (λ x. if_ok_after _ (try_each lanes _) _
+      (λ there. delivered_grows _ frame frames p Int32 result_for lanes _)))
+  run_grows variables m p (PackedLoad number array from v result_for) lanes plain =
+      if_ok_after _ (part from (view_of under_way array) lanes under_way) _ (λ view. if_ok_after _ (try_each lanes _) _ (λ x. loaded_grows memory frame frames p v.id _ result_for lanes _))
+  run_grows variables m p s lanes plain = absurd plain
 
 -- no frame is left
 none_words : (memory : Store) (v : VarId) (words : List ℕ) → (with_words_in (record { memory = memory; frames = [] }) v words).frames ≡ []
@@ -170,7 +204,7 @@ module _ (variables : Variables) (most : ℕ) (p : Program) (plain : IsPlainProg
         (frame_declared g.top (sent_in (next_waiting level) target level ∷ []) frame.function f is g.function (one_level before g.top.vars (sent_in (next_waiting level) target level) sent), lower)
 
     -- a frame begins for the lanes of a call
-    enters : (number : StepNumber) (result_for : ResultFor) (n : ℕ) (o : Option Function) → slice_get p.functions n ≡ o → (a : Passed) → HasAll (first_numbers (parameters_of variables n)) a.vars
+    enters : (number : StepNumber) (result_for : ResultFor) (n : ℕ) (o : Option Function) → slice_get p.functions n ≡ o → (a : Passed) → HasAll (scalar_parameters variables n) a.vars
         → next_in level < closing_number f → LevelDeclared before frame.vars level
         → (memory : Store) (frames : List Frame) (rest : List (List Level)) → FramesDeclared variables p frames rest
         → IfOk (entered o n number result_for a (next_waiting level) (record { memory = memory; frames = frame ∷ frames }))
@@ -181,7 +215,7 @@ module _ (variables : Variables) (most : ℕ) (p : Program) (plain : IsPlainProg
         let lanes : Lanes = next_waiting level in
         let w : Waits level = waits_below level low in
         let parameters : HasAll (declared_before variables n g (entry_of g.body (closing_number g))) a.vars =
-        has_all_within (declared_before variables n g (entry_of g.body (closing_number g))) (first_numbers (parameters_of variables n)) a.vars (first_declared variables n g (numbered n g o_is)) has_all in
+        has_all_within (declared_before variables n g (entry_of g.body (closing_number g))) (scalar_parameters variables n) a.vars (first_declared variables n g (numbered n g o_is)) has_all in
         let begun : LevelDeclared (declared_before variables n g) a.vars (entered_body g lanes) =
         entered_declared (declared_before variables n g) g lanes a.vars (ends_at n g) w.lane w.waiting (omega (arith, w.within, length-waiting_for (next_in level) level.numbers)) parameters in
         if_or_ok _ (length (frame ∷ frames) == 64) (record { name = CallDepth; lane = lowest lanes }) _ (
@@ -219,7 +253,7 @@ module _ (variables : Variables) (most : ℕ) (p : Program) (plain : IsPlainProg
         let low : next_in level < closing_number f = point_below (Enter n args result_for next) h in
         let run_enters : IfOk (run p (Call (next_in level) n args result_for) lanes s)
         (λ after. FramesDeclared variables p (untasked after).frames ((entered_levels (slice_get p.functions n) lanes ++ (level ∷ []) ∷ []) ++ rest)) =
-        if_ok_bind (λ a. HasAll (first_numbers (parameters_of variables n)) a.vars) _ (passed args lanes s) _
+        if_ok_bind (λ a. HasAll (scalar_parameters variables n) a.vars) _ (passed args lanes s) _
         (passed_has variables frame.function n lanes s args plain_point.0)
         (λ a has_all. enters (next_in level) result_for n (slice_get p.functions n) refl a has_all low declared memory frames rest lower) in
         if_ok_bind (λ after. FramesDeclared variables p (untasked after).frames ((entered_levels (slice_get p.functions n) lanes ++ (level ∷ []) ∷ []) ++ rest)) _

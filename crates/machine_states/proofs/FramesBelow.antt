@@ -6,14 +6,15 @@ use Rattle.gang_model.specs.Types.Tree.{Program}
 use Rattle.gang_model.specs.Running.Lanes.{at}
 use Rattle.gang_model.specs.Running.State.{Frame, words_of}
 use Rattle.gang_model.specs.Running.Step.{result_rate}
-use Rattle.gang_types.specs.declared.places.VarId.TheVariants.{Local}
+use Rattle.gang_types.specs.declared.places.VarId.TheVariants.{File, Local}
 use Rattle.mask_states.specs.Points.{closing_number}
 use Rattle.mask_states.specs.Masked.{Level}
 use Rattle.machine_states.specs.Variables.{Variables, own_of, rate_of}
 use Rattle.machine_states.specs.Regions.{FunctionOf, LanesOf, ReturnedOf, NumbersOf, ResultOf, Head, OfHead, OfLocal, Regions, lanes_in}
-use Rattle.machine_states.specs.Shows.{IsScalarIn, ShowsLocal, result_of, body_level, ShowsFrame, ShowsFrames}
+use Rattle.machine_states.specs.Shows.{IsScalarIn, ShowsLocal, ShowsView, result_of, body_level, ShowsFrame, ShowsFrames}
 use Rattle.machine_states.specs.Steps.{AreSameBelow}
-use Rattle.machine_states.proofs.ChangedRegions.{AreFramesSame}
+use Rattle.machine_states.proofs.ArrayViews.{view_same}
+use Rattle.machine_states.proofs.ChangedRegions.{AreFramesSame, HaveSameLengths}
 
 module _ (p : Program) (variables : Variables) (w : ℕ) (old new : Regions) where
   -- a variable whose region is the same
@@ -24,10 +25,15 @@ module _ (p : Program) (variables : Variables) (w : ℕ) (old new : Regions) whe
   pub lanes_same : (i : ℕ) (part : Head) → new (OfHead i part) ≡ old (OfHead i part) → lanes_in w old (OfHead i part) ≡ lanes_in w new (OfHead i part)
   lanes_same i part same = ap (λ words. lanes_of_word w (at words 0)) (sym same)
 
+  -- a parameter whose region is the same
+  pub view_shown : HaveSameLengths old new → (i : ℕ) (frame : Frame) (k : ℕ) → new (OfLocal i k) ≡ old (OfLocal i k) → ShowsView variables old i frame.function frame.views k
+      → ShowsView variables new i frame.function frame.views k
+  view_shown lengths i frame k same shown is = shown is ∙ sym (view_same old new lengths i k same)
+
   -- a frame whose regions are the same
-  pub frame_same : (i : ℕ) (frame : Frame) (levels : List Level) → ((part : Head) → new (OfHead i part) ≡ old (OfHead i part)) → ((k : ℕ) → new (OfLocal i k) ≡ old (OfLocal i k))
+  pub frame_same : HaveSameLengths old new → (i : ℕ) (frame : Frame) (levels : List Level) → ((part : Head) → new (OfHead i part) ≡ old (OfHead i part)) → ((k : ℕ) → new (OfLocal i k) ≡ old (OfLocal i k))
       → ShowsFrame p variables w old i frame levels → ShowsFrame p variables w new i frame levels
-  frame_same i frame levels heads locals shown = record {
+  frame_same lengths i frame levels heads locals shown = record {
     function = shown.function;
     is_function = shown.is_function;
     number = heads FunctionOf ∙ shown.number;
@@ -35,7 +41,7 @@ module _ (p : Program) (variables : Variables) (w : ℕ) (old new : Regions) whe
     waits = shown.waits ∙ ap (λ numbers. body_level (closing_number shown.function) numbers ∷ []) (sym (heads NumbersOf));
     sized = ap length (heads NumbersOf) ∙ shown.sized;
     untasked = shown.untasked;
-    views = shown.views;
+    views = λ k. view_shown lengths i frame k (locals k) (shown.views k);
     locals = λ k. local_same i frame k (locals k) (shown.locals k);
     result = shown.result
         ∙ ap (λ returned. result_of (result_rate p frame) returned (old (OfHead i ResultOf))) (lanes_same i ReturnedOf (heads ReturnedOf))
@@ -50,11 +56,15 @@ module _ (p : Program) (variables : Variables) (w : ℕ) (old new : Regions) whe
   frames_below index same [] (levels ∷ rest) few shown = shown
   frames_below index same (frame ∷ frames) [] few shown = shown
   frames_below index same (frame ∷ frames) (levels ∷ rest) few shown = (
-    frame_same (length frames) frame levels (λ part. same.heads (length frames) part few) (λ k. same.locals (length frames) k few) shown.0,
+    frame_same same.lengths (length frames) frame levels (λ part. same.heads (length frames) part few) (λ k. same.locals (length frames) k few) shown.0,
     shown.1,
     frames_below index same frames rest (omega (arith, few)) shown.2,
   )
 
 -- regions that are the same below an index have the same frames there
 pub same_frames : (index : ℕ) (old new : Regions) → AreSameBelow index old new → AreFramesSame index old new
-same_frames index old new same = record { heads = same.heads; locals = same.locals }
+same_frames index old new same = record { lengths = lengths; heads = same.heads; locals = same.locals }
+  where
+    lengths : HaveSameLengths old new
+    lengths (File k) = ap length (same.file k)
+    lengths (Local k) = ap length (same.entry k)

@@ -11,7 +11,7 @@ use Rattle.gang_types.specs.MaskLaws.{length-lanes_of_word}
 use Rattle.gang_types.specs.Values.{converted}
 use Rattle.gang_model.specs.Running.Lanes.{at as word_at}
 use Rattle.gang_model.specs.Types.Tree.{StepNumber, Arg, ResultFor, Nothing, Declares, Assigns, Returns, Function, Program}
-use Rattle.gang_model.specs.Running.State.{Store, Frame, State, words_of, seen}
+use Rattle.gang_model.specs.Running.State.{Store, Frame, State, seen}
 use Rattle.gang_model.specs.Running.Step.{returned_on, deliver, left, leave, rate_of as result_rate_of}
 use Rattle.gang_model.proofs.LaneWords.{length-each}
 use Rattle.mask_states.specs.Points.{Enter, points_in, closing_number}
@@ -20,10 +20,12 @@ use Rattle.mask_states.specs.MaskedStep.{Goes, points_for, past_point, past_call
 use Rattle.mask_states.proofs.LaneNumbers.{length-waiting_for}
 use Rattle.machine_states.specs.Variables.{Variables}
 use Rattle.machine_states.specs.Plain.{ResultPlain}
-use Rattle.machine_states.specs.Regions.{FunctionOf, LanesOf, ReturnedOf, NumbersOf, ResultOf, OfFile, Depth, OfHead, OfLocal, Region, Regions, lanes_in, with_region}
+use Rattle.machine_states.specs.ArrayParts.{AreMemory, array_region}
+use Rattle.machine_states.specs.Regions.{FunctionOf, LanesOf, ReturnedOf, NumbersOf, ResultOf, OfFile, OfEntry, Depth, OfHead, OfLocal, Region, Regions, lanes_in, with_region}
 use Rattle.machine_states.specs.Shows.{AreSized, result_of, ShowsFrame, ShowsFrames, Shows}
 use Rattle.machine_states.specs.Effects.{sent_on, region_of, declared_region, assigned_region, declared_in, assigned_in, returned_in}
 use Rattle.machine_states.specs.Steps.{IsNext, waiting_in, GoesTo, converted_values, Delivers}
+use Rattle.machine_states.proofs.ArrayViews.{memory_kept}
 use Rattle.machine_states.proofs.ChangedRegions.{frames_kept}
 use Rattle.machine_states.proofs.FramesBelow.{frames_below}
 use Rattle.machine_states.proofs.NextPoints.{same_word, body_of, levels_are, point_is, step_is, on_top}
@@ -36,11 +38,11 @@ use Rattle.machine_states.proofs.WrittenVariables.{HasVariable, declared_shows, 
 module _ (p : Program) (variables : Variables) (w : ℕ) (regions : Regions) where
   -- the state without the top frame is shown as soon as the number of frames is changed
   pub without_top : (memory : Store) (frame : Frame) (frames : List Frame) (levels : List Level) (rest : List (List Level))
-      → ((k : ℕ) → words_of memory (File k) ≡ regions (OfFile k)) → suc (length frames) ≤ 64
+      → AreMemory regions memory → suc (length frames) ≤ 64
       → ShowsFrames p variables w regions (frame ∷ frames) (levels ∷ rest)
       → Shows p variables w (with_region Depth (length frames ∷ []) regions) (record { state = record { memory = memory; frames = frames }; levels = rest })
-  without_top memory frame frames levels rest file few s = record {
-    file = file;
+  without_top memory frame frames levels rest memory_is few s = record {
+    memory = memory_kept Depth tt (length frames ∷ []) regions memory memory_is;
     depth = refl;
     few = omega (arith, few);
     frames = frames_below p variables w regions (with_region Depth (length frames ∷ []) regions) (length frames)
@@ -72,7 +74,7 @@ module _ (p : Program) (variables : Variables) (w : ℕ) (regions : Regions) (ma
         step_is p variables w regions masked.state.memory frame [] [] f None is at
             ∙ ap (λ state. Goes (record { state = state; levels = [] }))
             (ap (λ o. left p o frame out) is ∙ entry_left p f.result_type frame.result_for frame.lanes (seen f.result frame.lanes frame.result) out s.1.1),
-        without_top p variables w regions masked.state.memory frame [] (body_of regions 0 f ∷ []) [] shows.file few s,
+        without_top p variables w regions masked.state.memory frame [] (body_of regions 0 f ∷ []) [] shows.memory few s,
       )
 
   -- the program ends
@@ -85,11 +87,11 @@ module _ (p : Program) (variables : Variables) (w : ℕ) (regions : Regions) (ma
 pub shows_alike : (p : Program) (variables : Variables) (w : ℕ) (old new : Regions) → ((r : Region) → new r ≡ old r) → (masked : Masked)
     → Shows p variables w old masked → Shows p variables w new masked
 shows_alike p variables w old new same masked shows = record {
-  file = λ k. shows.file k ∙ sym (same (OfFile k));
+  memory = λ v. shows.memory v ∙ sym (same (array_region v));
   depth = same Depth ∙ shows.depth;
   few = shows.few;
   frames = frames_below p variables w old new (length masked.state.frames)
-      (record { heads = λ i part less. same (OfHead i part); locals = λ i k less. same (OfLocal i k) }) masked.state.frames masked.levels (omega arith) shows.frames;
+      (record { lengths = λ v. ap length (same (array_region v)); heads = λ i part less. same (OfHead i part); locals = λ i k less. same (OfLocal i k) }) masked.state.frames masked.levels (omega arith) shows.frames;
 }
 
 -- what a result is for is there: a variable that is assigned to
@@ -106,22 +108,26 @@ module _ (j : ℕ) (sent_lanes : Lanes) (target : ℕ → StepNumber) (depth : L
 
   last_kept : DepthLast (λ old. old)
   last_kept (OfFile k) = refl
+  last_kept (OfEntry k) = refl
   last_kept Depth = refl
   last_kept (OfHead i part) = refl
   last_kept (OfLocal i k) = refl
 
   last_written : (v : VarId) (words : List ℕ → List ℕ) → DepthLast (λ old. with_region (region_of j v) (words (old (region_of j v))) old)
   last_written (File n) words (OfFile k) = refl
+  last_written (File n) words (OfEntry k) = refl
   last_written (File n) words Depth = refl
   last_written (File n) words (OfHead i part) = refl
   last_written (File n) words (OfLocal i k) = refl
   last_written (Local n) words (OfFile k) = refl
+  last_written (Local n) words (OfEntry k) = refl
   last_written (Local n) words Depth = refl
   last_written (Local n) words (OfHead i part) = refl
   last_written (Local n) words (OfLocal i k) = refl
 
   last_returned : (rate : Rate) (lanes : Lanes) (values : List ℕ) (word : ℕ) → DepthLast (returned_in j rate lanes values word)
   last_returned rate lanes values word (OfFile k) = refl
+  last_returned rate lanes values word (OfEntry k) = refl
   last_returned rate lanes values word Depth = refl
   last_returned rate lanes values word (OfHead i part) = refl
   last_returned rate lanes values word (OfLocal i k) = refl
@@ -244,7 +250,7 @@ module _ (p : Program) (variables : Variables) (w : ℕ) (gang : IsGangWidth w) 
 
     lowered_shows : Shows p variables w (with_region Depth (suc j ∷ []) regions) (record { state = out; levels = (body_of regions j g ∷ []) ∷ rest })
     lowered_shows = subst (λ k. Shows p variables w (with_region Depth (suc k ∷ []) regions) (record { state = out; levels = (body_of regions j g ∷ []) ∷ rest })) index
-        (without_top p variables w regions masked.state.memory frame (below ∷ frames) (body_of regions (suc (length frames)) f ∷ []) ((body_of regions j g ∷ []) ∷ rest) shows.file few s)
+        (without_top p variables w regions masked.state.memory frame (below ∷ frames) (body_of regions (suc (length frames)) f ∷ []) ((body_of regions j g ∷ []) ∷ rest) shows.memory few s)
 
     waiting_long : length (waiting_in regions j call_number) ≡ w
     waiting_long = length-waiting_for call_number (regions (OfHead j NumbersOf)) ∙ ap (λ k. length (regions (OfHead k NumbersOf))) (sym index) ∙ s.2.0.sized

@@ -1,5 +1,4 @@
 pub mod AlwaysDeclared
-pub mod Arguments
 pub mod AwaitedResults
 pub mod Beginnings
 pub mod CallSteps
@@ -7,6 +6,7 @@ pub mod Calls
 mod CellRows
 pub mod Cells
 pub mod ChangedRegions
+pub mod ArrayViews
 pub mod DeclaredLevels
 pub mod DeclaredLists
 pub mod DeclaredNames
@@ -28,3 +28,7 @@ pub mod StoreEntries
 pub mod StoreWords
 pub mod TopFrame
 pub mod WrittenVariables
+pub mod StoredElements
+pub mod ElementSteps
+pub mod DeliveredResults
+pub mod PackedSteps

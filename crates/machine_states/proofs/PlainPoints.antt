@@ -2,7 +2,7 @@
 use Rattle.std.proofs.Common.{ℕ, zero, suc, List, [], ◌∷◌, ◌≡◌, true≢false, sym, ap, subst}
 use Rattle.std.specs.Prelude.{is_some, Some, slice_get}
 use Rattle.gang_model.proofs.StandingLaws.{Each, each_join}
-use Rattle.gang_model.specs.Types.Tree.{Scalar, Stmt, Empty, Then, Declare, Assign, Change, If, Loop, BodyFirst, Break, Continue, Return, Call, Check, Function}
+use Rattle.gang_model.specs.Types.Tree.{Scalar, ElementOf, Stmt, Empty, Then, Declare, Assign, Change, If, Loop, BodyFirst, Break, Continue, Return, Call, Check, PackedStore, PackedLoad, Function}
 use Rattle.mask_states.specs.Points.{Point, Ways, before_step, body_ways, update_ways, entry_of, points_of, points_in, function_ways}
 use Rattle.machine_states.specs.Variables.{Variables}
 use Rattle.machine_states.specs.Plain.{IsPlain, IsPlainPoint, IsPlainFunction}
@@ -19,7 +19,9 @@ module _ (variables : Variables) (n : ℕ) where
       (points_plain first (before_step (entry_of rest ways.next) ways) h.0) (points_plain rest ways h.1)
   points_plain (Declare number x e) ways h = (h, tt)
   points_plain (Assign number (Scalar x) e) ways h = (h, tt)
+  points_plain (Assign number (ElementOf array rate index) e) ways h = (h, tt)
   points_plain (Change number (Scalar x) type op in_type e) ways h = (h, tt)
+  points_plain (Change number (ElementOf array rate index) type op in_type e) ways h = (h, tt)
   points_plain (If number test first other) ways h =
       (h.0, each_join (IsPlainPoint variables n) (points_of first ways) (points_of other ways) (points_plain first ways h.1) (points_plain other ways h.2))
   points_plain (Loop number test update body) ways h =
@@ -33,6 +35,8 @@ module _ (variables : Variables) (n : ℕ) where
   points_plain (Return number e) ways h = (h, tt)
   points_plain (Call number called args result_for) ways h = (h, tt)
   points_plain (Check number e) ways h = (h, tt)
+  points_plain (PackedStore number array from e result_for) ways h = (h, tt)
+  points_plain (PackedLoad number array from x result_for) ways h = (h, tt)
   points_plain s ways h = absurd h
 
   pub points_in-plain : (f : Function) → IsPlainFunction variables n f → ArePlain (points_in f)

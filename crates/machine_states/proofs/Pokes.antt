@@ -1,5 +1,5 @@
 -- A poke of a scalar: the regions show the state after it.
-use Rattle.std.proofs.Common.{◌≡◌, refl, sym, ap, ◌∙◌, subst, ℕ, zero, suc, List, [], ◌∷◌, length, Option, Some, None, arith}
+use Rattle.std.proofs.Common.{◌≡◌, refl, sym, ap, ◌∙◌, subst, ℕ, zero, suc, ◌+◌, false, List, [], ◌∷◌, length, Option, Some, None, arith}
 use Rattle.std.specs.Prelude.{map, take, slice_get, slice_set}
 use Rattle.std.proofs.lemmas.List.{length-map, length-set, take-map}
 use Rattle.gang_types.specs.declared.types.Rate.{Rate}
@@ -7,14 +7,16 @@ use Rattle.gang_types.specs.declared.types.Rate.TheVariants.{Uniform, Varying}
 use Rattle.gang_types.specs.declared.places.VarId.{VarId}
 use Rattle.gang_types.specs.declared.places.VarId.TheVariants.{File, Local}
 use Rattle.gang_model.specs.Types.Tree.{Variable, Program}
-use Rattle.gang_model.specs.Running.State.{State, words_in, with_words_in, words_for}
-use Rattle.gang_model.specs.Debugger.Events.{Poked, WholeOf, LaneOf, poked}
+use Rattle.gang_model.specs.Running.State.{State, View, view_of, with_words, words_in, with_words_in, words_for}
+use Rattle.gang_model.specs.Debugger.Events.{Poked, WholeOf, LaneOf, ElementAt, poked, with_element}
 use Rattle.mask_states.specs.Masked.{Masked}
-use Rattle.machine_states.specs.Variables.{Variables, variable_of, rate_of}
+use Rattle.machine_states.specs.Variables.{Variables, is_array_of, variable_of, rate_of}
+use Rattle.machine_states.specs.ArrayParts.{array_region}
 use Rattle.machine_states.specs.Regions.{FunctionOf, OfFile, Depth, OfHead, OfLocal, Regions, with_region}
 use Rattle.machine_states.specs.Shows.{IsScalarIn, AreSized, Shows}
 use Rattle.machine_states.specs.Effects.{region_of}
 use Rattle.machine_states.specs.Steps.{poked_region}
+use Rattle.machine_states.proofs.StoredElements.{array_shows}
 use Rattle.machine_states.proofs.WrittenVariables.{StandsIn, HasVariable, file_shows, written_shows, variable_in}
 
 -- a whole scalar is poked, or one lane of it
@@ -59,6 +61,12 @@ poked_stands w rate (Some lane) word words region is = record {
   stands = ap (λ ws. slice_set ws lane word) is.stands ∙ set_front (words_for w rate) region lane word;
 }
 
+-- as many words as before
+poked_long : (rate : Rate) (lane : Option ℕ) (word : ℕ) (region : List ℕ) → length (poked_region rate lane word region) ≡ length region
+poked_long Uniform None word region = length-set region 0 word
+poked_long Varying None word region = length-map region (λ x. word)
+poked_long rate (Some lane) word region = length-set region lane word
+
 -- a region that has only the scalar's words
 poked_same : (w : ℕ) (rate : Rate) (lane : Option ℕ) (word : ℕ) (region : List ℕ) → length region ≡ words_for w rate → poked_words lane word region ≡ poked_region rate lane word region
 poked_same w Uniform None word [] long = absurd (omega (arith, long))
@@ -75,30 +83,45 @@ module _ (p : Program) (variables : Variables) (w : ℕ) (regions : Regions) (ma
   abbrev pub poked_masked : VarId → Masked
   poked_masked v = record masked { state = poked (poked_at v lane) word masked.state }
 
-  file_stands : (k : ℕ) (v : Variable) → slice_get variables.file k ≡ Some v
+  file_stands : (k : ℕ) (v : Variable) → slice_get variables.file k ≡ Some v → v.is_array ≡ false
       → poked_words lane word (words_in masked.state (File k)) ≡ poked_region v.rate lane word (regions (OfFile k))
-  file_stands k v is = ap (poked_words lane word) (shows.file k) ∙ poked_same w v.rate lane word (regions (OfFile k)) (sized.file k v is)
+  file_stands k v is plain = ap (poked_words lane word) (shows.memory (File k)) ∙ poked_same w v.rate lane word (regions (OfFile k)) (sized.file k v is plain)
 
   -- a variable of the file, also once the program has ended
-  pub pokes_file : (k : ℕ) (v : Variable) → slice_get variables.file k ≡ Some v
+  pub pokes_file : (k : ℕ) (v : Variable) → slice_get variables.file k ≡ Some v → v.is_array ≡ false
       → Shows p variables w (with_region (OfFile k) (poked_region v.rate lane word (regions (OfFile k))) regions) (poked_masked (File k))
-  pokes_file k v is =
+  pokes_file k v is plain =
       let region : List ℕ = poked_region v.rate lane word (regions (OfFile k)) in
       subst (λ state. Shows p variables w (with_region (OfFile k) region regions) (record { state = state; levels = masked.levels })) (sym (poke_is (File k) lane word masked.state))
-      (file_shows p variables w 0 0 regions k (poked_words lane word (words_in masked.state (File k))) region (file_stands k v is) masked shows)
+      (file_shows p variables w 0 0 regions k (poked_words lane word (words_in masked.state (File k))) region (file_stands k v is plain) (poked_long v.rate lane word (regions (OfFile k))) masked shows)
 
   module _ (i n : ℕ) (depth : regions Depth ≡ suc i ∷ []) (function : regions (OfHead i FunctionOf) ≡ n ∷ []) where
-    stands : (id : VarId) (v : Variable) → variable_of variables n id ≡ Some v → HasVariable masked.state.frames id
-        → StandsIn variables w n id (poked_words lane word (words_in masked.state id)) (poked_region v.rate lane word (regions (region_of i id)))
-    stands (File k) v is there = file_stands k v is
-    stands (Local k) v is there =
-        subst (λ rate. IsScalarIn w rate (poked_words lane word (words_in masked.state (Local k))) (poked_region v.rate lane word (regions (OfLocal i k)))) (sym (ap rate_of is))
-        (poked_stands w v.rate lane word (words_in masked.state (Local k)) (regions (OfLocal i k)) (variable_in p variables w i n regions masked shows depth function sized (Local k) v is there))
+    stands : (id : VarId) (v : Variable) → variable_of variables n id ≡ Some v → v.is_array ≡ false → HasVariable masked.state.frames id
+        → StandsIn variables w n id (poked_words lane word (words_in masked.state id)) (poked_region v.rate lane word (regions (region_of i id))) (regions (region_of i id))
+    stands (File k) v is plain there = (file_stands k v is plain, poked_long v.rate lane word (regions (OfFile k)))
+    stands (Local k) v is plain there = (
+      subst (λ rate. IsScalarIn w rate (poked_words lane word (words_in masked.state (Local k))) (poked_region v.rate lane word (regions (OfLocal i k)))) (sym (ap rate_of is))
+          (poked_stands w v.rate lane word (words_in masked.state (Local k)) (regions (OfLocal i k)) (variable_in p variables w i n regions masked shows depth function sized (Local k) v is plain there)),
+      ap is_array_of is ∙ plain,
+    )
 
     -- a variable of the file, or one that is declared in the top frame
-    pub pokes : (id : VarId) (v : Variable) → variable_of variables n id ≡ Some v → HasVariable masked.state.frames id
+    pub pokes : (id : VarId) (v : Variable) → variable_of variables n id ≡ Some v → v.is_array ≡ false → HasVariable masked.state.frames id
         → Shows p variables w (with_region (region_of i id) (poked_region v.rate lane word (regions (region_of i id))) regions) (poked_masked id)
-    pokes id v is there =
+    pokes id v is plain there =
         let region : List ℕ = poked_region v.rate lane word (regions (region_of i id)) in
         subst (λ state. Shows p variables w (with_region (region_of i id) region regions) (record { state = state; levels = masked.levels })) (sym (poke_is id lane word masked.state))
-        (written_shows p variables w i n regions masked shows depth function id (poked_words lane word (words_in masked.state id)) region (stands id v is there))
+        (written_shows p variables w i n regions masked shows depth function id (poked_words lane word (words_in masked.state id)) region (stands id v is plain there))
+
+-- ---- elements
+
+module _ (p : Program) (variables : Variables) (w : ℕ) (regions : Regions) (masked : Masked) (shows : Shows p variables w regions masked) (id : VarId) (view : View) (view_is : view_of masked.state id ≡ view) (k word : ℕ) where
+  -- an element of the part of an array that a name stands for
+  pub pokes_element : Shows p variables w (with_region (array_region view.array) (slice_set (regions (array_region view.array)) (view.first + k) word) regions)
+      (record masked { state = poked (ElementAt id k) word masked.state })
+  pokes_element =
+      let after : List ℕ = slice_set (regions (array_region view.array)) (view.first + k) word in
+      subst (λ v. Shows p variables w (with_region (array_region view.array) after regions) (record masked { state = with_element v k word masked.state })) (sym view_is)
+      (subst (λ ws. Shows p variables w (with_region (array_region view.array) after regions)
+      (record masked { state = record masked.state { memory = with_words masked.state.memory view.array (slice_set ws (view.first + k) word) } })) (sym (shows.memory view.array))
+      (array_shows view.array after regions p variables w masked shows (length-set (regions (array_region view.array)) (view.first + k) word)))

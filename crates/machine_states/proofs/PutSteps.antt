@@ -1,6 +1,6 @@
 -- The steps that enter and leave no frame: what the words become by each, so that they show the masked state after it.
 use Rattle.std.proofs.Common.{◌≡◌, refl, ap, ◌∙◌, subst, ℕ, suc, ◌<◌, false, List, [], ◌∷◌, length, Option, arith}
-use Rattle.std.specs.Prelude.{Some, None, slice_get, Result, Ok, Err, IfOk, if◌then◌else◌, ◌==◌}
+use Rattle.std.specs.Prelude.{Some, None, Result, Ok, Err, IfOk, if◌then◌else◌, ◌==◌}
 use Rattle.gang_types.specs.declared.types.IntType.{IntType}
 use Rattle.gang_types.specs.declared.faults.FaultName.TheVariants.{Assert}
 use Rattle.gang_types.specs.declared.operators.BinaryOp.{BinaryOp}
@@ -93,7 +93,7 @@ module _ (p : Program) (variables : Variables) (w : ℕ) (regions : Regions) (ma
   -- ---- statements
 
   module _ (s : Stmt) (target : StepNumber) (next : IsNext p regions i n f number (Some (Put s target))) where
-    put_goes : (after : State) (new : Regions) → run p s lanes masked.state ≡ Ok after → Shows p variables w new (record { state = after; levels = masked.levels })
+    pub put_goes : (after : State) (new : Regions) → run p s lanes masked.state ≡ Ok after → Shows p variables w new (record { state = after; levels = masked.levels })
         → new Depth ≡ suc i ∷ [] → GoesTo p variables w masked (sent_on i lanes (λ k. target) new)
     put_goes after new is =
         point_goes p variables w regions masked shows i n f number (Put s target) next (λ k. target) after new
@@ -105,10 +105,10 @@ module _ (p : Program) (variables : Variables) (w : ℕ) (regions : Regions) (ma
         point_fails p variables w regions masked shows i n f number (Put s target) next fault
         (ap (λ r. r >>= (λ after. Ok (record { state = after; levels = closed (sent_in lanes (λ k. target) (body_of regions i f) ∷ []) ∷ [] }))) is)
 
-    long : length lanes ≡ w
+    pub long : length (waiting_in regions i number) ≡ w
     long = length-waiting p variables w regions masked shows i n f number (Some (Put s target)) next
 
-    some : 0 < w
+    pub some : 0 < w
     some =
         let first = waiter p variables w regions masked shows i n f number (Put s target) next in
         omega (arith, long, first.1, length_numbers)

@@ -25,8 +25,9 @@ use Rattle.machine_states.specs.Shows.{body_level, result_of, ShowsFrame, ShowsC
 use Rattle.machine_states.specs.Effects.{assigned_region, returned_in}
 use Rattle.machine_states.specs.Steps.{KeepsBoth}
 use Rattle.machine_states.proofs.EachLane.{at-each_out}
-use Rattle.machine_states.proofs.ChangedRegions.{region_here, part_away, frames_kept}
-use Rattle.machine_states.proofs.FramesBelow.{lanes_same, frames_below}
+use Rattle.machine_states.proofs.ArrayViews.{memory_kept}
+use Rattle.machine_states.proofs.ChangedRegions.{HaveSameLengths, region_here, part_away, frames_kept, lengths_kept}
+use Rattle.machine_states.proofs.FramesBelow.{lanes_same, frames_below, view_shown}
 use Rattle.machine_states.proofs.NextPoints.{same_word}
 
 -- ---- the result
@@ -128,6 +129,9 @@ module _ (p : Program) (variables : Variables) (w i n : ℕ) (f : Function) (lan
   part_kept : (part : Head) → same_head ReturnedOf part ≡ false → same_head ResultOf part ≡ false → new (OfHead i part) ≡ old (OfHead i part)
   part_kept part one other = part_away (word ∷ []) between i ReturnedOf part one ∙ part_away result_now old i ResultOf part other
 
+  lengths_same : HaveSameLengths old new
+  lengths_same v = lengths_kept (word ∷ []) between i (OfHead i ReturnedOf) (omega arith) v ∙ lengths_kept result_now old i (OfHead i ResultOf) (omega arith) v
+
   result_is : new (OfHead i ResultOf) ≡ result_now
   result_is = part_away (word ∷ []) between i ReturnedOf ResultOf refl ∙ region_here result_now old (OfHead i ResultOf)
 
@@ -148,7 +152,7 @@ module _ (p : Program) (variables : Variables) (w i n : ℕ) (f : Function) (lan
           waits = shown.waits ∙ ap (λ numbers. body_level (closing_number shown.function) numbers ∷ []) (sym (part_kept NumbersOf refl refl));
           sized = ap length (part_kept NumbersOf refl refl) ∙ shown.sized;
           untasked = ap (map (leaves_task lanes)) shown.untasked;
-          views = shown.views;
+          views = λ k. view_shown p variables w old new lengths_same i frame k refl (shown.views k);
           locals = shown.locals;
           result = ap (assigned_words f.result lanes values) (shown.result ∙ ap (λ rate. result_of rate before (old (OfHead i ResultOf))) rate_is)
               ∙ returned_result w lanes before word keeps long values (old (OfHead i ResultOf)) given shown.result_sized (length-lanes_of_word w (at (old (OfHead i ReturnedOf)) 0)) f.result
@@ -171,7 +175,7 @@ module _ (p : Program) (variables : Variables) (w i n : ℕ) (f : Function) (lan
           let new_top : ShowsFrame p variables w new (length frames) (returned f.result lanes values frame) levels =
           subst (λ j. ShowsFrame p variables w new j (returned f.result lanes values frame) levels) (sym below) (frame_returned frame levels is top) in
           record {
-            file = shows.file;
+            memory = memory_kept (OfHead i ReturnedOf) tt (word ∷ []) between memory (memory_kept (OfHead i ResultOf) tt result_now old memory shows.memory);
             depth = shows.depth;
             few = shows.few;
             frames = (

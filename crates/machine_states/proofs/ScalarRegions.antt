@@ -1,7 +1,7 @@
 -- What lanes see of the words of a scalar's region, and what they leave in it.
 use Rattle.std.proofs.Common.{◌≡◌, refl, sym, ap, ◌∙◌, ℕ, ◌<◌, List, [], ◌∷◌, length, arith}
 use Rattle.std.specs.Prelude.{take, slice_set, if◌then◌else◌}
-use Rattle.std.proofs.lemmas.List.{take_all, get_or-take}
+use Rattle.std.proofs.lemmas.List.{take_all, get_or-take, length-set}
 use Rattle.gang_types.specs.declared.types.Rate.{Rate}
 use Rattle.gang_types.specs.declared.types.Rate.TheVariants.{Uniform, Varying}
 use Rattle.gang_types.specs.Lanes.{Lanes, lowest}
@@ -57,3 +57,9 @@ assigned_same w Uniform lanes values [] long = absurd (omega (arith, long))
 assigned_same w Uniform lanes values (x ∷ []) long = refl
 assigned_same w Uniform lanes values (x ∷ y ∷ region) long = absurd (omega (arith, long))
 assigned_same w Varying lanes values region long = refl
+
+-- an assignment leaves as many words
+module _ (w : ℕ) (lanes : Lanes) (long : length lanes ≡ w) (values : List ℕ) (given : length values ≡ w) where
+  pub assigned_long : (rate : Rate) (region : List ℕ) → length region ≡ words_for w rate → length (assigned_region rate lanes values region) ≡ length region
+  assigned_long Uniform region size = length-set region 0 (at values (lowest lanes))
+  assigned_long Varying region size = length-merged lanes values region (given ∙ sym long) (size ∙ sym long) ∙ long ∙ sym size

@@ -12,8 +12,9 @@ use Rattle.machine_states.specs.Variables.{Variables}
 use Rattle.machine_states.specs.Regions.{FunctionOf, LanesOf, ReturnedOf, NumbersOf, ResultOf, Depth, OfHead, Regions, lanes_in}
 use Rattle.machine_states.specs.Shows.{body_level, result_of, ShowsFrame, Shows}
 use Rattle.machine_states.specs.Effects.{sent_on}
-use Rattle.machine_states.proofs.ChangedRegions.{region_here, part_away, frames_kept}
-use Rattle.machine_states.proofs.FramesBelow.{lanes_same, frames_below}
+use Rattle.machine_states.proofs.ArrayViews.{memory_kept}
+use Rattle.machine_states.proofs.ChangedRegions.{region_here, part_away, frames_kept, lengths_kept}
+use Rattle.machine_states.proofs.FramesBelow.{lanes_same, frames_below, view_shown}
 use Rattle.machine_states.proofs.NextPoints.{same_word}
 
 module _ (p : Program) (variables : Variables) (w i : ℕ) (lanes : Lanes) (target : ℕ → StepNumber) (old : Regions) (long : length lanes ≡ w) where
@@ -36,7 +37,7 @@ module _ (p : Program) (variables : Variables) (w i : ℕ) (lanes : Lanes) (targ
     waits = ap (map (sent_in lanes target)) shown.waits ∙ ap (λ numbers. body_level (closing_number shown.function) numbers ∷ []) (sym numbers_are);
     sized = ap length numbers_are ∙ length-sent lanes target (old (OfHead i NumbersOf)) (shown.sized ∙ sym long) ∙ shown.sized;
     untasked = shown.untasked;
-    views = shown.views;
+    views = λ k. view_shown p variables w old new (lengths_kept numbers_now old i (OfHead i NumbersOf) (omega arith)) i frame k refl (shown.views k);
     locals = shown.locals;
     result = shown.result
         ∙ ap (λ returned. result_of (result_rate p frame) returned (old (OfHead i ResultOf))) (lanes_same p variables w old new i ReturnedOf (part_away numbers_now old i NumbersOf ReturnedOf refl))
@@ -53,7 +54,7 @@ module _ (p : Program) (variables : Variables) (w i : ℕ) (lanes : Lanes) (targ
       let top : ShowsFrame p variables w new i frame (sent_in lanes target level ∷ []) =
       frame_sent frame level (subst (λ j. ShowsFrame p variables w old j frame (level ∷ [])) below shows.frames.0) in
       record {
-        file = shows.file;
+        memory = memory_kept (OfHead i NumbersOf) tt numbers_now old memory shows.memory;
         depth = shows.depth;
         few = shows.few;
         frames = (

@@ -1,21 +1,20 @@
 -- Which variables a store has after words were set.
-use Rattle.std.proofs.Common.{◌≡◌, refl, sym, ap, ◌∙◌, subst, ℕ, zero, suc, ◌+◌, ◌<◌, ◌≤◌, Bool, true, false, ◌||◌, List, [], ◌∷◌, ◌++◌, length, inl, inr, nat_eq, arith}
+use Rattle.std.proofs.Common.{◌≡◌, refl, sym, ap, ◌∙◌, subst, ℕ, zero, suc, ◌+◌, ◌<◌, ◌≤◌, Bool, true, false, true≢false, ◌||◌, List, [], ◌∷◌, ◌++◌, length, inl, inr, nat_eq, arith}
 use Rattle.std.proofs.lemmas.Bool.Decides.{nat_tests}
-use Rattle.std.specs.Prelude.{Result, Ok, Err, IfOk, if◌then◌else◌}
+use Rattle.std.specs.Prelude.{IfOk, slice_get, if◌then◌else◌}
 use Rattle.std.proofs.lemmas.Result.{IfOk-weaker}
 use Rattle.gang_types.specs.declared.places.VarId.{VarId}
 use Rattle.gang_types.specs.declared.places.VarId.TheVariants.{File, Local}
 use Rattle.gang_types.specs.Lanes.{Lanes}
-use Rattle.gang_model.specs.Running.Lanes.{Fault}
-use Rattle.gang_model.specs.Running.State.{Store, State, same_id, with_words, declared_words}
+use Rattle.gang_model.specs.Running.State.{Store, State, same_id, view_of, with_words, declared_words}
 use Rattle.gang_model.specs.Running.Value.{value}
-use Rattle.gang_model.specs.Running.Step.{passed}
-use Rattle.gang_model.specs.Types.Tree.{Arg, Value, Array}
+use Rattle.gang_model.specs.Running.Step.{part, passed}
+use Rattle.gang_model.specs.Types.Tree.{Arg, Value, Array, Variable}
 use Rattle.gang_model.proofs.LaneWords.{if_ok_bind, if_ok_after}
 use Rattle.mask_states.proofs.OwnTasks.{by_bool}
-use Rattle.machine_states.specs.Variables.{Variables, parameters_of}
+use Rattle.machine_states.specs.Variables.{Variables, is_array_of, own_of, parameters_of}
 use Rattle.machine_states.specs.Plain.{ArgsPlain, CallPlain}
-use Rattle.machine_states.specs.Declared.{IsAmong, own_number, first_numbers, has_entry, HasAll}
+use Rattle.machine_states.specs.Declared.{IsAmong, own_number, scalars_below, scalar_parameters, has_entry, HasAll}
 use Rattle.machine_states.proofs.DeclaredLists.{or_front, or_back, IsWithin}
 
 -- ---- variables
@@ -91,33 +90,56 @@ has_own (Local n) store h k (inr among) = absurd among
 
 -- ---- parameters
 
-pub among_first : (n k : ℕ) → IsAmong k (first_numbers n) → k < n
-among_first zero k among = absurd among
-among_first (suc n) k (inl same) = omega (arith, same)
-among_first (suc n) k (inr among) = omega (arith, among_first n k among)
+-- a number is that of one of the first n variables, which is no array
+abbrev pub IsScalarBelow : List Variable → (n k : ℕ) → Type 0
+IsScalarBelow own n k = (k < n) × (is_array_of (slice_get own k) ≡ false)
 
-abbrev HasFrom : ℕ → List Arg → Store → Type 0
-HasFrom k args store = (j : ℕ) → k ≤ j → j < k + length args → has_entry store (Local j) ≡ true
+pub among_scalars : (own : List Variable) (n k : ℕ) → IsAmong k (scalars_below own n) → IsScalarBelow own n k
+among_scalars own zero k among = absurd among
+among_scalars own (suc n) k among = by_kind (is_array_of (slice_get own n)) refl (among_scalars own n k) among
+  where
+    below : IsScalarBelow own n k → IsScalarBelow own (suc n) k
+    below (less, scalar) = (omega (arith, less), scalar)
+
+    by_kind : (b : Bool) → is_array_of (slice_get own n) ≡ b → (IsAmong k (scalars_below own n) → IsScalarBelow own n k)
+        → IsAmong k (if b then scalars_below own n else n ∷ scalars_below own n) → IsScalarBelow own (suc n) k
+    by_kind true is lower among = below (lower among)
+    by_kind false is lower (inl same) = (omega (arith, same), ap (λ m. is_array_of (slice_get own m)) same ∙ is)
+    by_kind false is lower (inr among) = below (lower among)
 
 module _ (variables : Variables) (n called : ℕ) (lanes : Lanes) (state : State) where
-  value_passed : (k : ℕ) (args : List Arg) (v : VarId) (words : List ℕ) (store : Store) → v ≡ Local k → HasFrom (suc k) args store
-      → (j : ℕ) → k ≤ j → j < suc k + length args → (same_id v (Local j) || has_entry store (Local j)) ≡ true
-  value_passed k args v words store e more j low high = by_bool (nat_eq k j)
-      (λ same. or_front (same_id v (Local j)) (has_entry store (Local j)) (ap (λ u. same_id u (Local j)) e ∙ same))
-      (λ other. or_back (same_id v (Local j)) (has_entry store (Local j)) (more j (let apart : suc k ≤ j = grind (arith, nat_tests) in apart) high))
+  abbrev HasFrom : ℕ → List Arg → Store → Type 0
+  HasFrom k args store = (j : ℕ) → k ≤ j → j < k + length args → is_array_of (slice_get (own_of variables called) j) ≡ false → has_entry store (Local j) ≡ true
 
-  -- each argument is there
+  value_passed : (k : ℕ) (args : List Arg) (v : VarId) (words : List ℕ) (store : Store) → v ≡ Local k → HasFrom (suc k) args store
+      → (j : ℕ) → k ≤ j → j < suc k + length args → is_array_of (slice_get (own_of variables called) j) ≡ false → (same_id v (Local j) || has_entry store (Local j)) ≡ true
+  value_passed k args v words store e more j low high scalar = by_bool (nat_eq k j)
+      (λ same. or_front (same_id v (Local j)) (has_entry store (Local j)) (ap (λ u. same_id u (Local j)) e ∙ same))
+      (λ other. or_back (same_id v (Local j)) (has_entry store (Local j)) (more j (let apart : suc k ≤ j = grind (arith, nat_tests) in apart) high scalar))
+
+  array_passed : (k : ℕ) (args : List Arg) (store : Store) → is_array_of (slice_get (own_of variables called) k) ≡ true → HasFrom (suc k) args store
+      → (j : ℕ) → k ≤ j → j < suc k + length args → is_array_of (slice_get (own_of variables called) j) ≡ false → has_entry store (Local j) ≡ true
+  array_passed k args store array more j low high scalar = by_bool (nat_eq k j)
+      (λ same. absurd (true≢false (sym array ∙ ap (λ m. is_array_of (slice_get (own_of variables called) m)) (equal_number k j same) ∙ scalar)))
+      (λ other. more j (let apart : suc k ≤ j = grind (arith, nat_tests) in apart) high scalar)
+
+  -- each argument that is no array is there
   passed_has_from : (k : ℕ) (args : List Arg) → ArgsPlain variables n called k args → IfOk (passed args lanes state) (λ a. HasFrom k args a.vars)
-  passed_has_from k [] p = λ j low high. absurd (omega (arith, low, high))
-  passed_has_from k (Array parameter array from ∷ args) p = absurd p
+  passed_has_from k [] p = λ j low high scalar. absurd (omega (arith, low, high))
+  passed_has_from k (Array parameter array from ∷ args) p =
+      if_ok_after (λ a. HasFrom k (Array parameter array from ∷ args) a.vars) (part from (view_of state array) lanes state) _ (λ view.
+      if_ok_bind (λ a. HasFrom (suc k) args a.vars) (λ a. HasFrom k (Array parameter array from ∷ args) a.vars) (passed args lanes state) _ (passed_has_from (suc k) args p.3)
+      (λ rest more j low high scalar. array_passed k args rest.vars p.0.array more j low (omega (arith, high)) scalar))
   passed_has_from k (Value x e ∷ args) p =
       if_ok_after (λ a. HasFrom k (Value x e ∷ args) a.vars) (value e lanes state) _ (λ y.
       if_ok_bind (λ a. HasFrom (suc k) args a.vars) (λ a. HasFrom k (Value x e ∷ args) a.vars) (passed args lanes state) _ (passed_has_from (suc k) args p.2)
-      (λ rest more j low high. value_passed k args x.id (declared_words x.rate lanes y) rest.vars p.0.id more j low (omega (arith, high))))
+      (λ rest more j low high scalar. value_passed k args x.id (declared_words x.rate lanes y) rest.vars p.0.id more j low (omega (arith, high)) scalar))
 
   -- so a call begins with its parameters
-  pub passed_has : (args : List Arg) → CallPlain variables n called args → IfOk (passed args lanes state) (λ a. HasAll (first_numbers (parameters_of variables called)) a.vars)
+  pub passed_has : (args : List Arg) → CallPlain variables n called args → IfOk (passed args lanes state) (λ a. HasAll (scalar_parameters variables called) a.vars)
   passed_has args plain =
-      IfOk-weaker (passed args lanes state) (λ a. HasFrom 0 args a.vars) (λ a. HasAll (first_numbers (parameters_of variables called)) a.vars)
-      (λ a has k among. has k (omega arith) (omega (arith, plain.all, among_first (parameters_of variables called) k among)))
+      IfOk-weaker (passed args lanes state) (λ a. HasFrom 0 args a.vars) (λ a. HasAll (scalar_parameters variables called) a.vars)
+      (λ a has k among.
+      let scalar = among_scalars (own_of variables called) (parameters_of variables called) k among in
+      has k (omega arith) (omega (arith, plain.all, scalar.0)) scalar.1)
       (passed_has_from 0 args plain.args_plain)

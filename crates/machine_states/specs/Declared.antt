@@ -5,7 +5,7 @@ use Rattle.gang_types.specs.declared.places.VarId.TheVariants.{File, Local}
 use Rattle.gang_model.specs.Running.State.{Frame, Store, same_id}
 use Rattle.gang_model.specs.Types.Tree.{StepNumber, Expr, Read, Element, Unary, Binary, Convert, And, Or, Choice, Reduce, Scan, OfOne, OfTwo, Extract, Insert, Rotate, Shift, Shuffle, ShuffleTwo, Select, Target, Scalar, ElementOf, Arg, Value, Array, ResultFor, Declares, Assigns, Returns, Stmt, Empty, Then, Declare, Assign, Change, If, Loop, BodyFirst, Return, Switch, Segment, ForEach, Call, Check, PackedStore, PackedLoad, Variable, Standing, Function, Program}
 use Rattle.mask_states.specs.Masked.{Level, Masked, next_in}
-use Rattle.machine_states.specs.Variables.{Variables, parameters_of}
+use Rattle.machine_states.specs.Variables.{Variables, is_array_of, own_of, parameters_of}
 
 -- ---- the tree
 
@@ -116,6 +116,8 @@ DeclaresFirst d (BodyFirst number test body) = NamesDeclared d test × DeclaresF
 DeclaresFirst d (Return number e) = OptionDeclared d e
 DeclaresFirst d (Call number called args result_for) = ArgsDeclared d args × ResultDeclared d result_for
 DeclaresFirst d (Check number e) = NamesDeclared d e
+DeclaresFirst d (PackedStore number array from e result_for) = OptionDeclared d from × NamesDeclared d e × ResultDeclared d result_for
+DeclaresFirst d (PackedLoad number array from x result_for) = OptionDeclared d from × IsThere d x.id × ResultDeclared d result_for
 DeclaresFirst d s = Unit {0}
 
 -- for each step of a statement, in running order, what is declared before it
@@ -132,29 +134,33 @@ declared_at d s = d ∷ []
 
 -- ---- functions
 
--- the numbers of a function's parameters
-abbrev pub first_numbers : ℕ → List ℕ
-first_numbers zero = []
-first_numbers (suc n) = n ∷ first_numbers n
+-- the numbers of those of the first n variables that are no arrays
+abbrev pub scalars_below : List Variable → (n : ℕ) → List ℕ
+scalars_below own zero = []
+scalars_below own (suc n) = if is_array_of (slice_get own n) then scalars_below own n else n ∷ scalars_below own n
+
+-- the numbers of a function's parameters that are no arrays
+abbrev pub scalar_parameters : Variables → (function : ℕ) → List ℕ
+scalar_parameters variables n = scalars_below (own_of variables n) (parameters_of variables n)
 
 abbrev pub declared_for : Variables → (function : ℕ) → Function → List (List ℕ)
-declared_for variables n f = declared_at (first_numbers (parameters_of variables n)) f.body
+declared_for variables n f = declared_at (scalar_parameters variables n) f.body
 
 -- what is declared for each lane that has ended or returned
 abbrev pub declared_at_end : Variables → (function : ℕ) → Function → List ℕ
-declared_at_end variables n f = declared_before_return f.body ++ first_numbers (parameters_of variables n)
+declared_at_end variables n f = declared_before_return f.body ++ scalar_parameters variables n
 
 -- what is declared before a step of a function, or before its closing brace
 abbrev pub declared_before : Variables → (function : ℕ) → Function → StepNumber → List ℕ
 declared_before variables n f number = slice_index_or (declared_for variables n f) number (declared_at_end variables n f)
 
--- a variable in scope at a step is declared before it
+-- a scalar in scope at a step is declared before it
 abbrev pub IsDeclaredName : (declared : List ℕ) → Variable → Type 0
-IsDeclaredName d v = IsThere d v.id
+IsDeclaredName d v = v.is_array ≡ false → IsThere d v.id
 
 -- what a function names is declared before, and so are the names in scope at its steps and at its closing brace
 pub record IsDeclaredFirst (variables : Variables) (n : ℕ) (f : Function) : Type 0 where
-  pub body : DeclaresFirst (first_numbers (parameters_of variables n)) f.body
+  pub body : DeclaresFirst (scalar_parameters variables n) f.body
   pub scopes : (number : ℕ) (standing : Standing) → slice_get f.standings number ≡ Some standing
       → All (IsDeclaredName (declared_before variables n f number)) standing.scope
 

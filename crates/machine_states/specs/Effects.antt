@@ -1,13 +1,16 @@
 -- What the machine writes to its regions.
-use Rattle.std.specs.Prelude.{ℕ, List, [], ◌∷◌, slice_set}
+use Rattle.std.specs.Prelude.{ℕ, ◌+◌, List, [], ◌∷◌, slice_set}
 use Rattle.gang_types.specs.declared.types.Rate.{Rate}
 use Rattle.gang_types.specs.declared.types.Rate.TheVariants.{Uniform, Varying}
 use Rattle.gang_types.specs.declared.places.VarId.{VarId}
 use Rattle.gang_types.specs.declared.places.VarId.TheVariants.{File, Local}
 use Rattle.gang_types.specs.Lanes.{Lanes, lowest}
 use Rattle.gang_model.specs.Running.Lanes.{at, each, merged}
+use Rattle.gang_model.specs.Running.State.{View}
+use Rattle.gang_model.specs.Running.Step.{scattered_from}
 use Rattle.gang_model.specs.Types.Tree.{StepNumber}
 use Rattle.mask_states.specs.Masked.{sent}
+use Rattle.machine_states.specs.ArrayParts.{array_region}
 use Rattle.machine_states.specs.Regions.{ReturnedOf, NumbersOf, ResultOf, OfFile, OfHead, OfLocal, Region, Regions, with_region}
 
 -- lanes of a frame wait for other steps
@@ -40,3 +43,11 @@ abbrev pub returned_in : (frame : ℕ) → Rate → Lanes → (values : List ℕ
 returned_in frame rate lanes values returned regions =
     with_region (OfHead frame ReturnedOf) (returned ∷ [])
     (with_region (OfHead frame ResultOf) (assigned_region rate lanes values (regions (OfHead frame ResultOf))) regions)
+
+-- the words of an array after lanes stored to elements of a part of it
+abbrev pub stored_region : View → Lanes → (indices values old : List ℕ) → List ℕ
+stored_region view lanes indices values old = scattered_from 0 lanes (each lanes (λ k. view.first + at indices k)) values old
+
+abbrev pub stored_in : View → Lanes → (indices values : List ℕ) → Regions → Regions
+stored_in view lanes indices values regions =
+    with_region (array_region view.array) (stored_region view lanes indices values (regions (array_region view.array))) regions

@@ -1,4 +1,5 @@
 pub mod Regions
+pub mod ArrayParts
 pub mod Variables
 pub mod Plain
 pub mod Declared

@@ -1,15 +1,15 @@
--- Programs over scalars: functions and file-scope variables without arrays, all statements but the foreach forms, `switch`
--- and the packed calls, and expressions that read no array (a choice of this project: the forms that the machine runs today).
-use Rattle.std.specs.Prelude.{◌≡◌, ℕ, suc, ◌≤◌, false, List, [], ◌∷◌, All, Option, Some, None, length, slice_get}
+-- Programs without the foreach forms and `switch`: all other statements, every expression, scalars and arrays (a choice of this
+-- project: the forms that the machine runs today).
+use Rattle.std.specs.Prelude.{◌≡◌, ℕ, suc, ◌<◌, ◌≤◌, true, List, [], ◌∷◌, All, Option, Some, None, length, slice_get}
 use Rattle.gang_types.specs.declared.places.VarId.TheVariants.{File, Local}
-use Rattle.gang_model.specs.Types.Tree.{Expr, Read, Element, Unary, Binary, Convert, And, Or, Choice, Reduce, Scan, OfOne, OfTwo, Extract, Insert, Rotate, Shift, Shuffle, ShuffleTwo, Select, Scalar, Arg, Value, Array, ResultFor, Nothing, Declares, Assigns, Returns, Stmt, Empty, Then, Declare, Assign, Change, If, Loop, BodyFirst, Break, Continue, Return, Call, Check, Variable, Standing, Function, Program}
+use Rattle.gang_model.specs.Types.Tree.{Expr, Read, Element, Unary, Binary, Convert, And, Or, Choice, Reduce, Scan, OfOne, OfTwo, Extract, Insert, Rotate, Shift, Shuffle, ShuffleTwo, Select, Scalar, ElementOf, Arg, Value, Array, ResultFor, Nothing, Declares, Assigns, Returns, Stmt, Empty, Then, Declare, Assign, Change, If, Loop, BodyFirst, Break, Continue, Return, Call, Check, PackedStore, PackedLoad, Variable, Standing, Function, Program}
 use Rattle.mask_states.specs.Points.{Point, Put, Go, Branch, Enter}
-use Rattle.machine_states.specs.Variables.{Variables, IsScalar, IsOwn, own_of, parameters_of}
+use Rattle.machine_states.specs.Variables.{Variables, IsArray, IsScalar, IsOwn, IsOwnArray, own_of, parameters_of}
 
--- an expression of a function reads scalars alone
+-- an expression of a function reads scalars and elements of arrays
 abbrev pub IsPlainExpr : Variables → (function : ℕ) → Expr → Type 0
 IsPlainExpr variables n (Read x) = IsScalar variables n x
-IsPlainExpr variables n (Element array index) = ⊥
+IsPlainExpr variables n (Element array index) = IsArray variables n array × IsPlainExpr variables n index
 IsPlainExpr variables n (Unary op type a) = IsPlainExpr variables n a
 IsPlainExpr variables n (Binary op type a b) = IsPlainExpr variables n a × IsPlainExpr variables n b
 IsPlainExpr variables n (Convert from to a) = IsPlainExpr variables n a
@@ -33,11 +33,12 @@ abbrev pub IsPlainOption : Variables → (function : ℕ) → Option Expr → Ty
 IsPlainOption variables n None = Unit {0}
 IsPlainOption variables n (Some e) = IsPlainExpr variables n e
 
--- the arguments of a call are values of the called function's variables, by their numbers from the k-th on
+-- the arguments of a call are values of the called function's variables, or parts of arrays, by their numbers from the k-th on
 abbrev pub ArgsPlain : Variables → (function called k : ℕ) → List Arg → Type 0
 ArgsPlain variables n called k [] = Unit {0}
 ArgsPlain variables n called k (Value x e ∷ args) = IsOwn variables called k x × IsPlainExpr variables n e × ArgsPlain variables n called (suc k) args
-ArgsPlain variables n called k (Array parameter array from ∷ args) = ⊥
+ArgsPlain variables n called k (Array parameter array from ∷ args) =
+    IsOwnArray variables called k parameter × IsArray variables n array × IsPlainOption variables n from × ArgsPlain variables n called (suc k) args
 
 -- a call passes each parameter of the function that it calls, of which there are at most 8
 pub record CallPlain (variables : Variables) (n called : ℕ) (args : List Arg) : Type 0 where
@@ -58,7 +59,9 @@ IsPlain variables n Empty = Unit {0}
 IsPlain variables n (Then first rest) = IsPlain variables n first × IsPlain variables n rest
 IsPlain variables n (Declare number x e) = ((k : ℕ) × IsOwn variables n k x) × IsPlainOption variables n e
 IsPlain variables n (Assign number (Scalar x) e) = IsScalar variables n x × IsPlainExpr variables n e
+IsPlain variables n (Assign number (ElementOf array rate index) e) = IsArray variables n array × IsPlainExpr variables n index × IsPlainExpr variables n e
 IsPlain variables n (Change number (Scalar x) type op in_type e) = IsScalar variables n x × IsPlainExpr variables n e
+IsPlain variables n (Change number (ElementOf array rate index) type op in_type e) = IsArray variables n array × IsPlainExpr variables n index × IsPlainExpr variables n e
 IsPlain variables n (If number test first other) = IsPlainExpr variables n test × IsPlain variables n first × IsPlain variables n other
 IsPlain variables n (Loop number test update body) = IsPlainExpr variables n test × IsPlain variables n update × IsPlain variables n body
 IsPlain variables n (BodyFirst number test body) = IsPlainExpr variables n test × IsPlain variables n body
@@ -67,32 +70,44 @@ IsPlain variables n (Continue number) = Unit {0}
 IsPlain variables n (Return number e) = IsPlainOption variables n e
 IsPlain variables n (Call number called args result_for) = CallPlain variables n called args × ResultPlain variables n result_for
 IsPlain variables n (Check number e) = IsPlainExpr variables n e
+IsPlain variables n (PackedStore number array from e result_for) =
+    IsArray variables n array × IsPlainOption variables n from × IsPlainExpr variables n e × ResultPlain variables n result_for
+IsPlain variables n (PackedLoad number array from x result_for) =
+    IsArray variables n array × IsPlainOption variables n from × IsScalar variables n x × ResultPlain variables n result_for
 IsPlain variables n s = ⊥
 
 -- what a step of a function does
 abbrev pub IsPlainPoint : Variables → (function : ℕ) → Point → Type 0
 IsPlainPoint variables n (Put (Declare number x e) next) = ((k : ℕ) × IsOwn variables n k x) × IsPlainOption variables n e
 IsPlainPoint variables n (Put (Assign number (Scalar x) e) next) = IsScalar variables n x × IsPlainExpr variables n e
+IsPlainPoint variables n (Put (Assign number (ElementOf array rate index) e) next) = IsArray variables n array × IsPlainExpr variables n index × IsPlainExpr variables n e
 IsPlainPoint variables n (Put (Change number (Scalar x) type op in_type e) next) = IsScalar variables n x × IsPlainExpr variables n e
-IsPlainPoint variables n (Put (Return number e) next) = IsPlainOption variables n e
+IsPlainPoint variables n (Put (Change number (ElementOf array rate index) type op in_type e) next) =
+    IsArray variables n array × IsPlainExpr variables n index × IsPlainExpr variables n e
 IsPlainPoint variables n (Put (Check number e) next) = IsPlainExpr variables n e
+IsPlainPoint variables n (Put (PackedStore number array from e result_for) next) =
+    IsArray variables n array × IsPlainOption variables n from × IsPlainExpr variables n e × ResultPlain variables n result_for
+IsPlainPoint variables n (Put (PackedLoad number array from x result_for) next) =
+    IsArray variables n array × IsPlainOption variables n from × IsScalar variables n x × ResultPlain variables n result_for
+IsPlainPoint variables n (Put (Return number e) next) = IsPlainOption variables n e
 IsPlainPoint variables n (Go next) = Unit {0}
 IsPlainPoint variables n (Branch test yes' no') = IsPlainExpr variables n test
 IsPlainPoint variables n (Enter called args result_for next) = CallPlain variables n called args × ResultPlain variables n result_for
 IsPlainPoint variables n point = ⊥
 
--- a name in scope stands for a scalar of the function
+-- a name in scope stands for a variable of the function
 abbrev pub IsPlainName : Variables → (function : ℕ) → Variable → Type 0
-IsPlainName variables n v = (k : ℕ) × (slice_get (own_of variables n) k ≡ Some v) × (v.is_array ≡ false)
+IsPlainName variables n v = (k : ℕ) × (slice_get (own_of variables n) k ≡ Some v)
 
 -- a function: its statements, and the names that are in scope at its steps and at its closing brace
 pub record IsPlainFunction (variables : Variables) (n : ℕ) (f : Function) : Type 0 where
   pub body : IsPlain variables n f.body
   pub scopes : (number : ℕ) (standing : Standing) → slice_get f.standings number ≡ Some standing → All (IsPlainName variables n) standing.scope
 
--- a program with these variables, of which each function has at most so many
+-- a program with these variables, of which each function has at most so many, and only its parameters may be arrays
 pub record IsPlainProgram (variables : Variables) (most : ℕ) (p : Program) : Type 0 where
-  pub file : (k : ℕ) (v : Variable) → slice_get variables.file k ≡ Some v → (v.id ≡ File k) × (v.is_array ≡ false)
+  pub file : (k : ℕ) (v : Variable) → slice_get variables.file k ≡ Some v → v.id ≡ File k
   pub own : (n k : ℕ) (v : Variable) → slice_get (own_of variables n) k ≡ Some v → v.id ≡ Local k
+  pub arrays : (n k : ℕ) (v : Variable) → slice_get (own_of variables n) k ≡ Some v → v.is_array ≡ true → k < parameters_of variables n
   pub few : (n : ℕ) → length (own_of variables n) ≤ most
   pub functions : (n : ℕ) (f : Function) → slice_get p.functions n ≡ Some f → IsPlainFunction variables n f

@@ -9,10 +9,11 @@ use Rattle.gang_model.specs.Running.Lanes.{at}
 pub data Head : Type 0 where
   FunctionOf LanesOf ReturnedOf NumbersOf ResultOf : Head
 
--- what words there are: of a file-scope variable, how many frames there are, of a part of a frame's head, and of a variable of a
--- frame, by its number in its function. The entry's frame is frame 0.
+-- what words there are: of a file-scope variable, of an array that the entry is given, by the number of its parameter, how many frames
+-- there are, of a part of a frame's head, and of a variable of a frame, by its number in its function. The entry's frame is frame 0.
 pub data Region : Type 0 where
   OfFile : (number : ℕ) → Region
+  OfEntry : (number : ℕ) → Region
   Depth : Region
   OfHead : (frame : ℕ) → Head → Region
   OfLocal : (frame number : ℕ) → Region
@@ -35,10 +36,12 @@ same_head ResultOf other = false
 
 abbrev pub same_region : Region → Region → Bool
 same_region (OfFile m) (OfFile n) = m == n
+same_region (OfEntry m) (OfEntry n) = m == n
 same_region Depth Depth = true
 same_region (OfHead i a) (OfHead j b) = (i == j) && same_head a b
 same_region (OfLocal i m) (OfLocal j n) = (i == j) && (m == n)
 same_region (OfFile m) other = false
+same_region (OfEntry m) other = false
 same_region Depth other = false
 same_region (OfHead i a) other = false
 same_region (OfLocal i m) other = false

@@ -1,20 +1,22 @@
 -- What it means that the words of a machine show a masked state: each part of it stands in its region. Words of variables that are not
 -- declared, and of frames that were left, show nothing.
-use Rattle.std.specs.Prelude.{◌≡◌, ℕ, ◌<◌, ◌≤◌, true, List, [], ◌∷◌, length, take, Some, None, slice_get, if◌then◌else◌}
+use Rattle.std.specs.Prelude.{◌≡◌, ℕ, ◌<◌, ◌≤◌, true, false, List, [], ◌∷◌, length, take, Some, None, slice_get, if◌then◌else◌}
 use Rattle.gang_types.specs.declared.types.Rate.{Rate}
 use Rattle.gang_types.specs.declared.types.Rate.TheVariants.{Uniform, Varying}
-use Rattle.gang_types.specs.declared.places.VarId.TheVariants.{File, Local}
+use Rattle.gang_types.specs.declared.places.VarId.{VarId}
+use Rattle.gang_types.specs.declared.places.VarId.TheVariants.{Local}
 use Rattle.gang_types.specs.Lanes.{Lanes, no_lane}
 use Rattle.gang_model.specs.Running.Lanes.{at, each}
-use Rattle.gang_model.specs.Running.State.{Frame, words_of, words_for}
+use Rattle.gang_model.specs.Running.State.{Frame, View, view_in, words_of, words_for}
 use Rattle.gang_model.specs.Running.Step.{result_rate}
 use Rattle.gang_model.specs.Types.Tree.{StepNumber, Arg, Nothing, Variable, Function, Program}
 use Rattle.mask_states.specs.Points.{Enter, closing_number}
 use Rattle.mask_states.specs.Placed.{HasPoint}
 use Rattle.mask_states.specs.Masked.{Level, Masked, next_in}
 use Rattle.mask_states.specs.MaskedStep.{points_for}
-use Rattle.machine_states.specs.Variables.{Variables, own_of, rate_of}
+use Rattle.machine_states.specs.Variables.{Variables, is_array_of, own_of, rate_of}
 use Rattle.machine_states.specs.Declared.{has_entry}
+use Rattle.machine_states.specs.ArrayParts.{AreMemory, view_at}
 use Rattle.machine_states.specs.Regions.{FunctionOf, LanesOf, ReturnedOf, NumbersOf, ResultOf, OfFile, Depth, OfHead, OfLocal, Regions, lanes_in}
 
 -- a scalar's words are the first ones of its region
@@ -22,15 +24,20 @@ pub record IsScalarIn (width : ℕ) (rate : Rate) (words region : List ℕ) : Ty
   pub long : length words ≡ words_for width rate
   pub stands : words ≡ take (words_for width rate) region
 
--- each variable has words enough: one of the file its own, one of a frame a word for each lane, whatever its rate
+-- each variable has words enough: a scalar of the file its own, one of a frame a word for each lane, whatever its rate
 pub record AreSized (variables : Variables) (width : ℕ) (regions : Regions) : Type 0 where
-  pub file : (k : ℕ) (v : Variable) → slice_get variables.file k ≡ Some v → length (regions (OfFile k)) ≡ words_for width v.rate
+  pub file : (k : ℕ) (v : Variable) → slice_get variables.file k ≡ Some v → v.is_array ≡ false → length (regions (OfFile k)) ≡ words_for width v.rate
   pub own : (index n k : ℕ) (v : Variable) → index < 64 → slice_get (own_of variables n) k ≡ Some v → length (regions (OfLocal index k)) ≡ width
 
 -- the k-th variable of a frame stands in its region, if it is declared
 abbrev pub ShowsLocal : Variables → (width : ℕ) → Regions → (index : ℕ) → Frame → ℕ → Type 0
 ShowsLocal variables width regions index frame k = has_entry frame.vars (Local k) ≡ true
     → IsScalarIn width (rate_of (slice_get (own_of variables frame.function) k)) (words_of frame.vars (Local k)) (regions (OfLocal index k))
+
+-- the k-th variable of a frame that runs a function, if it is an array, stands for the part of an array that its region keeps
+abbrev pub ShowsView : Variables → Regions → (index function : ℕ) → List (VarId × View) → ℕ → Type 0
+ShowsView variables regions index function views k =
+    is_array_of (slice_get (own_of variables function) k) ≡ true → view_in views (Local k) ≡ view_at regions index (Local k)
 
 -- a result has the words of the lanes that have returned, and 0 in the others; a uniform one has one word
 abbrev pub result_of : Rate → (returned : Lanes) → List ℕ → List ℕ
@@ -50,7 +57,7 @@ pub record ShowsFrame (p : Program) (variables : Variables) (width : ℕ) (regio
   pub waits : levels ≡ body_level (closing_number function) (regions (OfHead index NumbersOf)) ∷ []
   pub sized : length (regions (OfHead index NumbersOf)) ≡ width
   pub untasked : frame.tasks ≡ []
-  pub views : frame.views ≡ []
+  pub views : (k : ℕ) → ShowsView variables regions index frame.function frame.views k
   pub locals : (k : ℕ) → ShowsLocal variables width regions index frame k
   pub result : frame.result ≡ result_of (result_rate p frame) (lanes_in width regions (OfHead index ReturnedOf)) (regions (OfHead index ResultOf))
   pub result_sized : length (regions (OfHead index ResultOf)) ≡ width
@@ -73,9 +80,9 @@ ShowsFrames p variables width regions (frame ∷ frames) (levels ∷ rest) =
     ShowsFrame p variables width regions (length frames) frame levels × ShowsCall p frame frames rest
     × ShowsFrames p variables width regions frames rest
 
--- the regions show a masked state: the file's variables, how many frames there are, and the frames
+-- the regions show a masked state: the file's variables and all arrays, how many frames there are, and the frames
 pub record Shows (p : Program) (variables : Variables) (width : ℕ) (regions : Regions) (masked : Masked) : Type 0 where
-  pub file : (k : ℕ) → words_of masked.state.memory (File k) ≡ regions (OfFile k)
+  pub memory : AreMemory regions masked.state.memory
   pub depth : regions Depth ≡ length masked.state.frames ∷ []
   pub few : length masked.state.frames ≤ 64
   pub frames : ShowsFrames p variables width regions masked.state.frames masked.levels

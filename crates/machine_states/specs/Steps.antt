@@ -8,15 +8,16 @@ use Rattle.gang_types.specs.Lanes.{Lanes, has}
 use Rattle.gang_types.specs.Masks.{lanes_of_word}
 use Rattle.gang_types.specs.Values.{converted}
 use Rattle.gang_model.specs.Running.Lanes.{Fault, at, each}
-use Rattle.gang_model.specs.Running.State.{Store, words_of}
+use Rattle.gang_model.specs.Running.State.{words_of}
+use Rattle.gang_model.specs.Running.Step.{Passed}
 use Rattle.gang_model.specs.Types.Tree.{StepNumber, ResultFor, Nothing, Declares, Assigns, Returns, Function, Program}
 use Rattle.mask_states.specs.Points.{Point, points_in, closing_number}
 use Rattle.mask_states.specs.Masked.{Masked, least, waiting_for, entered_body}
 use Rattle.mask_states.specs.MaskedStep.{Goes, Fails, masked_step}
 use Rattle.machine_states.specs.Variables.{Variables, own_of, rate_of}
 use Rattle.machine_states.specs.Declared.{has_entry}
-use Rattle.machine_states.specs.Regions.{FunctionOf, LanesOf, ReturnedOf, NumbersOf, ResultOf, Head, OfFile, Depth, OfHead, OfLocal, Regions, lanes_in}
-use Rattle.machine_states.specs.Shows.{IsScalarIn, Shows}
+use Rattle.machine_states.specs.Regions.{FunctionOf, LanesOf, ReturnedOf, NumbersOf, ResultOf, Head, OfFile, OfEntry, Depth, OfHead, OfLocal, Regions, lanes_in}
+use Rattle.machine_states.specs.Shows.{IsScalarIn, ShowsView, Shows}
 use Rattle.machine_states.specs.Effects.{declared_in, assigned_in, returned_in}
 
 -- the step that comes next is that of the top frame, of this index and function, with the least number that a lane of it waits for; it
@@ -46,20 +47,22 @@ KeepsBoth width some others word = (k : ℕ) → k < width → has (lanes_of_wor
 
 -- ---- calls
 
--- a frame has begun for these lanes, with these variables declared
-pub record IsBegun (variables : Variables) (width : ℕ) (regions : Regions) (index n : ℕ) (f : Function) (lanes : Lanes) (vars : Store) : Type 0 where
+-- a frame has begun for these lanes, with these variables declared and these parts of arrays
+pub record IsBegun (variables : Variables) (width : ℕ) (regions : Regions) (index n : ℕ) (f : Function) (lanes : Lanes) (given : Passed) : Type 0 where
   pub depth : regions Depth ≡ suc index ∷ []
   pub function : regions (OfHead index FunctionOf) ≡ n ∷ []
   pub lanes_are : lanes_in width regions (OfHead index LanesOf) ≡ lanes
   pub none_returned : lanes_in width regions (OfHead index ReturnedOf) ≡ replicate width false
   pub numbers : regions (OfHead index NumbersOf) ≡ (entered_body f lanes).numbers
   pub result_sized : length (regions (OfHead index ResultOf)) ≡ width
-  pub declared : (k : ℕ) → has_entry vars (Local k) ≡ true
-      → IsScalarIn width (rate_of (slice_get (own_of variables n) k)) (words_of vars (Local k)) (regions (OfLocal index k))
+  pub declared : (k : ℕ) → has_entry given.vars (Local k) ≡ true
+      → IsScalarIn width (rate_of (slice_get (own_of variables n) k)) (words_of given.vars (Local k)) (regions (OfLocal index k))
+  pub views : (k : ℕ) → ShowsView variables regions index n given.views k
 
--- the words of the file, and of the frames below this index, are the same
+-- the words of the file, of the entry's arrays, and of the frames below this index, are the same
 pub record AreSameBelow (index : ℕ) (old new : Regions) : Type 0 where
   pub file : (k : ℕ) → new (OfFile k) ≡ old (OfFile k)
+  pub entry : (k : ℕ) → new (OfEntry k) ≡ old (OfEntry k)
   pub heads : (i : ℕ) (part : Head) → i < index → new (OfHead i part) ≡ old (OfHead i part)
   pub locals : (i k : ℕ) → i < index → new (OfLocal i k) ≡ old (OfLocal i k)
 

@@ -1,5 +1,5 @@
 -- The variables of a program, by their numbers.
-use Rattle.std.specs.Prelude.{◌≡◌, ℕ, false, List, [], Option, Some, None, slice_get, slice_index}
+use Rattle.std.specs.Prelude.{◌≡◌, ℕ, Bool, true, false, List, [], Option, Some, None, slice_get, slice_index}
 use Rattle.gang_types.specs.declared.types.Rate.{Rate}
 use Rattle.gang_types.specs.declared.types.Rate.TheVariants.{Uniform}
 use Rattle.gang_types.specs.declared.places.VarId.{VarId}
@@ -35,9 +35,23 @@ abbrev pub rate_of : Option Variable → Rate
 rate_of None = Uniform
 rate_of (Some v) = v.rate
 
+-- whether a variable is an array, not so where there is no such variable
+abbrev pub is_array_of : Option Variable → Bool
+is_array_of None = false
+is_array_of (Some v) = v.is_array
+
+-- an array is one of the function's or the file's
+abbrev pub IsArray : Variables → (function : ℕ) → VarId → Type 0
+IsArray variables function id = (v : Variable) × (variable_of variables function id ≡ Some v) × (v.is_array ≡ true)
+
 -- a scalar variable is one of the function's or the file's, with its type and rate
 abbrev pub IsScalar : Variables → (function : ℕ) → Var → Type 0
 IsScalar variables function x = (v : Variable) × (variable_of variables function x.id ≡ Some v) × (v.is_array ≡ false) × (x ≡ var_of v)
+
+-- an array that has this number in the function
+pub record IsOwnArray (variables : Variables) (function k : ℕ) (id : VarId) : Type 0 where
+  pub is_local : id ≡ Local k
+  pub array : is_array_of (slice_get (own_of variables function) k) ≡ true
 
 -- a scalar that has this number in the function
 pub record IsOwn (variables : Variables) (function k : ℕ) (x : Var) : Type 0 where

@@ -1,8 +1,7 @@
 -- Values of all lanes of a gang.
-use Rattle.std.proofs.Common.{ℕ, zero, suc, true, false, cond, ◌≡◌, refl, sym, ◌∙◌, ap, arith, List, [], ◌∷◌, length, slice_index}
+use Rattle.std.proofs.Common.{ℕ, zero, suc, true, false, cond, ◌≡◌, refl, sym, ap, arith, List, [], ◌∷◌, length, slice_index}
 use Rattle.std.specs.Prelude.{replicate}
 use Rattle.std.proofs.lemmas.List.{get_or-replicate, length-replicate}
-use Rattle.gang_types.specs.Lanes.{Lanes}
 use Rattle.gang_model.specs.Running.Lanes.{at, each, merged}
 use Rattle.cross_lane.specs.EachLaws.{each_is}
 

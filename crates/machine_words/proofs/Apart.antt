@@ -7,7 +7,7 @@ use Rattle.gang_memory.specs.declared.parts.Part.{Part}
 use Rattle.gang_memory.specs.declared.layout.Layout.{Layout}
 use Rattle.gang_memory.specs.Layouts.{frame_parts, ranges}
 use Rattle.gang_memory.specs.Writes.{IsKeptOutside}
-use Rattle.machine_states.specs.Regions.{Head, FunctionOf, LanesOf, ReturnedOf, NumbersOf, ResultOf, Region, OfFile, Depth, OfHead, OfLocal, same_head, same_region}
+use Rattle.machine_states.specs.Regions.{Head, FunctionOf, LanesOf, ReturnedOf, NumbersOf, ResultOf, Region, OfFile, OfEntry, Depth, OfHead, OfLocal, same_head, same_region}
 use Rattle.machine_words.specs.Ranges.{Changes, IsPlanned, frame_number, head_part, is_there, number_of, range_of, words_at}
 use Rattle.machine_words.proofs.Found.{there}
 use Rattle.machine_words.proofs.InOrder.{AreApart, lies_between, ranges_apart}
@@ -36,6 +36,9 @@ part_below ResultOf n h = omega arith
 in_files : (k files rest : ℕ) → k < files → k ≡ files + rest → ⊥
 in_files k files rest h e = omega arith
 
+in_entries : (k files entry rest : ℕ) → k < entry → files + k ≡ files + (entry + rest) → ⊥
+in_entries k files entry rest h e = omega arith
+
 before_frames : (files entry own rest : ℕ) → own ≡ 1 → files + entry ≡ files + (entry + (own + rest)) → ⊥
 before_frames files entry own rest h e = omega arith
 
@@ -44,9 +47,11 @@ in_frames files entry own x y e = omega arith
 
 module _ (width : ℕ) (layout : Layout) where
   -- a region that is the same has the same range
-  same_range : (r s : Region) → same_region r s ≡ true → range_of width layout r ≡ range_of width layout s
+  pub same_range : (r s : Region) → same_region r s ≡ true → range_of width layout r ≡ range_of width layout s
   same_range (OfFile m) (OfFile n) h = ap (λ k. range_of width layout (OfFile k)) (eqb-true m n h)
   same_range (OfFile m) s h = absurd (false≢true h)
+  same_range (OfEntry m) (OfEntry n) h = ap (λ k. range_of width layout (OfEntry k)) (eqb-true m n h)
+  same_range (OfEntry m) s h = absurd (false≢true h)
   same_range Depth Depth h = refl
   same_range Depth s h = absurd (false≢true h)
   same_range (OfHead i a) (OfHead j b) h =
@@ -92,9 +97,18 @@ module _ (width : ℕ) (layout : Layout) where
 
     numbers_apart : (r s : Region) → is_there layout r ≡ true → is_there layout s ≡ true → same_region r s ≡ false → number_of layout r ≡ number_of layout s → ⊥
     numbers_apart (OfFile m) (OfFile n) h l d e = both_ways (m == n) d (eq-eqb m n e)
+    numbers_apart (OfFile m) (OfEntry n) h l d e = in_files m files n (ltb-true m files h) e
     numbers_apart (OfFile m) Depth h l d e = in_files m files entry (ltb-true m files h) e
     numbers_apart (OfFile m) (OfHead j b) h l d e = in_files m files (entry + (own + (j * all + head_part b))) (ltb-true m files h) e
     numbers_apart (OfFile m) (OfLocal j k) h l d e = in_files m files (entry + (own + (j * all + (parts + k)))) (ltb-true m files h) e
+    numbers_apart (OfEntry m) (OfFile n) h l d e = in_files n files m (ltb-true n files l) (sym e)
+    numbers_apart (OfEntry m) (OfEntry n) h l d e = both_ways (m == n) d (eq-eqb m n (omega (arith, e)))
+    numbers_apart (OfEntry m) Depth h l d e = in_entries m files entry 0 (ltb-true m entry h) (e ∙ ap (λ n. files + n) (omega arith))
+    numbers_apart (OfEntry m) (OfHead j b) h l d e = in_entries m files entry (own + (j * all + head_part b)) (ltb-true m entry h) e
+    numbers_apart (OfEntry m) (OfLocal j k) h l d e = in_entries m files entry (own + (j * all + (parts + k))) (ltb-true m entry h) e
+    numbers_apart Depth (OfEntry n) h l d e = in_entries n files entry 0 (ltb-true n entry l) (sym e ∙ ap (λ n. files + n) (omega arith))
+    numbers_apart (OfHead i a) (OfEntry n) h l d e = in_entries n files entry (own + (i * all + head_part a)) (ltb-true n entry l) (sym e)
+    numbers_apart (OfLocal i k) (OfEntry n) h l d e = in_entries n files entry (own + (i * all + (parts + k))) (ltb-true n entry l) (sym e)
     numbers_apart Depth (OfFile n) h l d e = in_files n files entry (ltb-true n files l) (sym e)
     numbers_apart Depth Depth h l d e = true≢false d
     numbers_apart Depth (OfHead j b) h l d e = before_frames files entry own (j * all + head_part b) plan.own_long e

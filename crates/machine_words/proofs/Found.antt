@@ -1,5 +1,5 @@
 -- The range of each region among all ranges.
-use Rattle.std.proofs.Common.{ℕ, ◌+◌, ◌*◌, ◌<◌, ◌≡◌, sym, ◌∙◌, ap, arith, Bool, true, false, cond, refl, List, ◌++◌, length, Some, None}
+use Rattle.std.proofs.Common.{ℕ, ◌+◌, ◌*◌, ◌<◌, ◌≡◌, ◌∙◌, ap, arith, Bool, true, false, cond, refl, List, ◌++◌, length, Some, None}
 use Rattle.std.specs.Prelude.{Option, ◌&&◌, nat_lt, slice_get}
 use Rattle.std.proofs.lemmas.Bool.{and_from, lt-ltb}
 use Rattle.std.proofs.lemmas.List.{get_or_append_left, get_or-append-add, length-append}
@@ -7,7 +7,7 @@ use Rattle.std.proofs.lemmas.Option.{get_or_from_slice_get, none-some, slice_get
 use Rattle.gang_memory.specs.declared.parts.Part.{Part}
 use Rattle.gang_memory.specs.declared.layout.Layout.{Layout}
 use Rattle.gang_memory.specs.Layouts.{IsRangeOfFrame, frame_parts, ranges, ranges_of_frames}
-use Rattle.machine_states.specs.Regions.{Head, OfFile, Depth, OfHead, OfLocal}
+use Rattle.machine_states.specs.Regions.{Head, OfFile, OfEntry, Depth, OfHead, OfLocal}
 use Rattle.machine_words.specs.Ranges.{frame_number, head_part, range_of}
 
 -- ---- which of two lists has the range
@@ -38,6 +38,13 @@ module _ (width : ℕ) (layout : Layout) (p : Part) where
       found (nat_lt k (length layout.file.items)) (slice_get (ranges width layout) k) p
       (lt-ltb k (length layout.file.items) (slice_get_within layout.file.items k p e))
       (among_first layout.file.items (layout.entry.items ++ (layout.machine.items ++ ranges_of_frames width layout.frames)) k p e)
+
+  pub entry_found : (k : ℕ) → slice_get layout.entry.items k ≡ Some p → range_of width layout (OfEntry k) ≡ Some p
+  entry_found k e =
+      found (nat_lt k (length layout.entry.items)) (slice_get (ranges width layout) (length layout.file.items + k)) p
+      (lt-ltb k (length layout.entry.items) (slice_get_within layout.entry.items k p e))
+      (among_others layout.file.items (layout.entry.items ++ (layout.machine.items ++ ranges_of_frames width layout.frames)) k p
+      (among_first layout.entry.items (layout.machine.items ++ ranges_of_frames width layout.frames) k p e))
 
   pub depth_found : slice_get layout.machine.items 0 ≡ Some p → range_of width layout Depth ≡ Some p
   depth_found e =

@@ -8,3 +8,6 @@ pub mod RegionWords
 pub mod Sizes
 pub mod AllLanes
 pub mod Writing
+pub mod ArrayWords
+pub mod ViewParts
+pub mod Covered

@@ -12,7 +12,7 @@ use Rattle.machine_states.specs.Regions.{Head, OfFile, Depth, OfHead, OfLocal}
 use Rattle.machine_words.specs.Ranges.{IsLaid, head_part, head_sizes, regions_of}
 use Rattle.machine_words.proofs.Apart.{part_below}
 use Rattle.machine_words.proofs.Found.{depth_found, file_found, head_found, local_found}
-use Rattle.machine_words.proofs.Plans.{Plan, plan_of}
+use Rattle.machine_words.proofs.Plans.{plan_of}
 use Rattle.machine_words.proofs.RegionWords.{region_long}
 
 module _ (width : ℕ) (layout : Layout) (words : List ℕ) (laid : IsLaid width layout words) where

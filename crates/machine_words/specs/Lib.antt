@@ -1,3 +1,4 @@
 pub mod Views
 pub mod Ranges
+pub mod Arrays
 pub mod Words

@@ -1,7 +1,7 @@
 -- Which of a layout's ranges has the words of a region, where the machine asks for one word itself and for five parts of a head
 -- (a choice of this project).
 use Rattle.std.specs.Prelude.{◌≡◌, ℕ, ◌+◌, ◌*◌, ◌^◌, ◌<◌, Bool, true, ◌&&◌, List, [], ◌∷◌, Option, Some, None, drop, length, nat_lt, slice_get, take, if◌then◌else◌}
-use Rattle.machine_states.specs.Regions.{Head, FunctionOf, LanesOf, ReturnedOf, NumbersOf, ResultOf, Region, OfFile, Depth, OfHead, OfLocal, Regions, with_region}
+use Rattle.machine_states.specs.Regions.{Head, FunctionOf, LanesOf, ReturnedOf, NumbersOf, ResultOf, Region, OfFile, OfEntry, Depth, OfHead, OfLocal, Regions, with_region}
 use Rattle.gang_memory.specs.declared.parts.Part.{Part}
 use Rattle.gang_memory.specs.declared.layout.Layout.{Layout}
 use Rattle.gang_memory.specs.Layouts.{end_of_frames, frame_parts, ranges}
@@ -26,6 +26,7 @@ head_sizes width = 1 ∷ 1 ∷ 1 ∷ width ∷ width ∷ []
 -- whether there is such a region
 abbrev pub is_there : Layout → Region → Bool
 is_there layout (OfFile k) = nat_lt k (length layout.file.items)
+is_there layout (OfEntry k) = nat_lt k (length layout.entry.items)
 is_there layout Depth = true
 is_there layout (OfHead i part) = nat_lt i layout.frames.count
 is_there layout (OfLocal i k) = nat_lt i layout.frames.count && nat_lt k layout.frames.variables
@@ -38,6 +39,7 @@ frame_number layout i number =
 -- the number of a region's range
 abbrev pub number_of : Layout → Region → ℕ
 number_of layout (OfFile k) = k
+number_of layout (OfEntry k) = length layout.file.items + k
 number_of layout Depth = length layout.file.items + length layout.entry.items
 number_of layout (OfHead i part) = frame_number layout i (head_part part)
 number_of layout (OfLocal i k) = frame_number layout i (length layout.frames.head.items + k)

@@ -1,9 +1,11 @@
--- The regions that the code names, as those of a machine's words.
+-- The regions and the parts of arrays that the code names, as those of the definitions.
 use Rattle.machine_words.specs.declared.regions.Head.{Head}
 use Rattle.machine_words.specs.declared.regions.Head.TheVariants as head
 use Rattle.machine_words.specs.declared.regions.Region.{Region}
 use Rattle.machine_words.specs.declared.regions.Region.TheVariants as region
+use Rattle.machine_words.specs.declared.views.View.{View}
 use Rattle.machine_states.specs.Regions as states
+use Rattle.gang_model.specs.Running.State as model
 
 abbrev pub head_view : Head → states.Head
 head_view head.Function = states.FunctionOf
@@ -14,6 +16,11 @@ head_view head.Result = states.ResultOf
 
 abbrev pub region_view : Region → states.Region
 region_view (region.File number) = states.OfFile number
+region_view (region.Entry number) = states.OfEntry number
 region_view region.Depth = states.Depth
 region_view (region.Head frame part) = states.OfHead frame (head_view part)
 region_view (region.Local frame number) = states.OfLocal frame number
+
+-- the part of an array of the definitions
+abbrev pub view_view : View → model.View
+view_view view = record { array = view.array; first = view.first; len = view.len }

@@ -2,9 +2,13 @@
 //! are, the heads of frames and their variables.
 #![tactic(auto)]
 
+mod arrays;
+mod packed;
 mod ranges;
 mod regions;
+mod views;
 mod words;
 
 pub use regions::{Head, Region};
+pub use views::{View, part_from, view_words};
 pub use words::MachineWords;

@@ -17,6 +17,7 @@ pub(crate) fn range<const W: usize>(layout: &Layout, region: Region) -> Part
 {
     match region {
         Region::File(number) => layout.file[number],
+        Region::Entry(number) => layout.entry[number],
         Region::Depth => layout.machine[0],
         Region::Head(frame, part) => layout.frames.head::<W>(frame, part.part()),
         Region::Local(frame, number) => layout.frames.variable::<W>(frame, number),

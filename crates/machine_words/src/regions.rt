@@ -14,11 +14,12 @@ pub enum Head {
     Result,
 }
 
-/// The words of a variable of the file, how many frames there are, a part of a frame's head, or the words of a variable of a
-/// frame, by its number in its function. The entry's frame is frame 0.
+/// The words of a variable of the file, of an array that the entry is given, by the number of its parameter, how many frames there
+/// are, a part of a frame's head, or the words of a variable of a frame, by its number in its function. The entry's frame is frame 0.
 #[derive(Clone, Copy, Debug, PartialEq, Eq)]
 pub enum Region {
     File(usize),
+    Entry(usize),
     Depth,
     Head(usize, Head),
     Local(usize, usize),

@@ -2,6 +2,7 @@
 ghost use Rattle.std.specs.Prelude.{◌≡◌, ◌<◌, ◌≤◌, false, length, slice_index, slice_set};
 ghost use Rattle.gang_types.specs.Lanes.{no_lane};
 ghost use Rattle.gang_types.specs.Masks.{IsGangWidth, lanes_of};
+ghost use Rattle.gang_model.specs.Debugger.Events.{covered};
 ghost use Rattle.gang_model.specs.Running.Lanes.{merged};
 ghost use Rattle.machine_states.specs.Effects.{assigned_region, declared_region};
 ghost use Rattle.gang_model.specs.Running.State.{words_for};
@@ -57,6 +58,22 @@ impl<T: Timeline + Drop> MachineWords<T> {
     {
         let range = range::<W>(&self.layout, region);
         self.store.set(range.first + index, value);
+    }
+
+    /// Sets the first words of a region to these.
+    pub fn fill<const W: usize>(&mut self, region: Region, words: &[u64])
+        requires width { IsGangWidth W }
+        requires laid { AreLaid T.history W self.old }
+        requires fits { length words.now
+            ≤ length (regions_in T.history W self.old (region_view region)) }
+        requires left { length words.now ≤ left_of T.history T.left self.old }
+        ensures { Writes T.history T.left W (region_view region)
+            (covered words.now (regions_in T.history W self.old (region_view region)))
+            (length words.now) self.old self.new }
+    {
+        for (index, word) in words.iter().enumerate() {
+            self.set::<W>(region, index, *word);
+        }
     }
 
     /// Sets the words of the lanes of the mask, in a region that has one for each lane.

@@ -6,7 +6,7 @@ use Rattle.gang_memory.specs.Layouts.{IsRangeOfFrame}
 use Rattle.machine_words.specs.Ranges.{is_there, range_of}
 use Rattle.machine_words.specs.Views.{head_view, region_view}
 use Rattle.machine_words.proofs.Apart.{part_below}
-use Rattle.machine_words.proofs.Found.{depth_found, file_found, head_found, local_found}
+use Rattle.machine_words.proofs.Found.{depth_found, entry_found, file_found, head_found, local_found}
 use Rattle.machine_words.proofs.Plans.{plan_of}
 use Rattle.machine_words.proofs.ranges.range.Goals as goal
 
@@ -40,6 +40,16 @@ returns-in-File g c =
     ap (λ r. range_of g.row.W layout (region_view r)) c.in-File.is
     ∙ file_found g.row.W layout c.index.result.now number
     (slice_get_read files (length files) number c.index.result.now refl (ltb-true number (length files) there) c.index.ensures)
+
+pub returns-in-Entry : goal.returns-in-Entry
+returns-in-Entry g c =
+    let layout = c.args.layout.now in
+    let entries = layout.entry.items in
+    let number = c.in-Entry.number in
+    let there : nat_lt number (length entries) ≡ true = sym (ap (λ r. is_there layout (region_view r)) c.in-Entry.is) ∙ c.requires.there in
+    ap (λ r. range_of g.row.W layout (region_view r)) c.in-Entry.is
+    ∙ entry_found g.row.W layout c.index-in-Entry.result.now number
+    (slice_get_read entries (length entries) number c.index-in-Entry.result.now refl (ltb-true number (length entries) there) c.index-in-Entry.ensures)
 
 pub returns-in-Depth : goal.returns-in-Depth
 returns-in-Depth g c =

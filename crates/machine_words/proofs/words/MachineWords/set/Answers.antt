@@ -1,4 +1,4 @@
-use Rattle.std.proofs.Common.{◌≡◌, ◌<◌, ◌∙◌, refl, sym, ap, arith}
+use Rattle.std.proofs.Common.{◌<◌, ◌∙◌, refl, sym, ap, arith}
 use Rattle.std.specs.Prelude.{slice_set}
 use Rattle.machine_words.specs.Views.{region_view}
 use Rattle.machine_words.specs.Words.{regions_in, words_of}
