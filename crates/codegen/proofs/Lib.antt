@@ -1,4 +1,3 @@
-pub mod PlainValues
 pub mod Rows
 pub mod PlainStatements
 pub mod Functions

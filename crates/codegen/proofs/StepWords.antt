@@ -44,6 +44,10 @@ module _ (width : ℕ) where
   step_sets (step.Declare variable value next) (p.Put (t.Declare number x e) then) h = refl
   step_sets (step.Assign variable value next) (p.Put (t.Assign number (t.Scalar x) e) then) h = refl
   step_sets (step.Change variable change value next) (p.Put (t.Change number (t.Scalar x) type op in_type e) then) h = refl
+  step_sets (step.AssignElement array index value next) (p.Put (t.Assign number (t.ElementOf stored rate i) e) then) h = refl
+  step_sets (step.ChangeElement array index change value next) (p.Put (t.Change number (t.ElementOf stored rate i) type op in_type e) then) h = refl
+  step_sets (step.PackedStore array from value result_for next) (p.Put (t.PackedStore number stored index e for) then) h = refl
+  step_sets (step.PackedLoad array from into result_for next) (p.Put (t.PackedLoad number loaded index x for) then) h = refl
   step_sets (step.Return value next) (p.Put (t.Return number e) then) h = refl
   step_sets (step.Check test next) (p.Put (t.Check number e) then) h = refl
   step_sets (step.Go next) (p.Go then) h = refl

@@ -9,6 +9,10 @@ abbrev pub words_set_by : (width : ℕ) → StepCode → ℕ
 words_set_by width (step.Declare variable value next) = 2 * width
 words_set_by width (step.Assign variable value next) = 2 * width
 words_set_by width (step.Change variable change value next) = 2 * width
+words_set_by width (step.AssignElement array index value next) = 2 * width
+words_set_by width (step.ChangeElement array index change value next) = 2 * width
+words_set_by width (step.PackedStore array from value result_for next) = 3 * width + 1
+words_set_by width (step.PackedLoad array from into result_for next) = 3 * width + 1
 words_set_by width (step.Return value next) = 2 * width + 1
 words_set_by width (step.Check test next) = width
 words_set_by width (step.Go next) = width

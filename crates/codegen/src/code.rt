@@ -1,7 +1,7 @@
 //! What the steps of a program do.
 
 use expression_instructions::Instruction;
-use gang_types::{BinaryOp, IntType};
+use gang_types::{BinaryOp, IntType, VarId};
 use typed_tree::{ResultFor, Var};
 
 /// `target op= value`: the operation, its type, and the target's type.
@@ -12,11 +12,19 @@ pub struct Change {
     pub target_type: IntType,
 }
 
-/// An argument of a call: the parameter, and the code of its value.
+/// An argument of a call.
 #[derive(Drop)]
-pub struct ArgCode {
-    pub parameter: Var,
-    pub value: Vec<Instruction>,
+pub enum ArgCode {
+    /// The parameter, and the code of its value.
+    Value {
+        parameter: Var,
+        value: Vec<Instruction>,
+    },
+    /// The array that is passed, from the element of this index on, or whole.
+    Array {
+        array: VarId,
+        from: Option<Vec<Instruction>>,
+    },
 }
 
 /// What a step does, and the numbers of the steps that its lanes wait for next.
@@ -39,9 +47,36 @@ pub enum StepCode {
         value: Vec<Instruction>,
         next: usize,
     },
+    AssignElement {
+        array: VarId,
+        index: Vec<Instruction>,
+        value: Vec<Instruction>,
+        next: usize,
+    },
+    ChangeElement {
+        array: VarId,
+        index: Vec<Instruction>,
+        change: Change,
+        value: Vec<Instruction>,
+        next: usize,
+    },
     /// `assert`.
     Check {
         test: Vec<Instruction>,
+        next: usize,
+    },
+    PackedStore {
+        array: VarId,
+        from: Option<Vec<Instruction>>,
+        value: Vec<Instruction>,
+        result_for: ResultFor,
+        next: usize,
+    },
+    PackedLoad {
+        array: VarId,
+        from: Option<Vec<Instruction>>,
+        into: Var,
+        result_for: ResultFor,
         next: usize,
     },
     /// The function's result in the lanes of the step, which return.

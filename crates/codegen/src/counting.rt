@@ -39,7 +39,8 @@ fn most_set(steps: &[StepCode], width: usize) -> usize
     most
 }
 
-/// How many words a step sets: a scalar, the numbers that lanes wait for and each argument have one for each lane.
+/// How many words a step sets: a scalar, the elements that lanes store to, the numbers that lanes wait for and each argument have at
+/// most one for each lane.
 fn words_set(step: &StepCode, width: usize) -> usize
     requires width { IsGangWidth width }
     requires few { words_set_by width step.now ≤ 9 * width + 16 }
@@ -47,8 +48,13 @@ fn words_set(step: &StepCode, width: usize) -> usize
 {
     match step {
         StepCode::Check { .. } | StepCode::Go { .. } | StepCode::Branch { .. } => width,
-        StepCode::Declare { .. } | StepCode::Assign { .. } | StepCode::Change { .. } => 2 * width,
+        StepCode::Declare { .. }
+        | StepCode::Assign { .. }
+        | StepCode::Change { .. }
+        | StepCode::AssignElement { .. }
+        | StepCode::ChangeElement { .. } => 2 * width,
         StepCode::Return { .. } => 2 * width + 1,
+        StepCode::PackedStore { .. } | StepCode::PackedLoad { .. } => 3 * width + 1,
         StepCode::Enter { args, .. } => args.len() * width + width + 4,
     }
 }

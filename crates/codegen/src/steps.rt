@@ -1,16 +1,16 @@
 //! The code of points.
-ghost use Rattle.std.specs.Prelude.{◌≡◌, IfOk};
-ghost use Rattle.gang_model.specs.Types.Tree.{Scalar, Var as ModelVar};
+ghost use Rattle.std.specs.Prelude.{ℕ, IfOk};
+ghost use Rattle.gang_model.specs.Types.Tree.{Assign as ModelAssign, Change as ModelChange};
 ghost use Rattle.mask_states.specs.Points.{Put};
 ghost use Rattle.mask_lowering.specs.PointViews.{point_view};
-ghost use Rattle.typed_tree.specs.Views.{stmt_view, target_view, var_view};
+ghost use Rattle.typed_tree.specs.Views.{expr_view, stmt_view, target_view};
 ghost use Rattle.codegen.specs.Codes.{Does, IsSomePlainPoint};
 
 use crate::code::{Change, StepCode};
 use crate::values::{arguments, optional, value};
 use mask_lowering::Point;
 use std::alloc::{AllocError, Global};
-use typed_tree::{Stmt, Target, Var};
+use typed_tree::{Expr, Stmt, Target};
 
 /// The code of a point.
 pub(crate) fn step(alloc: Global, point: &Point<'_>) -> Result<StepCode, AllocError>
@@ -55,32 +55,22 @@ fn put(alloc: Global, statement: &Stmt, next: usize) -> Result<StepCode, AllocEr
             value: optional(alloc, value)?,
             next,
         }),
-        Stmt::Assign {
-            target,
-            value: assigned,
-            ..
-        } => Ok(StepCode::Assign {
-            variable: scalar(target),
-            value: value(alloc, assigned)?,
-            next,
-        }),
+        Stmt::Assign { target, value, .. } => assign(alloc, target, value, next),
         Stmt::Change {
             target,
             target_type,
             operator,
             value_type,
-            value: operand,
+            value,
             ..
-        } => Ok(StepCode::Change {
-            variable: scalar(target),
-            change: Change {
+        } => {
+            let change = Change {
                 operator: *operator,
                 value_type: *value_type,
                 target_type: *target_type,
-            },
-            value: value(alloc, operand)?,
-            next,
-        }),
+            };
+            change_target(alloc, target, change, value, next)
+        }
         Stmt::Return { value, .. } => Ok(StepCode::Return {
             value: optional(alloc, value)?,
             next,
@@ -89,17 +79,83 @@ fn put(alloc: Global, statement: &Stmt, next: usize) -> Result<StepCode, AllocEr
             test: value(alloc, test)?,
             next,
         }),
+        Stmt::PackedStore {
+            array,
+            from,
+            value: stored,
+            result_for,
+            ..
+        } => Ok(StepCode::PackedStore {
+            array: *array,
+            from: optional(alloc, from)?,
+            value: value(alloc, stored)?,
+            result_for: *result_for,
+            next,
+        }),
+        Stmt::PackedLoad {
+            array,
+            from,
+            into,
+            result_for,
+            ..
+        } => Ok(StepCode::PackedLoad {
+            array: *array,
+            from: optional(alloc, from)?,
+            into: *into,
+            result_for: *result_for,
+            next,
+        }),
         _ => unreachable!(),
     }
 }
 
-/// The variable of a target that is a scalar.
-fn scalar(target: &Target) -> Var
-    requires { (x : ModelVar) × (target_view target.now ≡ Scalar x) }
-    ensures { target_view target.now ≡ Scalar (var_view result) }
+/// The code of an assignment.
+fn assign(
+    alloc: Global,
+    target: &Target,
+    assigned: &Expr,
+    next: usize,
+) -> Result<StepCode, AllocError>
+    ensures { IfOk result (λ code. (number : ℕ) → Does code (Put (ModelAssign number (target_view target.now) (expr_view assigned.now)) next)) }
 {
     match target {
-        Target::Scalar(variable) => *variable,
-        Target::Element { .. } => unreachable!(),
+        Target::Scalar(variable) => Ok(StepCode::Assign {
+            variable: *variable,
+            value: value(alloc, assigned)?,
+            next,
+        }),
+        Target::Element { array, index, .. } => Ok(StepCode::AssignElement {
+            array: *array,
+            index: value(alloc, index)?,
+            value: value(alloc, assigned)?,
+            next,
+        }),
+    }
+}
+
+/// The code of `target op= operand`.
+fn change_target(
+    alloc: Global,
+    target: &Target,
+    change: Change,
+    operand: &Expr,
+    next: usize,
+) -> Result<StepCode, AllocError>
+    ensures { IfOk result (λ code. (number : ℕ) → Does code (Put (ModelChange number (target_view target.now) change.target_type change.operator change.value_type (expr_view operand.now)) next)) }
+{
+    match target {
+        Target::Scalar(variable) => Ok(StepCode::Change {
+            variable: *variable,
+            change,
+            value: value(alloc, operand)?,
+            next,
+        }),
+        Target::Element { array, index, .. } => Ok(StepCode::ChangeElement {
+            array: *array,
+            index: value(alloc, index)?,
+            change,
+            value: value(alloc, operand)?,
+            next,
+        }),
     }
 }

@@ -1,7 +1,7 @@
 //! The code of values.
-ghost use Rattle.std.specs.Prelude.{map, All, IfOk, option_map};
+ghost use Rattle.std.specs.Prelude.{map, IfOk, option_map};
 ghost use Rattle.typed_tree.specs.Views.{arg_view, boxed_view, expr_view};
-ghost use Rattle.codegen.specs.Codes.{Fit, IsArg, IsOptionValue, IsPlainArg, IsPlainOptionValue, IsPlainValue, IsValue};
+ghost use Rattle.codegen.specs.Codes.{Fit, IsArg, IsOptionValue, IsValue};
 
 use crate::code::ArgCode;
 use expression_code::compile;
@@ -14,7 +14,6 @@ pub(crate) fn optional(
     alloc: Global,
     expression: &Option<Box<Expr>>,
 ) -> Result<Option<Vec<Instruction>>, AllocError>
-    requires { IsPlainOptionValue (option_map boxed_view expression.now) }
     ensures { IfOk result (IsOptionValue (option_map boxed_view expression.now)) }
 {
     match expression {
@@ -25,15 +24,13 @@ pub(crate) fn optional(
 
 /// The code of a value.
 pub(crate) fn value(alloc: Global, expression: &Expr) -> Result<Vec<Instruction>, AllocError>
-    requires { IsPlainValue (expr_view expression.now) }
     ensures { IfOk result (λ code. IsValue (expr_view expression.now) code.items) }
 {
     compile(alloc, expression)
 }
 
-/// The code of a call's arguments, all of which are values.
+/// The code of a call's arguments.
 pub(crate) fn arguments(alloc: Global, args: &[Arg]) -> Result<Vec<ArgCode>, AllocError>
-    requires { All (λ arg. IsPlainArg (arg_view arg)) args.now }
     ensures { IfOk result (λ made. Fit IsArg made.items (map arg_view args.now)) }
 {
     let mut made = Vec::with_capacity(alloc, args.len())?;
@@ -45,17 +42,19 @@ pub(crate) fn arguments(alloc: Global, args: &[Arg]) -> Result<Vec<ArgCode>, All
 
 /// The code of an argument.
 fn argument(alloc: Global, arg: &Arg) -> Result<ArgCode, AllocError>
-    requires { IsPlainArg (arg_view arg.now) }
     ensures { IfOk result (λ made. IsArg made (arg_view arg.now)) }
 {
     match arg {
         Arg::Value {
             parameter,
             value: expression,
-        } => Ok(ArgCode {
+        } => Ok(ArgCode::Value {
             parameter: *parameter,
             value: value(alloc, expression)?,
         }),
-        Arg::Array { .. } => unreachable!(),
+        Arg::Array { array, from, .. } => Ok(ArgCode::Array {
+            array: *array,
+            from: optional(alloc, from)?,
+        }),
     }
 }

@@ -1,7 +1,6 @@
-use Rattle.std.proofs.Common.{◌≡◌, ◌∙◌, ap, map, subst, sym, length, ◌<◌, get_or}
+use Rattle.std.proofs.Common.{◌∙◌, ap, map, subst, sym, length, ◌<◌, get_or}
 use Rattle.std.proofs.lemmas.List.{take_all}
 use Rattle.typed_tree.specs.Views.{program_view}
-use Rattle.mask_states.specs.Points.{points_in}
 use Rattle.mask_lowering.specs.PointViews.{point_view}
 use Rattle.mask_lowering.specs.Views.{points_view}
 use Rattle.codegen.specs.Codes.{DoAll, DoEach, IsSomePlainPoint}
