@@ -7,12 +7,14 @@ use Rattle.gang_types.specs.declared.faults.FaultName.TheVariants.{CallDepth}
 use Rattle.gang_types.specs.declared.places.VarId.{VarId}
 use Rattle.gang_types.specs.declared.places.VarId.TheVariants.{File, Local}
 use Rattle.gang_types.specs.declared.types.IntType.{IntType}
+use Rattle.gang_types.specs.declared.types.IntType.TheVariants.{Int32}
+use Rattle.gang_types.specs.Values.{binary_result, converted}
 use Rattle.gang_types.specs.Lanes.{Lanes, lowest, no_lane}
 use Rattle.gang_types.specs.LaneLaws.{some_lane}
-use Rattle.gang_model.specs.Types.Tree.{Assign, Assigns, Call, Change, Check, Declare, Declares, ElementOf, Function, Nothing, Program, ResultFor, Return, Returns, Scalar, StepNumber, Stmt}
-use Rattle.gang_model.specs.Running.Lanes.{Fault, try_each}
-use Rattle.gang_model.specs.Running.State.{Frame, State, Store, with_words_in}
-use Rattle.gang_model.specs.Running.Step.{Passed, deliver, entered, initial, left, passed, returned_on, run}
+use Rattle.gang_model.specs.Types.Tree.{Assign, Assigns, Call, Change, Check, PackedLoad, PackedStore, Declare, Declares, ElementOf, Function, Nothing, Program, ResultFor, Return, Returns, Scalar, StepNumber, Stmt}
+use Rattle.gang_model.specs.Running.Lanes.{Fault, ◌>>=◌, at, each, try_each}
+use Rattle.gang_model.specs.Running.State.{Frame, State, Store, view_of, with_var, with_words_in}
+use Rattle.gang_model.specs.Running.Step.{Passed, ToElements, deliver, entered, initial, left, old_values, part, passed, returned_on, run, write}
 use Rattle.gang_model.specs.Running.Value.{value}
 use Rattle.gang_model.specs.Debugger.Events.{ElementAt, Given, LaneOf, Poked, WholeOf, initial_memory, poked, started}
 use Rattle.gang_model.proofs.LaneWords.{if_ok_after, if_ok_bind, if_or_ok}
@@ -70,6 +72,11 @@ module _ (p : Program) (type : IntType) (lanes : Lanes) (values : List ℕ) (mem
   delivered_called (Assigns x) frames h = words_called (record { memory = memory; frames = frames }) x.id _ h
   delivered_called Returns frames h = given_called frames h
 
+loaded_called : (p : Program) (lanes : Lanes) (values : List ℕ) (memory : Store) (frame : Frame) (frames : List Frame) (v : VarId) (words : List ℕ) (result_for : ResultFor) → HaveLanes (frame ∷ frames)
+    → HaveLanes (deliver p Int32 result_for lanes values (with_words_in (record { memory = memory; frames = frame ∷ frames }) v words)).frames
+loaded_called p lanes values memory frame frames (File n) words result_for h = delivered_called p Int32 lanes values _ result_for (frame ∷ frames) h
+loaded_called p lanes values memory frame frames (Local n) words result_for h = delivered_called p Int32 lanes values memory result_for (with_var (Local n) words frame ∷ frames) h
+
 left_called : (p : Program) (o : Option Function) (above : Frame) (memory : Store) (frames : List Frame) → HaveLanes frames → HaveLanes (left p o above (record { memory = memory; frames = frames })).frames
 left_called p None above memory frames h = h
 left_called p (Some f) above memory frames h = delivered_called p f.result_type above.lanes _ memory above.result_for frames h
@@ -86,12 +93,26 @@ module _ (variables : Variables) (p : Program) (m : ℕ) (memory : Store) (frame
   run_called : (s : Stmt) (lanes : Lanes) → IsPlainPut variables m s → IfOk (run p s lanes state) After
   run_called (Declare number x e) lanes plain = if_ok_after After (initial e lanes state) _ (λ values. words_called state x.id _ h)
   run_called (Assign number (Scalar x) e) lanes plain = if_ok_after After (value e lanes state) _ (λ values. words_called state x.id _ h)
-  run_called (Assign number (ElementOf array rate index) e) lanes plain = absurd plain
+  run_called (Assign number (ElementOf array rate index) e) lanes plain = by_index (value index lanes state)
+    where
+      by_index : (r : Result (List ℕ) Fault) → IfOk ((r >>= λ x. Ok (ToElements (view_of state array) x)) >>= λ written. value e lanes state >>= λ y. old_values written lanes state >>= λ old. Ok (write written lanes y state)) After
+      by_index (Ok x) = if_ok_after After (value e lanes state) _ (λ y. if_ok_after After (try_each lanes _) _ (λ old. h))
+      by_index (Err fault) = tt
   run_called (Change number (Scalar x) type op in_type e) lanes plain =
       if_ok_after After (value e lanes state) _ (λ y. if_ok_after After (try_each lanes _) _ (λ values. words_called state x.id _ h))
-  run_called (Change number (ElementOf array rate index) type op in_type e) lanes plain = absurd plain
+  run_called (Change number (ElementOf array rate index) type op in_type e) lanes plain = by_index (value index lanes state)
+    where
+      by_index : (r : Result (List ℕ) Fault) → IfOk ((r >>= λ x. Ok (ToElements (view_of state array) x)) >>= λ written. value e lanes state >>= λ y. old_values written lanes state >>= λ old.
+          try_each lanes (λ k. binary_result op in_type (converted type in_type (at old k)) (at y k)) >>= λ z. Ok (write written lanes (each lanes (λ k. converted in_type type (at z k))) state)) After
+      by_index (Ok x) = if_ok_after After (value e lanes state) _ (λ y. if_ok_after After (try_each lanes _) _ (λ old. if_ok_after After (try_each lanes _) _ (λ z. h)))
+      by_index (Err fault) = tt
   run_called (Return number e) lanes plain = if_ok_after After (initial e lanes state) _ (λ values. h)
   run_called (Check number e) lanes plain = if_ok_after After (value e lanes state) _ (λ c. if_ok_after After (try_each lanes _) _ (λ passes. h))
+  run_called (PackedStore number array from e result_for) lanes plain =
+      if_ok_after After (part from (view_of state array) lanes state) _ (λ view. if_ok_after After (value e lanes state) _ (λ x. if_ok_after After (try_each lanes _) _
+      (λ there. delivered_called p Int32 lanes _ _ result_for (frame ∷ frames) h)))
+  run_called (PackedLoad number array from v result_for) lanes plain =
+      if_ok_after After (part from (view_of state array) lanes state) _ (λ view. if_ok_after After (try_each lanes _) _ (λ x. loaded_called p lanes _ memory frame frames v.id _ result_for h))
   run_called s lanes plain = absurd plain
 
   entered_called : (o : Option Function) (n : ℕ) (number : StepNumber) (result_for : ResultFor) (a : Passed) (lanes : Lanes) → no_lane lanes ≡ false

@@ -1,6 +1,5 @@
 -- The value of an expression of the next step depends on the machine's regions alone.
-use Rattle.std.proofs.Common.{◌≡◌, sym, ap, ◌∙◌, subst, ℕ, suc, ◌<◌, ◌≤◌, true, true≢false, List, length, Result, arith}
-use Rattle.gang_types.specs.declared.places.VarId.{VarId}
+use Rattle.std.proofs.Common.{◌≡◌, sym, ap, ◌∙◌, subst, ℕ, suc, ◌<◌, ◌≤◌, List, length, Result, arith}
 use Rattle.gang_types.specs.Lanes.{Lanes}
 use Rattle.gang_types.specs.Masks.{lanes_of}
 use Rattle.gang_types.specs.MaskLaws.{length-lanes_of_word}
@@ -13,22 +12,22 @@ use Rattle.mask_states.specs.Masked.{Masked}
 use Rattle.typed_tree.specs.declared.expressions.Expr.{Expr as TypedExpr}
 use Rattle.typed_tree.specs.Views.{expr_view}
 use Rattle.expression_instructions.specs.declared.code.Instruction.{Instruction}
-use Rattle.expression_machine.specs.Arrays.{reads_arrays}
 use Rattle.expression_machine.specs.Correct.{Computes}
 use Rattle.expression_machine.specs.Room.{HasRoom}
 use Rattle.machine_states.specs.Declared.{IsThere, declared_before}
-use Rattle.machine_states.specs.Effects.{region_of}
 use Rattle.machine_states.specs.Regions.{Regions}
 use Rattle.machine_states.specs.Variables.{IsScalar, Variables}
 use Rattle.machine_states.proofs.AlwaysDeclared.{read_alike, top_declared, same_head}
+use Rattle.machine_states.proofs.ElementSteps.{array_shown}
 use Rattle.machine_states.proofs.ReadValues.{AreReadAlike, value_agrees}
 use Rattle.machine_words.specs.declared.words.MachineWords.{MachineWords}
 use Rattle.machine_words.specs.Words.{regions_in}
 use Rattle.machine_moves.specs.declared.active.Active.{Active}
 use Rattle.machine_moves.specs.declared.compiled.CompiledProgram.{CompiledProgram}
 use Rattle.machine_moves.specs.Compiled.{program_of, variables_of}
+use Rattle.machine_moves.specs.Read.{HasRegions}
 use Rattle.machine_moves.specs.Standing.{IsShown, IsValueAt}
-use Rattle.machine_moves.proofs.RegionStates.{region_state, region_state_has}
+use Rattle.machine_moves.proofs.RegionStates.{region_state, region_state_has, region_state_is, region_state_memory, region_state_views}
 
 below_most : (index frames : ℕ) → suc index ≡ frames → frames ≤ 64 → index < 64
 below_most index frames e h = omega arith
@@ -60,17 +59,21 @@ module _ {T : Type 0} (history : T → History) (width : ℕ) (compiled : Compil
     by_regions : value e lanes masked.state ≡ value e lanes (region_state history width words active.frame)
     by_regions =
         value_agrees variables active.function (declared_before variables active.function at.f active.step) width masked.state (region_state history width words active.frame)
-        alike e at.plain at.declared lanes (length-lanes_of_word width active.lanes.word)
+        alike (λ v. shown.shows.memory v ∙ sym (region_state_memory history width words active.frame v))
+        (λ a array.
+        array_shown (program_of compiled) variables width regions masked shown.shows active.frame active.function at.f active.step at.point at.active_is.next a array
+        ∙ sym (region_state_views history width words active.frame a))
+        e at.plain at.declared lanes (length-lanes_of_word width active.lanes.word)
 
-    -- what holds of the value that the code computes, in each state whose variables have the words of the regions, holds of the value
+    -- what holds of the value that the code computes, in each state that has what the frame reads of the regions, holds of the value
     -- in the masked state
     pub value_by_code : (P : Result (List ℕ) Fault → Type 0)
         → ((expression : TypedExpr) (state : State) → Computes expression code → HasRoom (expr_view expression)
-        → ((v : VarId) → words_in state v ≡ regions_in history width words (region_of active.frame v)) → (reads_arrays expression ≡ true → ⊥)
+        → HasRegions (regions_in history width words) active.frame state
         → P (value (expr_view expression) (lanes_of width active.lanes) state))
         → P (value e (lanes_of width active.lanes) masked.state)
     value_by_code P of_each =
         let is = at.value in
         subst P (ap (λ x. value x lanes (region_state history width words active.frame)) is.is_view ∙ sym by_regions)
-        (of_each is.expression (region_state history width words active.frame) is.computes (subst HasRoom (sym is.is_view) at.room) (region_state_has history width words active.frame)
-        (λ reads. true≢false (sym reads ∙ is.no_array)))
+        (of_each is.expression (region_state history width words active.frame) is.computes (subst HasRoom (sym is.is_view) at.room)
+        (region_state_is history width words active.frame))

@@ -1,44 +1,30 @@
 -- A result that is given to what it is for.
-use Rattle.std.proofs.Common.{ℕ, ◌<◌, ◌≤◌, ◌≡◌, refl, sym, ◌∙◌, ap, subst, arith, List, length, Some}
+use Rattle.std.proofs.Common.{ℕ, ◌<◌, ◌≡◌, refl, sym, ◌∙◌, ap, subst, arith, List}
 use Rattle.undo_log.specs.History.{History}
 use Rattle.gang_types.specs.declared.masks.Mask.{Mask}
-use Rattle.gang_types.specs.declared.places.VarId.{VarId}
-use Rattle.gang_types.specs.declared.places.VarId.TheVariants.{File, Local}
 use Rattle.gang_types.specs.declared.types.IntType.{IntType}
 use Rattle.gang_types.specs.Lanes.{Lanes}
 use Rattle.gang_types.specs.Masks.{IsGangWidth, lanes_of}
-use Rattle.gang_model.specs.Types.Tree.{Declares, Assigns, Function, Nothing, ResultFor, Returns as ForReturn, Var, Variable}
+use Rattle.gang_model.specs.Types.Tree.{Declares, Assigns, Function, Nothing, ResultFor, Returns as ForReturn, Var}
 use Rattle.machine_states.specs.Effects.{assigned_in, assigned_region, declared_in, declared_region, region_of, returned_in}
 use Rattle.machine_states.specs.Regions.{Region, Regions, with_region}
-use Rattle.gang_model.specs.Running.State.{words_for}
 use Rattle.machine_states.specs.Shows.{AreSized}
 use Rattle.machine_states.specs.Steps.{Delivers, converted_values}
-use Rattle.machine_states.specs.Variables.{IsScalar, Variables, variable_of}
+use Rattle.machine_states.specs.Variables.{IsScalar, Variables}
 use Rattle.machine_words.specs.declared.words.MachineWords.{MachineWords}
 use Rattle.machine_words.specs.Words.{AreLaid, Writes, regions_in}
 use Rattle.machine_moves.specs.Results.{Returns}
 use Rattle.machine_moves.proofs.Heads.{regions_after}
-use Rattle.machine_moves.proofs.GangLanes.{words_few}
+use Rattle.machine_moves.proofs.SentSteps.{HasPlace, scalar_place}
 use Rattle.machine_moves.specs.Delivering.{GivesResult}
 
 -- ---- room
 
-abbrev pub HasRoomFor : (w : ℕ) → Var → List ℕ → Type 0
-HasRoomFor w x words = (words_for w x.rate ≤ length words) × (length words ≤ w)
-
-module _ (variables : Variables) (w : ℕ) (gang : IsGangWidth w) (regions : Regions) (sized : AreSized variables w regions) (i n : ℕ) (below : i < 64) (x : Var) where
-  by_id : (id : VarId) (v : Variable) → variable_of variables n id ≡ Some v → x.rate ≡ v.rate → HasRoomFor w x (regions (region_of i id))
-  by_id (File k) v is same =
-      let long = sized.file k v is ∙ ap (words_for w) (sym same) in
-      (omega (arith, long), omega (arith, long, words_few w gang x.rate))
-  by_id (Local k) v is same =
-      let long = sized.own i n k v below is in
-      (omega (arith, long, words_few w gang x.rate), omega (arith, long))
-
-  -- the region of a scalar has room for it
-  pub scalar_room : IsScalar variables n x → (region : Region) → region ≡ region_of i x.id → HasRoomFor w x (regions region)
-  scalar_room scalar region e =
-      subst (λ r. HasRoomFor w x (regions r)) (sym e) (by_id x.id scalar.0 scalar.1 (ap (λ (y : Var). y.rate) scalar.3))
+-- the region of a scalar has room for it
+pub scalar_room : (variables : Variables) (w : ℕ) → IsGangWidth w → (regions : Regions) → AreSized variables w regions → (i n : ℕ) → i < 64 → (x : Var) → IsScalar variables n x
+    → (region : Region) → region ≡ region_of i x.id → HasPlace w x.rate (regions region)
+scalar_room variables w gang regions sized i n below x scalar region e =
+    subst (λ r. HasPlace w x.rate (regions r)) (sym e) (scalar_place variables w gang regions sized i n below x scalar)
 
 -- ---- what is given
 

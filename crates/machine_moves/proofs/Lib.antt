@@ -9,10 +9,17 @@ pub mod GangLanes
 pub mod GivenResults
 pub mod Heads
 pub mod MoveSteps
+pub mod NamedParts
 pub mod NextLanes
 pub mod OldWords
+pub mod PackedCounts
+pub mod PackedLoads
+pub mod PackedStores
 pub mod RegionStates
 pub mod ReturnSteps
 pub mod SentSteps
 pub mod Standings
 pub mod TopFrames
+pub mod ElementStores
+pub mod ElementMoves
+pub mod ElementChanges

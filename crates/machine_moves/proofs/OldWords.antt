@@ -18,11 +18,11 @@ lane_seen Uniform lanes region k e = lane_kept lanes (λ j. at region 0) k e
 lane_seen Varying lanes region k e = lane_kept lanes (λ j. at region j) k e
 
 module _ (results : List ℕ → List ℕ) where
-  given : (r : Result (List ℕ) Fault) (values : List ℕ) → (r >>= (λ x. Ok (results x))) ≡ Ok values → (x : List ℕ) × (r ≡ Ok x) × (values ≡ results x)
+  pub given : (r : Result (List ℕ) Fault) (values : List ℕ) → (r >>= (λ x. Ok (results x))) ≡ Ok values → (x : List ℕ) × (r ≡ Ok x) × (values ≡ results x)
   given (Ok x) values e = (x, refl, cc)
   given (Err fault) values e = absurd cc
 
-  refused : (r : Result (List ℕ) Fault) (fault : Fault) → (r >>= (λ x. Ok (results x))) ≡ Err fault → r ≡ Err fault
+  pub refused : (r : Result (List ℕ) Fault) (fault : Fault) → (r >>= (λ x. Ok (results x))) ≡ Err fault → r ≡ Err fault
   refused (Ok x) fault e = absurd cc
   refused (Err found) fault e = e
 

@@ -69,19 +69,19 @@ abbrev pub HasPlace : (width : ℕ) → Rate → List ℕ → Type 0
 HasPlace width rate words = (words_for width rate ≤ length words) × (length words ≤ width)
 
 module _ (variables : Variables) (width : ℕ) (gang : IsGangWidth width) (regions : Regions) (sizes : AreSized variables width regions) (index n : ℕ) (there : index < 64) where
-  place_of : (id : VarId) (v : Variable) → variable_of variables n id ≡ Some v → HasPlace width v.rate (regions (region_of index id))
-  place_of (File k) v e =
-      let long = sizes.file k v e in
+  place_of : (id : VarId) (v : Variable) → variable_of variables n id ≡ Some v → v.is_array ≡ false → HasPlace width v.rate (regions (region_of index id))
+  place_of (File k) v e plain =
+      let long = sizes.file k v e plain in
       let most = words_few width gang v.rate in
       (omega (arith, long), omega (arith, long, most))
-  place_of (Local k) v e =
+  place_of (Local k) v e plain =
       let long = sizes.own index n k v there e in
       let most = words_few width gang v.rate in
       (omega (arith, long, most), omega (arith, long))
 
   pub scalar_place : (x : Var) → IsScalar variables n x → HasPlace width x.rate (regions (region_of index x.id))
   scalar_place x scalar =
-      subst (λ rate. HasPlace width rate (regions (region_of index x.id))) (sym (ap (λ y. y.rate) scalar.3)) (place_of x.id scalar.0 scalar.1)
+      subst (λ rate. HasPlace width rate (regions (region_of index x.id))) (sym (ap (λ y. y.rate) scalar.3)) (place_of x.id scalar.0 scalar.1 scalar.2)
 
 -- ---- the writes of a step
 

@@ -1,5 +1,5 @@
 -- What follows for each step from how the words of a machine stand.
-use Rattle.std.proofs.Common.{ℕ, zero, suc, ◌+◌, ◌-◌, ◌^◌, ◌<◌, ◌≤◌, false, cond, ◌≡◌, refl, sym, ◌∙◌, ap, ap₂, subst, arith, inl, inr, List, [], ◌∷◌, ◌++◌, length, map, slice_index, Option, Some, None, Vec, Global}
+use Rattle.std.proofs.Common.{ℕ, zero, suc, ◌+◌, ◌-◌, ◌^◌, ◌<◌, ◌≤◌, ◌⊎◌, false, cond, ◌≡◌, refl, sym, ◌∙◌, ap, ap₂, subst, arith, inl, inr, List, [], ◌∷◌, ◌++◌, length, map, slice_index, Option, Some, None, Vec, Global}
 use Rattle.std.specs.Prelude.{All, Ok, min, option_map, slice_get, slice_index_or}
 use Rattle.std.proofs.lemmas.Bool.{cases_lt}
 use Rattle.std.proofs.lemmas.List.{length-map}
@@ -40,11 +40,11 @@ use Rattle.machine_states.proofs.DeclaredSteps.{step_declared}
 use Rattle.machine_states.proofs.LeaveSteps.{shows_alike}
 use Rattle.machine_states.proofs.NextPoints.{same_word}
 use Rattle.machine_states.proofs.PutSteps.{some_lane}
-use Rattle.machine_states.specs.Plain.{IsPlainExpr, ArgsPlain, IsPlainPoint}
-use Rattle.machine_states.specs.Declared.{NamesDeclared, ArgsDeclared, declared_before}
+use Rattle.machine_states.specs.Plain.{IsPlainExpr, IsPlainOption, ArgsPlain, IsPlainPoint}
+use Rattle.machine_states.specs.Declared.{NamesDeclared, OptionDeclared, ArgsDeclared, declared_before}
 use Rattle.expression_instructions.specs.declared.code.Instruction.{Instruction}
 use Rattle.expression_machine.specs.Room.{HasRoom}
-use Rattle.expression_code.specs.ProgramRoom.{ArgsHaveRoom, HaveRoom}
+use Rattle.expression_code.specs.ProgramRoom.{ArgsHaveRoom, HaveRoom, SomeHasRoom}
 use Rattle.codegen.specs.declared.code.ArgCode.{ArgCode}
 use Rattle.codegen.specs.declared.code.Change.{Change}
 use Rattle.codegen.specs.declared.code.StepCode.TheVariants as code
@@ -146,12 +146,16 @@ module _ {T : Type 0} (history : T → History) (left : T → ℕ) (width : ℕ)
   pub recorded_so_far : Records history width event old mid
   recorded_so_far = record { recorded = so_far.recorded; layout = so_far.layout; laid = so_far.laid }
 
+-- a step that leaves regions leaves the same regions
+pub goes_alike : (p : Program) (variables : Variables) (width : ℕ) (masked : Masked) (old new : Regions) → ((r : Region) → new r ≡ old r) → GoesTo p variables width masked old → GoesTo p variables width masked new
+goes_alike p variables width masked old new same goes = (goes.0, goes.1, shows_alike p variables width old new same goes.0 goes.2)
+
 -- a step has ended that leaves such regions
 pub ends_well : {T : Type 0} (history : T → History) (left : T → ℕ) (width : ℕ) (compiled : CompiledProgram) (masked : Masked) (regions : Regions) (writes : ℕ) (old new : MachineWords T)
     → IsUnderWay history left width undone.Step regions writes old new → GoesTo (program_of compiled) (variables_of compiled) width masked regions
     → EndsAs history width compiled masked old (Ok tt) new
 ends_well history left width compiled masked regions writes old new done goes = (
-  (goes.0, goes.1, shows_alike (program_of compiled) (variables_of compiled) width regions (regions_in history width new) done.regions_are goes.0 goes.2),
+  goes_alike (program_of compiled) (variables_of compiled) width masked regions (regions_in history width new) done.regions_are goes,
   recorded_so_far history left width undone.Step regions writes old new done,
 )
 
@@ -232,8 +236,8 @@ module _ {T : Type 0} (history : T → History) (width : ℕ) (compiled : Compil
   pub head_sized : (i : ℕ) (part : Head) → i < 64 → length (regions_in history width new (OfHead i part)) ≡ slice_index (head_sizes width) (head_part part)
   head_sized i part h = head_words width new.layout (words_of history new) laid i part (omega (arith, is_layout.frames, h))
 
-  pub file_sized : (k : ℕ) (v : Variable) → slice_get (variables_of compiled).file k ≡ Some v → length (regions_in history width new (OfFile k)) ≡ words_for width v.rate
-  file_sized k v is =
+  pub file_sized : (k : ℕ) (v : Variable) → slice_get (variables_of compiled).file k ≡ Some v → v.is_array ≡ false → length (regions_in history width new (OfFile k)) ≡ words_for width v.rate
+  file_sized k v is scalar =
       let globals = compiled.program.globals.items in
       let view : FileVariable → Variable = λ g. variable_view g.variable in
       let found = found_mapped view globals k v is in
@@ -241,7 +245,7 @@ module _ {T : Type 0} (history : T → History) (width : ℕ) (compiled : Compil
       let part = found_mapped (λ (p : Part). p.len) new.layout.file.items k (global_words width g)
       (mapped_at (λ (p : Part). p.len) (global_words width) new.layout.file.items globals k g is_layout.file found.1) in
       file_words width new.layout (words_of history new) laid k part.0 part.1
-      ∙ part.2 ∙ scalar_words width g (ap (λ (u : Variable). u.is_array) found.2 ∙ (lie.compiled_is.runnable.plain.file k v is).1)
+      ∙ part.2 ∙ scalar_words width g (ap (λ (u : Variable). u.is_array) found.2 ∙ scalar)
       ∙ ap (λ (u : Variable). words_for width u.rate) found.2
 
   pub own_sized : (i n k : ℕ) (v : Variable) → i < 64 → slice_get (own_of (variables_of compiled) n) k ≡ Some v → length (regions_in history width new (OfLocal i k)) ≡ width
@@ -365,15 +369,24 @@ module _ (width : ℕ) (compiled : CompiledProgram) (is : IsCompiled compiled) (
       each_at PointHasRoom (points_in f) active.step point
       (points_room f.body (function_ways f) (is.runnable.room active.function f is_active.next.is_function)) is_active.next.is_point
 
+-- an expression is the value of an argument, or the index from which an array is passed
+abbrev pub IsArgumentOf : Arg → Expr → Type 0
+IsArgumentOf (Value x v) e = v ≡ e
+IsArgumentOf (Array parameter array from) e = from ≡ Some e
+
 -- an expression is a value of a point
 abbrev pub IsValueOf : Point → Expr → Type 0
 IsValueOf (Put (Declare number x (Some v)) next) e = v ≡ e
-IsValueOf (Put (Assign number target v) next) e = v ≡ e
-IsValueOf (Put (ModelChange number target type op in_type v) next) e = v ≡ e
+IsValueOf (Put (Assign number (Scalar x) v) next) e = v ≡ e
+IsValueOf (Put (Assign number (ElementOf array rate index) v) next) e = (index ≡ e) ⊎ (v ≡ e)
+IsValueOf (Put (ModelChange number (Scalar x) type op in_type v) next) e = v ≡ e
+IsValueOf (Put (ModelChange number (ElementOf array rate index) type op in_type v) next) e = (index ≡ e) ⊎ (v ≡ e)
+IsValueOf (Put (PackedStore number array from v result_for) next) e = (from ≡ Some e) ⊎ (v ≡ e)
+IsValueOf (Put (PackedLoad number array from x result_for) next) e = from ≡ Some e
 IsValueOf (Put (Return number (Some v)) next) e = v ≡ e
 IsValueOf (Put (Check number v) next) e = v ≡ e
 IsValueOf (Branch test yes' no') e = test ≡ e
-IsValueOf (Enter called args result_for next) e = (k : ℕ) × (x : ModelVar) × (slice_get args k ≡ Some (Value x e))
+IsValueOf (Enter called args result_for next) e = (k : ℕ) × (arg : Arg) × (slice_get args k ≡ Some arg) × IsArgumentOf arg e
 IsValueOf point e = ⊥
 
 -- it reads scalars that are declared, and finds room
@@ -386,28 +399,37 @@ module _ (variables : Variables) (n : ℕ) (d : List ℕ) where
   good : (v e : Expr) → v ≡ e → IsPlainExpr variables n v → NamesDeclared d v → HasRoom v → IsGood variables n d e
   good v e same plain declared room = subst (IsGood variables n d) same (record { plain = plain; declared = declared; room = room })
 
-  good_argument : (called first : ℕ) (args : List Arg) (k : ℕ) (x : ModelVar) (e : Expr) → slice_get args k ≡ Some (Value x e)
+  good_option : (from : Option Expr) (e : Expr) → from ≡ Some e → IsPlainOption variables n from → OptionDeclared d from → SomeHasRoom from → IsGood variables n d e
+  good_option None e same plain declared room = absurd (none-some e same)
+  good_option (Some v) e same plain declared room = good v e (same_some v e same) plain declared room
+
+  good_argument : (called first : ℕ) (args : List Arg) (k : ℕ) (arg : Arg) (e : Expr) → slice_get args k ≡ Some arg → IsArgumentOf arg e
       → ArgsPlain variables n called first args → ArgsDeclared d args → ArgsHaveRoom args → IsGood variables n d e
-  good_argument called first [] k x e is plain declared room = absurd (none-some (Value x e) is)
-  good_argument called first (Value y v ∷ args) zero x e is plain declared room = good v e (same_value y x v e is) plain.1 declared.0 room.0
-    where
-      same_value : (y x : ModelVar) (v e : Expr) → Some (Value y v) ≡ Some (Value x e) → v ≡ e
-      same_value y x v e is = cc
-  good_argument called first (Value y v ∷ args) (suc k) x e is plain declared room = good_argument called (suc first) args k x e is plain.2 declared.1 room.1
-  good_argument called first (Array parameter array from ∷ args) k x e is plain declared room = absurd plain
+  good_argument called first [] k arg e is of plain declared room = absurd (none-some arg is)
+  good_argument called first (Value y v ∷ args) zero arg e is of plain declared room =
+      good v e (subst (λ a. IsArgumentOf a e) (sym (same_some (Value y v) arg is)) of) plain.1 declared.0 room.0
+  good_argument called first (Value y v ∷ args) (suc k) arg e is of plain declared room = good_argument called (suc first) args k arg e is of plain.2 declared.1 room.1
+  good_argument called first (Array parameter array from ∷ args) zero arg e is of plain declared room =
+      good_option from e (subst (λ a. IsArgumentOf a e) (sym (same_some (Array parameter array from) arg is)) of) plain.2 declared.0 room.0
+  good_argument called first (Array parameter array from ∷ args) (suc k) arg e is of plain declared room = good_argument called (suc first) args k arg e is of plain.3 declared.1 room.1
 
 module _ (variables : Variables) (n : ℕ) (before : StepNumber → List ℕ) (number : StepNumber) where
   good_value : (point : Point) (e : Expr) → IsPlainPoint variables n point → NamesBefore before number point → PointHasRoom point → IsValueOf point e → IsGood variables n (before number) e
   good_value (Put (Declare m x (Some v)) next) e plain names room same = good variables n (before number) v e same plain.1 names room
   good_value (Put (Assign m (Scalar x) v) next) e plain names room same = good variables n (before number) v e same plain.1 names.1 room.1
-  good_value (Put (Assign m (ElementOf array rate index) v) next) e plain names room same = absurd plain
+  good_value (Put (Assign m (ElementOf array rate index) v) next) e plain names room (inl same) = good variables n (before number) index e same plain.1 names.0 room.0
+  good_value (Put (Assign m (ElementOf array rate index) v) next) e plain names room (inr same) = good variables n (before number) v e same plain.2 names.1 room.1
   good_value (Put (ModelChange m (Scalar x) type op in_type v) next) e plain names room same = good variables n (before number) v e same plain.1 names.1 room.1
-  good_value (Put (ModelChange m (ElementOf array rate index) type op in_type v) next) e plain names room same = absurd plain
+  good_value (Put (ModelChange m (ElementOf array rate index) type op in_type v) next) e plain names room (inl same) = good variables n (before number) index e same plain.1 names.0 room.0
+  good_value (Put (ModelChange m (ElementOf array rate index) type op in_type v) next) e plain names room (inr same) = good variables n (before number) v e same plain.2 names.1 room.1
+  good_value (Put (PackedStore m array from v result_for) next) e plain names room (inl same) = good_option variables n (before number) from e same plain.1 names.0 room.0
+  good_value (Put (PackedStore m array from v result_for) next) e plain names room (inr same) = good variables n (before number) v e same plain.2 names.1 room.1
+  good_value (Put (PackedLoad m array from x result_for) next) e plain names room same = good_option variables n (before number) from e same plain.1 names.0 room
   good_value (Put (Return m (Some v)) next) e plain names room same = good variables n (before number) v e same plain names room
   good_value (Put (Check m v) next) e plain names room same = good variables n (before number) v e same plain names room
   good_value (Branch test yes' no') e plain names room same = good variables n (before number) test e same plain names room
   good_value (Enter called args result_for next) e plain names room given =
-      good_argument variables n (before number) called 0 args given.0 given.1 e given.2 plain.0.args_plain names.0 room
+      good_argument variables n (before number) called 0 args given.0 given.1 e given.2 given.3 plain.0.args_plain names.0 room
   good_value point e plain names room none = absurd none
 
 -- the code of a value of the next step's point

@@ -139,7 +139,7 @@ pub fn change<const W: usize, T: Timeline + Drop>(
 }
 
 /// What an operation makes of a variable's old words and operands.
-fn changed<const W: usize>(
+pub(crate) fn changed<const W: usize>(
     change: Change,
     lanes: Mask,
     old: [u64; W],

@@ -1,14 +1,12 @@
 //! The words of variables, as the top frame reads them.
 ghost use Rattle.std.specs.Prelude.{◌≡◌, ℕ, ◌<◌, ◌≤◌, length, slice_index};
 ghost use Rattle.gang_types.specs.Masks.{IsGangWidth};
-ghost use Rattle.gang_types.specs.declared.places.VarId.{VarId};
 ghost use Rattle.gang_model.specs.Running.Lanes.{at};
-ghost use Rattle.gang_model.specs.Running.State.{words_in};
 ghost use Rattle.expression_instructions.specs.Read.{place_in};
-ghost use Rattle.machine_states.specs.Effects.{region_of};
 ghost use Rattle.machine_words.specs.Views.{region_view};
 ghost use Rattle.machine_words.specs.Words.{AreLaid, regions_in};
 ghost use Rattle.machine_words.proofs.Facts.{laid_fact};
+ghost use Rattle.machine_moves.specs.Read.{HasRegions};
 
 use expression_instructions::Words;
 use gang_types::{FaultName, Mask, Rate, VarId};
@@ -26,9 +24,7 @@ pub struct TopVariables<'a, const W: usize, T: Timeline + Drop> {
 }
 
 impl<const W: usize, T: Timeline + Drop> Words<W> for TopVariables<'_, W, T> {
-    ghost shows = { λ store state. (v : VarId) → words_in state v ≡ regions_in T.history W store.words.now (region_of store.frame v) };
-
-    ghost shows_arrays = { λ store state. ⊥ };
+    ghost shows = { λ store state. HasRegions (regions_in T.history W store.words.now) store.frame state };
 
     fn words(&self, variable: Var) -> [u64; W] {
         let layout = &self.words.layout;
@@ -49,14 +45,14 @@ impl<const W: usize, T: Timeline + Drop> Words<W> for TopVariables<'_, W, T> {
         }
     }
 
-    // There are no arrays: no part of a program that runs reads one.
     fn elements(
         &self,
-        _array: VarId,
-        _mask: Mask,
-        _indices: &[u64; W],
+        array: VarId,
+        mask: Mask,
+        indices: &[u64; W],
     ) -> Result<[u64; W], (usize, FaultName)> {
-        Ok([0; W])
+        let view = self.words.view::<W>(self.frame, array);
+        self.words.elements::<W>(view, mask, *indices)
     }
 }
 

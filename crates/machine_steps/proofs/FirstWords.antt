@@ -1,43 +1,46 @@
 -- The first words of a run: those of the file's variables, one after the other, and the entry's frame.
-use Rattle.std.proofs.Common.{◌≡◌, refl, sym, ap, ◌∙◌, subst, ℕ, zero, suc, ◌+◌, ◌-◌, ◌^◌, ◌<◌, ◌≤◌, true, false, cond, List, [], ◌∷◌, length, Option, Some, None, inl, inr, zero-add, arith}
-use Rattle.std.specs.Prelude.{map, option_map, replicate, slice_get, slice_set}
-use Rattle.std.proofs.lemmas.Bool.{cases_lt, le-ltb, ne_eqb}
-use Rattle.std.proofs.lemmas.List.{get_or-replicate, length-map, length-replicate}
+use Rattle.std.proofs.Common.{◌≡◌, refl, sym, ap, ◌∙◌, subst, ℕ, zero, suc, ◌+◌, ◌<◌, ◌≤◌, true, cond, List, [], ◌∷◌, length, Option, Some, None, inl, inr, zero-add, arith}
+use Rattle.std.specs.Prelude.{map, option_map, replicate, slice_get}
+use Rattle.std.proofs.lemmas.Bool.{cases_lt, ne_eqb}
+use Rattle.std.proofs.lemmas.List.{length-map}
 use Rattle.std.proofs.lemmas.Option.{none-some, same_Some, slice_get-map}
-use Rattle.gang_types.specs.declared.types.Rate.{Rate}
-use Rattle.gang_types.specs.declared.types.Rate.TheVariants.{Uniform, Varying}
-use Rattle.gang_types.specs.declared.places.VarId.TheVariants.{File}
-use Rattle.gang_types.specs.Lanes.{Lanes, lowest}
+use Rattle.gang_types.specs.declared.places.VarId.TheVariants.{File, Local}
+use Rattle.gang_types.specs.Lanes.{Lanes}
 use Rattle.gang_types.specs.MaskLaws.{gang_width-le}
 use Rattle.gang_model.specs.Types.Tree.{Function}
 use Rattle.gang_model.specs.Types.Tree as model
-use Rattle.gang_model.specs.Running.Lanes.{at}
-use Rattle.gang_model.specs.Running.State.{same_id, words_of, words_for}
-use Rattle.gang_model.specs.Debugger.Events.{global_words, initial_memory, scalar_words}
+use Rattle.gang_model.specs.Running.State.{same_id, words_of}
+use Rattle.gang_model.specs.Debugger.Events.{global_words, initial_memory}
 use Rattle.undo_log.specs.History.{History}
 use Rattle.typed_tree.specs.declared.program.Global.{Global}
 use Rattle.typed_tree.specs.Views.{global_view, variable_view}
-use Rattle.gang_memory.specs.Layouts.{IsLayoutOf, global_words as layout_words, ranges}
-use Rattle.gang_memory.specs.Recorded.{left_in, without_words}
+use Rattle.gang_memory.specs.declared.layout.Layout.{Layout}
+use Rattle.gang_memory.specs.declared.parts.Part.{Part}
+use Rattle.gang_memory.specs.Layouts.{IsLayoutOf, global_words as layout_words}
+use Rattle.gang_memory.specs.Ranges.{sizes_of}
+use Rattle.gang_memory.specs.Recorded.{without_words}
+use Rattle.mask_states.specs.Masked.{entered_body}
 use Rattle.mask_states.specs.MaskedStep.{masked_start}
-use Rattle.machine_states.specs.Effects.{assigned_region}
-use Rattle.machine_states.specs.Regions.{OfFile}
+use Rattle.machine_states.specs.ArrayParts.{AreMemory}
+use Rattle.machine_states.specs.Regions.{OfEntry, OfFile}
 use Rattle.machine_states.specs.Steps.{IsBegun}
-use Rattle.machine_states.specs.Variables.{parameters_of}
+use Rattle.machine_states.specs.Variables.{own_of, parameters_of}
 use Rattle.machine_states.proofs.AlwaysDeclared.{start_declared}
 use Rattle.machine_states.proofs.Beginnings.{begins}
 use Rattle.machine_states.proofs.StoreWords.{another, itself}
-use Rattle.machine_words.proofs.AllLanes.{merged_all}
 use Rattle.machine_words.specs.declared.words.MachineWords.{MachineWords}
-use Rattle.machine_words.specs.Ranges.{head_sizes, machine_sizes, regions_of, words_at}
-use Rattle.machine_words.specs.Words.{AreLaid, Writes, left_of, regions_in, words_of as all_words}
+use Rattle.machine_words.proofs.Sizes.{file_words}
+use Rattle.machine_words.specs.Ranges.{head_sizes, machine_sizes}
+use Rattle.machine_words.specs.Words.{AreLaid, left_of, regions_in, words_of as all_words}
 use Rattle.machine_moves.specs.declared.compiled.CompiledProgram.{CompiledProgram}
 use Rattle.machine_moves.specs.Compiled.{function_of, program_of, variables_of}
 use Rattle.machine_moves.specs.Standing.{AreFor, IsShown}
 use Rattle.machine_moves.proofs.GangLanes.{gang_wide}
-use Rattle.machine_moves.proofs.Standings.{file_sized}
+use Rattle.machine_moves.proofs.RegionStates.{no_entry_words, no_file_words}
+use Rattle.machine_steps.specs.Beginning.{FillsVariable}
 use Rattle.machine_steps.specs.Calls.{BeginsFrame}
-use Rattle.machine_steps.proofs.WrittenRegions.{one_word, written_away, written_here}
+use Rattle.machine_steps.proofs.FilledVariables.{plenty_left}
+use Rattle.machine_steps.proofs.OwnParameters.{array_there}
 
 item_at : {A : Type 0} (xs : List A) (k : ℕ) → k < length xs → (x : A) × (slice_get xs k ≡ Some x)
 item_at [] k h = absurd (omega (arith, h))
@@ -48,24 +51,13 @@ same_variables : (o : Option Global) → option_map (λ (h : Global). variable_v
 same_variables None = refl
 same_variables (Some h) = refl
 
+mapped_back : {A B : Type 0} (g : A → B) (xs : List A) (k : ℕ) (y : B) → slice_get (map g xs) k ≡ Some y → (x : A) × (slice_get xs k ≡ Some x) × (g x ≡ y)
+mapped_back g [] k y e = absurd (none-some y e)
+mapped_back g (x ∷ xs) zero y e = (x, refl, same_Some (g x) y e)
+mapped_back g (x ∷ xs) (suc k) y e = mapped_back g xs k y e
+
 same_file : (m n : ℕ) → File m ≡ File n → m ≡ n
 same_file m n e = cc
-
--- ---- one variable
-
-lowest_of_all : (w : ℕ) → lowest (replicate w true) ≡ 0
-lowest_of_all zero = refl
-lowest_of_all (suc w) = refl
-
--- a scalar that all lanes assign one word to
-pub first_words : (w : ℕ) → 0 < w → (rate : Rate) (lanes : Lanes) (word : ℕ) (old : List ℕ) → lanes ≡ replicate w true → length old ≡ words_for w rate
-    → assigned_region rate lanes (replicate w word) old ≡ scalar_words rate w word
-first_words w wide Uniform lanes word old all long =
-    ap (λ k. slice_set old 0 (at (replicate w word) k)) (ap lowest all ∙ lowest_of_all w)
-    ∙ ap (slice_set old 0) (get_or-replicate w 0 word 0 wide)
-    ∙ one_word old word long
-first_words w wide Varying lanes word old all long =
-    ap (λ l. assigned_region Varying l (replicate w word) old) all ∙ merged_all w (replicate w word) old (length-replicate w word) long
 
 -- ---- the memory of a run
 
@@ -93,6 +85,13 @@ module _ (w : ℕ) where
       ∙ ap (global_words w) (same_Some h g is)
   initial_at first (h ∷ globals) ids (suc k) g is = behind_first first h globals ids k ∙ initial_at (suc first) globals (numbered_behind first h globals ids) k g is
 
+  -- it has no arrays of the entry
+  pub initial_entry : (first : ℕ) (globals : List model.Global) → AreNumbered first globals → (n : ℕ) → words_of (initial_memory w globals) (Local n) ≡ []
+  initial_entry first [] ids n = refl
+  initial_entry first (h ∷ globals) ids n =
+      ap (λ v. cond (same_id v (Local n)) (global_words w h) (words_of (initial_memory w globals) (Local n))) (ids 0 h refl)
+      ∙ initial_entry (suc first) globals (numbered_behind first h globals ids) n
+
   pub initial_past : (first : ℕ) (globals : List model.Global) → AreNumbered first globals → (k : ℕ) → length globals ≤ k → words_of (initial_memory w globals) (File (first + k)) ≡ []
   initial_past first [] ids k above = refl
   initial_past first (h ∷ globals) ids zero above = absurd (omega (arith, above))
@@ -103,7 +102,7 @@ module _ (w : ℕ) where
 
 -- the first so many variables of the file have their words, and the words lie as before
 pub record AreFilled {T : Type 0} (history : T → History) (width count : ℕ) (globals : List Global) (old new : MachineWords T) : Type 0 where
-  pub file : (k : ℕ) (g : Global) → k < count → slice_get globals k ≡ Some g → regions_in history width new (OfFile k) ≡ scalar_words g.variable.rate width g.word
+  pub file : (k : ℕ) (g : Global) → k < count → slice_get globals k ≡ Some g → regions_in history width new (OfFile k) ≡ global_words width (global_view g)
   pub layout : new.layout ≡ old.layout
   pub laid : AreLaid history width new
   pub rest : without_words (history new.store.timeline) ≡ without_words (history old.store.timeline)
@@ -121,38 +120,35 @@ module _ {T : Type 0} (history : T → History) (left : T → ℕ) (width : ℕ)
   }
 
   module _ (fresh : (history old.store.timeline).past ≡ []) (count : ℕ) (mid : MachineWords T) (filled : AreFilled history width count globals old mid) where
-    -- where no event is kept any number of words may be set
-    pub plenty_left : 32 ≤ left_of history left mid
-    plenty_left =
-        let none : (history mid.store.timeline).past ≡ [] = ap (λ h. h.past) filled.rest ∙ fresh in
-        let many : left_of history left mid ≡ 2 ^ 64 - 1 = ap (λ past. left_in past (left mid.store.timeline)) none in
-        omega (arith, many)
+    pub still_fresh : (history mid.store.timeline).past ≡ []
+    still_fresh = ap (λ h. h.past) filled.rest ∙ fresh
 
     pub width_left : width + 4 ≤ left_of history left mid
-    width_left = omega (arith, gang_width-le width lie.gang, plenty_left)
+    width_left =
+        let plenty = plenty_left history left old mid fresh filled.rest in
+        omega (arith, gang_width-le width lie.gang, plenty)
 
     module _ (g : Global) (is : slice_get globals count ≡ Some g) where
-      pub next_file : length (regions_in history width mid (OfFile count)) ≡ words_for width g.variable.rate
+      pub next_file : length (regions_in history width mid (OfFile count)) ≡ layout_words width g
       next_file =
-          file_sized history width compiled old mid lie filled.layout filled.laid count (variable_view g.variable)
-          (slice_get-map (λ (h : Global). variable_view h.variable) globals count ∙ ap (option_map (λ (h : Global). variable_view h.variable)) is)
+          let files = lie.layout.file in
+          let mine : slice_get (sizes_of old.layout.file.items) count ≡ Some (layout_words width g) =
+          ap (λ sizes. slice_get sizes count) files ∙ slice_get-map (layout_words width) globals count ∙ ap (option_map (layout_words width)) is in
+          let found = mapped_back (λ (p : Part). p.len) old.layout.file.items count (layout_words width g) mine in
+          file_words width mid.layout (all_words history mid) filled.laid count found.0 (ap (λ (l : Layout). slice_get l.file.items count) filled.layout ∙ found.1) ∙ found.2
 
-      pub one_filled : (new : MachineWords T) (lanes : Lanes) → lanes ≡ replicate width true
-          → Writes history left width (OfFile count) (assigned_region g.variable.rate lanes (replicate width g.word) (regions_in history width mid (OfFile count))) width mid new
-          → AreFilled history width (count + 1) globals old new
-      one_filled new lanes all w = record {
+      pub one_filled : (new : MachineWords T) → FillsVariable history width count (global_words width (global_view g)) mid new → AreFilled history width (count + 1) globals old new
+      one_filled new fills = record {
         file = λ k h below e. elim (cases_lt k count) [
-          | inl before ↦ written_away w (OfFile k) (ne_eqb count k (λ q. omega (arith, q, before))) ∙ filled.file k h before e
+          | inl before ↦ fills.others (OfFile k) (ne_eqb count k (λ q. omega (arith, q, before))) ∙ filled.file k h before e
           | inr past ↦
               let same : k ≡ count = omega (arith, below, past) in
               let this : g ≡ h = same_Some g h (sym is ∙ sym (ap (slice_get globals) same) ∙ e) in
-              ap (λ j. regions_in history width new (OfFile j)) same ∙ written_here w
-              ∙ first_words width (let wide : 4 ≤ width = gang_wide width lie.gang in omega (arith, wide)) g.variable.rate lanes g.word (regions_in history width mid (OfFile count)) all next_file
-              ∙ ap (λ (f : Global). scalar_words f.variable.rate width f.word) this
+              ap (λ j. regions_in history width new (OfFile j)) same ∙ fills.filled ∙ ap (λ (f : Global). global_words width (global_view f)) this
         ];
-        layout = w.layout ∙ filled.layout;
-        laid = w.laid;
-        rest = w.rest ∙ filled.rest;
+        layout = fills.layout ∙ filled.layout;
+        laid = fills.laid;
+        rest = fills.rest ∙ filled.rest;
       }
 
   -- ---- the state
@@ -162,12 +158,17 @@ module _ {T : Type 0} (history : T → History) (left : T → ℕ) (width : ℕ)
   no_file new same k above =
       let files : length old.layout.file.items ≡ length globals =
       sym (length-map old.layout.file.items (λ p. p.len)) ∙ ap length lie.layout.file ∙ length-map globals (layout_words width) in
-      ap (λ l. regions_of width l (all_words history new) (OfFile k)) same
-      ∙ ap (λ b. words_at (cond b (slice_get (ranges width old.layout) k) None) (all_words history new)) (le-ltb k (length old.layout.file.items) (omega (arith, above, files)))
+      no_file_words history width new 0 k (omega (arith, above, files, ap (λ (l : Layout). length l.file.items) same))
+
+  -- the entry is given no arrays
+  no_entry : (new : MachineWords T) → new.layout ≡ old.layout → (k : ℕ) → regions_in history width new (OfEntry k) ≡ []
+  no_entry new same k =
+      let none : length old.layout.entry.items ≡ 0 = sym (length-map old.layout.entry.items (λ p. p.len)) ∙ ap length lie.layout.entry in
+      no_entry_words history width new 0 k (omega (arith, none, ap (λ (l : Layout). length l.entry.items) same))
 
   module _ (entry : ℕ) (f : Function) (is : function_of compiled entry ≡ Some f) (none : parameters_of (variables_of compiled) entry ≡ 0) (mid new : MachineWords T) (lanes : Lanes) (all : lanes ≡ replicate width true)
       (count : ℕ) (filled : AreFilled history width count globals old mid) (over : length globals ≤ count)
-      (begun : BeginsFrame history left (variables_of compiled) width 0 entry f lanes mid new) where
+      (begun : BeginsFrame history left width 0 entry f lanes mid new) where
     first_layout : new.layout ≡ old.layout
     first_layout = begun.layout ∙ filled.layout
 
@@ -183,14 +184,13 @@ module _ {T : Type 0} (history : T → History) (left : T → ℕ) (width : ℕ)
       room = omega (arith, lie.room, ap (λ h. h.room) first_rest);
     }
 
-    -- the variables of the file have their numbers, and are no arrays
-    file_ids : (k : ℕ) (g : model.Global) → slice_get (map global_view globals) k ≡ Some g → (g.variable.id ≡ File (0 + k)) × (g.variable.is_array ≡ false)
+    -- the variables of the file have their numbers
+    file_ids : (k : ℕ) (g : model.Global) → slice_get (map global_view globals) k ≡ Some g → g.variable.id ≡ File (0 + k)
     file_ids k g e =
         let variable : slice_get (variables_of compiled).file k ≡ Some g.variable =
         slice_get-map (λ (h : Global). variable_view h.variable) globals k ∙ same_variables (slice_get globals k)
         ∙ ap (option_map (λ (u : model.Global). u.variable)) (sym (slice_get-map global_view globals k) ∙ e) in
-        let plain = lie.compiled_is.runnable.plain.file k g.variable variable in
-        (plain.0 ∙ ap File (sym (zero-add k)), plain.1)
+        lie.compiled_is.runnable.plain.file k g.variable variable ∙ ap File (sym (zero-add k))
 
     first_file : (k : ℕ) → regions_in history width new (OfFile k) ≡ words_of (initial_memory width (program_of compiled).globals) (File k)
     first_file k =
@@ -202,21 +202,37 @@ module _ {T : Type 0} (history : T → History) (left : T → ℕ) (width : ℕ)
               let g = there.0 in
               let is_view : slice_get views k ≡ Some (global_view g) = slice_get-map global_view globals k ∙ ap (option_map global_view) there.1 in
               begun.kept.file k ∙ filled.file k g (omega (arith, below, over)) there.1
-              ∙ sym (initial_at width 0 views (λ j u e. (file_ids j u e).0) k (global_view g) is_view
-              ∙ ap (λ b. cond b (replicate g.length 0) (scalar_words g.variable.rate width g.word)) (file_ids k (global_view g) is_view).1)
-              ∙ names
+              ∙ sym (initial_at width 0 views file_ids k (global_view g) is_view) ∙ names
           | inr past ↦
               let above : length views ≤ k = omega (arith, past, length-map globals global_view) in
-              begun.kept.file k ∙ no_file mid filled.layout k past ∙ sym (initial_past width 0 views (λ j u e. (file_ids j u e).0) k above) ∙ names
+              begun.kept.file k ∙ no_file mid filled.layout k past ∙ sym (initial_past width 0 views file_ids k above) ∙ names
         ]
+
+    first_memory : AreMemory (regions_in history width new) (initial_memory width (program_of compiled).globals)
+    first_memory (File k) = sym (first_file k)
+    first_memory (Local k) = initial_entry width 0 (map global_view globals) file_ids k ∙ sym (no_entry new first_layout k)
+
+    -- the frame has nothing declared, and no arrays
+    first_begun : IsBegun (variables_of compiled) width (regions_in history width new) 0 entry f (replicate width true) (record { views = []; vars = [] })
+    first_begun = record {
+      depth = begun.begun.depth;
+      function = begun.begun.function;
+      lanes_are = begun.begun.lanes_are ∙ all;
+      none_returned = begun.begun.none_returned;
+      numbers = begun.begun.numbers ∙ ap (λ l. (entered_body f l).numbers) all;
+      result_sized = begun.begun.result_sized;
+      declared = λ k h. cc;
+      views = λ k array.
+          let found = array_there (slice_get (own_of (variables_of compiled) entry) k) array in
+          let below = lie.compiled_is.runnable.plain.arrays entry k found.0 found.1 found.2 in
+          absurd (omega (arith, below, none));
+    }
 
     pub first_shown : IsShown history width compiled new (masked_start (program_of compiled) entry [] width)
     first_shown =
         let runnable = lie.compiled_is.runnable in
-        let begun_for_all : IsBegun (variables_of compiled) width (regions_in history width new) 0 entry f (replicate width true) [] =
-        subst (λ l. IsBegun (variables_of compiled) width (regions_in history width new) 0 entry f l []) all begun.begun in
         record {
-          shows = begins (program_of compiled) (variables_of compiled) width (regions_in history width new) entry f is begun_for_all first_file;
+          shows = begins (program_of compiled) (variables_of compiled) width (regions_in history width new) entry f is first_begun first_memory;
           declared = start_declared (variables_of compiled) runnable.most (program_of compiled) runnable.plain runnable.lowerable.numbered entry width f is none
               (let wide : 4 ≤ width = gang_wide width lie.gang in omega (arith, wide));
         }

@@ -10,8 +10,7 @@ use Rattle.gang_model.specs.Types.Tree.{Function}
 use Rattle.gang_model.specs.Running.Lanes.{at}
 use Rattle.undo_log.specs.History.{History}
 use Rattle.mask_states.specs.Masked.{entered_body}
-use Rattle.machine_states.specs.Regions.{FunctionOf, LanesOf, ReturnedOf, NumbersOf, ResultOf, Head, OfFile, Depth, OfHead, OfLocal, Region, same_head, same_region}
-use Rattle.machine_states.specs.Variables.{Variables}
+use Rattle.machine_states.specs.Regions.{FunctionOf, LanesOf, ReturnedOf, NumbersOf, ResultOf, Head, OfEntry, OfFile, Depth, OfHead, OfLocal, Region, same_head, same_region}
 use Rattle.machine_words.specs.declared.words.MachineWords.{MachineWords}
 use Rattle.machine_words.specs.Words.{Writes, regions_in}
 use Rattle.machine_steps.specs.Calls.{BeginsFrame}
@@ -34,9 +33,9 @@ module _ {T : Type 0} (history : T → History) (left : T → ℕ) (width frame 
   result_kept : regions_in history width m5 (OfHead frame ResultOf) ≡ regions_in history width m0 (OfHead frame ResultOf)
   result_kept = written_away w5 (OfHead frame ResultOf) refl ∙ written_part w4 ResultOf refl ∙ written_part w3 ResultOf refl ∙ written_part w2 ResultOf refl ∙ written_part w1 ResultOf refl
 
-  pub frame_begins : (variables : Variables) (f : Function) → frame ≤ 63 → length lanes ≡ width → word ≡ word_of_lanes lanes → numbers ≡ (entered_body f lanes).numbers
-      → BeginsFrame history left variables width frame n f lanes m0 m5
-  frame_begins variables f below size is_word are = record {
+  pub frame_begins : (f : Function) → frame ≤ 63 → length lanes ≡ width → word ≡ word_of_lanes lanes → numbers ≡ (entered_body f lanes).numbers
+      → BeginsFrame history left width frame n f lanes m0 m5
+  frame_begins f below size is_word are = record {
     begun = record {
       depth = written_here w5;
       function = written_away w5 (OfHead frame FunctionOf) refl ∙ written_part w4 FunctionOf refl ∙ written_part w3 FunctionOf refl ∙ written_part w2 FunctionOf refl ∙ written_here w1;
@@ -46,10 +45,10 @@ module _ {T : Type 0} (history : T → History) (left : T → ℕ) (width frame 
           ∙ none_lanes width;
       numbers = written_away w5 (OfHead frame NumbersOf) refl ∙ written_here w4 ∙ are;
       result_sized = head_long history width m5 w5.laid frame ResultOf (omega (arith, below));
-      declared = λ k h. cc;
     };
     kept = record {
       file = λ k. kept_through (OfFile k) refl refl refl refl refl;
+      entry = λ k. kept_through (OfEntry k) refl refl refl refl refl;
       heads = λ i part other.
           kept_through (OfHead i part) (other_head frame i FunctionOf part other) (other_head frame i LanesOf part other) (other_head frame i ReturnedOf part other)
           (other_head frame i NumbersOf part other) refl;

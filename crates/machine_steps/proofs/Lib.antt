@@ -1,9 +1,12 @@
+pub mod ArgumentWords
 pub mod Callers
 pub mod EnteredCalls
 pub mod EnteredNumbers
+pub mod FilledVariables
 pub mod FirstWords
 pub mod FrameHeads
 pub mod LeftFrames
+pub mod OwnParameters
 pub mod Parameters
 pub mod PassedArguments
 pub mod PassedCalls

@@ -9,12 +9,11 @@ use Rattle.std.proofs.lemmas.Option.{same_Some, slice_get_read}
 use Rattle.std.proofs.lemmas.Slice.Zip.{get_or-zip, length-zip}
 use Rattle.gang_types.specs.Lanes.{Lanes}
 use Rattle.undo_log.specs.History.{History}
-use Rattle.machine_states.specs.Effects.{declared_region}
-use Rattle.machine_states.specs.Regions.{OfFile, Depth, OfHead, OfLocal, Region, same_region}
+use Rattle.machine_states.specs.Regions.{OfEntry, OfFile, Depth, OfHead, OfLocal, Region, same_region}
 use Rattle.codegen.specs.declared.code.ArgCode.{ArgCode}
 use Rattle.machine_words.specs.declared.words.MachineWords.{MachineWords}
 use Rattle.machine_words.specs.Words.{AreLaid, Writes, left_of, regions_in}
-use Rattle.machine_steps.specs.Calls.{AreParametersDeclared, is_parameter}
+use Rattle.machine_steps.specs.Calls.{AreParametersDeclared, is_parameter, parameter_region}
 use Rattle.machine_steps.proofs.WrittenRegions.{written_away, written_here}
 
 -- ---- regions
@@ -26,6 +25,7 @@ not_before frame count = and_right (frame == frame) (nat_lt count count) (le-ltb
 -- a region that is no parameter up to the next one is none before it, and is not that one
 pub none_before : (frame count : ℕ) (r : Region) → is_parameter frame (count + 1) r ≡ false → is_parameter frame count r ≡ false
 none_before frame count (OfFile k) h = refl
+none_before frame count (OfEntry k) h = refl
 none_before frame count Depth h = refl
 none_before frame count (OfHead i part) h = refl
 none_before frame count (OfLocal i k) h = elim (and_cases (i == frame) (nat_lt k (count + 1)) h) [
@@ -35,6 +35,7 @@ none_before frame count (OfLocal i k) h = elim (and_cases (i == frame) (nat_lt k
 
 pub not_next : (frame count : ℕ) (r : Region) → is_parameter frame (count + 1) r ≡ false → same_region (OfLocal frame count) r ≡ false
 not_next frame count (OfFile k) h = refl
+not_next frame count (OfEntry k) h = refl
 not_next frame count Depth h = refl
 not_next frame count (OfHead i part) h = refl
 not_next frame count (OfLocal i k) h = elim (and_cases (i == frame) (nat_lt k (count + 1)) h) [
@@ -47,7 +48,7 @@ not_next frame count (OfLocal i k) h = elim (and_cases (i == frame) (nat_lt k (c
 module _ {T : Type 0} (history : T → History) (left : T → ℕ) (width frame : ℕ) (args : List ArgCode) (given : List (List ℕ)) (lanes : Lanes) (old : MachineWords T) where
   pub none_declared : AreLaid history width old → AreParametersDeclared history left width frame 0 args given lanes old old
   none_declared laid = record {
-    own = λ k arg values below e f. absurd (omega (arith, below));
+    own = λ k made words below e f. absurd (omega (arith, below));
     others = λ r h. refl;
     layout = refl;
     laid = laid;
@@ -65,21 +66,21 @@ module _ {T : Type 0} (history : T → History) (left : T → ℕ) (width frame 
         let more = mul-le-mul_left {m = count + 1} {n = length args} width (omega (arith, within)) in
         omega (arith, more, room, so_far.few)
 
-    pub one_declared : (arg : ArgCode) (values : List ℕ) (new : MachineWords T) → slice_get args count ≡ Some arg → slice_get given count ≡ Some values
-        → Writes history left width (OfLocal frame count) (declared_region arg.parameter.rate lanes values (regions_in history width mid (OfLocal frame count))) width mid new
+    pub one_declared : (made : ArgCode) (words : List ℕ) (new : MachineWords T) → slice_get args count ≡ Some made → slice_get given count ≡ Some words
+        → Writes history left width (OfLocal frame count) (parameter_region made lanes words (regions_in history width mid (OfLocal frame count))) width mid new
         → AreParametersDeclared history left width frame (count + 1) args given lanes old new
-    one_declared arg values new is_arg is_given w = record {
-      own = λ k a vs below e f. elim (cases_eq k count) [
+    one_declared made words new is_made is_given w = record {
+      own = λ k other_made others below e f. elim (cases_eq k count) [
         | inl same ↦
-            let this : arg ≡ a = same_Some arg a (sym is_arg ∙ sym (ap (slice_get args) same) ∙ e) in
-            let these : values ≡ vs = same_Some values vs (sym is_given ∙ sym (ap (slice_get given) same) ∙ f) in
+            let this : made ≡ other_made = same_Some made other_made (sym is_made ∙ sym (ap (slice_get args) same) ∙ e) in
+            let these : words ≡ others = same_Some words others (sym is_given ∙ sym (ap (slice_get given) same) ∙ f) in
             ap (λ j. regions_in history width new (OfLocal frame j)) same ∙ written_here w
-            ∙ ap (λ (b : ArgCode). declared_region b.parameter.rate lanes values (regions_in history width mid (OfLocal frame count))) this
-            ∙ ap (λ us. declared_region a.parameter.rate lanes us (regions_in history width mid (OfLocal frame count))) these
-            ∙ ap (declared_region a.parameter.rate lanes vs) (next_region ∙ sym (ap (λ j. regions_in history width old (OfLocal frame j)) same))
+            ∙ ap (λ (b : ArgCode). parameter_region b lanes words (regions_in history width mid (OfLocal frame count))) this
+            ∙ ap (λ us. parameter_region other_made lanes us (regions_in history width mid (OfLocal frame count))) these
+            ∙ ap (parameter_region other_made lanes others) (next_region ∙ sym (ap (λ j. regions_in history width old (OfLocal frame j)) same))
         | inr other ↦
             let before : k < count = omega (arith, below, other) in
-            written_away w (OfLocal frame k) (and_right (frame == frame) (count == k) (ne_eqb count k (λ q. other (sym q)))) ∙ so_far.own k a vs before e f
+            written_away w (OfLocal frame k) (and_right (frame == frame) (count == k) (ne_eqb count k (λ q. other (sym q)))) ∙ so_far.own k other_made others before e f
       ];
       others = λ r h. written_away w r (not_next frame count r h) ∙ so_far.others r (none_before frame count r h);
       layout = w.layout ∙ so_far.layout;

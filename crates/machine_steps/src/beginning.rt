@@ -1,16 +1,24 @@
 //! The first words of a run.
-ghost use Rattle.std.specs.Prelude.{◌≡◌, ℕ, [], Some};
+ghost use Rattle.std.specs.Prelude.{◌≡◌, ℕ, [], Some, length, replicate};
+ghost use Rattle.gang_types.specs.Masks.{IsGangWidth};
 ghost use Rattle.gang_model.specs.Types.Tree.{Function as ModelFunction};
+ghost use Rattle.gang_model.specs.Debugger.Events.{global_words};
+ghost use Rattle.typed_tree.specs.Views.{global_view};
+ghost use Rattle.gang_memory.specs.Layouts.{global_words as words_long};
 ghost use Rattle.gang_memory.specs.Recorded.{without_words};
 ghost use Rattle.mask_states.specs.MaskedStep.{masked_start};
+ghost use Rattle.machine_states.specs.Regions.{OfFile};
 ghost use Rattle.machine_states.specs.Variables.{parameters_of};
+ghost use Rattle.machine_words.specs.Words.{AreLaid, regions_in};
 ghost use Rattle.machine_moves.specs.Compiled.{function_of, program_of, variables_of};
 ghost use Rattle.machine_moves.specs.Standing.{AreFor, IsShown};
+ghost use Rattle.machine_steps.specs.Beginning.{FillsVariable};
 
 use crate::calls::begin_frame;
 use gang_types::Mask;
 use machine_moves::CompiledProgram;
 use machine_words::{MachineWords, Region};
+use typed_tree::Global;
 use undo_log::Timeline;
 
 /// Writes the first words of a run that begins with a function without parameters: those of the file, and the function's frame, begun
@@ -29,6 +37,26 @@ pub fn start<const W: usize, T: Timeline + Drop>(
     ensures kept { without_words (T.history words.new.store.timeline) ≡ without_words (T.history words.old.store.timeline) }
 {
     for (number, global) in compiled.program.globals.iter().enumerate() {
+        fill::<W, T>(number, global, words);
+    }
+    begin_frame::<W, T>(compiled, 0, entry, Mask::all::<W>(), words);
+}
+
+/// Writes the first words of a variable of the file: those of its literal, or 0 for each element of an array.
+fn fill<const W: usize, T: Timeline + Drop>(
+    number: usize,
+    global: &Global,
+    words: &mut MachineWords<T>,
+)
+    requires width { IsGangWidth W }
+    requires laid { AreLaid T.history W words.old }
+    requires fresh { (T.history words.old.store.timeline).past ≡ [] }
+    requires long { length (regions_in T.history W words.old (OfFile number)) ≡ words_long W global.now }
+    ensures { FillsVariable T.history W number (global_words W (global_view global.now)) words.old words.new }
+{
+    if global.variable.is_array {
+        clear::<W, T>(number, global.length as usize, words);
+    } else {
         words.assign::<W>(
             Region::File(number),
             global.variable.rate,
@@ -36,5 +64,21 @@ pub fn start<const W: usize, T: Timeline + Drop>(
             [global.word; W],
         );
     }
-    begin_frame::<W, T>(compiled, 0, entry, Mask::all::<W>(), words);
+}
+
+/// Writes 0 to each element of an array of the file.
+fn clear<const W: usize, T: Timeline + Drop>(
+    number: usize,
+    count: usize,
+    words: &mut MachineWords<T>,
+)
+    requires width { IsGangWidth W }
+    requires laid { AreLaid T.history W words.old }
+    requires fresh { (T.history words.old.store.timeline).past ≡ [] }
+    requires long { length (regions_in T.history W words.old (OfFile number)) ≡ count }
+    ensures { FillsVariable T.history W number (replicate count 0) words.old words.new }
+{
+    for index in 0..count {
+        words.set::<W>(Region::File(number), index, 0);
+    }
 }

@@ -7,11 +7,12 @@ ghost use Rattle.codegen.specs.Codes.{Fit};
 ghost use Rattle.codegen.specs.declared.code.StepCode.TheVariants as code;
 ghost use Rattle.mask_states.specs.Masked.{Masked};
 ghost use Rattle.machine_states.specs.Regions.{OfLocal};
-ghost use Rattle.machine_words.specs.Words.{AreLaid, left_of, regions_in};
+ghost use Rattle.machine_words.specs.Words.{AreLaid, Writes, left_of, regions_in};
 ghost use Rattle.typed_tree.specs.declared.statements.ResultFor.{ResultFor as TypedResultFor};
-ghost use Rattle.machine_moves.specs.Compiled.{IsCompiled, function_of, variables_of};
+ghost use Rattle.machine_moves.specs.Compiled.{IsCompiled, function_of};
+ghost use Rattle.machine_moves.specs.Parts.{HasNextPoint};
 ghost use Rattle.machine_moves.specs.Standing.{AreSound, DoesNext, Ends, IsShown};
-ghost use Rattle.machine_steps.specs.Calls.{AreParametersDeclared, ArePassed, BeginsFrame, IsArgumentAt};
+ghost use Rattle.machine_steps.specs.Calls.{AreParametersDeclared, ArePassed, BeginsFrame, IsArgumentAnswer, IsArgumentAt, parameter_region};
 
 use arrayvec::ArrayVec;
 use codegen::ArgCode;
@@ -19,14 +20,14 @@ use debug_machine::Fault;
 use expression_machine::Stacks;
 use gang_memory::MOST_FRAMES;
 use gang_types::{FaultName, Mask};
-use machine_moves::{Active, CompiledProgram, begin, value_of};
-use machine_words::{Head, MachineWords, Region};
+use machine_moves::{Active, CompiledProgram, begin, named_part, value_of};
+use machine_words::{Head, MachineWords, Region, view_words};
 use undo_log::{Timeline, Undone};
 
 /// The most arguments of a call.
 const MOST_ARGS: usize = 8;
 
-/// The values of a call's arguments.
+/// The words of a call's arguments.
 type Arguments<const W: usize> = ArrayVec<[u64; W], MOST_ARGS>;
 
 /// A call: its arguments are evaluated, and a frame begins for its lanes, unless 64 frames are there. The lanes go on when it is
@@ -56,7 +57,7 @@ pub(crate) fn enter<const W: usize, T: Timeline + Drop>(
     Ok(())
 }
 
-/// The values of a call's arguments, in the lanes of the next step.
+/// The words of a call's arguments, from left to right.
 fn arguments<const W: usize, T: Timeline + Drop>(
     compiled: &CompiledProgram,
     active: Active,
@@ -65,17 +66,42 @@ fn arguments<const W: usize, T: Timeline + Drop>(
     stacks: &mut Stacks<W>,
 ) -> Result<Arguments<W>, Fault>
     requires sound { AreSound T.history W compiled.now words.now }
-    requires values { (meant : List Arg) × Fit (IsArgumentAt W compiled.now (regions_in T.history W words.now) active) args.now meant }
+    requires point { HasNextPoint W compiled.now (regions_in T.history W words.now) active }
+    requires fits { (meant : List Arg) × Fit (IsArgumentAt W compiled.now (regions_in T.history W words.now) active) args.now meant }
     requires few { length args.now ≤ 8 }
     ensures { (masked : Masked) (meant : List Arg) → IsShown T.history W compiled.now words.now masked
         → Fit (IsArgumentAt W compiled.now (regions_in T.history W words.now) active) args.now meant
-        → ArePassed meant (lanes_of W active.lanes) masked.state result }
+        → ArePassed W (regions_in T.history W words.now) meant (lanes_of W active.lanes) masked.state result }
 {
     let mut given = ArrayVec::new();
     for arg in args {
-        given.push(value_of(compiled, active, &arg.value, words, stacks)?);
+        given.push(argument(compiled, active, arg, words, stacks)?);
     }
     Ok(given)
+}
+
+/// The words of an argument: its values in the lanes of the next step, or those that keep the part of an array that is passed.
+fn argument<const W: usize, T: Timeline + Drop>(
+    compiled: &CompiledProgram,
+    active: Active,
+    arg: &ArgCode,
+    words: &MachineWords<T>,
+    stacks: &mut Stacks<W>,
+) -> Result<[u64; W], Fault>
+    requires sound { AreSound T.history W compiled.now words.now }
+    requires point { HasNextPoint W compiled.now (regions_in T.history W words.now) active }
+    requires fits { (y : Arg) × IsArgumentAt W compiled.now (regions_in T.history W words.now) active arg.now y }
+    ensures { (masked : Masked) (y : Arg) → IsShown T.history W compiled.now words.now masked
+        → IsArgumentAt W compiled.now (regions_in T.history W words.now) active arg.now y
+        → IsArgumentAnswer W (regions_in T.history W words.now) (lanes_of W active.lanes) masked.state y result }
+{
+    match arg {
+        ArgCode::Value { value, .. } => value_of(compiled, active, value, words, stacks),
+        ArgCode::Array { array, from } => {
+            let part = named_part(compiled, active, *array, from, words, stacks)?;
+            Ok(view_words(part))
+        }
+    }
 }
 
 /// Declares the parameters of a frame that begins.
@@ -95,12 +121,33 @@ fn declare_parameters<const W: usize, T: Timeline + Drop>(
     ensures { AreParametersDeclared T.history T.left W frame (length args.now) args.now given.now (lanes_of W lanes) words.old words.new }
 {
     for (number, (arg, values)) in args.iter().zip(given).enumerate() {
-        words.declare::<W>(
-            Region::Local(frame, number),
-            arg.parameter.rate,
-            lanes,
-            *values,
-        );
+        declare_parameter::<W, T>(frame, number, arg, *values, lanes, words);
+    }
+}
+
+/// Declares a parameter: a scalar has its values in the lanes, an array the words that keep the part it stands for.
+fn declare_parameter<const W: usize, T: Timeline + Drop>(
+    frame: usize,
+    number: usize,
+    arg: &ArgCode,
+    values: [u64; W],
+    lanes: Mask,
+    words: &mut MachineWords<T>,
+)
+    requires width { IsGangWidth W }
+    requires laid { AreLaid T.history W words.old }
+    requires whole { length (regions_in T.history W words.old (OfLocal frame number)) ≡ W }
+    requires lane { no_lane (lanes_of W lanes) ≡ false }
+    requires left { W ≤ left_of T.history T.left words.old }
+    ensures { Writes T.history T.left W (OfLocal frame number)
+        (parameter_region arg.now (lanes_of W lanes) values.entry (regions_in T.history W words.old (OfLocal frame number))) W words.old words.new }
+{
+    let region = Region::Local(frame, number);
+    match arg {
+        ArgCode::Value { parameter, .. } => {
+            words.declare::<W>(region, parameter.rate, lanes, values)
+        }
+        ArgCode::Array { .. } => words.set_lanes::<W>(region, Mask::all::<W>(), values),
     }
 }
 
@@ -119,7 +166,7 @@ pub(crate) fn begin_frame<const W: usize, T: Timeline + Drop>(
     requires runs { (f : ModelFunction) × (function_of compiled.now function ≡ Some f) }
     requires left { W + 4 ≤ left_of T.history T.left words.old }
     ensures { (f : ModelFunction) → function_of compiled.now function ≡ Some f
-        → BeginsFrame T.history T.left (variables_of compiled.now) W frame function f (lanes_of W lanes) words.old words.new }
+        → BeginsFrame T.history T.left W frame function f (lanes_of W lanes) words.old words.new }
 {
     let closing = compiled.closing(function) as u64;
     let entry = compiled.entry(function) as u64;

@@ -9,7 +9,8 @@ use codegen::StepCode;
 use debug_machine::{Fault, StepEnd};
 use expression_machine::Stacks;
 use machine_moves::{
-    Active, CompiledProgram, assign, branch, change, check, declare, finish, go, next_step,
+    Active, CompiledProgram, assign, assign_element, branch, change, change_element, check,
+    declare, finish, go, load_packed, next_step, store_packed,
 };
 use machine_words::MachineWords;
 use undo_log::Timeline;
@@ -68,7 +69,56 @@ fn perform<const W: usize, T: Timeline + Drop>(
         } => change(
             compiled, active, *variable, *operation, value, *next, words, stacks,
         ),
+        StepCode::AssignElement {
+            array,
+            index,
+            value,
+            next,
+        } => assign_element(compiled, active, *array, index, value, *next, words, stacks),
+        StepCode::ChangeElement {
+            array,
+            index,
+            change: operation,
+            value,
+            next,
+        } => change_element(
+            compiled, active, *array, index, *operation, value, *next, words, stacks,
+        ),
         StepCode::Check { test, next } => check(compiled, active, test, *next, words, stacks),
+        StepCode::PackedStore {
+            array,
+            from,
+            value,
+            result_for,
+            next,
+        } => store_packed(
+            compiled,
+            active,
+            *array,
+            from,
+            value,
+            *result_for,
+            *next,
+            words,
+            stacks,
+        ),
+        StepCode::PackedLoad {
+            array,
+            from,
+            into,
+            result_for,
+            next,
+        } => load_packed(
+            compiled,
+            active,
+            *array,
+            from,
+            *into,
+            *result_for,
+            *next,
+            words,
+            stacks,
+        ),
         StepCode::Return { value, next } => finish(compiled, active, value, *next, words, stacks),
         StepCode::Go { next } => go::<W, T>(compiled, active, *next, words),
         StepCode::Branch { test, yes, no } => {

@@ -1,17 +1,14 @@
 use Rattle.std.proofs.Common.{◌≤◌, ◌<◌, ◌∙◌, refl, ap, length, get_or, arith}
 use Rattle.std.proofs.lemmas.Option.{slice_get_read}
-use Rattle.gang_types.specs.Lanes.{no_lane}
 use Rattle.gang_types.specs.Masks.{lanes_of}
-use Rattle.gang_types.specs.MaskLaws.{gang_width-le}
-use Rattle.machine_moves.proofs.GangLanes.{some_of_all, words_few}
-use Rattle.machine_steps.proofs.FirstWords.{first_lie, first_rest, first_shown, next_file, none_filled, one_filled, width_left}
+use Rattle.machine_steps.proofs.FirstWords.{first_lie, first_rest, first_shown, next_file, none_filled, one_filled, still_fresh, width_left}
 use Rattle.machine_steps.proofs.beginning.start.Goals as goal
 
 pub loop-number-init : goal.loop-number-init
 loop-number-init g c = none_filled g.T.Timeline.history g.T.Timeline.left g.row.W c.args.compiled.now c.args.words.now c.requires.lie
 
-pub assign-requires : goal.assign-requires
-assign-requires g c =
+pub fill-requires : goal.fill-requires
+fill-requires g c =
     let history = g.T.Timeline.history in
     let left = g.T.Timeline.left in
     let w = g.row.W in
@@ -23,25 +20,12 @@ assign-requires g c =
     let global = c.global-item.result in
     let within : i < length globals = omega (arith, c.loop-number-test.true, ap length c.deref-global-items.ensures.value) in
     let is = slice_get_read globals (length globals) i global refl within (c.global-item.is ∙ ap (λ gs. get_or gs i global) c.deref-global-items.ensures.value) in
-    let long = next_file history left w compiled c.args.words.now lie c.requires.fresh i mid c.loop-number.invariant global is in
-    let few = words_few w lie.gang global.variable.rate in
-    let small = gang_width-le w lie.gang in
-    let room = width_left history left w compiled c.args.words.now lie c.requires.fresh i mid c.loop-number.invariant in (
-      omega (arith, small),
-      (
-        lie.gang,
-        (
-          c.loop-number.invariant.laid,
-          (
-            omega (arith, long),
-            (
-              omega (arith, long, few),
-              (ap no_lane c.all.ensures ∙ some_of_all w lie.gang, omega (arith, room)),
-            ),
-          ),
-        ),
-      ),
-    )
+    record {
+      width = lie.gang;
+      laid = c.loop-number.invariant.laid;
+      fresh = still_fresh history left w compiled c.args.words.now lie c.requires.fresh i mid c.loop-number.invariant;
+      long = next_file history left w compiled c.args.words.now lie c.requires.fresh i mid c.loop-number.invariant global is;
+    }
 
 pub loop-number-preserved : goal.loop-number-preserved
 loop-number-preserved g c =
@@ -55,7 +39,7 @@ loop-number-preserved g c =
     let within : i < length globals = omega (arith, c.loop-number-test.true, ap length c.deref-global-items.ensures.value) in
     let is = slice_get_read globals (length globals) i global refl within (c.global-item.is ∙ ap (λ gs. get_or gs i global) c.deref-global-items.ensures.value) in
     one_filled history left w compiled c.args.words.now c.requires.lie c.requires.fresh i c.loop-number.words c.loop-number.invariant global is
-    c.assign.new.self (lanes_of w c.all.result) c.all.ensures c.assign.ensures
+    c.fill.new.words c.fill.ensures
 
 pub begin_frame-requires : goal.begin_frame-requires
 begin_frame-requires g c =
@@ -81,10 +65,10 @@ returns g c =
     let begun = c.begin_frame.ensures f is in
     let over : length compiled.program.globals.items ≤ c.loop-number.number = omega (arith, c.loop-number-test.false, ap length c.deref-global-items.ensures.value) in
     record {
-      lie = first_lie history left w compiled c.args.words.now c.requires.lie c.args.entry f is c.requires.none c.loop-number.words c.begin_frame.new.words (lanes_of w c.all-2.result) c.all-2.ensures
+      lie = first_lie history left w compiled c.args.words.now c.requires.lie c.args.entry f is c.requires.none c.loop-number.words c.begin_frame.new.words (lanes_of w c.all.result) c.all.ensures
           c.loop-number.number c.loop-number.invariant over begun;
-      shown = first_shown history left w compiled c.args.words.now c.requires.lie c.args.entry f is c.requires.none c.loop-number.words c.begin_frame.new.words (lanes_of w c.all-2.result) c.all-2.ensures
+      shown = first_shown history left w compiled c.args.words.now c.requires.lie c.args.entry f is c.requires.none c.loop-number.words c.begin_frame.new.words (lanes_of w c.all.result) c.all.ensures
           c.loop-number.number c.loop-number.invariant over begun;
-      kept = first_rest history left w compiled c.args.words.now c.requires.lie c.args.entry f is c.requires.none c.loop-number.words c.begin_frame.new.words (lanes_of w c.all-2.result) c.all-2.ensures
+      kept = first_rest history left w compiled c.args.words.now c.requires.lie c.args.entry f is c.requires.none c.loop-number.words c.begin_frame.new.words (lanes_of w c.all.result) c.all.ensures
           c.loop-number.number c.loop-number.invariant over begun;
     }

@@ -7,21 +7,20 @@ use Rattle.gang_types.specs.Masks.{lanes_of}
 use Rattle.gang_types.specs.MaskLaws.{gang_width-le}
 use Rattle.debug_machine.specs.Machines.{fault_view}
 use Rattle.machine_words.specs.Words.{regions_in}
-use Rattle.machine_steps.specs.Calls.{ArePassed, IsArgumentAt, IsArgumentValue}
+use Rattle.machine_steps.specs.Calls.{AreArgumentWords, ArePassed, IsArgumentAt}
 use Rattle.codegen.specs.Codes.{Fit}
-use Rattle.machine_moves.specs.Standing.{IsValueAt}
 use Rattle.codegen.proofs.Rows.{fit_long}
 use Rattle.machine_moves.proofs.FunctionCode.{fit_with}
 use Rattle.machine_moves.proofs.GangLanes.{stacks_small}
-use Rattle.machine_steps.proofs.PassedArguments.{argument_fault, argument_value, fault_passed, one_passed, some_value, whole}
+use Rattle.machine_steps.proofs.PassedArguments.{fault_passed, one_passed, whole}
 use Rattle.machine_steps.proofs.calls.arguments.Goals as goal
 
 pub loop-arg-init : goal.loop-arg-init
 loop-arg-init g c =
-    (ap length c.new-given.ensures, λ masked meant shown fits. subst (Fit (IsArgumentValue (lanes_of g.row.W c.args.active.lanes) masked.state) []) (sym c.new-given.ensures) tt)
+    (ap length c.new-given.ensures, λ masked meant shown fits. subst (Fit (AreArgumentWords g.row.W (regions_in g.T.Timeline.history g.row.W c.args.words.now) (lanes_of g.row.W c.args.active.lanes) masked.state) []) (sym c.new-given.ensures) tt)
 
-pub value_of-requires : goal.value_of-requires
-value_of-requires g c =
+pub argument-requires : goal.argument-requires
+argument-requires g c =
     let w = g.row.W in
     let compiled = c.args.compiled.now in
     let active = c.args.active in
@@ -32,12 +31,11 @@ value_of-requires g c =
     let is_arg = slice_get_read args (length args) i made refl c.loop-arg-test.true c.arg-item.is in
     let gang = c.requires.sound.lie.gang in
     let small = gang_width-le w gang in
-    let next = fit_with (IsArgumentAt w compiled regions active) args c.requires.values.0 i made c.requires.values.1 is_arg in
-    let some = some_value w compiled regions active made next.0 next.2 in
-    (stacks_small w gang, (omega (arith, small), (c.requires.sound, (some.0, subst (IsValueAt w compiled regions active some.0) (sym c.deref.ensures.value) some.1))))
+    let next = fit_with (IsArgumentAt w compiled regions active) args c.requires.fits.0 i made c.requires.fits.1 is_arg in
+    (stacks_small w gang, (omega (arith, small), (c.requires.sound, (c.requires.point, (next.0, next.2)))))
 
-pub returns-in_err-value_of : goal.returns-in_err-value_of
-returns-in_err-value_of g c masked meant shown fits =
+pub returns-in_err-argument : goal.returns-in_err-argument
+returns-in_err-argument g c masked meant shown fits =
     let w = g.row.W in
     let compiled = c.args.compiled.now in
     let active = c.args.active in
@@ -48,12 +46,11 @@ returns-in_err-value_of g c masked meant shown fits =
     let is_arg = slice_get_read args (length args) i made refl c.loop-arg-test.true c.arg-item.is in
     let next = fit_with (IsArgumentAt w compiled regions active) args meant i made fits is_arg in
     let lanes = lanes_of w active.lanes in
-    let fault = c.in_err-value_of.field-0.0 in
+    let fault = c.in_err-argument.field-0.0 in
     let p = err_from_is_err_and c.from_residual.result c.from_residual.ensures.1 in
-    subst (ArePassed meant lanes masked.state) (sym p.1)
-    (fault_passed lanes masked.state meant c.loop-arg.given.items i next.0 (fault_view fault) (c.loop-arg.invariant.1 masked meant shown fits) next.1
-    (argument_fault lanes masked.state w compiled regions active made next.0 (fault_view fault) next.2
-    (λ e at. c.in_err-value_of.ensures masked e shown (subst (IsValueAt w compiled regions active e) (sym c.deref.ensures.value) at)))
+    subst (ArePassed w regions meant lanes masked.state) (sym p.1)
+    (fault_passed w regions lanes masked.state meant c.loop-arg.given.items i next.0 (fault_view fault) (c.loop-arg.invariant.1 masked meant shown fits) next.1
+    (c.in_err-argument.ensures masked next.0 shown next.2)
     ∙ ap (λ found. Err (fault_view found)) (sym p.2))
 
 pub loop-arg-preserved : goal.loop-arg-preserved
@@ -67,14 +64,13 @@ loop-arg-preserved g c =
     let made = c.arg-item.result in
     let is_arg = slice_get_read args (length args) i made refl c.loop-arg-test.true c.arg-item.is in
     let given = c.loop-arg.given.items in
-    let values = c.in_ok-value_of.field-0 in
+    let answer = c.in_ok-argument.field-0 in
     let lanes = lanes_of w active.lanes in (
-      ap length c.push.ensures.items ∙ length_push given values ∙ ap (λ n. n + 1) c.loop-arg.invariant.0,
+      ap length c.push.ensures.items ∙ length_push given answer ∙ ap (λ n. n + 1) c.loop-arg.invariant.0,
       λ masked meant shown fits.
           let next = fit_with (IsArgumentAt w compiled regions active) args meant i made fits is_arg in
-          one_passed lanes masked.state meant given c.push.new.self.items i next.0 values next.1
-          (argument_value lanes masked.state w compiled regions active made next.0 values next.2
-          (λ e at. c.in_ok-value_of.ensures masked e shown (subst (IsValueAt w compiled regions active e) (sym c.deref.ensures.value) at)))
+          one_passed w regions lanes masked.state meant given c.push.new.self.items i next.0 answer next.1
+          (c.in_ok-argument.ensures masked next.0 shown next.2)
           c.push.ensures.items (c.loop-arg.invariant.1 masked meant shown fits),
     )
 
@@ -84,4 +80,4 @@ returns g c masked meant shown fits =
     let regions = regions_in g.T.Timeline.history w c.args.words.now in
     let args = c.args.args.now in
     let long = fit_long (IsArgumentAt w c.args.compiled.now regions c.args.active) args meant fits in
-    whole (lanes_of w c.args.active.lanes) masked.state meant c.loop-arg.given.items c.loop-arg.arg-index (omega (arith, long, c.loop-arg-test.false)) (c.loop-arg.invariant.1 masked meant shown fits)
+    whole w regions (lanes_of w c.args.active.lanes) masked.state meant c.loop-arg.given.items c.loop-arg.arg-index (omega (arith, long, c.loop-arg-test.false)) (c.loop-arg.invariant.1 masked meant shown fits)

@@ -6,7 +6,6 @@ use Rattle.gang_types.specs.MaskLaws.{gang_width-le, length-lanes_of_word}
 use Rattle.mask_states.specs.Masked.{sent}
 use Rattle.machine_states.specs.Regions.{FunctionOf, LanesOf, ReturnedOf, NumbersOf, Depth, OfHead}
 use Rattle.machine_words.specs.Words.{left_of}
-use Rattle.machine_moves.specs.Compiled.{variables_of}
 use Rattle.machine_moves.proofs.GangLanes.{some_of_all}
 use Rattle.machine_steps.proofs.EnteredNumbers.{all_entered}
 use Rattle.machine_steps.proofs.FrameHeads.{frame_begins}
@@ -70,6 +69,6 @@ returns g c f is =
     (all_words history left w (OfHead frame NumbersOf) m3 m4 (lanes_of w c.all.result) numbers c.all.ensures c.loop-lane.invariant.long
     (head_long history w m3 c.set-3.ensures.laid frame NumbersOf c.requires.there) c.set_lanes.ensures)
     (only_word history left w Depth m4 m5 _ _ (depth_long history w m4 c.set_lanes.ensures.laid) (add-one frame) c.set-4.ensures)
-    (variables_of c.args.compiled.now) f (omega (arith, c.requires.there)) size c.word.ensures
+    f (omega (arith, c.requires.there)) size c.word.ensures
     (all_entered lanes c.entry-entry.result c.closing-closing.result w c.loop-lane.lane numbers c.loop-lane.invariant c.loop-lane-test.false size
     ∙ ap₂ (λ entry closing. sent lanes (λ k. entry) (map (λ b. closing) lanes)) (c.entry-entry.ensures f is) (c.closing-closing.ensures f is))

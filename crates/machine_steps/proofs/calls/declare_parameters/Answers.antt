@@ -4,11 +4,9 @@ use Rattle.std.proofs.lemmas.Iterator.Consumers.{YieldsList-from_enumerate, Yiel
 use Rattle.std.proofs.lemmas.List.{length_push}
 use Rattle.gang_types.specs.Masks.{lanes_of}
 use Rattle.gang_types.specs.MaskLaws.{gang_width-le}
-use Rattle.machine_states.specs.Effects.{declared_region}
 use Rattle.machine_states.specs.Regions.{OfLocal}
 use Rattle.machine_words.specs.Words.{Writes, regions_in}
-use Rattle.machine_moves.proofs.GangLanes.{words_few}
-use Rattle.machine_steps.specs.Calls.{AreParametersDeclared}
+use Rattle.machine_steps.specs.Calls.{AreParametersDeclared, parameter_region}
 use Rattle.machine_steps.proofs.Parameters.{none_declared, one_declared, numbered_pair, pairs_long, next_left, next_region}
 use Rattle.machine_steps.proofs.calls.declare_parameters.Goals as goal
 
@@ -16,8 +14,8 @@ pub loop-number-init : goal.loop-number-init
 loop-number-init g c =
     none_declared g.T.Timeline.history g.T.Timeline.left g.row.W c.args.frame c.args.args.now c.args.given.now (lanes_of g.row.W c.args.lanes) c.args.words.now c.requires.laid
 
-pub declare-requires : goal.declare-requires
-declare-requires g c =
+pub declare_parameter-requires : goal.declare_parameter-requires
+declare_parameter-requires g c =
     let w = g.row.W in
     let args = c.args.args.now in
     let given = c.args.given.now in
@@ -42,10 +40,7 @@ declare-requires g c =
         c.requires.width,
         (
           c.loop-number.invariant.laid,
-          (
-            omega (arith, long, words_few w c.requires.width c.in-Some.arg.now.parameter.rate),
-            (omega (arith, long), (c.requires.lane, next_left history left w c.args.frame args given lanes c.args.words.now i words c.loop-number.invariant pair.3 c.requires.left)),
-          ),
+          (long, (c.requires.lane, next_left history left w c.args.frame args given lanes c.args.words.now i words c.loop-number.invariant pair.3 c.requires.left)),
         ),
       ),
     )
@@ -67,11 +62,11 @@ loop-number-preserved g c =
     (c.in-Some.number, (c.in-Some.arg, c.in-Some.values)) c.in-Some.is c.next.ensures.steps in
     let pair = numbered_pair args given i c.in-Some.number c.in-Some.arg.now c.in-Some.values.now turn.0 turn.1 in
     let made =
-    subst (λ k. Writes history left w (OfLocal c.args.frame k) (declared_region c.in-Some.arg.now.parameter.rate lanes c.in-Some.values.now (regions_in history w words (OfLocal c.args.frame k))) w words c.declare.new.self)
-    pair.0 c.declare.ensures in
-    subst (λ count. AreParametersDeclared history left w c.args.frame count args given lanes c.args.words.now c.declare.new.self)
+    subst (λ k. Writes history left w (OfLocal c.args.frame k) (parameter_region c.in-Some.arg.now lanes c.in-Some.values.now (regions_in history w words (OfLocal c.args.frame k))) w words c.declare_parameter.new.words)
+    pair.0 c.declare_parameter.ensures in
+    subst (λ count. AreParametersDeclared history left w c.args.frame count args given lanes c.args.words.now c.declare_parameter.new.words)
     (sym (length_push c.loop-number.yielded (c.in-Some.number, (c.in-Some.arg, c.in-Some.values))))
-    (one_declared history left w c.args.frame args given lanes c.args.words.now i words c.loop-number.invariant c.in-Some.arg.now c.in-Some.values.now c.declare.new.self pair.1 pair.2 made)
+    (one_declared history left w c.args.frame args given lanes c.args.words.now i words c.loop-number.invariant c.in-Some.arg.now c.in-Some.values.now c.declare_parameter.new.words pair.1 pair.2 made)
 
 pub returns : goal.returns
 returns g c =

@@ -13,7 +13,7 @@ use Rattle.machine_moves.specs.Standing.{EndsAs}
 use Rattle.machine_moves.proofs.GangLanes.{given_small, stacks_small}
 use Rattle.machine_moves.proofs.Standings.{begun_laid}
 use Rattle.machine_steps.specs.Calls.{AreParametersDeclared}
-use Rattle.machine_steps.proofs.EnteredCalls.{call_below, call_ends, call_fails, call_few, call_fits, call_lanes, call_of, call_there, call_too_deep, frame_left, given_long, parameters_left, parameters_sized}
+use Rattle.machine_steps.proofs.EnteredCalls.{call_below, call_ends, call_fails, call_few, call_fits, call_lanes, call_of, call_point, call_there, call_too_deep, frame_left, given_long, parameters_left, parameters_sized}
 use Rattle.machine_steps.proofs.calls.enter.Goals as goal
 
 pub arguments-requires : goal.arguments-requires
@@ -29,7 +29,7 @@ arguments-requires g c =
     let call = call_of w compiled (regions_in history w old) active c.args.function c.args.args.now c.requires.does.0 c.requires.does.1 c.requires.does.2 args c.deref.ensures.value in
     let fits = call_fits history left w compiled active c.args.function args old sound call in
     let small = gang_width-le w sound.lie.gang in
-    (stacks_small w sound.lie.gang, (given_small w sound.lie.gang, (omega (arith, small), (sound, ((call.meant, fits), call_few history left w compiled active c.args.function args old sound call)))))
+    (stacks_small w sound.lie.gang, (given_small w sound.lie.gang, (omega (arith, small), (sound, (call_point history left w compiled active c.args.function args old sound call, ((call.meant, fits), call_few history left w compiled active c.args.function args old sound call))))))
 
 pub returns-in_err-given : goal.returns-in_err-given
 returns-in_err-given g c masked shown =
@@ -106,7 +106,7 @@ declare_parameters-requires g c =
         (
           begun_laid history left w compiled undone.Step old open' sound.lie c.begin.ensures,
           (
-            ap length c.deref-3.ensures.0 ∙ given_long history left w compiled active c.args.function args old sound call sound.masked.state c.in_ok-given.given.items answer ∙ ap length same,
+            ap length c.deref-3.ensures.0 ∙ given_long history left w compiled active c.args.function args old sound call sound.masked c.in_ok-given.given.items answer ∙ ap length same,
             (
               subst (λ made. (k : ℕ) → k < length made → length (regions_in history w open' (OfLocal (active.frame + 1) k)) ≡ w) same
                   (parameters_sized history left w compiled active c.args.function args old sound call open' c.begin.ensures deep),

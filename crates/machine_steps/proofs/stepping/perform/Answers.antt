@@ -28,6 +28,22 @@ change-requires g c =
 pub returns-in-Change : goal.returns-in-Change
 returns-in-Change g c = c.change.ensures
 
+pub assign_element-requires : goal.assign_element-requires
+assign_element-requires g c =
+    let small = gang_width-le g.row.W c.requires.sound.lie.gang in
+    (omega (arith, small), (c.requires.sound, subst (λ code. DoesNext g.row.W c.args.compiled.now (regions_in g.T.Timeline.history g.row.W c.args.words.now) c.args.active code) c.in-AssignElement.is c.requires.does))
+
+pub returns-in-AssignElement : goal.returns-in-AssignElement
+returns-in-AssignElement g c = c.assign_element.ensures
+
+pub change_element-requires : goal.change_element-requires
+change_element-requires g c =
+    let small = gang_width-le g.row.W c.requires.sound.lie.gang in
+    (omega (arith, small), (c.requires.sound, subst (λ code. DoesNext g.row.W c.args.compiled.now (regions_in g.T.Timeline.history g.row.W c.args.words.now) c.args.active code) c.in-ChangeElement.is c.requires.does))
+
+pub returns-in-ChangeElement : goal.returns-in-ChangeElement
+returns-in-ChangeElement g c = c.change_element.ensures
+
 pub check-requires : goal.check-requires
 check-requires g c =
     let small = gang_width-le g.row.W c.requires.sound.lie.gang in
@@ -35,6 +51,22 @@ check-requires g c =
 
 pub returns-in-Check : goal.returns-in-Check
 returns-in-Check g c = c.check.ensures
+
+pub store_packed-requires : goal.store_packed-requires
+store_packed-requires g c =
+    let small = gang_width-le g.row.W c.requires.sound.lie.gang in
+    (omega (arith, small), (c.requires.sound, subst (λ code. DoesNext g.row.W c.args.compiled.now (regions_in g.T.Timeline.history g.row.W c.args.words.now) c.args.active code) c.in-PackedStore.is c.requires.does))
+
+pub returns-in-PackedStore : goal.returns-in-PackedStore
+returns-in-PackedStore g c = c.store_packed.ensures
+
+pub load_packed-requires : goal.load_packed-requires
+load_packed-requires g c =
+    let small = gang_width-le g.row.W c.requires.sound.lie.gang in
+    (omega (arith, small), (c.requires.sound, subst (λ code. DoesNext g.row.W c.args.compiled.now (regions_in g.T.Timeline.history g.row.W c.args.words.now) c.args.active code) c.in-PackedLoad.is c.requires.does))
+
+pub returns-in-PackedLoad : goal.returns-in-PackedLoad
+returns-in-PackedLoad g c = c.load_packed.ensures
 
 pub finish-requires : goal.finish-requires
 finish-requires g c =
