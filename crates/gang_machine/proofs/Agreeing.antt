@@ -1,17 +1,18 @@
 -- What a machine shows is what the debugger of the definitions shows.
 use Rattle.std.proofs.Common.{◌≡◌, ℕ, List, [], ◌∷◌, length, map, refl, ap, ap₂, sym, subst, ◌∙◌, Option}
+use Rattle.std.specs.Prelude.{if◌then◌else◌}
 use Rattle.std.proofs.lemmas.List.{length-map}
 use Rattle.undo_log.specs.History.{History}
 use Rattle.gang_types.specs.declared.places.VarId.{VarId}
 use Rattle.gang_types.specs.declared.places.VarId.TheVariants.{File, Local}
 use Rattle.gang_types.specs.declared.places.Spot.{Spot}
 use Rattle.gang_model.specs.Running.Lanes.{Fault}
-use Rattle.gang_model.specs.Running.State.{Frame, State, local_words, words_in}
+use Rattle.gang_model.specs.Running.State.{Frame, State, local_view, local_words, view_of as array_of, words_in}
 use Rattle.gang_model.specs.Running.Step as source
 use Rattle.gang_model.specs.Running.Step.{Stepped, step}
 use Rattle.gang_model.specs.Types.Tree as t
 use Rattle.gang_model.specs.Types.Tree.{StepNumber, Function, Standing, Variable}
-use Rattle.gang_model.specs.Debugger.Debugger.{Debugger, Setting, now}
+use Rattle.gang_model.specs.Debugger.Debugger.{Debugger, Setting, elements, now, shown_words}
 use Rattle.gang_model.specs.Debugger.Events.{Step, after, start}
 use Rattle.gang_model.specs.Debugger.Positions.{lanes_now, spot_now, standing_of}
 use Rattle.typed_tree.specs.declared.program.Program.{Program}
@@ -33,6 +34,17 @@ untasked_locals (frame ∷ frames) id = refl
 untasked_words : (state : State) (id : VarId) → words_in (untasked state) id ≡ words_in state id
 untasked_words state (File k) = refl
 untasked_words state (Local k) = untasked_locals state.frames (Local k)
+
+untasked_views : (frames : List Frame) (id : VarId) → local_view (map untasked_frame frames) id ≡ local_view frames id
+untasked_views [] id = refl
+untasked_views (frame ∷ frames) id = refl
+
+untasked_view : (state : State) (id : VarId) → array_of (untasked state) id ≡ array_of state id
+untasked_view state (File k) = refl
+untasked_view state (Local k) = untasked_views state.frames (Local k)
+
+untasked_shown : (state : State) (v : Variable) → shown_words (untasked state) v ≡ shown_words state v
+untasked_shown state v = ap₂ (λ view words. if v.is_array then elements view state else words) (untasked_view state v.id) (untasked_words state v.id)
 
 -- ---- how a step ends
 
@@ -87,8 +99,8 @@ module _ (w entry : ℕ) (program : Program) (lines : List ℕ) (layout : Layout
 
   -- ---- what is shown
 
-  pub words_are : (id : VarId) → words_in (now s d) id ≡ words_in masked_now.state id
-  words_are id = sym (untasked_words (now s d) id) ∙ ap (λ state. words_in state id) agrees.0.words
+  pub shown_are : (v : Variable) → shown_words (now s d) v ≡ shown_words masked_now.state v
+  shown_are v = sym (untasked_shown (now s d) v) ∙ ap (λ state. shown_words state v) agrees.0.words
 
   pub spot_is : spot_now s.program (now s d) ≡ masked_spot masked_now
   spot_is = ap (λ q. spot_now q (now s d)) stands.program ∙ agrees.0.spot

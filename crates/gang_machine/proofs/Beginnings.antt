@@ -1,5 +1,5 @@
 -- A machine before its first step.
-use Rattle.std.proofs.Common.{ℕ, ◌^◌, ◌<◌, ◌≤◌, ◌≡◌, refl, sym, ◌∙◌, ap, subst, [], length}
+use Rattle.std.proofs.Common.{ℕ, ◌≤◌, ◌≡◌, refl, sym, ◌∙◌, ap, subst, [], length}
 use Rattle.std.proofs.lemmas.List.{length-replicate}
 use Rattle.gang_types.specs.Masks.{IsGangWidth}
 use Rattle.undo_log.specs.History.{History}

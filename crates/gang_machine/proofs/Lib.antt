@@ -3,6 +3,7 @@ pub mod Beginnings
 pub mod Finding
 pub mod Keeping
 pub mod Placing
+pub mod PokedLengths
 pub mod Poking
 pub mod Positions
 pub mod Recording

@@ -1,17 +1,13 @@
 -- A value that is set.
-use Rattle.std.proofs.Common.{◌≡◌, refl, sym, ap, ap₂, subst, ◌∙◌, ℕ, ◌<◌, ◌⊎◌, inl, inr, Bool, true, false, List, [], ◌∷◌, length, Option, Some, None, nat_lt, arith}
-use Rattle.std.proofs.lemmas.Bool.Decides.{nat_tests}
-use Rattle.std.specs.Prelude.{if◌then◌else◌}
-use Rattle.gang_types.specs.declared.types.Rate.{Rate}
-use Rattle.gang_types.specs.declared.types.Rate.TheVariants.{Uniform, Varying}
+use Rattle.std.proofs.Common.{◌≡◌, refl, sym, ap, ap₂, subst, ◌∙◌, ℕ, ◌⊎◌, inl, inr, false, List, [], ◌∷◌, length, Option}
 use Rattle.gang_types.specs.declared.places.VarId.{VarId}
 use Rattle.gang_types.specs.declared.places.VarId.TheVariants.{File, Local}
 use Rattle.undo_log.specs.declared.timeline.Undone.TheVariants as undone
 use Rattle.undo_log.specs.History.{History}
 use Rattle.gang_model.specs.Types.Tree as t
 use Rattle.gang_model.specs.Types.Tree.{Variable}
-use Rattle.gang_model.specs.Running.State.{Frame, State, with_first, with_var, with_words_in, words_for}
-use Rattle.gang_model.specs.Debugger.Debugger.{Debugger, OutOfRange, Setting, bad_part, moved, now, poked_by, shown_words}
+use Rattle.gang_model.specs.Running.State.{Frame, State, with_first, with_var, with_words_in}
+use Rattle.gang_model.specs.Debugger.Debugger.{Debugger, Setting, bad_part, moved, now, poked_by}
 use Rattle.gang_model.specs.Debugger.Events.{ElementAt, LaneOf, Poke, Poked, WholeOf, poked}
 use Rattle.gang_model.specs.Debugger.Positions.{scope_now, scope_of, spot_now, standing_of, top_spot}
 use Rattle.debug_machine.specs.Machines.{IsOneOf, IsPart, IsShown, file_variables as variables_of_file}
@@ -25,8 +21,9 @@ use Rattle.machine_shown.specs.Seen.{IsPartOf, IsSeen}
 use Rattle.gang_machine.specs.Machines.{IsMachine}
 use Rattle.gang_machine.specs.Standings.{ShowsWords, Stands, masked_at, view_of}
 use Rattle.gang_machine.proofs.Keeping.{stands_moved}
-use Rattle.gang_machine.proofs.Recording.{limit_is, machine_recorded, past_is}
-use Rattle.gang_machine.proofs.Seeing.{is_seen, seen_plain, shown_here, shown_long}
+use Rattle.gang_machine.proofs.Recording.{limit_is, past_is}
+use Rattle.gang_machine.proofs.PokedLengths.{poked_long}
+use Rattle.gang_machine.proofs.Seeing.{is_seen, shown_here, shown_same}
 
 -- ---- where the program stands
 
@@ -47,24 +44,12 @@ spot_kept p (ElementAt v k) word state = refl
 scope_kept : (p : t.Program) (what : Poked) (word : ℕ) (state : State) → scope_now p (poked what word state) ≡ scope_now p state
 scope_kept p what word state = ap (λ spot. scope_of (standing_of p spot)) (spot_kept p what word state)
 
--- ---- a part
-
-lane_below : (k count : ℕ) (b : Bool) → nat_lt k count ≡ b → (if b then None else Some OutOfRange) ≡ None → k < count
-lane_below k count true test is = grind (arith, nat_tests)
-lane_below k count false test is = cc
-
--- a whole scalar, or a lane of a varying one
-part_of : (w : ℕ) (at : Option ℕ) (rate : Rate) → bad_part false at false rate (words_for w rate) ≡ None → IsPartOf w rate at
-part_of w None rate part = tt
-part_of w (Some k) Uniform part = cc
-part_of w (Some k) Varying part = lane_below k w (nat_lt k w) refl part
-
 -- ---- where a machine stands
 
 module _ {T : Type 0} (history : T → History) (w entry : ℕ) (compiled : CompiledProgram) (lines : List ℕ) (old new : MachineWords T) (machine : IsMachine history w compiled old) (s : Setting) (d : Debugger)
     (stands : Stands (view_of w entry compiled.program lines old.layout (history old.store.timeline)) s d) (v : Variable) (shown : Shown) (at : Option ℕ) (word : ℕ) (is : IsShown s d v shown) (part : IsPart at shown)
     (records : Records history w undone.Poke old new) (sound : AreSound history w compiled new)
-    (shows : (masked : Masked) (u : Variable) → WordsShow history w compiled old masked → IsSeen compiled masked u → u.id ≡ shown.id → IsPartOf w u.rate at
+    (shows : (masked : Masked) (u : Variable) → WordsShow history w compiled old masked → IsSeen compiled masked u → u.id ≡ shown.id → IsPartOf masked u at
     → WordsShow history w compiled new (record masked { state = poked (poked_by u at) word masked.state })) where
   abbrev masked : Masked
   masked = masked_at w entry (program_view compiled.program) d.events
@@ -75,14 +60,11 @@ module _ {T : Type 0} (history : T → History) (w entry : ℕ) (compiled : Comp
   seen : IsSeen compiled masked v
   seen = is_seen history w entry compiled lines old machine s d stands v is.there
 
-  long : length (shown_words (now s d) v) ≡ words_for w v.rate
-  long = shown_long history w entry compiled lines old machine s d stands v seen
-
-  set : IsPartOf w v.rate at
+  set : IsPartOf masked v at
   set =
-      part_of w at v.rate
-      (ap (λ b. bad_part false at b v.rate (words_for w v.rate)) (sym (seen_plain w compiled machine.lie.compiled_is.runnable masked v seen) ∙ is.is_array)
-      ∙ ap₂ (bad_part false at shown.is_array) is.rate (sym long ∙ is.count) ∙ part)
+      ap (λ ws. bad_part false at v.is_array v.rate (length ws)) (sym (shown_same history w entry compiled lines old machine s d stands v))
+      ∙ ap (λ n. bad_part false at v.is_array v.rate n) is.count
+      ∙ ap₂ (λ b r. bad_part false at b r shown.count) is.is_array is.rate ∙ part
 
   words : ShowsWords w compiled.program new.layout (history new.store.timeline).words (masked_at w entry (program_view compiled.program) (Poke (poked_by v at) word ∷ d.events))
   words =
@@ -105,15 +87,12 @@ module _ {T : Type 0} (history : T → History) (w entry : ℕ) (compiled : Comp
 
   -- as many words can be shown as before
   pub shown_poked : IsShown s after v shown
-  shown_poked =
-      let machine_new = machine_recorded history w compiled old new undone.Poke records machine sound in
-      let here = there is.there in
-      record {
-        there = here;
-        id = is.id;
-        type = is.type;
-        rate = is.rate;
-        is_array = is.is_array;
-        is_constant = is.is_constant;
-        count = shown_long history w entry compiled lines new machine_new s after stands_poked v (is_seen history w entry compiled lines new machine_new s after stands_poked v here) ∙ sym long ∙ is.count;
-      }
+  shown_poked = record {
+    there = there is.there;
+    id = is.id;
+    type = is.type;
+    rate = is.rate;
+    is_array = is.is_array;
+    is_constant = is.is_constant;
+    count = poked_long (poked_by v at) word (now s d) v ∙ is.count;
+  }

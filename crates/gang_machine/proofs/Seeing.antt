@@ -3,8 +3,7 @@ use Rattle.std.proofs.Common.{◌≡◌, refl, sym, ap, subst, ◌∙◌, ℕ, �
 use Rattle.std.specs.Prelude.{All, slice_get, if◌then◌else◌}
 use Rattle.std.proofs.lemmas.Option.{get_or_from_slice_get, none-some, slice_get_within}
 use Rattle.undo_log.specs.History.{History}
-use Rattle.gang_types.specs.declared.places.VarId.{VarId}
-use Rattle.gang_types.specs.declared.places.VarId.TheVariants.{Local}
+use Rattle.gang_types.specs.declared.places.VarId.TheVariants.{File, Local}
 use Rattle.gang_model.specs.Types.Tree as t
 use Rattle.gang_model.specs.Types.Tree.{Function, Standing, StepNumber, Variable}
 use Rattle.gang_model.specs.Running.State.{Frame, view_of as array_of, words_in, words_for}
@@ -39,7 +38,7 @@ use Rattle.machine_names.specs.Found.{file_variables}
 use Rattle.gang_machine.specs.Machines.{IsMachine}
 use Rattle.gang_machine.specs.Nexts.{HasEnded, IsNext, Sees}
 use Rattle.gang_machine.specs.Standings.{Stands, view_of}
-use Rattle.gang_machine.proofs.Agreeing.{masked_now, spot_is, standing_is, words_are}
+use Rattle.gang_machine.proofs.Agreeing.{masked_now, shown_are, spot_is, standing_is}
 use Rattle.gang_machine.proofs.Placing.{scope_ended}
 
 -- ---- the next step
@@ -74,23 +73,18 @@ module _ (p : t.Program) (variables : Variables) (w : ℕ) (regions : Regions) w
 -- ---- variables that are seen
 
 module _ (w : ℕ) (compiled : CompiledProgram) (runnable : IsRunnable compiled.program) (masked : Masked) where
-  -- a name in scope stands for a scalar of its function
+  -- a name in scope stands for a variable of its function
   in_scope : (function number : ℕ) (f : Function) (standing : Standing) → StandsAt compiled function number f standing → (k : ℕ) (v : Variable) → slice_get standing.scope k ≡ Some v
       → IsPlainName (variables_of compiled) function v
   in_scope function number f standing stands k v e =
       let scopes : All (IsPlainName (variables_of compiled) function) standing.scope = (runnable.plain.functions function f stands.is_function).scopes number standing stands.stands in
       subst (IsPlainName (variables_of compiled) function) (get_or_from_slice_get standing.scope k v v e) (scopes k v (slice_get_within standing.scope k v e))
 
-  -- what is seen is no array
-  pub seen_plain : (v : Variable) → IsSeen compiled masked v → v.is_array ≡ false
-  seen_plain v (inl (function, number, f, standing, at_spot, stands, k, e)) = (in_scope function number f standing stands k v e).2
-  seen_plain v (inr (k, is)) = (runnable.plain.file k v is).1
-
   module _ (regions : Regions) (shows : Shows (program_of compiled) (variables_of compiled) w regions masked) (declared : AreDeclared (variables_of compiled) (program_of compiled) masked)
       (sizes : AreSized (variables_of compiled) w regions) where
-    scope_long : (v : Variable) → IsInScope compiled masked v → (masked_spot masked ≡ None) ⊎ HasNext (program_of compiled) regions → length (words_in masked.state v.id) ≡ words_for w v.rate
-    scope_long v (function, number, f, standing, at_spot, stands, k, e) (inl ended) = absurd (none-some (spot_in function number) (sym ended ∙ at_spot))
-    scope_long v (function, number, f, standing, at_spot, stands, k, e) (inr has) =
+    scope_long : (v : Variable) → v.is_array ≡ false → IsInScope compiled masked v → (masked_spot masked ≡ None) ⊎ HasNext (program_of compiled) regions → length (words_in masked.state v.id) ≡ words_for w v.rate
+    scope_long v scalar (function, number, f, standing, at_spot, stands, k, e) (inl ended) = absurd (none-some (spot_in function number) (sym ended ∙ at_spot))
+    scope_long v scalar (function, number, f, standing, at_spot, stands, k, e) (inr has) =
         let p = program_of compiled in
         let variables = variables_of compiled in
         let point = slice_get (points_in has.f) has.number in
@@ -103,20 +97,22 @@ module _ (w : ℕ) (compiled : CompiledProgram) (runnable : IsRunnable compiled.
         let standing_there : slice_get has.f.standings has.number ≡ Some standing =
         ap (λ h. slice_get h.standings has.number) (sym same) ∙ ap (slice_get f.standings) (sym same_number) ∙ stands.stands in
         let all = scope_has variables p runnable.declared w regions masked has.index has.function has.f has.number has.next.is_function top standing standing_there in
-        let own : HasOwn top.frame.vars v.id =
-        subst (λ (u : Variable). HasOwn top.frame.vars u.id) (get_or_from_slice_get standing.scope k v v e) (all k v (slice_get_within standing.scope k v e)) in
         let plain = in_scope function number f standing stands k v e in
         let j = plain.0 in
+        let own : HasOwn top.frame.vars v.id =
+        subst (λ (u : Variable). u.is_array ≡ false → HasOwn top.frame.vars u.id) (get_or_from_slice_get standing.scope k v v e) (all k v (slice_get_within standing.scope k v e)) scalar in
         let id : v.id ≡ Local j = runnable.plain.own function j v plain.1 in
         let is : slice_get (own_of variables has.function) j ≡ Some v = ap (λ m. slice_get (own_of variables m) j) (sym same_function) ∙ plain.1 in
         let there : HasVariable masked.state.frames (Local j) = subst (λ frames. HasVariable frames (Local j)) (sym top.are) (own j id) in
         ap (λ i. length (words_in masked.state i)) id
-        ∙ (variable_in p variables w has.index has.function regions masked shows has.next.depth has.next.function sizes (Local j) v is there).long
+        ∙ (variable_in p variables w has.index has.function regions masked shows has.next.depth has.next.function sizes (Local j) v is scalar there).long
 
-    -- it has as many words as its rate says
-    pub seen_long : (v : Variable) → IsSeen compiled masked v → length (words_in masked.state v.id) ≡ words_for w v.rate
-    seen_long v (inl scope) = scope_long v scope (next_or_ended (program_of compiled) (variables_of compiled) w regions masked shows)
-    seen_long v (inr (k, is)) = ap (λ i. length (words_in masked.state i)) (runnable.plain.file k v is).0 ∙ ap length (shows.file k) ∙ sizes.file k v is
+    -- a scalar has as many words as its rate says
+    pub seen_long : (v : Variable) → v.is_array ≡ false → IsSeen compiled masked v → length (words_in masked.state v.id) ≡ words_for w v.rate
+    seen_long v scalar (inl scope) = scope_long v scalar scope (next_or_ended (program_of compiled) (variables_of compiled) w regions masked shows)
+    seen_long v scalar (inr (k, is)) =
+        ap (λ i. length (words_in masked.state i)) (runnable.plain.file k v is)
+        ∙ ap length (shows.memory (File k)) ∙ sizes.file k v is scalar
 
 -- the variables of the file are those of the globals
 file_same : (globals : List Global) → file_variables globals ≡ map (λ g. variable_view g.variable) globals
@@ -162,38 +158,26 @@ module _ {T : Type 0} (history : T → History) (w entry : ℕ) (compiled : Comp
   is_seen v (inl there) = inl (scope_seen (next_or_ended (program_of compiled) (variables_of compiled) w (regions_in history w words) masked shown_here.shows) v there)
   is_seen v (inr (k, e)) = inr (k, ap (λ vs. slice_get vs k) (sym (file_here ∙ file_same compiled.program.globals.items)) ∙ e)
 
-  -- its words are those of the masked state
-  seen_words : (v : Variable) → IsSeen compiled masked v → shown_words (now s d) v ≡ words_in masked.state v.id
-  seen_words v seen =
-      ap (λ b. if b then elements (array_of (now s d) v.id) (now s d) else words_in (now s d) v.id) (seen_plain w compiled runnable masked v seen)
-      ∙ words_are w entry compiled.program lines words.layout (history words.store.timeline) runnable.lowerable s d stands v.id
+  -- what is shown of it is what is shown of the masked state
+  pub shown_same : (v : Variable) → shown_words (now s d) v ≡ shown_words masked.state v
+  shown_same v = shown_are w entry compiled.program lines words.layout (history words.store.timeline) runnable.lowerable s d stands v
 
-  pub words_by_name : (v : Variable) (id : VarId) → IsSeen compiled masked v → v.id ≡ id → shown_words (now s d) v ≡ words_in masked.state id
-  words_by_name v id seen same = seen_words v seen ∙ ap (words_in masked.state) same
-
-  pub shown_long : (v : Variable) → IsSeen compiled masked v → length (shown_words (now s d) v) ≡ words_for w v.rate
-  shown_long v seen =
-      ap length (seen_words v seen)
+  pub shown_long : (v : Variable) → v.is_array ≡ false → IsSeen compiled masked v → length (shown_words (now s d) v) ≡ words_for w v.rate
+  shown_long v scalar seen =
+      ap length (shown_same v)
+      ∙ ap (λ b. length (if b then elements (array_of masked.state v.id) masked.state else words_in masked.state v.id)) scalar
       ∙ seen_long w compiled runnable masked (regions_in history w words) shown_here.shows shown_here.declared
-      (sized history w compiled words words is_machine.lie refl is_machine.lie.laid) v seen
+      (sized history w compiled words words is_machine.lie refl is_machine.lie.laid) v scalar seen
 
   -- what a debugger sees
-  pub sees : (scope : List Variable) → scope_now s.program (now s d) ≡ scope → Sees w scope (file_variables compiled.program.globals.items) s d
-  sees scope is = record {
-    scope_is = is;
-    file_is = file_here;
-    long = λ v there. shown_long v (is_seen v (found there));
-  }
-    where
-      found : {v : Variable} → IsOneOf scope v ⊎ IsOneOf (file_variables compiled.program.globals.items) v → IsOneOf (scope_now s.program (now s d)) v ⊎ IsOneOf (variables_of_file s) v
-      found {v = v} (inl there) = inl (subst (λ vs. IsOneOf vs v) (sym is) there)
-      found {v = v} (inr there) = inr (subst (λ vs. IsOneOf vs v) (sym file_here) there)
+  pub sees : (scope : List Variable) → scope_now s.program (now s d) ≡ scope → Sees scope (file_variables compiled.program.globals.items) s d
+  sees scope is = record { scope_is = is; file_is = file_here }
 
   -- ---- the next step
 
   -- at a step of one of the program's functions
   pub is_next : (number step : ℕ) (function : TypedFunction) → slice_get compiled.program.functions.items number ≡ Some function → masked_spot masked ≡ Some (spot_in number step)
-      → IsNext w (view_of w entry compiled.program lines words.layout (history words.store.timeline)) s d function step
+      → IsNext (view_of w entry compiled.program lines words.layout (history words.store.timeline)) s d function step
   is_next number step function is_function at_spot = record {
     number = number;
     is_function = is_function;
@@ -204,7 +188,7 @@ module _ {T : Type 0} (history : T → History) (w entry : ℕ) (compiled : Comp
   }
 
   -- and once the program has ended
-  pub has_ended : masked_spot masked ≡ None → HasEnded w (view_of w entry compiled.program lines words.layout (history words.store.timeline)) s d
+  pub has_ended : masked_spot masked ≡ None → HasEnded (view_of w entry compiled.program lines words.layout (history words.store.timeline)) s d
   has_ended over = record {
     stands = spot_is w entry compiled.program lines words.layout (history words.store.timeline) runnable.lowerable s d stands ∙ over;
     sees = sees [] (scope_none over);

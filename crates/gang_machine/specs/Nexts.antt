@@ -1,34 +1,32 @@
 -- The step that comes next, and what is seen there.
-use Rattle.std.specs.Prelude.{◌≡◌, ◌⊎◌, ℕ, List, [], length, Option, Some, None, slice_get}
-use Rattle.debug_machine.specs.Machines.{IsOneOf, file_variables as variables_of_file}
-use Rattle.gang_model.specs.Debugger.Debugger.{Debugger, Setting, now, shown_words}
+use Rattle.std.specs.Prelude.{◌≡◌, ℕ, List, [], Option, Some, None, slice_get}
+use Rattle.debug_machine.specs.Machines.{file_variables as variables_of_file}
+use Rattle.gang_model.specs.Debugger.Debugger.{Debugger, Setting, now}
 use Rattle.gang_model.specs.Debugger.Positions.{scope_now, scope_of, spot_in, spot_now}
 use Rattle.gang_types.specs.declared.places.Spot.{Spot}
 use Rattle.gang_model.specs.Types.Tree.{Variable}
 use Rattle.typed_tree.specs.declared.program.Function.{Function}
 use Rattle.typed_tree.specs.Views.{function_view}
-use Rattle.gang_model.specs.Running.State.{words_for}
 use Rattle.machine_names.specs.Found.{file_variables}
 use Rattle.machine_names.specs.Listed.{listed_from}
 use Rattle.gang_machine.specs.Standings.{View}
 
--- what a debugger sees: these variables in scope, these of the file, and of each as many words as its rate says
-pub record Sees (w : ℕ) (scope file : List Variable) (s : Setting) (d : Debugger) : Type 0 where
+-- what a debugger sees: these variables in scope, and these of the file
+pub record Sees (scope file : List Variable) (s : Setting) (d : Debugger) : Type 0 where
   pub scope_is : scope_now s.program (now s d) ≡ scope
   pub file_is : variables_of_file s ≡ file
-  pub long : (v : Variable) → IsOneOf scope v ⊎ IsOneOf file v → length (shown_words (now s d) v) ≡ words_for w v.rate
 
 -- the debugger stands at this step of a function of the program
-pub record IsNext (w : ℕ) (m : View) (s : Setting) (d : Debugger) (function : Function) (step : ℕ) : Type 0 where
+pub record IsNext (m : View) (s : Setting) (d : Debugger) (function : Function) (step : ℕ) : Type 0 where
   pub number : ℕ
   pub is_function : slice_get m.program.functions.items number ≡ Some function
   pub stands : spot_now s.program (now s d) ≡ Some (spot_in number step)
-  pub sees : Sees w (scope_of (slice_get (function_view function).standings step)) (file_variables m.program.globals.items) s d
+  pub sees : Sees (scope_of (slice_get (function_view function).standings step)) (file_variables m.program.globals.items) s d
 
 -- no step is left
-pub record HasEnded (w : ℕ) (m : View) (s : Setting) (d : Debugger) : Type 0 where
+pub record HasEnded (m : View) (s : Setting) (d : Debugger) : Type 0 where
   pub stands : spot_now s.program (now s d) ≡ None
-  pub sees : Sees w [] (file_variables m.program.globals.items) s d
+  pub sees : Sees [] (file_variables m.program.globals.items) s d
 
 -- the variables of a function that are listed at a step, from a number on; none of no function
 abbrev pub locals_of : Option Function → (step from : ℕ) → List Variable

@@ -1,12 +1,13 @@
 //! The machine: a compiled program, and words that lie in a timeline.
-ghost use Rattle.std.specs.Prelude.{◌≡◌, ℕ, ◌<◌, ◌≤◌, false, filter, length, map, not, slice_get, slice_index, None, IfSome, OnErr};
+ghost use Rattle.std.specs.Prelude.{◌≡◌, ◌⊎◌, ℕ, ◌<◌, ◌≤◌, false, filter, length, map, not, slice_get, slice_index, None, Some, IfSome, OnErr};
 ghost use Rattle.gang_types.specs.Masks.{IsGangWidth};
 ghost use Rattle.undo_log.specs.History.{TakenBack};
 ghost use Rattle.gang_model.specs.Types.Tree.{Variable};
-ghost use Rattle.gang_model.specs.Debugger.Debugger.{Debugger, Setting, depth, kept_steps, least_from, now, shown_words, step_lines};
-ghost use Rattle.gang_model.specs.Debugger.Positions.{line_now};
+ghost use Rattle.gang_model.specs.Debugger.Debugger.{Debugger, Setting, depth, found, kept_steps, least_from, now, shown_words, step_lines};
+ghost use Rattle.gang_model.specs.Debugger.Positions.{line_now, scope_now};
 ghost use Rattle.gang_model.specs.Texts.Text.{where_text};
-ghost use Rattle.debug_machine.specs.Machines.{Finds, FindsInFile, IsPart, IsShown, Pokes, PokesWords, ShowsNamed, ShowsNext, Steps, StepsWords, Undoes, UndoesWords, call_text, depth_of, file_variables, line_of_position, listed, position_line, position_text};
+ghost use Rattle.debug_machine.specs.Machines.{Finds, FindsInFile, IsOneOf, IsPart, IsShown, Pokes, PokesWords, ShowsNamed, ShowsNext, Steps, StepsWords, Undoes, UndoesWords, call_text, depth_of, file_variables, line_of_position, listed, position_line, position_text};
+ghost use Rattle.machine_names.specs.Found.{IsNamed, IsSeen, SeesFound};
 ghost use Rattle.gang_machine.specs.Nexts.{HasEnded, IsNext, locals_left};
 ghost use Rattle.gang_machine.specs.Standings.{Stands, history_of};
 
@@ -14,7 +15,7 @@ use debug_machine::{NamedVariable, NextLocal, Position, RecordedMachine, Shown, 
 use expression_machine::Stacks;
 use machine_moves::{CompiledProgram, next_step};
 use machine_names::{file_named, file_number, least_from, local_named, named, next_listed};
-use machine_shown::{call, poke, position, word};
+use machine_shown::{call, count, poke, position, word};
 use machine_steps::step;
 use machine_words::MachineWords;
 use std::marker::Model;
@@ -50,14 +51,57 @@ impl<const W: usize, T: Timeline + Drop> Model for Machine<W, T> {
 impl<const W: usize, T: Timeline + Drop> Machine<W, T> {
     /// The function of the top frame and the step that comes next, unless the program has ended.
     fn next(&self) -> Option<(&Function, usize)>
-        ensures step { (s : Setting) (d : Debugger) → Stands self.now s d → IfSome result (λ next. IsNext W self.now s d next.0.now next.1) }
-        ensures ended { result ≡ None → (s : Setting) (d : Debugger) → Stands self.now s d → HasEnded W self.now s d }
+        ensures step { (s : Setting) (d : Debugger) → Stands self.now s d → IfSome result (λ next. IsNext self.now s d next.0.now next.1) }
+        ensures ended { result ≡ None → (s : Setting) (d : Debugger) → Stands self.now s d → HasEnded self.now s d }
     {
         let active = next_step::<W, T>(&self.compiled, &self.words)?;
         Some((
             &self.compiled.program.functions[active.function],
             active.step,
         ))
+    }
+
+    /// What the program tells of the variable of a name in scope, else at file scope.
+    fn named_variable(&self, name: &[u8]) -> Option<Shown>
+        ensures { (s : Setting) (d : Debugger) → Stands self.now s d → SeesFound W (found s.program (now s d) name.now) result }
+    {
+        let local = match self.next() {
+            Some((function, step)) => local_named::<W>(function, step, name),
+            None => None,
+        };
+        match local {
+            Some(shown) => Some(shown),
+            None => file_named::<W>(&self.compiled.program.globals, name),
+        }
+    }
+
+    /// What is shown of a variable of which the program told this: of an array, with how many elements it has.
+    fn counted(&self, shown: Shown) -> Shown
+        ensures shown { (s : Setting) (d : Debugger) (v : Variable) → Stands self.now s d → IsOneOf (scope_now s.program (now s d)) v ⊎ IsOneOf (file_variables s) v
+            → IsSeen W v shown → IsShown s d v result }
+        ensures few { (v : Variable) → IsSeen W v shown → result.is_array ≡ false → result.count ≤ 16 }
+    {
+        if shown.is_array {
+            let elements = count::<W, T>(&self.compiled, &self.words, shown.id);
+            Shown {
+                count: elements,
+                ..shown
+            }
+        } else {
+            shown
+        }
+    }
+
+    /// The same of a variable by its name.
+    fn counted_by_name<'a>(&self, variable: NamedVariable<'a>) -> NamedVariable<'a>
+        ensures shown { (s : Setting) (d : Debugger) (v : Variable) → Stands self.now s d → IsOneOf (scope_now s.program (now s d)) v ⊎ IsOneOf (file_variables s) v
+            → IsNamed W v variable.entry → ShowsNamed s d (Some v) (Some result) }
+        ensures few { (v : Variable) → IsNamed W v variable.entry → result.shown.is_array ≡ false → result.shown.count ≤ 16 }
+    {
+        NamedVariable {
+            name: variable.name,
+            shown: self.counted(variable.shown),
+        }
     }
 }
 
@@ -102,14 +146,8 @@ impl<const W: usize, T: Timeline + Drop> RecordedMachine for Machine<W, T> {
     }
 
     fn find(&self, name: &[u8]) -> Option<Shown> {
-        let local = match self.next() {
-            Some((function, step)) => local_named::<W>(function, step, name),
-            None => None,
-        };
-        match local {
-            Some(shown) => Some(shown),
-            None => file_named::<W>(&self.compiled.program.globals, name),
-        }
+        let shown = self.named_variable(name)?;
+        Some(self.counted(shown))
     }
 
     fn find_in_file(&self, name: &[u8]) -> Option<usize> {
@@ -118,12 +156,16 @@ impl<const W: usize, T: Timeline + Drop> RecordedMachine for Machine<W, T> {
 
     fn file_variable(&self, number: usize) -> Option<NamedVariable<'_>> {
         let global = self.compiled.program.globals.get(number)?;
-        Some(named::<W>(&global.variable))
+        Some(self.counted_by_name(named::<W>(&global.variable)))
     }
 
     fn next_local(&self, from: usize) -> Option<NextLocal<'_>> {
         let (function, step) = self.next()?;
-        next_listed::<W>(function, step, from)
+        let local = next_listed::<W>(function, step, from)?;
+        Some(NextLocal {
+            variable: self.counted_by_name(local.variable),
+            next: local.next,
+        })
     }
 
     fn word(&self, shown: Shown, index: usize) -> u64 {

@@ -1,5 +1,5 @@
 -- What is shown of a variable that is found.
-use Rattle.std.specs.Prelude.{◌≡◌, ℕ, List, Option, Some, None, map, slice_get}
+use Rattle.std.specs.Prelude.{◌≡◌, ℕ, false, List, Option, Some, None, map, slice_get}
 use Rattle.debug_machine.specs.declared.machine.NamedVariable.{NamedVariable}
 use Rattle.debug_machine.specs.declared.machine.Shown.{Shown}
 use Rattle.gang_model.specs.Source.Names.{named}
@@ -12,14 +12,15 @@ use Rattle.typed_tree.specs.Views.{global_view}
 abbrev pub file_variables : List TreeGlobal → List Variable
 file_variables globals = map (λ g. g.variable) (map global_view globals)
 
--- what is shown is the variable, with its type and as many words as it has
+-- what is shown is the variable, with its type, and of a scalar as many words as its rate says; how many elements an array has is not
+-- told by the program alone
 pub record IsSeen (width : ℕ) (v : Variable) (shown : Shown) : Type 0 where
   pub id : v.id ≡ shown.id
   pub type : v.type ≡ shown.value_type
   pub rate : v.rate ≡ shown.rate
   pub is_array : v.is_array ≡ shown.is_array
   pub is_constant : v.is_constant ≡ shown.is_constant
-  pub count : words_for width v.rate ≡ shown.count
+  pub count : v.is_array ≡ false → words_for width v.rate ≡ shown.count
 
 -- a variable by its name
 pub record IsNamed (width : ℕ) (v : Variable) (given : NamedVariable) : Type 0 where

@@ -57,6 +57,7 @@ pub(crate) const NOTHING: Shown = Shown {
     count: 1,
 };
 
+/// What is shown of a variable. The count of an array is for its machine to give.
 fn shown<const W: usize>(variable: &Variable) -> Shown
     ensures { IsSeen W (variable_view variable.now) result }
 {

@@ -1,8 +1,9 @@
 pub mod CallPlaces
-pub mod PokedScalars
-pub mod SameScalars
-pub mod ScalarRoom
-pub mod SeenScalars
+pub mod PokedWords
+pub mod ReadWords
+pub mod SameWords
+pub mod SeenVariables
 pub mod SetWords
 pub mod StepPlaces
 pub mod Viewed
+pub mod WordsRoom

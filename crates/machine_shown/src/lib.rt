@@ -2,8 +2,9 @@
 //! of its variables.
 #![tactic(auto)]
 
+mod found;
 mod positions;
 mod shown;
 
 pub use positions::{call, position};
-pub use shown::{poke, word};
+pub use shown::{count, poke, word};

@@ -1,22 +1,24 @@
 //! The words of variables, as a debugger shows and sets them.
-ghost use Rattle.std.specs.Prelude.{◌≡◌, ℕ, ◌<◌, None, IfSome, slice_index};
+ghost use Rattle.std.specs.Prelude.{◌≡◌, ◌≤◌, true, false, Some, length, slice_index};
+ghost use Rattle.gang_types.specs.Masks.{IsGangWidth};
 ghost use Rattle.gang_model.specs.Types.Tree.{Variable};
-ghost use Rattle.gang_model.specs.Running.State.{words_in, words_for};
-ghost use Rattle.gang_model.specs.Debugger.Debugger.{poked_by};
+ghost use Rattle.gang_model.specs.Debugger.Debugger.{poked_by, shown_words};
 ghost use Rattle.gang_model.specs.Debugger.Events.{poked};
 ghost use Rattle.mask_states.specs.Masked.{Masked};
 ghost use Rattle.undo_log.specs.declared.timeline.Undone.TheVariants as undone;
-ghost use Rattle.machine_words.specs.Views.{region_view};
-ghost use Rattle.machine_words.specs.Words.{regions_in};
+ghost use Rattle.machine_words.specs.Words.{AreLaid, Writes, left_of, regions_in};
 ghost use Rattle.machine_moves.specs.Standing.{AreSound, IsShown, Records};
-ghost use Rattle.machine_shown.specs.Seen.{IsNoScalar, IsPartOf, IsScalarAt, IsSeen, IsSetIn, IsWordOf};
+ghost use Rattle.machine_shown.specs.Seen.{IsPartOf, IsSeen};
+ghost use Rattle.machine_shown.specs.ShownWords.{AreInRegion, IsCountOf, IsSetIn, IsWordOf, has_part, part_set, region_shown, shown_view, words_shown};
 
-use gang_types::{Mask, Rate, VarId};
-use machine_moves::{CompiledProgram, begin, next_step};
-use machine_words::{MachineWords, Region};
+use crate::found::{ShownWords, find_shown};
+use gang_types::{Mask, VarId};
+use machine_moves::{CompiledProgram, begin};
+use machine_words::MachineWords;
 use undo_log::{Timeline, Undone};
 
-/// A word of a scalar of the file, or of the function of the top frame. A word that it does not have is 0.
+/// A word of a variable of the file, or of the function of the top frame: of a scalar, or an element of an array. A word that it does
+/// not have is 0.
 pub fn word<const W: usize, T: Timeline + Drop>(
     compiled: &CompiledProgram,
     words: &MachineWords<T>,
@@ -25,21 +27,55 @@ pub fn word<const W: usize, T: Timeline + Drop>(
 ) -> u64
     requires sound { AreSound T.history W compiled.now words.now }
     ensures shown { (masked : Masked) (v : Variable) → IsShown T.history W compiled.now words.now masked → IsSeen compiled.now masked v → v.id ≡ variable
-        → index < words_for W v.rate → result ≡ slice_index (words_in masked.state variable) index }
+        → result ≡ slice_index (shown_words masked.state v) index }
     ensures reads { IsWordOf W compiled.now (regions_in T.history W words.now) variable index result }
 {
-    let Some(scalar) = find_scalar::<W, T>(compiled, words, variable) else {
-        return 0;
-    };
-    if index < scalar.count::<W>() {
-        words.word::<W>(scalar.region, index)
-    } else {
-        0
+    match find_shown::<W, T>(compiled, words, variable) {
+        Some(shown) => word_of::<W, T>(words, shown, index),
+        None => 0,
     }
 }
 
-/// Sets a scalar of the file, or of the function of the top frame, in all lanes or in one, and records it. Where there is no such scalar
-/// or lane, the record is all that is made.
+/// One of the words that are shown; 0 behind them.
+fn word_of<const W: usize, T: Timeline + Drop>(
+    words: &MachineWords<T>,
+    shown: ShownWords,
+    index: usize,
+) -> u64
+    requires width { IsGangWidth W }
+    requires laid { AreLaid T.history W words.now }
+    requires there { AreInRegion W (regions_in T.history W words.now) (shown_view shown) }
+    ensures { result ≡ slice_index (words_shown W (regions_in T.history W words.now) (shown_view shown)) index }
+{
+    if index >= shown.count::<W>() {
+        return 0;
+    }
+    match shown {
+        ShownWords::Scalar { region, rate: _ } => words.word::<W>(region, index),
+        ShownWords::Elements(view) => words.element::<W>(view, index),
+    }
+}
+
+/// How many words a variable of the file, or of the function of the top frame, has that are shown: a scalar by its rate, an array its
+/// elements. One that there is not has none.
+pub fn count<const W: usize, T: Timeline + Drop>(
+    compiled: &CompiledProgram,
+    words: &MachineWords<T>,
+    variable: VarId,
+) -> usize
+    requires sound { AreSound T.history W compiled.now words.now }
+    ensures shown { (masked : Masked) (v : Variable) → IsShown T.history W compiled.now words.now masked → IsSeen compiled.now masked v → v.id ≡ variable
+        → result ≡ length (shown_words masked.state v) }
+    ensures counts { IsCountOf W compiled.now (regions_in T.history W words.now) variable result }
+{
+    match find_shown::<W, T>(compiled, words, variable) {
+        Some(shown) => shown.count::<W>(),
+        None => 0,
+    }
+}
+
+/// Sets a scalar of the file, or of the function of the top frame, in all lanes or in one, or an element of an array, and records it.
+/// Where there is no such variable, lane or element, the record is all that is made.
 pub fn poke<const W: usize, T: Timeline + Drop>(
     compiled: &CompiledProgram,
     words: &mut MachineWords<T>,
@@ -52,69 +88,61 @@ pub fn poke<const W: usize, T: Timeline + Drop>(
     ensures records { Records T.history W undone.Poke words.old words.new }
     ensures sets { IsSetIn W compiled.now variable at word (regions_in T.history W words.old) (regions_in T.history W words.new) }
     ensures shown { (masked : Masked) (v : Variable) → IsShown T.history W compiled.now words.old masked → IsSeen compiled.now masked v → v.id ≡ variable
-        → IsPartOf W v.rate at → IsShown T.history W compiled.now words.new (record masked { state = poked (poked_by v at) word masked.state }) }
+        → IsPartOf masked v at → IsShown T.history W compiled.now words.new (record masked { state = poked (poked_by v at) word masked.state }) }
 {
-    let scalar = find_scalar::<W, T>(compiled, words, variable);
+    let shown = find_shown::<W, T>(compiled, words, variable);
     begin::<W, T>(words, Undone::Poke);
-    let Some(scalar) = scalar else {
-        return;
-    };
-    match (at, scalar.rate) {
-        (None, rate) => words.assign::<W>(scalar.region, rate, Mask::all::<W>(), [word; W]),
-        (Some(_), Rate::Uniform) => {}
-        (Some(lane), Rate::Varying) => {
-            if (lane as usize) < W {
-                words.set::<W>(scalar.region, lane as usize, word);
-            }
-        }
+    if let Some(shown) = shown {
+        set_part::<W, T>(words, shown, at, word);
     }
 }
 
-/// A scalar: where its words are, and its rate.
-#[derive(Clone, Copy)]
-struct Scalar {
-    region: Region,
-    rate: Rate,
-}
-
-impl Scalar {
-    /// How many words it has.
-    fn count<const W: usize>(self) -> usize
-        ensures { result ≡ words_for W self.rate }
-    {
-        match self.rate {
-            Rate::Uniform => 1,
-            Rate::Varying => W,
-        }
-    }
-}
-
-/// The scalar of the file, or of the function of the top frame, that has this number.
-fn find_scalar<const W: usize, T: Timeline + Drop>(
-    compiled: &CompiledProgram,
-    words: &MachineWords<T>,
-    variable: VarId,
-) -> Option<Scalar>
-    requires sound { AreSound T.history W compiled.now words.now }
-    ensures found { IfSome result (λ scalar. IsScalarAt W compiled.now (regions_in T.history W words.now) variable (region_view scalar.region) scalar.rate) }
-    ensures none { result ≡ None → IsNoScalar W compiled.now (regions_in T.history W words.now) variable }
+/// Sets a scalar in all lanes, a lane of a varying one, or an element; nothing where there is no such part.
+fn set_part<const W: usize, T: Timeline + Drop>(
+    words: &mut MachineWords<T>,
+    shown: ShownWords,
+    at: Option<u32>,
+    word: u64,
+)
+    requires width { IsGangWidth W }
+    requires laid { AreLaid T.history W words.old }
+    requires there { AreInRegion W (regions_in T.history W words.old) (shown_view shown) }
+    requires left { W ≤ left_of T.history T.left words.old }
+    ensures sets { has_part W (shown_view shown) at ≡ true → Writes T.history T.left W (region_shown (shown_view shown))
+        (part_set (shown_view shown) at word (regions_in T.history W words.old (region_shown (shown_view shown)))) W
+        words.old words.new }
+    ensures keeps { has_part W (shown_view shown) at ≡ false → words.new ≡ words.old }
 {
-    match variable {
-        VarId::File(number) => {
-            let global = compiled.program.globals.get(number)?;
-            Some(Scalar {
-                region: Region::File(number),
-                rate: global.variable.rate,
-            })
+    match (at, shown) {
+        (None, ShownWords::Scalar { region, rate }) => {
+            words.assign::<W>(region, rate, Mask::all::<W>(), [word; W]);
         }
-        VarId::Local(number) => {
-            let active = next_step::<W, T>(compiled, words)?;
-            let function = &compiled.program.functions[active.function];
-            let variable = function.variables.get(number)?;
-            Some(Scalar {
-                region: Region::Local(active.frame, number),
-                rate: variable.rate,
-            })
-        }
+        (None, ShownWords::Elements(_)) => {}
+        (Some(index), shown) => set_one::<W, T>(words, shown, index as usize, word),
+    }
+}
+
+/// Sets a lane of a varying scalar, or an element; nothing where there is none of this index.
+fn set_one<const W: usize, T: Timeline + Drop>(
+    words: &mut MachineWords<T>,
+    shown: ShownWords,
+    index: usize,
+    word: u64,
+)
+    requires width { IsGangWidth W }
+    requires laid { AreLaid T.history W words.old }
+    requires there { AreInRegion W (regions_in T.history W words.old) (shown_view shown) }
+    requires left { W ≤ left_of T.history T.left words.old }
+    ensures sets { has_part W (shown_view shown) (Some index) ≡ true → Writes T.history T.left W (region_shown (shown_view shown))
+        (part_set (shown_view shown) (Some index) word (regions_in T.history W words.old (region_shown (shown_view shown)))) W
+        words.old words.new }
+    ensures keeps { has_part W (shown_view shown) (Some index) ≡ false → words.new ≡ words.old }
+{
+    if !shown.has::<W>(index) {
+        return;
+    }
+    match shown {
+        ShownWords::Scalar { region, rate: _ } => words.set::<W>(region, index, word),
+        ShownWords::Elements(view) => words.set_element::<W>(view, index, word),
     }
 }

@@ -3,12 +3,11 @@ use Rattle.std.specs.Prelude.{slice_get}
 use Rattle.std.proofs.lemmas.Bool.Decides.{nat_tests}
 use Rattle.typed_tree.specs.Views.{function_view, variable_view}
 use Rattle.codegen.specs.Programs.{own_variables}
-use Rattle.machine_states.specs.Regions.{OfFile, OfLocal}
 use Rattle.machine_states.specs.Variables.{or_none}
 use Rattle.machine_words.specs.Words.{regions_in}
-use Rattle.machine_shown.specs.Seen.{IsNoScalar, IsScalarAt}
+use Rattle.machine_shown.specs.ShownWords.{HasNoWords, HasWords, shown_view}
 use Rattle.machine_shown.proofs.Viewed.{read_at, viewed_at, viewed_past, viewed_within}
-use Rattle.machine_shown.proofs.shown.find_scalar.Goals as goal
+use Rattle.machine_shown.proofs.found.find_shown.Goals as goal
 
 pub returns-in_err-variable-in-Local-clause-none : goal.returns-in_err-variable-in-Local-clause-none
 returns-in_err-variable-in-Local-clause-none g c e =
@@ -23,7 +22,7 @@ returns-in_err-variable-in-Local-clause-none g c e =
     let long : length c.deref-in-Local.result.now ≡ length own.variables.items = ap length c.deref-in-Local.ensures.value in
     let none = c.in_err-variable-in-Local.ensures.lookup in
     let past : length c.deref-in-Local.result.now ≤ c.in-Local.number = grind (arith, nat_tests) in
-    subst (λ id. IsNoScalar g.row.W c.args.compiled.now regions id) (sym c.in-Local.is)
+    subst (λ id. HasNoWords g.row.W c.args.compiled.now regions id) (sym c.in-Local.is)
     (inr (
       active,
       record {
@@ -41,8 +40,11 @@ returns-in_ok-global-in-File-clause-found g c =
     let global = c.in_ok-global-in-File.global.now in
     let number = c.in-File.number in
     let read = c.in_ok-global-in-File.ensures.lookup in
-    subst (λ id. IsScalarAt g.row.W c.args.compiled.now regions id (OfFile number) global.variable.rate) (sym c.in-File.is)
-    (variable_view global.variable, viewed_at _ globals number global (read_at globals c.deref.result.now number global c.deref.ensures.value read.3.0 read.1), refl, refl)
+    subst (λ id. HasWords g.row.W c.args.compiled.now regions id (shown_view c.shown_words.result)) (sym c.in-File.is) (
+      variable_view global.variable,
+      viewed_at _ globals number global (read_at globals c.deref.result.now number global c.deref.ensures.value read.3.0 read.1),
+      c.shown_words.ensures,
+    )
 
 pub returns-in_ok-variable-in-Local-clause-found : goal.returns-in_ok-variable-in-Local-clause-found
 returns-in_ok-variable-in-Local-clause-found g c =
@@ -57,7 +59,7 @@ returns-in_ok-variable-in-Local-clause-found g c =
     let within = viewed_within function_view functions active.function f is.next.is_function in
     let item = read_at functions functions active.function own refl within c.index-function.ensures in
     let read = c.in_ok-variable-in-Local.ensures.lookup in
-    subst (λ id. IsScalarAt g.row.W c.args.compiled.now regions id (OfLocal active.frame number) x.rate) (sym c.in-Local.is)
+    subst (λ id. HasWords g.row.W c.args.compiled.now regions id (shown_view c.shown_words-in-Local.result)) (sym c.in-Local.is)
     (record {
       active = active;
       f = f;
@@ -65,6 +67,5 @@ returns-in_ok-variable-in-Local-clause-found g c =
       variable = variable_view x;
       is_variable = ap (λ o. slice_get (or_none o) number) (viewed_at own_variables functions active.function own item)
           ∙ viewed_at variable_view own.variables.items number x (read_at own.variables.items c.deref-in-Local.result.now number x c.deref-in-Local.ensures.value read.3.0 read.1);
-      region_is = refl;
-      rate_is = refl;
+      shown_is = c.shown_words-in-Local.ensures;
     })
