@@ -66,7 +66,7 @@ declaration_first : (scope : Scope) (k : ℕ) (p : Place) (name : Name) (v : Ent
     → IsFirst scope (v ∷ scope) k (λ site. standing p site ∷ []) (with_name name) false s
 declaration_first scope k p name v s id step = record {
   first = step.first;
-  scopes = λ b. subst (λ own. ScopeThere (own ++ b.there) (v ∷ scope)) (sym step.declares) (by_id b v.variable.id id, scope_more (k ∷ []) b.there scope b.in_scope);
+  scopes = λ b. subst (λ own. ScopeThere (own ++ b.there) (v ∷ scope)) (sym step.declares) (λ scalar. by_id b v.variable.id id, scope_more (k ∷ []) b.there scope b.in_scope);
   lists = λ there site e names. one_listed scope p (k ∷ []) false s step there site names;
   sites = λ there site e names. subst (λ own. NamesThere (own ++ there) (with_name name site).environment) (sym step.declares) (inl e, names_more (k ∷ []) there site.environment names);
   returned = step.returned;

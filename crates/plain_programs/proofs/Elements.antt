@@ -1,5 +1,5 @@
 -- Elements of lists by their numbers.
-use Rattle.std.proofs.Common.{ℕ, zero, suc, List, [], ◌∷◌, ◌++◌, ◌≡◌, refl, subst}
+use Rattle.std.proofs.Common.{ℕ, zero, suc, List, [], ◌∷◌, ◌++◌, length, ◌<◌, ◌≡◌, refl, subst, arith}
 use Rattle.std.specs.Prelude.{map, Some, slice_get}
 use Rattle.std.proofs.lemmas.Option.{same_Some, none-some}
 use Rattle.gang_model.proofs.StandingLaws.{Each}
@@ -9,6 +9,12 @@ pub get_more : {A : Type 0} (xs ys : List A) (k : ℕ) (x : A) → slice_get xs 
 get_more [] ys k x e = absurd (none-some x e)
 get_more (y ∷ xs) ys zero x e = e
 get_more (y ∷ xs) ys (suc k) x e = get_more xs ys k x e
+
+-- an element stands within its list
+pub get_within : {A : Type 0} (xs : List A) (k : ℕ) (x : A) → slice_get xs k ≡ Some x → k < length xs
+get_within [] k x e = absurd (none-some x e)
+get_within (y ∷ xs) zero x e = omega arith
+get_within (y ∷ xs) (suc k) x e = let later = get_within xs k x e in omega (arith, later)
 
 -- what a mapped element is the image of
 pub get_mapped : {A B : Type 0} (f : A → B) (xs : List A) (k : ℕ) (y : B) → slice_get (map f xs) k ≡ Some y → (x : A) × (slice_get xs k ≡ Some x) × (f x ≡ y)

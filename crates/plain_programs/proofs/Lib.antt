@@ -1,10 +1,12 @@
 pub mod DeclaredFunctions
+pub mod DeclaredScalars
 pub mod DeclaredSources
 pub mod DeclaredStatements
 pub mod Elements
 pub mod EntryFunctions
 pub mod FewVariables
 pub mod KnownFunctions
+pub mod OwnNames
 pub mod OwnParameters
 pub mod OwnVariables
 pub mod PlainForms

@@ -1,71 +1,42 @@
--- A sound function of the known forms is plain, with scalars of its own in scope at each of its steps.
-use Rattle.std.proofs.Common.{ℕ, zero, suc, ◌+◌, ◌≤◌, true, false, List, [], ◌∷◌, ◌++◌, length, ◌≡◌, refl, sym, ◌∙◌, ap, subst, arith}
+-- A sound function of the known forms is plain, with variables of its own in scope at each of its steps.
+use Rattle.std.proofs.Common.{ℕ, ◌≤◌, List, ◌++◌, length, ◌≡◌, refl, sym, ap, subst, arith}
 use Rattle.std.specs.Prelude.{All, map, Some, slice_get}
-use Rattle.std.proofs.lemmas.List.Elements.{All-nil, All-cons}
-use Rattle.std.proofs.lemmas.Option.{none-some, get_or_from_slice_get}
 use Rattle.gang_types.specs.declared.places.VarId.{VarId}
 use Rattle.gang_types.specs.declared.places.VarId.TheVariants.{File, Local}
 use Rattle.gang_model.specs.Types.Tree.{Variable, Standing}
 use Rattle.gang_model.specs.Types.WellScoped.{Table, variable_at}
-use Rattle.gang_model.specs.Source.Parsed.{ParsedParam, ParsedFunction, ParsedGlobal, ParsedSource, functions_in, globals_in}
+use Rattle.gang_model.specs.Source.Parsed.{ParsedFunction, ParsedSource, functions_in, globals_in}
 use Rattle.gang_model.specs.Source.SpellsSource.{max_params}
 use Rattle.gang_model.specs.Source.Judged.{Judged, Sound, Faulty, unless}
-use Rattle.gang_model.specs.Names.Bindings.{variable_bindings}
-use Rattle.gang_model.specs.Names.Scope.{Binding, NameStanding, file_scope, standings_of}
-use Rattle.gang_model.specs.Types.Typing.{Scope, declared}
+use Rattle.gang_model.specs.Names.Scope.{file_scope, standings_of}
 use Rattle.gang_model.specs.Types.TypeFaults.{signature_faults}
 use Rattle.gang_model.specs.Types.Statements.{Made}
-use Rattle.gang_model.specs.Types.Resolved.{global_entries, global_entry, param_entries, param_variables, no_variable, local_at, standing_with, function_made, judged_function, file_variables}
+use Rattle.gang_model.specs.Types.Resolved.{global_entries, param_variables, function_made, judged_function, file_variables}
 use Rattle.gang_model.proofs.JudgedLaws.{OnSound, on_any, on_pair}
-use Rattle.gang_model.proofs.StandingLaws.{Each, each_join, each_left, each_right, Found, AllFound}
+use Rattle.gang_model.proofs.StandingLaws.{Each, each_left, each_right, AllFound}
 use Rattle.gang_model.proofs.VariableLaws.{Consecutive, function_numbers, steps_found}
 use Rattle.gang_model.proofs.ScopedStmts.{ScopeScoped, Own, AllRight, statements_scoped}
 use Rattle.gang_model.proofs.ScopedPrograms.{own_found, file_found, params_found}
 use Rattle.machine_states.specs.Variables.{Variables, own_of, variable_of}
-use Rattle.machine_states.specs.Plain.{IsPlainName, IsPlainFunction}
+use Rattle.machine_states.specs.Plain.{IsPlainFunction}
 use Rattle.plain_programs.specs.Sources.{source_variables, variables_made}
-use Rattle.plain_programs.proofs.Elements.{each_get, each_follows, get_mapped}
+use Rattle.plain_programs.proofs.Elements.{each_get, get_mapped}
 use Rattle.plain_programs.proofs.KnownFunctions.{IsKnownFunction, HasFewParams}
+use Rattle.plain_programs.proofs.OwnNames.{IsOneOf, scopes_own}
 use Rattle.plain_programs.proofs.OwnVariables.{context_of, scope_of, body_of, BodyFaithful, body_faithful, own_bound, own_is, parameters_first}
-use Rattle.plain_programs.proofs.PlainForms.{IsNoArray, IsDeclaredScalar, MadePlain, statements_plain}
+use Rattle.plain_programs.proofs.PlainForms.{MadePlain, statements_plain}
 use Rattle.plain_programs.proofs.ScopedTrees.{AreParameters, IsTable, stmt_plain}
 
--- ---- what is in scope
-
-params_scalar : (k : ℕ) (params : List ParsedParam) → Each (λ p. p.is_array ≡ false) params → Each IsNoArray (param_variables k params)
-params_scalar k [] h = tt
-params_scalar k (p ∷ params) h = (h.0, params_scalar (suc k) params h.1)
-
--- ---- names at steps
-
--- the variable of a declaration, by its number
-variable_of_binding : (variables : List Variable) (k : ℕ) (b : Binding) → slice_get (variable_bindings variables) k ≡ Some b → (v : Variable) × (slice_get variables k ≡ Some v)
-variable_of_binding [] k b e = absurd (none-some b e)
-variable_of_binding (v ∷ variables) zero b e = (v, refl)
-variable_of_binding (v ∷ variables) (suc k) b e = variable_of_binding variables k b e
-
-module _ (variables : Variables) (n : ℕ) (own : List Variable) (is : own_of variables n ≡ own) (scalars : Each IsNoArray own) where
-  name_plain : (b : Binding) → Found (variable_bindings own) b → IsPlainName variables n (local_at own b.id)
-  name_plain b found =
-      let k = found.0 in
-      let v = variable_of_binding own k b found.2 in
-      let same : local_at own b.id ≡ v.0 = ap (local_at own) found.1 ∙ get_or_from_slice_get own k v.0 no_variable v.1 in
-      subst (IsPlainName variables n) (sym same) (k, subst (λ vs. slice_get vs k ≡ Some v.0) (sym is) v.1, each_get IsNoArray own k v.0 scalars v.1)
-
-  names_plain : (names : List Binding) → Each (Found (variable_bindings own)) names → All (IsPlainName variables n) (map (λ b. local_at own b.id) names)
-  names_plain [] found = All-nil (IsPlainName variables n)
-  names_plain (b ∷ names) found =
-      All-cons (IsPlainName variables n) (local_at own b.id) (map (λ c. local_at own c.id) names) (name_plain b found.0) (names_plain names found.1)
-
-  scopes_plain : (standings : List NameStanding) → Each (AllFound (variable_bindings own)) standings → (number : ℕ) (there : Standing)
-      → slice_get (map (standing_with own) standings) number ≡ Some there → All (IsPlainName variables n) there.scope
-  scopes_plain standings found number there e =
-      let named = get_mapped (standing_with own) standings number there e in
-      subst (λ s. All (IsPlainName variables n) s.scope) named.2 (names_plain named.0.names (each_get (AllFound (variable_bindings own)) standings number named.0 found named.1))
+-- what is in scope at the steps of a function is among its own variables
+pub made_scopes : (source : ParsedSource) (f : ParsedFunction) (m : Made) → BodyFaithful f m → (number : ℕ) (there : Standing)
+    → slice_get (function_made (file_scope source) f m).standings number ≡ Some there → All (IsOneOf (param_variables 0 f.params ++ m.variables)) there.scope
+made_scopes source f m faithful =
+    scopes_own (param_variables 0 f.params ++ m.variables) (standings_of (file_scope source) f)
+    (subst (λ bs. Each (AllFound bs) (standings_of (file_scope source) f)) (sym (own_bound f m faithful)) (steps_found source f))
 
 -- ---- functions
 
-module _ (source : ParsedSource) (known : Each IsKnownFunction (functions_in source)) (few : HasFewParams source) (file : Each IsNoArray (file_variables 0 (globals_in source)))
+module _ (source : ParsedSource) (known : Each IsKnownFunction (functions_in source)) (few : HasFewParams source)
     (n : ℕ) (f : ParsedFunction) (at : slice_get (functions_in source) n ≡ Some f) where
   abbrev variables : Variables
   variables = source_variables source
@@ -77,24 +48,13 @@ module _ (source : ParsedSource) (known : Each IsKnownFunction (functions_in sou
     abbrev table : Table
     table = record { file = file_variables 0 (globals_in source); own = own; parameters = map (λ g. param_variables 0 g.params) (functions_in source) }
 
-    own_scalars : Each IsNoArray own
-    own_scalars =
-        each_join IsNoArray (param_variables 0 f.params) m.variables
-        (params_scalar 0 f.params (each_get IsKnownFunction (functions_in source) n f known at).no_arrays)
-        (each_follows IsDeclaredScalar IsNoArray m.variables (λ v h. h.0) plain.1)
-
     same_variable : (id : VarId) → variable_of variables n id ≡ variable_at table id
     same_variable (File k) = refl
     same_variable (Local k) = ap (λ vs. slice_get vs k) owned
 
-    no_array_at : (id : VarId) (v : Variable) → variable_at table id ≡ Some v → v.is_array ≡ false
-    no_array_at (File k) v e = each_get IsNoArray (file_variables 0 (globals_in source)) k v file e
-    no_array_at (Local k) v e = each_get IsNoArray own k v own_scalars e
-
     table_is : IsTable variables n table
     table_is = record {
       same = same_variable;
-      scalars = no_array_at;
       parameters = λ called parameters e.
           let g = get_mapped (λ h. param_variables 0 h.params) (functions_in source) called parameters e in
           subst (AreParameters variables called) g.2
@@ -114,8 +74,7 @@ module _ (source : ParsedSource) (known : Each IsKnownFunction (functions_in sou
     made_plain : AllRight table (scope_of source f) m → IsPlainFunction variables n (function_made (file_scope source) f m)
     made_plain right = record {
       body = stmt_plain variables n table table_is m.stmt plain.0 (right scope_in_table (each_right (Own table) (param_variables 0 f.params) m.variables own_in_table));
-      scopes = scopes_plain variables n own owned own_scalars (standings_of (file_scope source) f)
-          (subst (λ bs. Each (AllFound bs) (standings_of (file_scope source) f)) (sym (own_bound f m faithful)) (steps_found source f));
+      scopes = λ number there e. subst (λ vs. All (IsOneOf vs) there.scope) (sym owned) (made_scopes source f m faithful number there e);
     }
 
   body_plain : (j : Judged Made) → own_of variables n ≡ param_variables 0 f.params ++ variables_made j → OnSound j (BodyFaithful f) → OnSound j MadePlain

@@ -1,55 +1,30 @@
 -- A known source without faults has a plain program.
-use Rattle.std.proofs.Common.{ℕ, zero, suc, ◌+◌, ◌≤◌, true≢false, true, false, List, [], ◌∷◌, length, ◌≡◌, refl, sym, ◌∙◌, ap, subst, arith}
+use Rattle.std.proofs.Common.{ℕ, zero, suc, ◌+◌, ◌≤◌, true≢false, true, List, [], ◌∷◌, length, ◌≡◌, refl, sym, ◌∙◌, ap, subst, arith}
 use Rattle.std.proofs.lemmas.Option.{same_Some, none-some}
 use Rattle.std.specs.Prelude.{is_some, map, Option, Some, None, slice_get}
-use Rattle.std.specs.List.{list_all}
 use Rattle.gang_types.specs.declared.places.VarId.TheVariants.{File}
-use Rattle.gang_model.specs.declared.forms.GlobalForm.{GlobalForm}
-use Rattle.gang_model.specs.declared.forms.GlobalForm.TheVariants.{Plain, Array, Initial}
 use Rattle.gang_model.specs.declared.refusals.SourceRefusal.{SourceRefusal}
 use Rattle.gang_model.specs.Texts.Text.{Bytes}
 use Rattle.gang_model.specs.Source.Sources.{IsProgramOf}
 use Rattle.gang_model.specs.Source.Limits.{most_variables, limit_refusal}
 use Rattle.gang_model.specs.Types.Tree.{Variable, Function, Program}
-use Rattle.gang_model.specs.Source.Parsed.{Name, ParsedFunction, ParsedGlobal, ParsedSource, ParsedFunctionItem, ParsedGlobalItem, functions_in, globals_in}
-use Rattle.gang_model.specs.Source.Known.{known_function, known_form, known_item, is_known}
+use Rattle.gang_model.specs.Source.Parsed.{Name, ParsedFunction, ParsedGlobal, ParsedSource, functions_in, globals_in}
+use Rattle.gang_model.specs.Source.Known.{is_known}
 use Rattle.gang_model.specs.Types.SourceRefusals.{first_refusal, refusal_of, IsAccepted}
-use Rattle.gang_model.specs.Types.TypeFaults.{is_array_form}
 use Rattle.gang_model.specs.Types.Resolved.{global_entry, judged_function, judged_functions, program_of, file_variables}
-use Rattle.gang_model.proofs.JudgedLaws.{OnSound, on_pair, and_true}
+use Rattle.gang_model.proofs.JudgedLaws.{OnSound, on_pair}
 use Rattle.gang_model.proofs.StandingLaws.{Each}
 use Rattle.machine_states.specs.Variables.{Variables, own_of}
 use Rattle.machine_states.specs.Plain.{IsPlainFunction, IsPlainProgram}
 use Rattle.plain_programs.specs.Sources.{plain_forms, own_variables, source_variables}
-use Rattle.plain_programs.proofs.Elements.{each_get}
 use Rattle.plain_programs.proofs.FewVariables.{few_variables}
 use Rattle.plain_programs.proofs.KnownFunctions.{IsKnownFunction, known_functions, HasFewParams, few_params}
+use Rattle.plain_programs.proofs.OwnParameters.{arrays_at}
 use Rattle.plain_programs.proofs.OwnVariables.{own_at, most_of, within_most}
-use Rattle.plain_programs.proofs.PlainForms.{IsNoArray}
 use Rattle.plain_programs.proofs.PlainFunctions.{function_plain}
 use Rattle.plain_programs.proofs.ProgramParts.{program_functions}
 
 -- ---- file-scope variables
-
--- a file-scope variable of a known form
-abbrev IsKnownGlobal : ParsedGlobal → Type 0
-IsKnownGlobal g = known_form g.form plain_forms ≡ true
-
-known_globals : (source : ParsedSource) → list_all (known_item plain_forms) source ≡ true → Each IsKnownGlobal (globals_in source)
-known_globals [] known = tt
-known_globals (ParsedFunctionItem f ∷ items) known = known_globals items (and_true (known_function f plain_forms) (list_all (known_item plain_forms) items) known).1
-known_globals (ParsedGlobalItem g ∷ items) known =
-    let all = and_true (known_form g.form plain_forms) (list_all (known_item plain_forms) items) known in
-    (all.0, known_globals items all.1)
-
-no_array : (form : GlobalForm) → known_form form plain_forms ≡ true → is_array_form form ≡ false
-no_array Plain known = refl
-no_array (Array n) known = absurd (true≢false (sym known))
-no_array (Initial value) known = refl
-
-file_scalars : (k : ℕ) (globals : List ParsedGlobal) → Each IsKnownGlobal globals → Each IsNoArray (file_variables k globals)
-file_scalars k [] known = tt
-file_scalars k (g ∷ globals) known = (no_array g.form known.0, file_scalars (suc k) globals known.1)
 
 file_number : (first : ℕ) (globals : List ParsedGlobal) (k : ℕ) (v : Variable) → slice_get (file_variables first globals) k ≡ Some v → v.id ≡ File (first + k)
 file_number first [] k v e = absurd (none-some v e)
@@ -71,7 +46,7 @@ plain_at variables k (g ∷ functions) plain zero f e =
 plain_at variables k (g ∷ functions) plain (suc n) f e =
     subst (λ i. IsPlainFunction variables i f) (omega arith) (plain_at variables (suc k) functions plain.1 n f e)
 
-module _ (source : ParsedSource) (known : Each IsKnownFunction (functions_in source)) (few : HasFewParams source) (file : Each IsNoArray (file_variables 0 (globals_in source))) where
+module _ (source : ParsedSource) (known : Each IsKnownFunction (functions_in source)) (few : HasFewParams source) where
   functions_plain : (k : ℕ) (later : List ParsedFunction)
       → ((i : ℕ) (f : ParsedFunction) → slice_get later i ≡ Some f → slice_get (functions_in source) (k + i) ≡ Some f)
       → OnSound (judged_functions source later) (ArePlain (source_variables source) k)
@@ -79,7 +54,7 @@ module _ (source : ParsedSource) (known : Each IsKnownFunction (functions_in sou
   functions_plain k (f ∷ later) at =
       let variables = source_variables source in
       on_pair (judged_function source f) (judged_functions source later) _ (IsPlainFunction variables k) (ArePlain variables (suc k)) (ArePlain variables k)
-      (function_plain source known few file k f (subst (λ n. slice_get (functions_in source) n ≡ Some f) (omega arith) (at 0 f refl)))
+      (function_plain source known few k f (subst (λ n. slice_get (functions_in source) n ≡ Some f) (omega arith) (at 0 f refl)))
       (functions_plain (suc k) later (λ i g e. subst (λ n. slice_get (functions_in source) n ≡ Some g) (omega arith) (at (suc i) g e)))
       (λ g typed one others. (one, others))
 
@@ -94,11 +69,11 @@ module _ (source : ParsedSource) (known : Each IsKnownFunction (functions_in sou
 pub plain_program : (source : ParsedSource) (most : ℕ) (p : Program) → is_known plain_forms source ≡ true → HasFewParams source
     → ((n : ℕ) → length (own_of (source_variables source) n) ≤ most) → program_of source ≡ Some p → IsPlainProgram (source_variables source) most p
 plain_program source most p known few within made =
-    let globals = file_scalars 0 (globals_in source) (known_globals source known) in
-    let all = program_plain source (known_functions source known) few globals p made in
+    let all = program_plain source (known_functions source known) few p made in
     record {
-      file = λ k v e. (file_number 0 (globals_in source) k v e ∙ ap File (omega arith), each_get IsNoArray (file_variables 0 (globals_in source)) k v globals e);
+      file = λ k v e. file_number 0 (globals_in source) k v e ∙ ap File (omega arith);
       own = own_at source;
+      arrays = arrays_at source (known_functions source known);
       few = within;
       functions = λ n f e. subst (λ i. IsPlainFunction (source_variables source) i f) (omega arith) (plain_at (source_variables source) 0 p.functions all n f e);
     }

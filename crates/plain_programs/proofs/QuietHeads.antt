@@ -1,8 +1,7 @@
 -- The start and the update of a `for` of a whole source hold no `return`.
-use Rattle.std.proofs.Common.{ℕ, zero, suc, false, List, [], ◌∷◌, ◌≡◌, refl, ◌⊎◌, inl, inr}
+use Rattle.std.proofs.Common.{ℕ, false, List, [], ◌∷◌, ◌≡◌, refl, ◌⊎◌, inl, inr}
 use Rattle.gang_model.specs.Source.Tokens.{Lexeme}
 use Rattle.gang_model.specs.Source.Parsed.{ParsedStmt, ParsedEmpty, ParsedBlock, ParsedDeclare, ParsedAssign, ParsedChange, ParsedIncrement, ParsedDoCall, ParsedBreak, ParsedContinue, ParsedReturn, ParsedIf, ParsedIfElse, ParsedWhile, ParsedDo, ParsedFor, ParsedSwitch, ParsedForEach, ParsedForEachActive, ParsedForEachUnique, ParsedStmts, ParsedLast, ParsedNext, ParsedFunction, ParsedSource, ParsedFunctionItem, ParsedGlobalItem, functions_in}
-use Rattle.gang_model.specs.Source.Spells.{Opens}
 use Rattle.gang_model.specs.Source.SpellsStatements.{SpellsDeclaration, SpellsSimple, SpellsStart, SpellsUpdate, OpensBody, SpellsStmt, SpellsStmts}
 use Rattle.gang_model.specs.Source.SpellsSource.{SpellsFunction, IsTree, max_nesting}
 use Rattle.gang_model.specs.Names.Scope.{has_return}

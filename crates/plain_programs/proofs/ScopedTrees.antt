@@ -1,11 +1,11 @@
--- A statement of plain forms that names variables of a table without arrays is plain.
-use Rattle.std.proofs.Common.{ℕ, suc, ◌+◌, ◌≤◌, true≢false, false, List, [], ◌∷◌, length, ◌≡◌, refl, sym, ◌∙◌, ap, subst, arith}
+-- A statement of plain forms that names variables of a table is plain.
+use Rattle.std.proofs.Common.{ℕ, suc, ◌+◌, ◌≤◌, List, [], ◌∷◌, length, ◌≡◌, refl, sym, ◌∙◌, ap, subst, arith}
 use Rattle.std.specs.Prelude.{Option, Some, None, slice_get}
 use Rattle.gang_types.specs.declared.places.VarId.{VarId}
 use Rattle.gang_types.specs.declared.places.VarId.TheVariants.{Local}
 use Rattle.gang_model.specs.Types.Tree.{Var, Expr, Number, ProgramIndex, ProgramCount, LaneMask, Read, Element, Unary, Binary, Convert, And, Or, Choice, Reduce, Scan, OfOne, OfTwo, Extract, Insert, Rotate, Shift, Shuffle, ShuffleTwo, Select, Scalar, ElementOf, Arg, Value, Array, ResultFor, Nothing, Declares, Assigns, Returns, Stmt, Empty, Then, Declare, Assign, Change, If, Loop, BodyFirst, Break, Continue, Return, Call, Check, PackedStore, PackedLoad, Variable}
-use Rattle.gang_model.specs.Types.WellScoped.{Table, variable_at, IsScalar as IsTableScalar, IsArray, ExprScoped, SomeScoped, ArgsScoped, ResultScoped, StmtScoped}
-use Rattle.machine_states.specs.Variables.{Variables, own_of, parameters_of, variable_of, IsScalar}
+use Rattle.gang_model.specs.Types.WellScoped.{Table, variable_at, IsScalar as IsTableScalar, IsArray as IsTableArray, ExprScoped, SomeScoped, ArgsScoped, ResultScoped, StmtScoped}
+use Rattle.machine_states.specs.Variables.{Variables, is_array_of, own_of, parameters_of, variable_of, IsArray, IsScalar}
 use Rattle.machine_states.specs.Plain.{IsPlainExpr, IsPlainOption, ArgsPlain, CallPlain, ResultPlain, IsPlain}
 use Rattle.plain_programs.proofs.PlainForms.{DeclaresLocal, HasPlainForm}
 
@@ -19,15 +19,14 @@ pub record AreParameters (variables : Variables) (function : ℕ) (parameters : 
   pub count : length parameters ≡ parameters_of variables function
   pub few : length parameters ≤ 8
 
--- a table of the variables of a function and the file, of which none is an array, and of the parameters of each function
+-- a table of the variables of a function and the file, and of the parameters of each function
 pub record IsTable (variables : Variables) (function : ℕ) (table : Table) : Type 0 where
   pub same : (id : VarId) → variable_of variables function id ≡ variable_at table id
-  pub scalars : (id : VarId) (v : Variable) → variable_at table id ≡ Some v → v.is_array ≡ false
   pub parameters : (called : ℕ) (parameters : List Variable) → slice_get table.parameters called ≡ Some parameters → AreParameters variables called parameters
 
 module _ (variables : Variables) (n : ℕ) (table : Table) (of : IsTable variables n table) where
-  no_array : (id : VarId) → IsArray table id → ⊥
-  no_array id h = true≢false (sym h.2 ∙ of.scalars h.0.id h.0 h.1)
+  array_plain : (id : VarId) → IsTableArray table id → IsArray variables n id
+  array_plain id h = (h.0, of.same id ∙ ap (variable_at table) h.3 ∙ h.1, h.2)
 
   scalar_plain : (x : Var) → IsTableScalar table x → IsScalar variables n x
   scalar_plain x h = (h.0, of.same x.id ∙ ap (λ y. variable_at table y.id) h.3 ∙ h.1, h.2, h.3)
@@ -40,7 +39,7 @@ module _ (variables : Variables) (n : ℕ) (table : Table) (of : IsTable variabl
   expr_plain ProgramCount h = tt
   expr_plain LaneMask h = tt
   expr_plain (Read x) h = scalar_plain x h
-  expr_plain (Element array index) h = absurd (no_array array h.0)
+  expr_plain (Element array index) h = (array_plain array h.0, expr_plain index h.1)
   expr_plain (Unary op type a) h = expr_plain a h
   expr_plain (Binary op type a b) h = (expr_plain a h.0, expr_plain b h.1)
   expr_plain (Convert from to a) h = expr_plain a h
@@ -78,14 +77,20 @@ module _ (variables : Variables) (n : ℕ) (table : Table) (of : IsTable variabl
         expr_plain e h.2,
         args_plain called (suc k) parameters args (λ i w there. subst (StandsAt variables called w) (omega arith) (at (suc i) w there)) h.3,
       )
-  args_plain called k (v ∷ parameters) (Array parameter array from ∷ args) at h = absurd (no_array array h.2)
+  args_plain called k (v ∷ parameters) (Array parameter array from ∷ args) at h =
+      let here : StandsAt variables called v k = subst (StandsAt variables called v) (omega arith) (at 0 v refl) in (
+        record { is_local = h.1 ∙ here.0; array = ap is_array_of here.1 ∙ h.0 },
+        array_plain array h.2,
+        option_plain from h.3,
+        args_plain called (suc k) parameters args (λ i w there. subst (StandsAt variables called w) (omega arith) (at (suc i) w there)) h.4,
+      )
 
   args_count : (parameters : List Variable) (args : List Arg) → ArgsScoped table parameters args → length args ≡ length parameters
   args_count [] [] h = refl
   args_count [] (a ∷ args) h = absurd h
   args_count (v ∷ parameters) [] h = absurd h
   args_count (v ∷ parameters) (Value x e ∷ args) h = ap suc (args_count parameters args h.3)
-  args_count (v ∷ parameters) (Array parameter array from ∷ args) h = absurd (no_array array h.2)
+  args_count (v ∷ parameters) (Array parameter array from ∷ args) h = ap suc (args_count parameters args h.4)
 
   call_plain : (called : ℕ) (parameters : List Variable) (args : List Arg) → AreParameters variables called parameters → ArgsScoped table parameters args
       → CallPlain variables n called args
@@ -108,9 +113,9 @@ module _ (variables : Variables) (n : ℕ) (table : Table) (of : IsTable variabl
   stmt_plain (Then first rest) form h = (stmt_plain first form.0 h.0, stmt_plain rest form.1 h.1)
   stmt_plain (Declare number x e) form h = ((form.0, record { id = form.1; scalar = scalar_plain x h.0 }), option_plain e h.1)
   stmt_plain (Assign number (Scalar x) e) form h = (scalar_plain x h.0, expr_plain e h.1)
-  stmt_plain (Assign number (ElementOf array rate index) e) form h = absurd (no_array array h.0.0)
+  stmt_plain (Assign number (ElementOf array rate index) e) form h = (array_plain array h.0.0, expr_plain index h.0.1, expr_plain e h.1)
   stmt_plain (Change number (Scalar x) type op in_type e) form h = (scalar_plain x h.0, expr_plain e h.1)
-  stmt_plain (Change number (ElementOf array rate index) type op in_type e) form h = absurd (no_array array h.0.0)
+  stmt_plain (Change number (ElementOf array rate index) type op in_type e) form h = (array_plain array h.0.0, expr_plain index h.0.1, expr_plain e h.1)
   stmt_plain (If number test first other) form h = (expr_plain test h.0, stmt_plain first form.0 h.1, stmt_plain other form.1 h.2)
   stmt_plain (Loop number test update body) form h = (expr_plain test h.0, stmt_plain update form.0 h.1, stmt_plain body form.1 h.2)
   stmt_plain (BodyFirst number test body) form h = (expr_plain test h.0, stmt_plain body form h.1)
@@ -120,6 +125,6 @@ module _ (variables : Variables) (n : ℕ) (table : Table) (of : IsTable variabl
   stmt_plain (Call number called args result_for) form h =
       (call_plain called h.0 args (of.parameters called h.0 h.1) h.2, result_plain result_for form h.3)
   stmt_plain (Check number e) form h = expr_plain e h
-  stmt_plain (PackedStore number array from e result_for) form h = absurd (no_array array h.0)
-  stmt_plain (PackedLoad number array from x result_for) form h = absurd (no_array array h.0)
+  stmt_plain (PackedStore number array from e result_for) form h = (array_plain array h.0, option_plain from h.1, expr_plain e h.2, result_plain result_for form h.3)
+  stmt_plain (PackedLoad number array from x result_for) form h = (array_plain array h.0, option_plain from h.1, scalar_plain x h.2, result_plain result_for form h.3)
   stmt_plain s form h = absurd form

@@ -1,6 +1,6 @@
 -- A sound declaration, assignment, call or `return` of the known forms is one step that names variables in scope alone.
 use Rattle.std.proofs.Common.{ℕ, ◌≡◌, refl, sym, ◌∙◌, subst, Bool, true, false, List, [], ◌∷◌}
-use Rattle.std.specs.Prelude.{Option, Some, None}
+use Rattle.std.specs.Prelude.{not, Option, Some, None, if◌then◌else◌}
 use Rattle.std.proofs.lemmas.Option.{none-some}
 use Rattle.gang_types.specs.declared.types.IntType.{IntType}
 use Rattle.gang_types.specs.declared.types.IntType.TheVariants as t
@@ -8,16 +8,16 @@ use Rattle.gang_types.specs.declared.types.Rate.{Rate}
 use Rattle.gang_types.specs.declared.types.Rate.TheVariants.{Varying}
 use Rattle.gang_types.specs.declared.operators.BinaryOp.{BinaryOp}
 use Rattle.gang_types.specs.declared.places.Place.{Place}
-use Rattle.gang_model.specs.declared.refusals.RefusalNumber.TheVariants.{S9}
+use Rattle.gang_model.specs.declared.refusals.RefusalNumber.TheVariants.{S8, S9}
 use Rattle.gang_model.specs.Types.Tree.{Var, Expr, Declares, Assigns, Returns, ResultFor, Nothing, StepNumber, Stmt, Check, PackedLoad}
 use Rattle.gang_model.specs.Source.Parsed.{Name, ParsedExpr, ParsedArgs, ParsedTarget}
 use Rattle.gang_model.specs.Source.Judged.{Judged, Sound, Faulty, refused, unless, both}
-use Rattle.gang_model.proofs.JudgedLaws.{OnSound, on_any, on_then, on_both, on_unless, on_pair, on_if}
+use Rattle.gang_model.proofs.JudgedLaws.{OnSound, on_any, on_then, on_both, on_unless, on_pair, on_fault_if, or_false, and_true, not_true}
 use Rattle.gang_model.proofs.StandingLaws.{Each}
 use Rattle.gang_model.specs.Types.Signatures.{ResultType}
 use Rattle.gang_model.specs.Types.Conversions.{Typed, as_bool, operation_type}
 use Rattle.gang_model.specs.Types.LibraryTable.{StatementCall, Asserts, PackedStores, PackedLoads, statement_call}
-use Rattle.gang_model.specs.Types.Typing.{Scope, Passing, Scalar, View, Reference, var_of, first_of, arguments, given_value}
+use Rattle.gang_model.specs.Types.Typing.{Scope, Passing, Scalar, View, Reference, has_no_value, var_of, first_of, arguments, given_value}
 use Rattle.gang_model.specs.Types.Overloads.{candidates, overload}
 use Rattle.gang_model.specs.Types.Calls.{Context, Called, stored_to, takes_elements, packed, library_statement, WholeCall, whole_call, call_of_kind, call_of, result_faults, right_call}
 use Rattle.gang_model.specs.Types.Statements.{first_value, declaration, Aimed, scalar_target, target_of, rate_of, assigned_type, variable_of, assigned_call, call_for, assigned_by, assignment, operand_for, changed, number_one, empty_return, returned_value, returned, value_return, returning, test_of}
@@ -66,10 +66,27 @@ library-step scope p Asserts (Scalar q e ∷ []) result_for n result passes = λ
     subst (λ r. IsStep scope (declared_by_result r) (is_returned r) (Check n (as_bool e))) (sym (none refl))
     (record { alone = λ there. refl; declares = refl; returned = refl; first = λ b. as_type-there b.there t.Bool e (passes b).0 })
 library-step scope p PackedStores (View q v from ∷ Scalar r e ∷ []) result_for n result passes =
-    on_unless (stored_to q v) _ (IsCalled scope result_for) (λ none. record { alone = λ there. refl; declares = refl; returned = refl; first = λ b. tt })
-library-step scope p PackedLoads (View q v from ∷ Reference r w ∷ []) result_for n result passes =
-    on_if (takes_elements w v) (unless (stored_to r w) (packed (PackedLoad n v.variable.id from (var_of w.variable) result_for))) (refused S9 p) (IsCalled scope result_for)
-    (on_unless (stored_to r w) _ (IsCalled scope result_for) (λ none. record { alone = λ there. refl; declares = refl; returned = refl; first = λ b. tt })) tt
+    on_unless (stored_to q v) _ (IsCalled scope result_for)
+    (λ none. record {
+      alone = λ there. refl;
+      declares = refl;
+      returned = refl;
+      first = λ b. ((passes b).0, as_type-there b.there v.variable.type e (passes b).1.0, result b);
+    })
+library-step scope p PackedLoads (View q v from ∷ Reference r w ∷ []) result_for n result passes = by (takes_elements w v) refl
+  where
+    by : (taken : Bool) → takes_elements w v ≡ taken
+        → OnSound (if taken then unless (stored_to r w) (packed (PackedLoad n v.variable.id from (var_of w.variable) result_for)) else refused S9 p) (IsCalled scope result_for)
+    by false e = tt
+    by true e =
+        let valued = not_true (has_no_value w) (and_true (not (has_no_value w)) _ e).0 in
+        on_fault_if w.variable.is_constant S8 r _ (IsCalled scope result_for)
+        (λ constant none. record {
+          alone = λ there. refl;
+          declares = refl;
+          returned = refl;
+          first = λ b. ((passes b).0, (passes b).1.0 constant (or_false w.variable.is_array w.is_void valued).0, result b);
+        })
 library-step scope p call given result_for n result passes = tt
 
 kind-step : (kind : Option StatementCall) (context : Context) (scope : Scope) (p : Place) (name : Name) (given : List Passing) (result_for : ResultFor) (n : StepNumber)

@@ -1,5 +1,5 @@
 -- A sound expression reads variables that are in scope alone.
-use Rattle.std.proofs.Common.{ℕ, suc, ◌++◌, Bool, true, false, List, [], ◌∷◌, length}
+use Rattle.std.proofs.Common.{◌≡◌, ℕ, suc, ◌++◌, Bool, true≢false, true, false, List, [], ◌∷◌, length}
 use Rattle.std.specs.Prelude.{not, ◌||◌, codes, Option, Some, None, if◌then◌else◌}
 use Rattle.gang_types.specs.declared.types.IntType.{IntType}
 use Rattle.gang_types.specs.declared.types.IntType.TheVariants as t
@@ -18,12 +18,12 @@ use Rattle.gang_model.specs.Types.Tree.{Expr, Convert, ProgramIndex, ProgramCoun
 use Rattle.gang_model.specs.Source.Names.{same_text}
 use Rattle.gang_model.specs.Source.Parsed.{Name, ParsedExpr, ParsedNumber, ParsedBool, ParsedName, ParsedIndex, ParsedCall, ParsedParen, ParsedUnary, ParsedCast, ParsedBinary, ParsedChoice, ParsedArgs, ParsedEnd, ParsedValue, ParsedPart, ParsedPartFrom, ParsedParam}
 use Rattle.gang_model.specs.Source.Judged.{Judged, Sound, Faulty, unless, both, ◌>>=◌, fault_if, refused}
-use Rattle.gang_model.proofs.JudgedLaws.{OnSound, on_any, on_then, on_both, on_unless, on_pair, on_if}
+use Rattle.gang_model.proofs.JudgedLaws.{OnSound, on_any, on_then, on_both, on_unless, on_pair, on_if, on_fault_if, or_false}
 use Rattle.gang_model.proofs.StandingLaws.{Each}
 use Rattle.gang_model.specs.Types.Signatures.{declared_type}
 use Rattle.gang_model.specs.Types.Conversions.{Typed, typed, joined, promoted, is_varying, may_become, same_type, as_type, operation_type, right_operand, infixed, prefixed, chosen_by}
 use Rattle.gang_model.specs.Types.LibraryTable.{LibraryCall, GivesLanes, ReducesTruths, ReducesNumbers, ComparesLanes, Scans, CountsOnes, TakesMagnitude, ComparesTwo, Broadcasts, Extracts, Inserts, Rotates, Shifts, Shuffles, ShufflesTwo, Clamps, Selects, asked_by, library_call, library_value, truths_reduced, number_type}
-use Rattle.gang_model.specs.Types.Typing.{Entry, Scope, entry_of, named_entry, array_of, names_no_value, has_no_value, first_of, element_faults, Passing, Scalar, View, Reference, or_built_in, referred, passed, view_index, viewed, all_values, one_value, call_value, called_value, rate_faults, second_parts, typed_or_refused, built_in_value, name_value, element, cast_rate, cast_faults, cast_to, expression, arguments, given_value}
+use Rattle.gang_model.specs.Types.Typing.{Entry, Scope, entry_of, named_entry, array_of, names_no_value, has_no_value, first_of, element_faults, Passing, Scalar, View, Reference, built_in, built_in_entry, or_built_in, referred, passed, view_index, viewed, all_values, one_value, call_value, called_value, rate_faults, second_parts, typed_or_refused, built_in_value, name_value, element, cast_rate, cast_faults, cast_to, expression, arguments, given_value}
 use Rattle.gang_model.specs.Types.Overloads.{passed_args}
 use Rattle.gang_model.specs.Types.Statements.{Aimed, target_index, assigned, scalar_target, target_of, operand_for, test_of}
 use Rattle.machine_states.specs.Declared.{IsThere, NamesDeclared, OptionDeclared, ArgsDeclared, TargetDeclared}
@@ -82,7 +82,7 @@ module _ (there : List ℕ) where
   built_in-there p false false = tt
 
   name-there : (p : Place) (name : Name) (n : Option Entry) → FoundThere n → OnSound (name_value p name n) TypedThere
-  name-there p name (Some n) h = on_unless (fault_if (has_no_value n) S8 p) _ TypedThere h
+  name-there p name (Some n) h = on_fault_if (has_no_value n) S8 p _ TypedThere (λ e. h (or_false n.variable.is_array n.is_void e).0)
   name-there p name None h = built_in-there p (same_text name (codes "programIndex")) (same_text name (codes "programCount"))
 
   element-there : (p : Place) (e : ParsedExpr) (i : Typed) (n : Option Entry) → TypedThere i → OnSound (unless (element_faults p e i n) (element i n)) TypedThere
@@ -133,7 +133,7 @@ module _ (there : List ℕ) where
   abbrev pub PassThere : Passing → Type 0
   PassThere (Scalar p e) = TypedThere e
   PassThere (View p n from) = OptionDeclared there from
-  PassThere (Reference p n) = Unit {0}
+  PassThere (Reference p n) = n.variable.is_constant ≡ false → EntryThere there n
 
   -- what a call passes
   pub args-there : (k : ℕ) (given : List Passing) (params : List ParsedParam) → Each PassThere given → ArgsDeclared there (passed_args k given params)
@@ -166,9 +166,22 @@ module _ (there : List ℕ) where
   passed-there e None (Sound x) h = h
   passed-there e None (Faulty first others) h = tt
 
-  referred-there : (p : Place) (n : Option Entry) → OnSound (referred p n) PassThere
-  referred-there p None = tt
-  referred-there p (Some n) = tt
+  -- what `&x` may name: a constant, or what is there
+  abbrev ReferredThere : Option Entry → Type 0
+  ReferredThere None = Unit {0}
+  ReferredThere (Some n) = n.variable.is_constant ≡ false → EntryThere there n
+
+  built_in_entry-there : (name : Name) (b : Option (Expr × Rate)) → ReferredThere (built_in_entry name b)
+  built_in_entry-there name None = tt
+  built_in_entry-there name (Some b) = λ e. absurd (true≢false e)
+
+  or_built_in-there : (name : Name) (n : Option Entry) → FoundThere n → ReferredThere (or_built_in name n)
+  or_built_in-there name None h = built_in_entry-there name (built_in name)
+  or_built_in-there name (Some n) h = λ _. h
+
+  referred-there : (p : Place) (n : Option Entry) → ReferredThere n → OnSound (referred p n) PassThere
+  referred-there p None h = tt
+  referred-there p (Some n) h = h
 
   -- ---- expressions
 
@@ -205,7 +218,7 @@ module _ (there : List ℕ) where
     arguments-there (ParsedPart p name args) scope h =
         let reference = or_built_in name (entry_of scope name) in
         on_pair (referred p reference) (arguments args scope) _ PassThere (Each PassThere) (Each PassThere)
-        (referred-there p reference) (arguments-there args scope h) (λ a given k rest. (k, rest))
+        (referred-there p reference (or_built_in-there name (entry_of scope name) (found_there scope name h))) (arguments-there args scope h) (λ a given k rest. (k, rest))
     arguments-there (ParsedPartFrom p name e args) scope h =
         let index = expression e scope >>= view_index e in
         on_pair (both (viewed p (entry_of scope name)) index) (arguments args scope) _ (λ v. Unit {0} × TypedThere v.1) (Each PassThere) (Each PassThere)
@@ -231,13 +244,18 @@ module _ (there : List ℕ) where
 
   -- ---- targets
 
-  assigned-there : (p : Place) (n : Option Entry) → FoundThere n → OnSound (assigned p false n) (EntryThere there)
+  abbrev VariableThere : Entry → Type 0
+  VariableThere n = IsThere there n.variable.id
+
+  assigned-there : (p : Place) (n : Option Entry) → FoundThere n → OnSound (assigned p false n) VariableThere
   assigned-there p None h = tt
-  assigned-there p (Some n) h = on_unless (fault_if (n.variable.is_constant || has_no_value n) S8 p) n (EntryThere there) h
+  assigned-there p (Some n) h =
+      on_fault_if (n.variable.is_constant || has_no_value n) S8 p n VariableThere
+      (λ e. h (or_false n.variable.is_array n.is_void (or_false n.variable.is_constant (has_no_value n) e).1).0)
 
   pub scalar_target-there : (scope : Scope) (p : Place) (name : Name) → ScopeThere there scope → OnSound (scalar_target scope p name) (λ v. IsThere there v.id)
   scalar_target-there scope p name h =
-      on_then (assigned p false (entry_of scope name)) _ (EntryThere there) (λ v. IsThere there v.id) (assigned-there p (entry_of scope name) (found_there scope name h)) (λ n k. k)
+      on_then (assigned p false (entry_of scope name)) _ VariableThere (λ v. IsThere there v.id) (assigned-there p (entry_of scope name) (found_there scope name h)) (λ n k. k)
 
   target_index-there : (scope : Scope) (e : ParsedExpr) → ScopeThere there scope → OnSound (target_index scope e) TypedThere
   target_index-there scope e h =

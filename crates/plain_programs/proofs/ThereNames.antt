@@ -1,5 +1,5 @@
 -- Variables that are there, among those that are declared: in a scope, and among the names that the debugger lists at a step.
-use Rattle.std.proofs.Common.{ℕ, Bool, true, false, cond, List, [], ◌∷◌, ◌++◌, sym, append-nil, subst}
+use Rattle.std.proofs.Common.{ℕ, false, List, [], ◌∷◌, ◌++◌, ◌≡◌, sym, append-nil, subst}
 use Rattle.std.specs.Prelude.{filter, not}
 use Rattle.gang_types.specs.declared.places.VarId.{VarId}
 use Rattle.gang_types.specs.declared.places.VarId.TheVariants.{File, Local}
@@ -18,9 +18,9 @@ each_mapped P Q (x ∷ xs) f all = (f x all.0, each_mapped P Q xs f all.1)
 
 -- ---- names and entries
 
--- a declared name stands for a variable that is there
+-- a declared name stands for an array, or for a variable that is there
 abbrev pub EntryThere : (there : List ℕ) → Entry → Type 0
-EntryThere there n = IsThere there n.variable.id
+EntryThere there n = n.variable.is_array ≡ false → IsThere there n.variable.id
 
 abbrev pub ScopeThere : (there : List ℕ) → Scope → Type 0
 ScopeThere there scope = Each (EntryThere there) scope
@@ -38,7 +38,7 @@ there_more more there (File k) h = tt
 there_more more there (Local k) h = within_back more there k h
 
 pub scope_more : (more there : List ℕ) (scope : Scope) → ScopeThere there scope → ScopeThere (more ++ there) scope
-scope_more more there scope all = each_mapped (EntryThere there) (EntryThere (more ++ there)) scope (λ n h. there_more more there n.variable.id h) all
+scope_more more there scope all = each_mapped (EntryThere there) (EntryThere (more ++ there)) scope (λ n h scalar. there_more more there n.variable.id (h scalar)) all
 
 pub names_more : (more there : List ℕ) (names : List Binding) → NamesThere there names → NamesThere (more ++ there) names
 names_more more there names all = each_mapped (NameThere there) (NameThere (more ++ there)) names (λ b h. there_more more there b.id h) all

@@ -34,30 +34,68 @@ fn is_not_yet(alloc: Global, source: &[u8], col: u32) -> bool {
 }
 
 #[test]
-fn arrays_are_no_form_yet(rt: HostRuntime) {
-    assert!(rt; is_not_yet(rt.alloc(), b"int g; uniform int a[4];", 20));
-    assert!(rt; is_not_yet(rt.alloc(), b"void f() { a[1] = 2; }", 12));
-    assert!(rt; is_not_yet(rt.alloc(), b"void f() { ++a[1]; }", 14));
-    assert!(rt; is_not_yet(rt.alloc(), b"void f() { int x = 1 + (a[1]); }", 25));
-}
-
-#[test]
-fn packed_calls_are_no_form_yet(rt: HostRuntime) {
-    assert!(rt; is_not_yet(rt.alloc(), b"void f() { packed_store_active(&x, 1); }", 33));
+fn arrays_are_judged_by_names_and_types(rt: HostRuntime) {
+    assert!(rt; compiled(rt.alloc(), b"int g; uniform int a[4];", None) == Ok(None));
+    assert!(rt; is_refused(rt.alloc(), b"int g; int a[4];", RefusalNumber::S7, 12));
+    assert!(rt; is_refused(rt.alloc(), b"void f() { a[1] = 2; }", RefusalNumber::S5, 12));
+    assert!(rt; is_refused(rt.alloc(), b"void f() { ++a[1]; }", RefusalNumber::S5, 14));
     assert!(rt;
-        is_not_yet(
+        is_refused(
             rt.alloc(),
-            b"void f() { packed_load_active(&a[1], &x); }",
-            32
+            b"void f() { int x = 1 + (a[1]); }",
+            RefusalNumber::S5,
+            25
         )
     );
 }
 
 #[test]
+fn packed_calls_are_judged_by_names_and_types(rt: HostRuntime) {
+    assert!(rt;
+        is_refused(
+            rt.alloc(),
+            b"void f() { packed_store_active(&x, 1); }",
+            RefusalNumber::S5,
+            33
+        )
+    );
+    assert!(rt;
+        is_refused(
+            rt.alloc(),
+            b"void f() { packed_load_active(&a[1], &x); }",
+            RefusalNumber::S5,
+            32
+        )
+    );
+    assert!(rt;
+        is_refused(
+            rt.alloc(),
+            b"int x; void f() { packed_store_active(&x, 1); }",
+            RefusalNumber::S9,
+            19
+        )
+    );
+}
+
+#[test]
+fn parameters_that_are_arrays_are_uniform(rt: HostRuntime) {
+    assert!(rt; is_refused(rt.alloc(), b"void f(int x[]) { }", RefusalNumber::S7, 12));
+    assert!(rt;
+        is_refused(
+            rt.alloc(),
+            b"void f(int x, int y[]) { }",
+            RefusalNumber::S7,
+            19
+        )
+    );
+    assert!(rt; compiled(rt.alloc(), b"void f(uniform int x[]) { }", None) == Ok(None));
+}
+
+#[test]
 fn parameters_of_exported_functions_are_no_form_yet(rt: HostRuntime) {
     assert!(rt; is_not_yet(rt.alloc(), b"export void f(int x) { }", 13));
-    assert!(rt; is_not_yet(rt.alloc(), b"void f(int x[]) { }", 6));
-    assert!(rt; is_not_yet(rt.alloc(), b"void f(int x, int y[]) { }", 6));
+    assert!(rt; is_not_yet(rt.alloc(), b"export void f(uniform int x[]) { }", 13));
+    assert!(rt; is_not_yet(rt.alloc(), b"int a[4]; export void f(int x) { }", 23));
 }
 
 #[test]

@@ -1,4 +1,4 @@
--- Rows of sources that have functions over scalars alone, and of others.
+-- Rows of sources that have functions over scalars and arrays alone, and of others.
 use Rattle.std.specs.Prelude.{◌≡◌, refl, true, false, [], ◌∷◌, Some, None, codes}
 use Rattle.gang_types.specs.declared.types.Rate.TheVariants.{Uniform}
 use Rattle.gang_types.specs.declared.types.IntType.TheVariants as t
@@ -9,7 +9,7 @@ use Rattle.gang_model.specs.declared.forms.GlobalForm.TheVariants.{Plain, Array}
 use Rattle.gang_model.specs.Source.Parsed.{ParsedNumber, ParsedBool, ParsedName, ParsedIndex, ParsedCall, ParsedParen, ParsedUnary, ParsedBinary, ParsedEnd, ParsedValue, ParsedPartFrom, ParsedEmpty, ParsedBlock, ParsedDeclare, ParsedAssign, ParsedChange, ParsedIncrement, ParsedDoCall, ParsedBreak, ParsedReturn, ParsedIf, ParsedIfElse, ParsedWhile, ParsedFor, ParsedSwitch, ParsedForEach, ParsedForEachActive, ParsedForEachUnique, ParsedLast, ParsedNext, ParsedNoMore, ParsedSource}
 use Rattle.tests_transcripts.proofs.Forms.{at, spec, target, dimension, parameter, function, file_variable}
 use Rattle.gang_model.specs.Source.Known.{is_known}
-use Rattle.tests_refusals.proofs.Wanted.{scalar_forms}
+use Rattle.tests_refusals.proofs.Wanted.{forms_of_today}
 
 -- export void go() {
 --     int x = programIndex * 3;
@@ -22,7 +22,7 @@ tree_0 =
     (ParsedNext (ParsedChange (at 3 5) (target (at 3 5) (codes "x") None) op.Add (ParsedNumber (at 3 10) 1 false false))
     ParsedLast)) (at 4 1)) ∷ []
 
-row_0 : is_known scalar_forms tree_0 ≡ true
+row_0 : is_known forms_of_today tree_0 ≡ true
 row_0 = refl
 
 -- export void go() { }
@@ -31,7 +31,7 @@ tree_1 =
     (function (at 1 13) (codes "go") (spec true false false false None None) ([])
     ParsedLast (at 1 20)) ∷ []
 
-row_1 : is_known scalar_forms tree_1 ≡ true
+row_1 : is_known forms_of_today tree_1 ≡ true
 row_1 = refl
 
 -- export void go() { int x = (1 + programIndex) * 0x10; x = x; }
@@ -42,7 +42,7 @@ tree_2 =
     (ParsedNext (ParsedAssign (at 1 55) (target (at 1 55) (codes "x") None) (ParsedName (at 1 59) (codes "x")))
     ParsedLast)) (at 1 62)) ∷ []
 
-row_2 : is_known scalar_forms tree_2 ≡ true
+row_2 : is_known forms_of_today tree_2 ≡ true
 row_2 = refl
 
 -- export void go() { int x; }
@@ -52,7 +52,7 @@ tree_3 =
     (ParsedNext (ParsedDeclare (at 1 20) (spec false false false false None (Some t.Int32)) (at 1 24) (codes "x") None)
     ParsedLast) (at 1 27)) ∷ []
 
-row_3 : is_known scalar_forms tree_3 ≡ true
+row_3 : is_known forms_of_today tree_3 ≡ true
 row_3 = refl
 
 -- export void go() { int x = 2147483648; }
@@ -62,7 +62,7 @@ tree_4 =
     (ParsedNext (ParsedDeclare (at 1 20) (spec false false false false None (Some t.Int32)) (at 1 24) (codes "x") (Some (ParsedNumber (at 1 28) 2147483648 false false)))
     ParsedLast) (at 1 40)) ∷ []
 
-row_4 : is_known scalar_forms tree_4 ≡ true
+row_4 : is_known forms_of_today tree_4 ≡ true
 row_4 = refl
 
 -- export void go() { int x = 1u; }
@@ -72,7 +72,7 @@ tree_5 =
     (ParsedNext (ParsedDeclare (at 1 20) (spec false false false false None (Some t.Int32)) (at 1 24) (codes "x") (Some (ParsedNumber (at 1 28) 1 true false)))
     ParsedLast) (at 1 32)) ∷ []
 
-row_5 : is_known scalar_forms tree_5 ≡ true
+row_5 : is_known forms_of_today tree_5 ≡ true
 row_5 = refl
 
 -- export void go() { int x = 1 - 1; }
@@ -82,7 +82,7 @@ tree_6 =
     (ParsedNext (ParsedDeclare (at 1 20) (spec false false false false None (Some t.Int32)) (at 1 24) (codes "x") (Some (ParsedBinary (Op op.Sub) (ParsedNumber (at 1 28) 1 false false) (ParsedNumber (at 1 32) 1 false false))))
     ParsedLast) (at 1 35)) ∷ []
 
-row_6 : is_known scalar_forms tree_6 ≡ true
+row_6 : is_known forms_of_today tree_6 ≡ true
 row_6 = refl
 
 -- export void go() { int8 x = 1; }
@@ -92,7 +92,7 @@ tree_7 =
     (ParsedNext (ParsedDeclare (at 1 20) (spec false false false false None (Some t.Int8)) (at 1 25) (codes "x") (Some (ParsedNumber (at 1 29) 1 false false)))
     ParsedLast) (at 1 32)) ∷ []
 
-row_7 : is_known scalar_forms tree_7 ≡ true
+row_7 : is_known forms_of_today tree_7 ≡ true
 row_7 = refl
 
 -- export void go() { uniform int x = 1; }
@@ -102,7 +102,7 @@ tree_8 =
     (ParsedNext (ParsedDeclare (at 1 20) (spec false false false false (Some Uniform) (Some t.Int32)) (at 1 32) (codes "x") (Some (ParsedNumber (at 1 36) 1 false false)))
     ParsedLast) (at 1 39)) ∷ []
 
-row_8 : is_known scalar_forms tree_8 ≡ true
+row_8 : is_known forms_of_today tree_8 ≡ true
 row_8 = refl
 
 -- export void go() { int x = programCount; }
@@ -112,7 +112,7 @@ tree_9 =
     (ParsedNext (ParsedDeclare (at 1 20) (spec false false false false None (Some t.Int32)) (at 1 24) (codes "x") (Some (ParsedName (at 1 28) (codes "programCount"))))
     ParsedLast) (at 1 42)) ∷ []
 
-row_9 : is_known scalar_forms tree_9 ≡ true
+row_9 : is_known forms_of_today tree_9 ≡ true
 row_9 = refl
 
 -- export void go() { int x = 1; x -= 1; }
@@ -123,7 +123,7 @@ tree_10 =
     (ParsedNext (ParsedChange (at 1 31) (target (at 1 31) (codes "x") None) op.Sub (ParsedNumber (at 1 36) 1 false false))
     ParsedLast)) (at 1 39)) ∷ []
 
-row_10 : is_known scalar_forms tree_10 ≡ true
+row_10 : is_known forms_of_today tree_10 ≡ true
 row_10 = refl
 
 -- export void go() { { } }
@@ -133,7 +133,7 @@ tree_11 =
     (ParsedNext (ParsedBlock ParsedLast)
     ParsedLast) (at 1 24)) ∷ []
 
-row_11 : is_known scalar_forms tree_11 ≡ true
+row_11 : is_known forms_of_today tree_11 ≡ true
 row_11 = refl
 
 -- export void go() { if (1) ; }
@@ -143,7 +143,7 @@ tree_12 =
     (ParsedNext (ParsedIf (at 1 20) (ParsedNumber (at 1 24) 1 false false) ParsedEmpty)
     ParsedLast) (at 1 29)) ∷ []
 
-row_12 : is_known scalar_forms tree_12 ≡ true
+row_12 : is_known forms_of_today tree_12 ≡ true
 row_12 = refl
 
 -- void go() { }
@@ -152,7 +152,7 @@ tree_13 =
     (function (at 1 6) (codes "go") (spec false false false false None None) ([])
     ParsedLast (at 1 13)) ∷ []
 
-row_13 : is_known scalar_forms tree_13 ≡ true
+row_13 : is_known forms_of_today tree_13 ≡ true
 row_13 = refl
 
 -- export void go() { }
@@ -164,7 +164,7 @@ tree_14 =
     (function (at 2 13) (codes "go") (spec true false false false None None) ([])
     ParsedLast (at 2 20)) ∷ []
 
-row_14 : is_known scalar_forms tree_14 ≡ true
+row_14 : is_known forms_of_today tree_14 ≡ true
 row_14 = refl
 
 -- uniform int a;
@@ -172,7 +172,7 @@ abbrev tree_15 : ParsedSource
 tree_15 =
     (file_variable (at 1 13) (codes "a") (spec false false false false (Some Uniform) (Some t.Int32)) Plain) ∷ []
 
-row_15 : is_known scalar_forms tree_15 ≡ true
+row_15 : is_known forms_of_today tree_15 ≡ true
 row_15 = refl
 
 -- export void go() { int x = any(1); }
@@ -182,7 +182,7 @@ tree_16 =
     (ParsedNext (ParsedDeclare (at 1 20) (spec false false false false None (Some t.Int32)) (at 1 24) (codes "x") (Some (ParsedCall (at 1 28) (codes "any") (ParsedValue (ParsedNumber (at 1 32) 1 false false) ParsedEnd))))
     ParsedLast) (at 1 36)) ∷ []
 
-row_16 : is_known scalar_forms tree_16 ≡ true
+row_16 : is_known forms_of_today tree_16 ≡ true
 row_16 = refl
 
 -- uniform int a[3];
@@ -190,7 +190,7 @@ abbrev tree_17 : ParsedSource
 tree_17 =
     (file_variable (at 1 13) (codes "a") (spec false false false false (Some Uniform) (Some t.Int32)) (Array 3)) ∷ []
 
-row_17 : is_known scalar_forms tree_17 ≡ false
+row_17 : is_known forms_of_today tree_17 ≡ true
 row_17 = refl
 
 -- export void go() { int x = a[0]; }
@@ -200,7 +200,7 @@ tree_18 =
     (ParsedNext (ParsedDeclare (at 1 20) (spec false false false false None (Some t.Int32)) (at 1 24) (codes "x") (Some (ParsedIndex (at 1 28) (codes "a") (ParsedNumber (at 1 30) 0 false false))))
     ParsedLast) (at 1 34)) ∷ []
 
-row_18 : is_known scalar_forms tree_18 ≡ false
+row_18 : is_known forms_of_today tree_18 ≡ true
 row_18 = refl
 
 -- export void go() { a[0] = 1; }
@@ -210,7 +210,7 @@ tree_19 =
     (ParsedNext (ParsedAssign (at 1 20) (target (at 1 20) (codes "a") (Some (ParsedNumber (at 1 22) 0 false false))) (ParsedNumber (at 1 27) 1 false false))
     ParsedLast) (at 1 30)) ∷ []
 
-row_19 : is_known scalar_forms tree_19 ≡ false
+row_19 : is_known forms_of_today tree_19 ≡ true
 row_19 = refl
 
 -- void f(int n) { }
@@ -219,7 +219,7 @@ tree_20 =
     (function (at 1 6) (codes "f") (spec false false false false None None) (parameter (at 1 12) (codes "n") (spec false false false false None (Some t.Int32)) false ∷ [])
     ParsedLast (at 1 17)) ∷ []
 
-row_20 : is_known scalar_forms tree_20 ≡ true
+row_20 : is_known forms_of_today tree_20 ≡ true
 row_20 = refl
 
 -- export void go() { f(); }
@@ -229,7 +229,7 @@ tree_21 =
     (ParsedNext (ParsedDoCall (at 1 20) (codes "f") ParsedEnd)
     ParsedLast) (at 1 25)) ∷ []
 
-row_21 : is_known scalar_forms tree_21 ≡ true
+row_21 : is_known forms_of_today tree_21 ≡ true
 row_21 = refl
 
 -- export void go() { int x = -f(); }
@@ -239,7 +239,7 @@ tree_22 =
     (ParsedNext (ParsedDeclare (at 1 20) (spec false false false false None (Some t.Int32)) (at 1 24) (codes "x") (Some (ParsedUnary (at 1 28) unary.Negate (ParsedCall (at 1 29) (codes "f") ParsedEnd))))
     ParsedLast) (at 1 34)) ∷ []
 
-row_22 : is_known scalar_forms tree_22 ≡ true
+row_22 : is_known forms_of_today tree_22 ≡ true
 row_22 = refl
 
 -- export void go() { { while (true) ; } }
@@ -250,7 +250,7 @@ tree_23 =
     ParsedLast))
     ParsedLast) (at 1 39)) ∷ []
 
-row_23 : is_known scalar_forms tree_23 ≡ true
+row_23 : is_known forms_of_today tree_23 ≡ true
 row_23 = refl
 
 -- export void go() { break; }
@@ -260,7 +260,7 @@ tree_24 =
     (ParsedNext (ParsedBreak (at 1 20))
     ParsedLast) (at 1 27)) ∷ []
 
-row_24 : is_known scalar_forms tree_24 ≡ true
+row_24 : is_known forms_of_today tree_24 ≡ true
 row_24 = refl
 
 -- export void go() { return; }
@@ -270,7 +270,7 @@ tree_25 =
     (ParsedNext (ParsedReturn (at 1 20) None)
     ParsedLast) (at 1 28)) ∷ []
 
-row_25 : is_known scalar_forms tree_25 ≡ true
+row_25 : is_known forms_of_today tree_25 ≡ true
 row_25 = refl
 
 -- export void go() { foreach (i = 0 ... 4) ; }
@@ -280,7 +280,7 @@ tree_26 =
     (ParsedNext (ParsedForEach (at 1 20) false (dimension (at 1 29) (codes "i") (ParsedNumber (at 1 33) 0 false false) (ParsedNumber (at 1 39) 4 false false) ∷ []) ParsedEmpty)
     ParsedLast) (at 1 44)) ∷ []
 
-row_26 : is_known scalar_forms tree_26 ≡ false
+row_26 : is_known forms_of_today tree_26 ≡ false
 row_26 = refl
 
 -- export void go(uniform int n) { }
@@ -289,7 +289,7 @@ tree_27 =
     (function (at 1 13) (codes "go") (spec true false false false None None) (parameter (at 1 28) (codes "n") (spec false false false false (Some Uniform) (Some t.Int32)) false ∷ [])
     ParsedLast (at 1 33)) ∷ []
 
-row_27 : is_known scalar_forms tree_27 ≡ false
+row_27 : is_known forms_of_today tree_27 ≡ false
 row_27 = refl
 
 -- void f(uniform int a[]) { }
@@ -298,7 +298,7 @@ tree_28 =
     (function (at 1 6) (codes "f") (spec false false false false None None) (parameter (at 1 20) (codes "a") (spec false false false false (Some Uniform) (Some t.Int32)) true ∷ [])
     ParsedLast (at 1 27)) ∷ []
 
-row_28 : is_known scalar_forms tree_28 ≡ false
+row_28 : is_known forms_of_today tree_28 ≡ true
 row_28 = refl
 
 -- export void go() { f(a[0]); }
@@ -308,7 +308,7 @@ tree_29 =
     (ParsedNext (ParsedDoCall (at 1 20) (codes "f") (ParsedValue (ParsedIndex (at 1 22) (codes "a") (ParsedNumber (at 1 24) 0 false false)) ParsedEnd))
     ParsedLast) (at 1 29)) ∷ []
 
-row_29 : is_known scalar_forms tree_29 ≡ false
+row_29 : is_known forms_of_today tree_29 ≡ true
 row_29 = refl
 
 -- export void go() { f(&a[0]); }
@@ -318,7 +318,7 @@ tree_30 =
     (ParsedNext (ParsedDoCall (at 1 20) (codes "f") (ParsedPartFrom (at 1 23) (codes "a") (ParsedNumber (at 1 25) 0 false false) ParsedEnd))
     ParsedLast) (at 1 30)) ∷ []
 
-row_30 : is_known scalar_forms tree_30 ≡ false
+row_30 : is_known forms_of_today tree_30 ≡ true
 row_30 = refl
 
 -- export void go() { assert(true); }
@@ -328,7 +328,7 @@ tree_31 =
     (ParsedNext (ParsedDoCall (at 1 20) (codes "assert") (ParsedValue (ParsedBool (at 1 27) true) ParsedEnd))
     ParsedLast) (at 1 34)) ∷ []
 
-row_31 : is_known scalar_forms tree_31 ≡ true
+row_31 : is_known forms_of_today tree_31 ≡ true
 row_31 = refl
 
 -- export void go() { foreach_active (i) ; }
@@ -338,7 +338,7 @@ tree_32 =
     (ParsedNext (ParsedForEachActive (at 1 20) (at 1 36) (codes "i") ParsedEmpty)
     ParsedLast) (at 1 41)) ∷ []
 
-row_32 : is_known scalar_forms tree_32 ≡ false
+row_32 : is_known forms_of_today tree_32 ≡ false
 row_32 = refl
 
 -- export void go() { foreach_unique (v in 1) ; }
@@ -348,7 +348,7 @@ tree_33 =
     (ParsedNext (ParsedForEachUnique (at 1 20) (at 1 36) (codes "v") (ParsedNumber (at 1 41) 1 false false) ParsedEmpty)
     ParsedLast) (at 1 46)) ∷ []
 
-row_33 : is_known scalar_forms tree_33 ≡ false
+row_33 : is_known forms_of_today tree_33 ≡ false
 row_33 = refl
 
 -- export void go() { switch (1) { } }
@@ -358,7 +358,7 @@ tree_34 =
     (ParsedNext (ParsedSwitch (at 1 20) (ParsedNumber (at 1 28) 1 false false) ParsedNoMore)
     ParsedLast) (at 1 35)) ∷ []
 
-row_34 : is_known scalar_forms tree_34 ≡ false
+row_34 : is_known forms_of_today tree_34 ≡ false
 row_34 = refl
 
 -- export void go() { if (1) ; else { for (int i = 0; i < abs(1); i++) ; } }
@@ -369,5 +369,5 @@ tree_35 =
     ParsedLast)))
     ParsedLast) (at 1 73)) ∷ []
 
-row_35 : is_known scalar_forms tree_35 ≡ true
+row_35 : is_known forms_of_today tree_35 ≡ true
 row_35 = refl

@@ -1,5 +1,5 @@
 -- What is wanted of a source, and what the definitions give for it.
-use Rattle.std.specs.Prelude.{ℕ, Bool, false, List, [], ◌∷◌, map, Option, Some, None, slice_get}
+use Rattle.std.specs.Prelude.{ℕ, Bool, true, false, List, [], ◌∷◌, map, Option, Some, None, slice_get}
 use Rattle.gang_types.specs.declared.types.Rate.{Rate}
 use Rattle.gang_types.specs.declared.types.IntType.{IntType}
 use Rattle.gang_model.specs.declared.refusals.RefusalNumber.{RefusalNumber}
@@ -12,9 +12,9 @@ use Rattle.gang_model.specs.Types.Typing.{expression}
 use Rattle.gang_model.specs.Types.Resolved.{program_of}
 use Rattle.tests_transcripts.proofs.Forms.{at}
 
--- functions over scalars alone
-abbrev pub scalar_forms : Forms
-scalar_forms = record { arrays = false; rounds = false; switches = false }
+-- functions over scalars and arrays
+abbrev pub forms_of_today : Forms
+forms_of_today = record { arrays = true; inputs = false; rounds = false; switches = false }
 
 -- a refusal and its place
 abbrev pub refused : RefusalNumber → ℕ → ℕ → Option SourceRefusal

@@ -10,8 +10,10 @@ use Rattle.gang_model.specs.Source.Parsed.{ParsedExpr, ParsedNumber, ParsedBool,
 -- file-scope scalars, every assignment, `++`, `--`, block and empty statement, `if`, the loops, `break`, `continue`, `return`, and
 -- calls of the source's own functions and of the library
 pub record Forms : Type 0 where
-  -- arrays, indexing, parameters of exported functions
+  -- arrays, indexing and parts of arrays
   pub arrays : Bool
+  -- parameters of exported functions, which an input text gives their values
+  pub inputs : Bool
   -- the four foreach forms
   pub rounds : Bool
   pub switches : Bool
@@ -85,10 +87,10 @@ abbrev mutual
   known_segments ParsedNoMore forms = true
   known_segments (ParsedSegment p label ss rest) forms = known_stmts ss forms && known_segments rest forms
 
--- parameters, of exported functions only with arrays
+-- parameters, of exported functions only with inputs
 abbrev pub known_params : List ParsedParam → (is_exported : Bool) → Forms → Bool
 known_params params is_exported forms =
-    (length params == 0) || ((forms.arrays || not is_exported) && list_all (λ p. forms.arrays || not p.is_array) params)
+    (length params == 0) || ((forms.inputs || not is_exported) && list_all (λ p. forms.arrays || not p.is_array) params)
 
 -- the same of a function
 abbrev pub known_function : ParsedFunction → Forms → Bool
