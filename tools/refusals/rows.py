@@ -16,7 +16,7 @@ HEAD = (
     + """use Rattle.gang_model.specs.declared.refusals.RefusalNumber.TheVariants.{S5, S6, S7, S8, S9, S10, S11, S12, S13}
 use Rattle.gang_model.specs.Types.SourceRefusals.{refusal_of}
 use Rattle.gang_model.specs.Source.Known.{is_known}
-use Rattle.tests_refusals.proofs.Wanted.{scalar_forms, refused, accepted, type_of, has_type, listed_at, first_words}
+use Rattle.tests_refusals.proofs.Wanted.{forms_of_today, refused, accepted, type_of, has_type, listed_at, first_words}
 """
 )
 OPENED = "unfolding value_of residue word_of value_in wrapped binary_of\n"
@@ -68,7 +68,7 @@ def known_rows():
     code = ""
     for number, (source, want) in enumerate(KNOWN):
         code += noted(source) + tree_term(number, source)
-        code += row_term(number, f"is_known scalar_forms tree_{number}", str(want).lower())
+        code += row_term(number, f"is_known forms_of_today tree_{number}", str(want).lower())
     return code
 
 
@@ -84,7 +84,7 @@ def main():
         write(file, title, refusal_rows(rows))
     write("TypedRows", "Rows of the types and rates of expressions.", typed_rows())
     write("ListedRows", "Rows of the names that the debugger lists at each step of a function, the closing brace last.", listed_rows())
-    write("KnownRows", "Rows of sources that have functions over scalars alone, and of others.", known_rows())
+    write("KnownRows", "Rows of sources that have functions over scalars and arrays alone, and of others.", known_rows())
     write("WordRows", "Rows of the first words of file-scope variables.", word_rows())
     # LimitRows.antt is written by hand: its declarations are counted, not listed
     rows = [it[0] for it in TABLES] + ["LimitRows", "TypedRows", "ListedRows", "KnownRows", "WordRows"]

@@ -350,9 +350,9 @@ KNOWN = [
     (P + 'int x; }', True), (P + 'int x = 2147483648; }', True), (P + 'int x = 1u; }', True), (P + 'int x = 1 - 1; }', True),
     (P + 'int8 x = 1; }', True), (P + 'uniform int x = 1; }', True), (P + 'int x = programCount; }', True), (P + 'int x = 1; x -= 1; }', True), (P + '{ } }', True),
     (P + 'if (1) ; }', True), ('void go() { }', True), (P + '}\n' + P + '}', True), ('uniform int a;', True), (P + 'int x = any(1); }', True),
-    ('uniform int a[3];', False), (P + 'int x = a[0]; }', False), (P + 'a[0] = 1; }', False), ('void f(int n) { }', True), (P + 'f(); }', True), (P + 'int x = -f(); }', True),
+    ('uniform int a[3];', True), (P + 'int x = a[0]; }', True), (P + 'a[0] = 1; }', True), ('void f(int n) { }', True), (P + 'f(); }', True), (P + 'int x = -f(); }', True),
     (P + '{ while (true) ; } }', True), (P + 'break; }', True), (P + 'return; }', True), (P + 'foreach (i = 0 ... 4) ; }', False),
-    ('export void go(uniform int n) { }', False), ('void f(uniform int a[]) { }', False), (P + 'f(a[0]); }', False), (P + 'f(&a[0]); }', False), (P + 'assert(true); }', True),
+    ('export void go(uniform int n) { }', False), ('void f(uniform int a[]) { }', True), (P + 'f(a[0]); }', True), (P + 'f(&a[0]); }', True), (P + 'assert(true); }', True),
     (P + 'foreach_active (i) ; }', False), (P + 'foreach_unique (v in 1) ; }', False), (P + 'switch (1) { } }', False),
     (P + 'if (1) ; else { for (int i = 0; i < abs(1); i++) ; } }', True),
 ]

@@ -5,9 +5,8 @@ import re
 
 from .tried import Run
 
-# What stands in a source with a form that is not there yet: an array or a part of one, a `switch` or a foreach form, or an exported
-# function with parameters.
-FORM_TO_COME = re.compile(r"\[|[(,]\s*&|\b(foreach\w*|switch)\b|export void \w+\([^)]+\)")
+# What stands in a source with a form that is not there yet: a `switch` or a foreach form, or an exported function with parameters.
+FORM_TO_COME = re.compile(r"\b(foreach\w*|switch)\b|\bexport [\w ]+\([^)]+\)")
 
 
 def rows(root):
