@@ -35,6 +35,14 @@ def steps_of_loop(turns):
     return 2 + 5 * turns + 2
 
 
+def elements(length, turns=TURNS):
+    """A loop whose turns gather elements of an array of so many, a power of 2, and scatter them back."""
+    changed = f"a[(i * 5 + programIndex * 3) & {length - 1}] += i;\ni += 1;\n"
+    text = f"uniform int a[{length}];\nexport void go() {{\nint i = 0;\nwhile (i < {turns}) {{\n{changed}}}\n}}\n"
+    steps = 1 + 3 * turns + 1
+    return both_ways(text, steps, 1, steps)
+
+
 def recursion():
     """A function that calls itself down to a depth, and the line of its innermost frame."""
     text = "int down(int n) {\nif (n < 1) {\nreturn 0;\n}\nint r = down(n - 1);\nreturn r + 1;\n}\n"
