@@ -1,0 +1,4 @@
+mod Answering
+mod FunctionLines
+mod Functions
+mod Refusing

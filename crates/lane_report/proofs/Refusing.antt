@@ -1,0 +1,80 @@
+-- The refusals of the phases, as those of a report.
+use Rattle.std.proofs.Common.{◌≡◌, ◌⊎◌, ◌≤◌, true, List, length, Some, None, refl, sym, ap, ◌∙◌, subst, inl, inr}
+use Rattle.gang_model.specs.declared.refusals.RefusalNumber.{RefusalNumber}
+use Rattle.gang_model.specs.declared.refusals.RefusalNumber.TheVariants.{S1, S2, S3, S4, S5, S6, S7, S8, S9, S10, S11, S12, S13}
+use Rattle.gang_model.specs.declared.refusals.SourceRefusal.{SourceRefusal}
+use Rattle.gang_model.specs.Source.Known.{Forms, is_known}
+use Rattle.gang_model.specs.Source.Lexes.{Lexes, max_source}
+use Rattle.gang_model.specs.Source.Limits.{limit_refusal}
+use Rattle.gang_model.specs.Source.Parsed.{ParsedSource}
+use Rattle.gang_model.specs.Source.Sources.{IsRightRefusal, IsTreeNumber, ReadsAs}
+use Rattle.gang_model.specs.Source.SpellsSource.{IsTree}
+use Rattle.gang_model.specs.Source.Tokens.{Lexeme}
+use Rattle.gang_model.specs.Texts.Text.{Bytes}
+use Rattle.gang_model.specs.Types.SourceRefusals.{IsAccepted, first_refusal, names_refusal, types_refusal}
+use Rattle.source_answers.specs.declared.fault.SourceFault.{SourceFault}
+use Rattle.source_answers.specs.declared.fault.SourceFault.TheVariants.{Memory, Refused}
+use Rattle.ispc_lexer.specs.Refusal.{IsRefusal as IsLexerRefusal}
+use Rattle.ispc_parser_front.specs.Refusals.{IsRefusal as IsParserRefusal}
+use Rattle.ispc_parser_words.specs.Front.{IsParserNumber}
+use Rattle.lane_report.specs.Refusals.{IsRefused, IsSourceRefusal}
+
+-- the tokens' refusals
+pub by_tokens : (text : Bytes) (fault : SourceFault) → IsLexerRefusal text fault → IsRefused text fault
+by_tokens text Memory h = tt
+by_tokens text (Refused r) (inl (many, number, place)) = inl (record { many = many; number = number; place = place })
+by_tokens text (Refused r) (inr (few, only)) = inr (inl (record { few = few; first = only.first; none = only.none }))
+
+tree_number : (n : RefusalNumber) → IsParserNumber n → IsTreeNumber n
+tree_number S1 h = absurd h
+tree_number S2 h = absurd h
+tree_number S3 h = inl refl
+tree_number S4 h = inr (inl refl)
+tree_number S5 h = absurd h
+tree_number S6 h = absurd h
+tree_number S7 h = absurd h
+tree_number S8 h = absurd h
+tree_number S9 h = absurd h
+tree_number S10 h = absurd h
+tree_number S11 h = absurd h
+tree_number S12 h = absurd h
+tree_number S13 h = inr (inr refl)
+
+-- the tree's refusals
+pub by_tree : (text : Bytes) (tokens : List Lexeme) (fault : SourceFault) → length text ≤ max_source → Lexes text tokens
+    → (fault ≡ Memory) ⊎ (IsParserRefusal fault × ((tree : ParsedSource) → IsTree tree tokens → ⊥)) → IsRefused text fault
+by_tree text tokens fault few spelled (inl is) = subst (IsRefused text) (sym is) tt
+by_tree text tokens Memory few spelled (inr h) = tt
+by_tree text tokens (Refused r) few spelled (inr (number, none)) =
+    inr (inr (inl (record { few = few; tokens = tokens; spelled = spelled; none = none; number = tree_number r.number number })))
+
+module _ (text : Bytes) (source : ParsedSource) (reads : ReadsAs text source) where
+  -- the refusals of names
+  pub by_names : (fault : SourceFault) → (fault ≡ Memory) ⊎ ((refusal : SourceRefusal) × (fault ≡ Refused refusal) × (names_refusal source ≡ Some refusal)) → IsRefused text fault
+  by_names fault (inl is) = subst (IsRefused text) (sym is) tt
+  by_names fault (inr (refusal, is, h)) =
+      subst (IsRefused text) (sym is) (inr (inr (inr (record { source = source; reads = reads; fault = ap (λ n. first_refusal n (types_refusal source)) h }))))
+
+  -- the refusals of types, where names have none
+  pub by_types : (fault : SourceFault) → names_refusal source ≡ None
+      → (fault ≡ Memory) ⊎ ((refusal : SourceRefusal) × (fault ≡ Refused refusal) × (types_refusal source ≡ Some refusal)) → IsRefused text fault
+  by_types fault none (inl is) = subst (IsRefused text) (sym is) tt
+  by_types fault none (inr (refusal, is, h)) =
+      subst (IsRefused text) (sym is) (inr (inr (inr (record { source = source; reads = reads; fault = ap (λ n. first_refusal n (types_refusal source)) none ∙ h }))))
+
+-- a source without either is accepted
+pub by_neither : (source : ParsedSource) → names_refusal source ≡ None → types_refusal source ≡ None → IsAccepted source
+by_neither source names types = ap (λ n. first_refusal n (types_refusal source)) names ∙ types
+
+-- where a run lets all forms of the source through, it is refused as the report is
+pub as_in_a_run : (forms : Forms) (text : Bytes) (refusal : SourceRefusal) → ((source : ParsedSource) → ReadsAs text source → is_known forms source ≡ true)
+    → IsSourceRefusal text refusal → IsRightRefusal forms text refusal
+as_in_a_run forms text refusal known (inl long) = inl long
+as_in_a_run forms text refusal known (inr (inl none)) = inr (inl none)
+as_in_a_run forms text refusal known (inr (inr (inl none))) = inr (inr (inl none))
+as_in_a_run forms text refusal known (inr (inr (inr faulty))) = inr (inr (inr (inr (record {
+  source = faulty.source;
+  reads = faulty.reads;
+  known = known faulty.source faulty.reads;
+  fault = ap (λ found. first_refusal found (limit_refusal faulty.source)) faulty.fault;
+}))))
