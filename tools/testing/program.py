@@ -83,13 +83,19 @@ def runs_of_options():
         ["--steps", "0"],
         ["--steps", "10000001"],
         ["first.ispc", "second.ispc"],
+        ["--lane-pure", "--lane-pure"],
     ]
-    helped = has_words(b"Usage: ispc_cli", b"--input", b"--entry", b"--width", b"--history", b"--steps")
+    helped = has_words(b"Usage: ispc_cli", b"--input", b"--entry", b"--width", b"--history", b"--steps", b"--lane-pure")
     history = b"at 4:1 go depth 1 lanes 1111\nhistory end: at 3:5 go depth 1 lanes 1111\n"
     return [
         answered("--width 8", script(FIRST, *two), ended, ["--width", "8"]),
         answered("--history 1", script(FIRST, b"step 2", b"rs 2"), history, ["--history", "1"]),
         answered("--steps 1", script(FIRST, b"step 2"), b"step limit: at 3:5 go depth 1 lanes 1111\n", ["--steps", "1"]),
+        answered("--lane-pure", script(FIRST, b"step"), b"lane-pure 1:13 go: yes\n", ["--lane-pure"]),
+        answered("--lane-pure without an entry", script(HIDDEN), b"lane-pure 1:6 go: yes\n", ["--lane-pure"]),
+        refused("--lane-pure without a line %%", FIRST, b"script: E2 NoScript\n", ["--lane-pure"]),
+        refused("--lane-pure of a source with a fault", script(RATE), b"2:21: S7 Rate\n", ["--lane-pure"]),
+        refused("--lane-pure of a file that is not there", b"", b"cannot read missing.ispc\n", ["missing.ispc", "--lane-pure"]),
         answered("--help", b"", helped, ["--help"]),
         *[refused(f"wrong: {' '.join(words)}", script(FIRST), begins_with(b"error: "), words) for words in wrong],
     ]

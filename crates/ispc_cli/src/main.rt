@@ -1,4 +1,4 @@
-//! Compiles a program for gangs, and debugs it by commands, forwards and backwards.
+//! Compiles a program for gangs, and debugs it by commands, forwards and backwards; or reports its lane-pure functions.
 #![tactic(auto)]
 
 ghost use Rattle.ispc_options.specs.Ranges.{AreInRange};
@@ -9,6 +9,7 @@ use ispc_debugger::run;
 use ispc_options::{Options, Paths, read_options, wrong_arguments};
 use ispc_refusals::{Refusal, write_refusal};
 use ispc_script::{MOST_BYTES, split_script};
+use lane_report::report;
 use std::alloc::AllocError;
 use std::io::{LineWriter, Read};
 use std::process::ExitCode;
@@ -43,11 +44,11 @@ fn arguments(rt: &HostRuntime) -> io::Result<Vec<String>> {
     Ok(arguments)
 }
 
-/// The run that the arguments ask for.
+/// The run, or the report, that the arguments ask for. A report has no input.
 fn run_form(rt: &HostRuntime, options: &Options<'_>, paths: &Paths<'_>) -> ExitCode
     requires { AreInRange options.now }
 {
-    if paths.input.is_some() {
+    if paths.input.is_some() && !options.lane_pure {
         return refuse_words(rt, "--input is not there yet");
     }
     match paths.source {
@@ -103,7 +104,7 @@ fn front<R: Read + Drop>(rt: &HostRuntime, reader: R) -> io::Result<Vec<u8>> {
     Ok(text)
 }
 
-/// The answers to commands, written line by line: each line goes out as it ends.
+/// The answers to commands, or the report of a source, written line by line: each line goes out as it ends.
 fn answer<R: Read + Drop>(
     rt: &HostRuntime,
     source: &[u8],
@@ -115,8 +116,11 @@ fn answer<R: Read + Drop>(
     let Ok(lines) = LineWriter::new(rt.alloc(), rt.stdout()) else {
         return refuse(rt, &Refusal::Memory);
     };
-    let mut reader = StreamReader::new(commands);
     let mut writer = StreamWriter::new(lines);
+    if options.lane_pure {
+        return finish(rt, report(rt.alloc(), source, &mut writer));
+    }
+    let mut reader = StreamReader::new(commands);
     let end = run(rt.alloc(), source, b"", options, &mut reader, &mut writer);
     finish(rt, end)
 }

@@ -9,13 +9,14 @@ pub enum Width {
 }
 
 /// What a run is asked for: the lanes of its gang, the most events of its history, the most moves of one command, and the
-/// name of the entry function, if one is asked for.
+/// name of the entry function, if one is asked for; or whether the source's lane-pure functions are reported in place of a run.
 #[derive(Clone, Copy, Debug, PartialEq, Eq)]
 pub struct Options<'a> {
     pub width: Width,
     pub history: u32,
     pub steps: u32,
     pub entry: Option<&'a str>,
+    pub lane_pure: bool,
 }
 
 /// The files that hold the source and the input, if files hold them.

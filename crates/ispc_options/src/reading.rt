@@ -6,7 +6,7 @@ ghost use Rattle.ispc_options.specs.Ranges.{AreInRange};
 
 use crate::options::{Options, Paths, Width};
 use clap::error::ErrorKind;
-use clap::{Arg, ArgMatches, Command, Error, value_parser};
+use clap::{Arg, ArgAction, ArgMatches, Command, Error, value_parser};
 use std::alloc::{AllocError, Global};
 
 static WIDTHS: [&str; 3] = ["4", "8", "16"];
@@ -73,6 +73,7 @@ fn options_of<'a>(matches: &ArgMatches<'a>) -> Result<Options<'a>, &'static str>
         history,
         steps,
         entry: matches.get_str("entry"),
+        lane_pure: matches.get_flag("lane-pure"),
     })
 }
 
@@ -135,5 +136,11 @@ fn command<'a>(alloc: Global) -> Result<Command<'a>, AllocError> {
                 .value_parser(value_parser!(u32).range(1..10_000_001))
                 .default_value("1000000")
                 .help("how many moves one command makes at most"),
+        )?
+        .arg(
+            Arg::new(alloc, "lane-pure")
+                .long("lane-pure")
+                .action(ArgAction::SetTrue)
+                .help("reports which functions are lane-pure, and runs nothing"),
         )
 }

@@ -93,6 +93,7 @@ fn reads_words_in_either_order(rt: HostRuntime) -> Result<(), Fail> {
         history: 7,
         steps: 9,
         entry: Some("go"),
+        lane_pure: true,
     };
     let paths = Paths {
         source: Some("a.ispc"),
@@ -100,6 +101,7 @@ fn reads_words_in_either_order(rt: HostRuntime) -> Result<(), Fail> {
     };
     let source_first = [
         "a.ispc",
+        "--lane-pure",
         "--input",
         "b.txt",
         "--entry",
@@ -123,6 +125,7 @@ fn reads_words_in_either_order(rt: HostRuntime) -> Result<(), Fail> {
         "--input",
         "b.txt",
         "a.ispc",
+        "--lane-pure",
     ];
     reads(rt.alloc(), &source_first, options, paths)?;
     reads(rt.alloc(), &source_last, options, paths)
@@ -184,7 +187,10 @@ fn refuses_other_options(rt: HostRuntime) -> Result<(), Fail> {
     refuses(rt.alloc(), &["--depth"])?;
     refuses(rt.alloc(), &["--depth", "1"])?;
     refuses(rt.alloc(), &["-w", "4"])?;
-    refuses(rt.alloc(), &["a.ispc", "--help-me"])
+    refuses(rt.alloc(), &["a.ispc", "--help-me"])?;
+    refuses(rt.alloc(), &["--lane-pure", "--lane-pure"])?;
+    refuses(rt.alloc(), &["--lane-pure=true"])?;
+    refuses(rt.alloc(), &["--lane"])
 }
 
 #[test]

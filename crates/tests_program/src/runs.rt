@@ -20,6 +20,7 @@ pub(crate) const OPTIONS: Options<'static> = Options {
     history: 64,
     steps: 1_000_000,
     entry: None,
+    lane_pure: false,
 };
 
 /// A source whose last statement faults in each lane.
