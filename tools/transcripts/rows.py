@@ -1200,7 +1200,7 @@ row(
     ("Step", "C1 BadCommand"),
     ("delete 0", "C1 BadCommand"),
     ("finish 1", "C1 BadCommand"),
-    ("set record full insn-number-max 2", "C1 BadCommand"),
+    ("set record full insn-number-max 0", "C1 BadCommand"),
     ("s\t001 ", "[3:5 1111]"),
     ("print x[4]", "C8 OutOfRange"),
     ("print x[10000001]", "C1 BadCommand"),

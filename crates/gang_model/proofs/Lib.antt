@@ -26,3 +26,4 @@ pub mod UniformLaws
 pub mod UniformValues
 pub mod VariableLaws
 pub mod WalkedLists
+pub mod WholeTranscripts

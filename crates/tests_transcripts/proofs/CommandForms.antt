@@ -20,7 +20,7 @@ source =
     ParsedLast)) (at 4 1)) ∷ []
 
 row_1 : run source (codes "") (options 4 64 1000000)
-    (codes "\n \t \n step\nstep 0\nstep 10000001\nstep 1 1\nstep1\nStep\ndelete 0\nfinish 1\nset record full insn-number-max 2\ns\t001 \nprint x[4]\nprint x[10000001]\np x [ 03 ]\np x]\nprint 5\nprint int\nprint programIndex\nset var x = 18446744073709551616\nset var x = 18446744073709551615\nset var x = - 5\nset var x=-5\nset  var x[0]=0x1F\nset var x [1] = -0x10\nset var x[2] = true\nset var x[3] = 0X1\np x\nb 900\ninfo\nstep                                                                                                                                                                                                                                                            \nstep                                                                                                                                                                                                                                                             \nquit\nstep\n")
+    (codes "\n \t \n step\nstep 0\nstep 10000001\nstep 1 1\nstep1\nStep\ndelete 0\nfinish 1\nset record full insn-number-max 0\ns\t001 \nprint x[4]\nprint x[10000001]\np x [ 03 ]\np x]\nprint 5\nprint int\nprint programIndex\nset var x = 18446744073709551616\nset var x = 18446744073709551615\nset var x = - 5\nset var x=-5\nset  var x[0]=0x1F\nset var x [1] = -0x10\nset var x[2] = true\nset var x[3] = 0X1\np x\nb 900\ninfo\nstep                                                                                                                                                                                                                                                            \nstep                                                                                                                                                                                                                                                             \nquit\nstep\n")
     ≡ codes "C1 BadCommand\nC1 BadCommand\nC1 BadCommand\nC1 BadCommand\nC1 BadCommand\nC1 BadCommand\nC1 BadCommand\nC1 BadCommand\nC1 BadCommand\nat 3:5 go depth 1 lanes 1111\nC8 OutOfRange\nC1 BadCommand\nx[3] = 9\nC1 BadCommand\nC1 BadCommand\nC2 NoSuchName\nC2 NoSuchName\nC1 BadCommand\nC8 OutOfRange\nC1 BadCommand\nx = -5 -5 -5 -5\nx[0] = 31\nx[1] = -16\nx[2] = 1\nC1 BadCommand\nx = 31 -16 1 -5\nC7 NoLine\nC1 BadCommand\nat 4:1 go depth 1 lanes 1111\nC1 BadCommand\n"
 unfolding digits value_of residue word_of value_in wrapped binary_of
 row_1 = refl

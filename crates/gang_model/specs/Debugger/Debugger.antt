@@ -1,7 +1,7 @@
 -- The debugger: what it holds, and the answer to each command with what it holds next. A command's refusals are tested in the
 -- order of their numbers, and a refused command changes nothing. (GDB manual, "Running Programs Backward", "Setting Breakpoints",
 -- "Setting Watchpoints", "Process Record and Replay"; `undo`, the refusals and the order of the tests are choices of this project.)
-use Rattle.std.specs.Prelude.{ℕ, zero, suc, ◌-◌, Bool, true, false, not, ◌&&◌, ◌||◌, ◌==◌, nat_lt, nat_le, min, max, List, [], ◌∷◌, ◌++◌, map, length, take, drop, filter, flat_map, Option, Some, None, is_some, slice_index, find, ℤ, pos, negsuc, if◌then◌else◌}
+use Rattle.std.specs.Prelude.{◌≡◌, ◌⊎◌, ◌<◌, ◌≤◌, ℕ, zero, suc, ◌-◌, Bool, true, false, not, ◌&&◌, ◌||◌, ◌==◌, nat_lt, nat_le, min, max, List, [], ◌∷◌, ◌++◌, map, length, take, drop, filter, flat_map, Option, Some, None, is_some, slice_index, find, ℤ, pos, negsuc, if◌then◌else◌}
 use Rattle.gang_types.specs.declared.types.Rate.{Rate}
 use Rattle.gang_types.specs.declared.types.Rate.TheVariants.{Uniform}
 use Rattle.gang_types.specs.declared.types.IntType.{IntType}
@@ -47,12 +47,11 @@ pub data Command : Type 0 where
   DoWatch : Target → Command
   DoDelete : Option ℕ → Command
   DoInfoBreakpoints DoInfoLocals DoBacktrace DoNothing DoQuit : Command
-  -- changes the history limit; no command line spells it yet
   DoSetHistory : ℕ → Command
 
--- why a command is refused, in the order of their numbers: C1 to C4, C6 to C11
+-- why a command is refused, in the order of their numbers: C1 to C4, C6 to C12
 pub data Refusal : Type 0 where
-  BadCommand NoSuchName NoHistory Ended Outermost NoLine OutOfRange Constant NoSuchNumber TableFull : Refusal
+  BadCommand NoSuchName NoHistory Ended Outermost NoLine OutOfRange Constant NoSuchNumber TableFull Memory : Refusal
 
 -- what a command is answered; the texts say the rest by the state after it
 pub data Answer : Type 0 where
@@ -353,12 +352,15 @@ do_delete (Some n) d = if is_some (find (λ entry. entry.0 == n) d.stops)
     then reply (Deleted (Some n)) (record d { stops = filter (λ entry. not (entry.0 == n)) d.stops })
     else refused NoSuchNumber d
 
--- the history limit becomes n, and the oldest events past it can no longer be taken back: C8 above 65,536
-abbrev pub do_set_history : ℕ → Debugger → Reply
-do_set_history n d = if nat_lt 65536 n then refused OutOfRange d
-    else reply (KeepsHistory n) (record d { history = n; kept = min d.kept n })
+-- the history limit is n, and the oldest events past it can no longer be taken back
+abbrev pub limited : ℕ → Debugger → Debugger
+limited n d = record d { history = n; kept = min d.kept n }
 
--- the answer to a command, and what the debugger holds then
+-- the history limit becomes n: C8 at 0 and above 65,536
+abbrev pub do_set_history : ℕ → Debugger → Reply
+do_set_history n d = if (n == 0) || nat_lt 65536 n then refused OutOfRange d else reply (KeepsHistory n) (limited n d)
+
+-- the answer to a command that finds its memory, and what the debugger holds then
 abbrev pub do_command : Setting → Command → Debugger → Reply
 do_command s (DoStep n) d = do_forward s false (Moves n) d
 do_command s (DoNext n) d = do_forward s false (Groups n (depth (now s d))) d
@@ -380,3 +382,12 @@ do_command s DoBacktrace d = reply ListsFrames d
 do_command s DoNothing d = reply Silent d
 do_command s DoQuit d = reply Silent d
 do_command s (DoSetHistory n) d = do_set_history n d
+
+-- a command may want for memory: that which raises the history limit, in its range
+abbrev pub MayRunOut : Command → Debugger → Type 0
+MayRunOut (DoSetHistory n) d = (n ≤ 65536) × (d.history < n)
+MayRunOut command d = ⊥
+
+-- a reply to a command: the command is done; or, where it may want for memory, it is refused with C12
+abbrev pub IsReply : Setting → Command → Debugger → Reply → Type 0
+IsReply s command d r = (r ≡ do_command s command d) ⊎ (MayRunOut command d × (r ≡ refused Memory d))

@@ -8,7 +8,7 @@ use Rattle.gang_model.specs.declared.forms.Literal.TheVariants as literal
 use Rattle.gang_model.specs.Source.Tokens.{named, numbered, marked, Lexeme}
 use Rattle.gang_model.specs.Source.Spells.{Takes, TakesAt, Opens, truth_mark}
 use Rattle.gang_model.specs.Source.Parsed.{ParsedParam, ParsedFunction, ParsedGlobal, ParsedItem, ParsedFunctionItem, ParsedGlobalItem, ParsedSource}
-use Rattle.gang_model.specs.Source.SpellsStatements.{SpellsSpec, IsLocal, SpellsList, SpellsStmts}
+use Rattle.gang_model.specs.Source.SpellsStatements.{SpellsSpec, IsLocal, SpellsList, SpellsSign, SpellsStmts}
 
 -- how many nestings a source may have
 abbrev pub max_nesting : ℕ
@@ -38,11 +38,6 @@ SpellsFunction f ts rest = (a b c g h i j : List Lexeme)
     × Takes (marked mark.LeftParen) b c × SpellsParams f.params c g × (length f.params ≤ max_params) × Takes (marked mark.RightParen) g h
     × Takes (marked mark.LeftBrace) h i × Opens max_nesting (λ inner. SpellsStmts f.body inner i j)
     × TakesAt (marked mark.RightBrace) f.closing j rest
-
--- -
-abbrev pub SpellsSign : (is_negative : Bool) → List Lexeme → List Lexeme → Type 0
-SpellsSign false ts rest = ts ≡ rest
-SpellsSign true ts rest = Takes (marked mark.Minus) ts rest
 
 abbrev pub SpellsLiteral : Literal → List Lexeme → List Lexeme → Type 0
 SpellsLiteral (literal.Number is_negative n is_unsigned is_long) ts rest = (a : List Lexeme)

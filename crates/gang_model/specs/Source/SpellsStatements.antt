@@ -1,15 +1,16 @@
 -- What a statement is spelled as, form by form.
-use Rattle.std.specs.Prelude.{◌≡◌, ◌⊎◌, ℕ, ◌≤◌, Bool, true, false, List, [], ◌∷◌, length, Option, Some, None}
+use Rattle.std.specs.Prelude.{◌≡◌, ◌⊎◌, ℕ, suc, ◌≤◌, Bool, true, false, List, [], ◌∷◌, length, Option, Some, None}
 use Rattle.gang_types.specs.declared.operators.BinaryOp.{BinaryOp}
 use Rattle.gang_types.specs.declared.operators.BinaryOp.TheVariants as binary
 use Rattle.gang_types.specs.declared.places.Place.{Place}
 use Rattle.gang_model.specs.declared.marks.Mark.{Mark}
 use Rattle.gang_model.specs.declared.marks.Mark.TheVariants as mark
 use Rattle.gang_model.specs.declared.forms.Spec.{Spec}
-use Rattle.gang_model.specs.Source.Tokens.{named, marked, Lexeme}
+use Rattle.gang_model.specs.declared.forms.Label.{Label}
+use Rattle.gang_model.specs.Source.Tokens.{named, numbered, marked, Lexeme}
 use Rattle.gang_model.specs.Source.Specs.{spec_of}
 use Rattle.gang_model.specs.Source.Spells.{Takes, TakesAt, TakesWords, Opens, WholeExpr, WholeArgs}
-use Rattle.gang_model.specs.Source.Parsed.{ParsedExpr, ParsedDim, ParsedTarget, ParsedStmt, ParsedEmpty, ParsedBlock, ParsedDeclare, ParsedAssign, ParsedChange, ParsedIncrement, ParsedDoCall, ParsedBreak, ParsedContinue, ParsedReturn, ParsedIf, ParsedIfElse, ParsedWhile, ParsedDo, ParsedFor, ParsedSwitch, ParsedForEach, ParsedForEachActive, ParsedForEachUnique, ParsedStmts, ParsedLast, ParsedNext}
+use Rattle.gang_model.specs.Source.Parsed.{ParsedExpr, ParsedDim, ParsedTarget, ParsedStmt, ParsedEmpty, ParsedBlock, ParsedDeclare, ParsedAssign, ParsedChange, ParsedIncrement, ParsedDoCall, ParsedBreak, ParsedContinue, ParsedReturn, ParsedIf, ParsedIfElse, ParsedWhile, ParsedDo, ParsedFor, ParsedSwitch, ParsedForEach, ParsedForEachActive, ParsedForEachUnique, ParsedStmts, ParsedLast, ParsedNext, ParsedSegments, ParsedNoMore, ParsedSegment}
 
 -- ---- tokens
 
@@ -151,6 +152,37 @@ foreach_word false = mark.Foreach
 abbrev pub SpellsDistinct : (at : Place) → List ℕ → ParsedExpr → (nestings : ℕ) → List Lexeme → List Lexeme → Type 0
 SpellsDistinct at name e d ts rest = (a b : List Lexeme) × TakesAt (named name) at ts a × Takes (marked mark.In) a b × WholeExpr d e b rest
 
+-- ---- segments
+
+-- -
+abbrev pub SpellsSign : (is_negative : Bool) → List Lexeme → List Lexeme → Type 0
+SpellsSign false ts rest = ts ≡ rest
+SpellsSign true ts rest = Takes (marked mark.Minus) ts rest
+
+-- case number : or default :
+abbrev pub SpellsLabel : (at : Place) → Option Label → List Lexeme → List Lexeme → Type 0
+SpellsLabel at (Some label) ts rest = (is_unsigned is_long : Bool) × (a b c : List Lexeme)
+    × TakesAt (marked mark.Case) at ts a × SpellsSign label.is_negative a b
+    × Takes (numbered label.value is_unsigned is_long) b c × Takes (marked mark.Colon) c rest
+SpellsLabel at None ts rest = (a : List Lexeme) × TakesAt (marked mark.Default) at ts a × Takes (marked mark.Colon) a rest
+
+abbrev pub is_declaration : ParsedStmt → Bool
+is_declaration (ParsedDeclare at spec name_at name value) = true
+is_declaration _ = false
+
+-- none of the statements themselves is a declaration; those inside them may be
+abbrev pub HasNoDeclaration : ParsedStmts → Type 0
+HasNoDeclaration ParsedLast = Unit {0}
+HasNoDeclaration (ParsedNext s ss) = (is_declaration s ≡ false) × HasNoDeclaration ss
+
+-- how many labels a switch may have
+abbrev pub max_labels : ℕ
+max_labels = 256
+
+abbrev pub label_count : ParsedSegments → ℕ
+label_count ParsedNoMore = 0
+label_count (ParsedSegment at label ss segments) = suc (label_count segments)
+
 -- ---- statements
 
 -- a block is its own nesting, and another body is one more
@@ -190,8 +222,10 @@ abbrev mutual
   SpellsStmt (ParsedFor at start test update x) d ts rest = (a b : List Lexeme)
       × TakesEither mark.For mark.Cfor at ts a × InParens d (SpellsRounds start test update) a b
       × OpensBody x d (λ inner. SpellsStmt x inner b rest)
-  -- no statement yet
-  SpellsStmt (ParsedSwitch at e segments) d ts rest = ⊥
+  SpellsStmt (ParsedSwitch at e segments) d ts rest = (a b c f : List Lexeme)
+      × TakesAt (marked mark.Switch) at ts a × InParens d (λ inner. WholeExpr inner e) a b
+      × Takes (marked mark.LeftBrace) b c × Opens d (λ inner. SpellsSegments segments inner c f) × (label_count segments ≤ max_labels)
+      × Takes (marked mark.RightBrace) f rest
   SpellsStmt (ParsedForEach at is_tiled dims x) d ts rest = (a b : List Lexeme)
       × TakesAt (marked (foreach_word is_tiled)) at ts a
       × InParens d (SpellsDims dims) a b
@@ -207,3 +241,9 @@ abbrev mutual
   pub SpellsStmts : ParsedStmts → (nestings : ℕ) → List Lexeme → List Lexeme → Type 0
   SpellsStmts ParsedLast d ts rest = ts ≡ rest
   SpellsStmts (ParsedNext s ss) d ts rest = (a : List Lexeme) × SpellsStmt s d ts a × SpellsStmts ss d a rest
+
+  -- each label with the statements up to the next one
+  pub SpellsSegments : ParsedSegments → (nestings : ℕ) → List Lexeme → List Lexeme → Type 0
+  SpellsSegments ParsedNoMore d ts rest = ts ≡ rest
+  SpellsSegments (ParsedSegment at label ss segments) d ts rest = (a b : List Lexeme)
+      × SpellsLabel at label ts a × SpellsStmts ss d a b × HasNoDeclaration ss × SpellsSegments segments d b rest

@@ -3,7 +3,7 @@
 use Rattle.std.specs.Prelude.{ℕ, ◌-◌, ◌^◌, ◌==◌, Bool, false, ◌||◌, nat_lt, List, [], ◌∷◌, length, Option, Some, None, ℤ, codes, if◌then◌else◌}
 use Rattle.gang_model.specs.Source.Names.{same_text}
 use Rattle.gang_model.specs.Texts.Spellings.{Word, is_blank, all_are, is_name, words_of_line, decimal_number, number_of_word, in_range, value_of_word}
-use Rattle.gang_model.specs.Debugger.Debugger.{Target, Command, DoStep, DoNext, DoReverseStep, DoReverseNext, DoFinish, DoContinue, DoReverseFinish, DoReverseContinue, DoUndo, DoPrint, DoSet, DoBreak, DoWatch, DoDelete, DoInfoBreakpoints, DoInfoLocals, DoBacktrace, DoNothing, DoQuit}
+use Rattle.gang_model.specs.Debugger.Debugger.{Target, Command, DoStep, DoNext, DoReverseStep, DoReverseNext, DoFinish, DoContinue, DoReverseFinish, DoReverseContinue, DoUndo, DoPrint, DoSet, DoBreak, DoWatch, DoDelete, DoInfoBreakpoints, DoInfoLocals, DoBacktrace, DoNothing, DoQuit, DoSetHistory}
 
 -- `[`, `]` and `=` are words by themselves
 abbrev pub is_mark : ℕ → Bool
@@ -118,6 +118,10 @@ entry word form = (word ∷ [], form)
 abbrev pub entry_of_two : Word → Word → Form → Entry
 entry_of_two first second form = (first ∷ second ∷ [], form)
 
+-- a command of four words
+abbrev pub entry_of_four : Word → Word → Word → Word → Form → Entry
+entry_of_four first second third fourth form = (first ∷ second ∷ third ∷ fourth ∷ [], form)
+
 -- all commands
 abbrev pub commands : List Entry
 commands =
@@ -139,6 +143,7 @@ commands =
     ∷ entry (codes "print") (Targeted DoPrint)
     ∷ entry (codes "p") (Targeted DoPrint)
     ∷ entry_of_two (codes "set") (codes "var") Assigned
+    ∷ entry_of_four (codes "set") (codes "record") (codes "full") (codes "insn-number-max") (Numbered DoSetHistory)
     ∷ entry (codes "break") (Numbered DoBreak)
     ∷ entry (codes "b") (Numbered DoBreak)
     ∷ entry (codes "watch") (Targeted DoWatch)

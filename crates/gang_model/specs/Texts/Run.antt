@@ -1,5 +1,5 @@
 -- What a run of a source comes to: why it is refused, or what it writes. The source is tested first, then the entry, then the
--- input (a choice of this project).
+-- input (a choice of this project). What it writes is the one transcript without an answer C12.
 use Rattle.std.specs.Prelude.{ℕ, List, Option, Some, None, Result, Ok, Err}
 use Rattle.gang_model.specs.declared.refusals.SourceRefusal.{SourceRefusal}
 use Rattle.gang_model.specs.Source.Parsed.{Name, ParsedSource}

@@ -12,7 +12,7 @@ use Rattle.gang_types.specs.Lanes.{Lanes}
 use Rattle.gang_model.specs.Types.Tree.{StepNumber, Variable, Standing, Function, Program}
 use Rattle.gang_model.specs.Running.State.{Frame, State}
 use Rattle.gang_model.specs.Debugger.Positions.{frame_spot, frame_lanes, spot_in, standing_at, scope_now}
-use Rattle.gang_model.specs.Debugger.Debugger.{Target, Stop, Line, Watch, Debugger, Refusal, BadCommand, NoSuchName, NoHistory, Ended, Outermost, NoLine, OutOfRange, Constant, NoSuchNumber, TableFull, Answer, Here, AtBreakpoint, AtWatch, AtFault, HistoryEnd, StepLimit, UndoneStep, UndonePoke, Shows, BreaksAt, Watches, Deleted, ListsStops, ListsLocals, ListsFrames, Silent, KeepsHistory, Refused, Setting, now, target_words}
+use Rattle.gang_model.specs.Debugger.Debugger.{Target, Stop, Line, Watch, Debugger, Refusal, BadCommand, NoSuchName, NoHistory, Ended, Outermost, NoLine, OutOfRange, Constant, NoSuchNumber, TableFull, Memory, Answer, Here, AtBreakpoint, AtWatch, AtFault, HistoryEnd, StepLimit, UndoneStep, UndonePoke, Shows, BreaksAt, Watches, Deleted, ListsStops, ListsLocals, ListsFrames, Silent, KeepsHistory, Refused, Setting, now, target_words}
 
 -- a text's bytes
 abbrev pub Bytes : Type 0
@@ -125,6 +125,7 @@ refusal_text OutOfRange = codes "C8 OutOfRange"
 refusal_text Constant = codes "C9 Constant"
 refusal_text NoSuchNumber = codes "C10 NoSuchNumber"
 refusal_text TableFull = codes "C11 TableFull"
+refusal_text Memory = codes "C12 Memory"
 
 -- a word or two, and where the program stands
 abbrev pub stopped : Bytes → Setting → Debugger → Bytes

@@ -1,8 +1,8 @@
 -- Transcripts: the texts of the answers to a run's command lines (a choice of this project).
-use Rattle.std.specs.Prelude.{ℕ, ◌==◌, Bool, true, false, List, [], ◌∷◌, ◌++◌, Option, Some, None, if◌then◌else◌}
+use Rattle.std.specs.Prelude.{◌≡◌, ◌≢◌, ℕ, ◌==◌, Bool, true, false, List, [], ◌∷◌, ◌++◌, All, flat_map, Option, Some, None, if◌then◌else◌}
 use Rattle.gang_model.specs.Types.Tree.{Program}
 use Rattle.gang_model.specs.Debugger.Events.{Row, start}
-use Rattle.gang_model.specs.Debugger.Debugger.{Debugger, fresh, Command, DoQuit, BadCommand, Reply, refused, Setting, do_command}
+use Rattle.gang_model.specs.Debugger.Debugger.{Debugger, fresh, Command, DoQuit, BadCommand, Memory, Refused, Reply, refused, Setting, do_command, IsReply}
 use Rattle.gang_model.specs.Texts.CommandText.{command_of}
 use Rattle.gang_model.specs.Texts.Text.{Bytes, text}
 
@@ -25,7 +25,7 @@ complete_lines_after begun (byte ∷ bytes) =
 abbrev pub complete_lines : Bytes → List Bytes
 complete_lines bytes = complete_lines_after [] bytes
 
--- the reply to a line that spells this command, or none
+-- the reply to a line that spells this command, or none, where the command finds its memory
 abbrev pub replied : Setting → Option Command → Debugger → Reply
 replied s None d = refused BadCommand d
 replied s (Some command) d = do_command s command d
@@ -40,7 +40,7 @@ abbrev pub text_and_rest : Setting → (is_quit : Bool) → Reply → (Debugger 
 text_and_rest s true reply rest = []
 text_and_rest s false reply rest = text s reply.answer reply.next ++ rest reply.next
 
--- the texts of the answers to the lines, up to the first `quit`
+-- the texts of the answers to the lines, up to the first `quit`, where every command finds its memory
 abbrev pub transcript_from : Setting → List Bytes → Debugger → Bytes
 transcript_from s [] d = []
 transcript_from s (line ∷ lines) d =
@@ -50,6 +50,43 @@ transcript_from s (line ∷ lines) d =
 abbrev pub has_quit : List Bytes → Bool
 has_quit [] = false
 has_quit (line ∷ lines) = if is_quit (command_of line) then true else has_quit lines
+
+-- ---- where a command may want for memory
+
+-- a reply to a line that spells this command, or none
+abbrev pub IsReplyTo : Setting → Option Command → Debugger → Reply → Type 0
+IsReplyTo s None d r = r ≡ refused BadCommand d
+IsReplyTo s (Some command) d r = IsReply s command d r
+
+-- the first reply is one to this command, and the others are those to what follows; there is none at `quit`
+abbrev pub FirstAndRest : Setting → (is_quit : Bool) → Option Command → Debugger → (Debugger → List Reply → Type 0) → List Reply → Type 0
+FirstAndRest s true command d rest replies = replies ≡ []
+FirstAndRest s false command d rest [] = ⊥
+FirstAndRest s false command d rest (r ∷ replies) = IsReplyTo s command d r × rest r.next replies
+
+-- replies to the lines, up to the first `quit`
+abbrev pub AreReplies : Setting → List Bytes → Debugger → List Reply → Type 0
+AreReplies s [] d replies = replies ≡ []
+AreReplies s (line ∷ lines) d replies =
+    FirstAndRest s (is_quit (command_of line)) (command_of line) d (λ d replies. AreReplies s lines d replies) replies
+
+-- the texts of replies
+abbrev pub reply_texts : Setting → List Reply → Bytes
+reply_texts s replies = flat_map (λ r. text s r.answer r.next) replies
+
+-- the bytes are a transcript of the lines: the texts of replies to them
+abbrev pub Transcribes : Setting → List Bytes → Debugger → Bytes → Type 0
+Transcribes s lines d out = (replies : List Reply) × AreReplies s lines d replies × (out ≡ reply_texts s replies)
+
+-- a reply that refuses nothing for memory
+abbrev pub FindsMemory : Reply → Type 0
+FindsMemory r = r.answer ≢ Refused Memory
+
+-- a transcript without an answer C12
+abbrev pub TranscribesWhole : Setting → List Bytes → Debugger → Bytes → Type 0
+TranscribesWhole s lines d out = (replies : List Reply) × AreReplies s lines d replies × All FindsMemory replies × (out ≡ reply_texts s replies)
+
+-- ---- a run
 
 -- the gang's width, the history limit and the most moves of one forward command
 pub record Options : Type 0 where
@@ -61,6 +98,6 @@ pub record Options : Type 0 where
 abbrev pub setting : Program → (entry : ℕ) → List Row → Options → Setting
 setting p entry rows options = record { program = p; first = start p entry rows options.width; limit = options.steps }
 
--- the transcript of command lines, from the first state on
+-- the one transcript of command lines without an answer C12, from the first state on
 abbrev pub transcript : Program → (entry : ℕ) → List Row → Options → List Bytes → Bytes
 transcript p entry rows options lines = transcript_from (setting p entry rows options) lines (fresh options.history)
