@@ -21,13 +21,13 @@ use Rattle.ispc_parser_words.proofs.SpecWords.{words_again, words_begin}
 use Rattle.ispc_parser_words.proofs.Tokens.{take_none}
 use Rattle.ispc_parser_words.proofs.Follows.{not_begins}
 use Rattle.ispc_parser_front.specs.SpecWords.{outer_spec_of}
-use Rattle.ispc_parser_front.proofs.Tokens.{other_first, take_at_again, name_again}
+use Rattle.ispc_parser_front.proofs.Tokens.{other_first, take_at_again, name_again, number_again}
 use Rattle.ispc_parser_front.proofs.SpecTokens.{spec_again, local_spec_again, word_first}
 use Rattle.ispc_parser_front.proofs.Lengths.{spec_shorter, list_shorter, stmts_shorter}
 use Rattle.ispc_parser_front.proofs.CommaLists.{list_complete}
-use Rattle.ispc_parser_statements.specs.Statements.{ends_block, parsers}
+use Rattle.ispc_parser_statements.specs.Statements.{ends_stmts, parsers}
 use Rattle.ispc_parser_statements.proofs.StatementsComplete.{stmts_complete, parsers_complete}
-use Rattle.ispc_parser.specs.Source.{brackets_of, param_of, lone_void, some_params_of, params_of, function_body_of, function_of, number_of, literal_of, form_of, global_of, declared_of, item_of, is_empty, items_of, tree_of}
+use Rattle.ispc_parser.specs.Source.{brackets_of, param_of, lone_void, some_params_of, params_of, function_body_of, function_of, literal_of, form_of, global_of, declared_of, item_of, is_empty, items_of, tree_of}
 
 -- ---- parameters
 
@@ -94,7 +94,7 @@ body_complete : (f : ParsedFunction) (ts a b rest : List Lexeme) → Takes (mark
     → function_body_of ts ≡ Some (record { stmts = f.body; closing = f.closing }, rest)
 unfolding function_body_of
 body_complete f ts a b rest first h last =
-    let ends : ends_block b ≡ true = rw (last.is, last.sort_is) refl in
+    let ends : ends_stmts b ≡ true = rw (last.is, last.sort_is) refl in
     rw (take_again mark.LeftBrace ts a first, stmts_complete 63 (parsers 63) (parsers_complete 63) (length a) f.body a b (omega arith) h ends, take_at_again mark.RightBrace f.closing b rest last) refl
 
 function_complete : (f : ParsedFunction) (ts rest : List Lexeme) → SpellsFunction f ts rest → item_of ts ≡ Some (ParsedFunctionItem f, rest)
@@ -112,11 +112,6 @@ function_complete f ts rest (a, b, c, g, h, i, j, spec, no_const, name, first, p
     ) refl
 
 -- ---- file-scope variables
-
-number_again : (n : ℕ) (is_unsigned is_long : Bool) (ts rest : List Lexeme) → Takes (numbered n is_unsigned is_long) ts rest
-    → number_of ts ≡ Some (record { value = n; is_unsigned = is_unsigned; is_long = is_long }, rest)
-unfolding number_of
-number_again n u l ts rest h = rw (h.is, h.sort_is) refl
 
 literal_complete : (x : Literal) (ts rest : List Lexeme) → SpellsLiteral x ts rest → literal_of ts ≡ Some (x, rest)
 unfolding literal_of

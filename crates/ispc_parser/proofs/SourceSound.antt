@@ -7,21 +7,21 @@ use Rattle.gang_model.specs.declared.forms.GlobalForm.{GlobalForm}
 use Rattle.gang_model.specs.declared.forms.GlobalForm.TheVariants as form
 use Rattle.gang_model.specs.declared.forms.Literal.{Literal}
 use Rattle.gang_model.specs.declared.forms.Literal.TheVariants as literal
-use Rattle.gang_model.specs.Source.Tokens.{Sort, named, numbered, marked, Lexeme}
+use Rattle.gang_model.specs.Source.Tokens.{named, marked, Lexeme}
 use Rattle.gang_model.specs.Source.Parsed.{Name, ParsedParam, ParsedItem, ParsedFunctionItem, ParsedGlobalItem, ParsedSource}
 use Rattle.gang_model.specs.Source.Spells.{Takes, TakesAt, Opens}
 use Rattle.gang_model.specs.Source.SpellsStatements.{SpellsSpec, SpellsList, SpellsStmts}
 use Rattle.gang_model.specs.Source.SpellsSource.{max_nesting, max_params, SpellsEmptyBrackets, SpellsParam, SpellsParams, SpellsLiteral, SpellsForm, SpellsItem, IsTree}
 use Rattle.ispc_parser_words.specs.Front.{begins, take}
 use Rattle.ispc_parser_words.proofs.Tokens.{take_takes}
-use Rattle.ispc_parser_front.specs.Front.{take_at, name_of}
+use Rattle.ispc_parser_front.specs.Front.{take_at, name_of, number_of}
 use Rattle.ispc_parser_front.specs.SpecWords.{local_spec_of, outer_spec_of}
-use Rattle.ispc_parser_front.proofs.Tokens.{take_at_sound, name_sound}
+use Rattle.ispc_parser_front.proofs.Tokens.{take_at_sound, name_sound, number_sound}
 use Rattle.ispc_parser_front.proofs.SpecTokens.{local_spec_sound, outer_spec_sound}
 use Rattle.ispc_parser_front.proofs.CommaLists.{list_sound}
 use Rattle.ispc_parser_statements.specs.Statements.{within, parsers}
 use Rattle.ispc_parser_statements.proofs.StatementsSound.{within_sound, parsers_sound}
-use Rattle.ispc_parser.specs.Source.{brackets_of, param_of, some_params_of, lone_void, params_of, Body, function_body_of, function_of, Digits, digits_in, number_of, signed, literal_of, form_of, global_of, declared_of, item_of, is_empty, items_of, tree_of}
+use Rattle.ispc_parser.specs.Source.{brackets_of, param_of, some_params_of, lone_void, params_of, Body, function_body_of, function_of, signed, literal_of, form_of, global_of, declared_of, item_of, is_empty, items_of, tree_of}
 use Rattle.std.proofs.lemmas.Option.{same_Some}
 use Rattle.ispc_lexer.proofs.Runs.{which, bind_some, chosen}
 
@@ -109,19 +109,6 @@ module _ (spec : Spec) (at : Place) (n : Name) (all a b : List Lexeme) (words : 
       (a, b, q1.0, q2.0.1, q3.0, body.0, body.1, words, may, name, take_takes mark.LeftParen b q1.0 q1.1, ps.0, ps.1, take_takes mark.RightParen q2.0.1 q3.0 q3.1, body.2, body.3, body.4)
 
 -- ---- file-scope variables
-
-digits_in_is : (s : Sort) (x : Digits) → digits_in s ≡ Some x → s ≡ numbered x.value x.is_unsigned x.is_long
-digits_in_is (numbered n u l) x e = subst (λ (y : Digits). numbered n u l ≡ numbered y.value y.is_unsigned y.is_long) (same_Some (record { value = n; is_unsigned = u; is_long = l }) x e) refl
-digits_in_is (named n) x e = absurd cc
-digits_in_is (marked m) x e = absurd cc
-
-number_sound : (x : Digits) (ts rest : List Lexeme) → number_of ts ≡ Some (x, rest) → Takes (numbered x.value x.is_unsigned x.is_long) ts rest
-unfolding number_of
-number_sound x [] rest e = absurd cc
-number_sound x (t ∷ ts) rest e =
-    let q = bind_some (digits_in t.sort) _ (x, rest) e in
-    subst (λ (y : Digits × List Lexeme). Takes (numbered y.0.value y.0.is_unsigned y.0.is_long) (t ∷ ts) y.1) (same_Some (q.0, ts) (x, rest) q.2)
-    (record { token = t; is = refl; sort_is = digits_in_is t.sort q.0 q.1 })
 
 literal_sound : (x : Literal) (ts rest : List Lexeme) → literal_of ts ≡ Some (x, rest) → SpellsLiteral x ts rest
 unfolding literal_of

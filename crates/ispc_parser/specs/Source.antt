@@ -7,15 +7,14 @@ use Rattle.gang_model.specs.declared.forms.GlobalForm.{GlobalForm}
 use Rattle.gang_model.specs.declared.forms.GlobalForm.TheVariants as form
 use Rattle.gang_model.specs.declared.forms.Literal.{Literal}
 use Rattle.gang_model.specs.declared.forms.Literal.TheVariants as literal
-use Rattle.gang_model.specs.Source.Tokens.{Sort, numbered, Lexeme}
+use Rattle.gang_model.specs.Source.Tokens.{Lexeme}
 use Rattle.gang_model.specs.Source.SpellsSource.{max_params}
 use Rattle.gang_model.specs.Source.Parsed.{Name, ParsedStmts, ParsedParam, ParsedItem, ParsedFunctionItem, ParsedGlobalItem, ParsedSource}
 use Rattle.ispc_lexer.specs.Options.{◌>>=◌, if_some}
 use Rattle.ispc_parser_words.specs.Front.{begins, take}
-use Rattle.ispc_lexer.specs.declared.token.Number.{Number}
 use Rattle.ispc_parser.specs.declared.source.Body.{Body as WrittenBody}
 use Rattle.source_tree.specs.Tree.{stmts_view}
-use Rattle.ispc_parser_front.specs.Front.{Reader, take_at, name_of, list_of}
+use Rattle.ispc_parser_front.specs.Front.{Reader, take_at, name_of, Digits, number_of, list_of}
 use Rattle.ispc_parser_front.specs.SpecWords.{local_spec_of, outer_spec_of}
 use Rattle.ispc_parser_statements.specs.Statements.{within, parsers}
 
@@ -58,19 +57,6 @@ function_of spec at n ts = take mark.LeftParen ts >>= λ a. params_of a >>= λ p
     Some (ParsedFunctionItem (record { at = at; name = n; spec = spec; params = ps.0; body = body.0.stmts; closing = body.0.closing }), body.1)
 
 -- ---- file-scope variables
-
-pub record Digits : Type 0 where
-  pub value : ℕ
-  pub is_unsigned : Bool
-  pub is_long : Bool
-
-abbrev pub digits_in : Sort → Option Digits
-digits_in (numbered n u l) = Some (record { value = n; is_unsigned = u; is_long = l })
-digits_in _ = None
-
-unfoldable pub number_of : Reader Digits
-number_of [] = None
-number_of (t ∷ ts) = digits_in t.sort >>= λ n. Some (n, ts)
 
 abbrev pub signed : Bool → Digits → Literal
 signed is_negative n = literal.Number is_negative n.value n.is_unsigned n.is_long
@@ -123,6 +109,3 @@ tree_of ts = items_of (length ts) ts
 
 abbrev pub body_view : WrittenBody → Body
 body_view b = record { stmts = stmts_view b.stmts.items; closing = b.closing }
-
-abbrev pub digits_view : Number → Digits
-digits_view n = record { value = n.value; is_unsigned = n.is_unsigned; is_long = n.is_long }

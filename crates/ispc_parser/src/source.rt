@@ -4,16 +4,16 @@ ghost use Rattle.ispc_lexer.specs.Views.{sort_of, lexemes_of};
 ghost use Rattle.ispc_parser_words.specs.Front.{Gives};
 ghost use Rattle.gang_model.specs.Source.Parsed.{ParsedFunctionItem};
 ghost use Rattle.source_tree.specs.Tree.{param_view, stmts_view, item_view};
-ghost use Rattle.ispc_parser_front.specs.Front.{name_view};
+ghost use Rattle.ispc_parser_front.specs.Front.{name_view, digits_view};
 ghost use Rattle.ispc_parser_front.specs.Refusals.{IsRefusal};
 ghost use Rattle.ispc_parser.specs.Source as spec;
-ghost use Rattle.ispc_parser.specs.Source.{body_view, digits_view, function_of, global_of, declared_of};
+ghost use Rattle.ispc_parser.specs.Source.{body_view, function_of, global_of, declared_of};
 
 use gang_model::{GlobalForm, Literal, Mark, RefusalNumber, Spec};
 use gang_types::Place;
-use ispc_lexer::{Kind, Number, Token};
+use ispc_lexer::{Number, Token};
 use ispc_parser_front::{
-    Context, Identifier, Read, local_spec, name, outer_spec, refused_at, take_at,
+    Context, Identifier, Read, local_spec, name, number, outer_spec, refused_at, take_at,
 };
 use ispc_parser_statements::stmts;
 use ispc_parser_words::{after, begins, begins_word, take, unexpected};
@@ -162,20 +162,6 @@ fn function(context: Context, spec: Spec, name: Identifier, tokens: &[Token]) ->
 }
 
 // ---- file-scope variables
-
-#[tactic(auto, unfolding(crate::specs::Source::number_of))]
-fn number(tokens: &[Token], end: Place) -> Read<'_, Number>
-    ensures { Gives (λ x. (digits_view x.0, lexemes_of x.1.now)) result
-        (spec.number_of (lexemes_of tokens.now)) }
-{
-    match tokens {
-        [] => Err(unexpected(tokens, end)),
-        [first, rest @ ..] => match first.kind {
-            Kind::Number(number) => Ok((number, rest)),
-            _ => Err(unexpected(tokens, end)),
-        },
-    }
-}
 
 /// The value of a number, or of its negative.
 fn signed(is_negative: bool, number: Number) -> Literal

@@ -1,13 +1,14 @@
 -- What is spelled takes tokens.
-use Rattle.std.proofs.Common.{inl, inr, ℕ, ◌<◌, ◌≤◌, List, [], ◌∷◌, length, Option, Some, None, true, ap, arith}
+use Rattle.std.proofs.Common.{inl, inr, ℕ, ◌<◌, ◌≤◌, List, [], ◌∷◌, length, Option, Some, None, Bool, true, false, ap, arith}
 use Rattle.gang_types.specs.declared.places.Place.{Place}
 use Rattle.gang_model.specs.declared.marks.Mark.{Mark}
 use Rattle.gang_model.specs.declared.marks.Mark.TheVariants as mark
 use Rattle.gang_model.specs.declared.forms.Spec.{Spec}
-use Rattle.gang_model.specs.Source.Tokens.{named, marked, Lexeme}
-use Rattle.gang_model.specs.Source.Parsed.{Name, ParsedExpr, ParsedDim, ParsedTarget, ParsedStmt, ParsedEmpty, ParsedBlock, ParsedDeclare, ParsedAssign, ParsedChange, ParsedIncrement, ParsedDoCall, ParsedBreak, ParsedContinue, ParsedReturn, ParsedIf, ParsedIfElse, ParsedWhile, ParsedDo, ParsedFor, ParsedSwitch, ParsedForEach, ParsedForEachActive, ParsedForEachUnique, ParsedStmts, ParsedLast, ParsedNext}
+use Rattle.gang_model.specs.declared.forms.Label.{Label}
+use Rattle.gang_model.specs.Source.Tokens.{named, numbered, marked, Lexeme}
+use Rattle.gang_model.specs.Source.Parsed.{Name, ParsedExpr, ParsedDim, ParsedTarget, ParsedStmt, ParsedEmpty, ParsedBlock, ParsedDeclare, ParsedAssign, ParsedChange, ParsedIncrement, ParsedDoCall, ParsedBreak, ParsedContinue, ParsedReturn, ParsedIf, ParsedIfElse, ParsedWhile, ParsedDo, ParsedFor, ParsedSwitch, ParsedForEach, ParsedForEachActive, ParsedForEachUnique, ParsedStmts, ParsedLast, ParsedNext, ParsedSegments, ParsedNoMore, ParsedSegment}
 use Rattle.gang_model.specs.Source.Spells.{TakesAt, any_level, WholeExpr, WholeArgs}
-use Rattle.gang_model.specs.Source.SpellsStatements.{TakesEither, Maybe, InParens, InBrackets, SpellsList, SpellsSpec, SpellsValue, SpellsDeclaration, SpellsTarget, SpellsSimple, SpellsStart, SpellsUpdate, SpellsRounds, SpellsDim, SpellsDims, foreach_word, SpellsDistinct, OpensBody, SpellsStmt, SpellsStmts}
+use Rattle.gang_model.specs.Source.SpellsStatements.{TakesEither, Maybe, InParens, InBrackets, SpellsList, SpellsSpec, SpellsValue, SpellsDeclaration, SpellsTarget, SpellsSimple, SpellsStart, SpellsUpdate, SpellsRounds, SpellsDim, SpellsDims, foreach_word, SpellsDistinct, SpellsSign, SpellsLabel, OpensBody, SpellsStmt, SpellsStmts, SpellsSegments}
 use Rattle.gang_model.proofs.NestingLaws.{opened}
 use Rattle.ispc_parser_words.proofs.SpecWords.{words_shorter}
 use Rattle.ispc_parser_words.proofs.Tokens.{takes_shorter, at_shorter}
@@ -111,6 +112,23 @@ distinct_shorter : (at : Place) (n : Name) (e : ParsedExpr) (d : ℕ) (ts rest :
 distinct_shorter at n e d ts rest h =
     omega (arith, at_shorter (named n) at ts h.0 h.2, takes_shorter (marked mark.In) h.0 h.1 h.3, whole_shorter d e h.1 rest h.4)
 
+-- ---- labels
+
+sign_shorter : (is_negative : Bool) (ts rest : List Lexeme) → SpellsSign is_negative ts rest → length rest ≤ length ts
+sign_shorter false ts rest h = omega (arith, ap length h)
+sign_shorter true ts rest h = omega (arith, takes_shorter (marked mark.Minus) ts rest h)
+
+label_shorter : (at : Place) (label : Option Label) (ts rest : List Lexeme) → SpellsLabel at label ts rest → length rest ≤ length ts
+label_shorter at (Some label) ts rest h =
+    omega (
+      arith,
+      at_shorter (marked mark.Case) at ts h.2 h.5,
+      sign_shorter label.is_negative h.2 h.3 h.6,
+      takes_shorter (numbered label.value h.0 h.1) h.3 h.4 h.7,
+      takes_shorter (marked mark.Colon) h.4 rest h.8,
+    )
+label_shorter at None ts rest h = omega (arith, at_shorter (marked mark.Default) at ts h.0 h.1, takes_shorter (marked mark.Colon) h.0 rest h.2)
+
 -- ---- statements
 
 abbrev pub IsBlock : ParsedStmt → Type 0
@@ -172,8 +190,22 @@ mutual
   stmt_shorter (ParsedChange at target op e) d ts rest h = omega (arith, simple_shorter d (ParsedChange at target op e) ts h.0 h.1, takes_shorter (marked mark.Semicolon) h.0 rest h.2)
   stmt_shorter (ParsedIncrement at target op) d ts rest h = omega (arith, simple_shorter d (ParsedIncrement at target op) ts h.0 h.1, takes_shorter (marked mark.Semicolon) h.0 rest h.2)
   stmt_shorter (ParsedDoCall at n es) d ts rest h = omega (arith, simple_shorter d (ParsedDoCall at n es) ts h.0 h.1, takes_shorter (marked mark.Semicolon) h.0 rest h.2)
-  stmt_shorter (ParsedSwitch at e segments) d ts rest h = absurd h
+  stmt_shorter (ParsedSwitch at e segments) d ts rest h =
+      let p = opened d (λ (n : ℕ). SpellsSegments segments n h.2 h.3) h.7 in
+      omega (
+        arith,
+        at_shorter (marked mark.Switch) at ts h.0 h.4,
+        test_shorter d e h.0 h.1 h.5,
+        takes_shorter (marked mark.LeftBrace) h.1 h.2 h.6,
+        segments_shorter segments p.0 h.2 h.3 p.2,
+        takes_shorter (marked mark.RightBrace) h.3 rest h.9,
+      )
 
   pub stmts_shorter : (ss : ParsedStmts) (d : ℕ) (ts rest : List Lexeme) → SpellsStmts ss d ts rest → length rest ≤ length ts
   stmts_shorter ParsedLast d ts rest h = omega (arith, ap length h)
   stmts_shorter (ParsedNext s ss) d ts rest h = omega (arith, stmt_shorter s d ts h.0 h.1, stmts_shorter ss d h.0 rest h.2)
+
+  segments_shorter : (segments : ParsedSegments) (d : ℕ) (ts rest : List Lexeme) → SpellsSegments segments d ts rest → length rest ≤ length ts
+  segments_shorter ParsedNoMore d ts rest h = omega (arith, ap length h)
+  segments_shorter (ParsedSegment at label ss segments) d ts rest h =
+      omega (arith, label_shorter at label ts h.0 h.2, stmts_shorter ss d h.0 h.1 h.3, segments_shorter segments d h.1 rest h.5)

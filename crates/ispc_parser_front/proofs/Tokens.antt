@@ -1,4 +1,4 @@
--- Single tokens and names, read and spelled.
+-- Single tokens, names and numbers, read and spelled.
 use Rattle.std.proofs.Common.{◌≡◌, inl, inr, ℕ, zero, suc, List, [], ◌∷◌, Option, Some, None, Bool, true, false, refl, sym, ap, ◌∙◌, subst}
 use denote.Enum.Bare.{sameb, same_true}
 use Rattle.gang_types.specs.declared.places.Place.{Place}
@@ -12,7 +12,7 @@ use Rattle.gang_model.specs.Source.SpellsStatements.{NotNext, BeginsAt, InParens
 use Rattle.ispc_parser_words.specs.Front.{begins, take, is_mark}
 use Rattle.gang_model.proofs.NestingLaws.{opened}
 use Rattle.ispc_parser_words.proofs.Tokens.{mark_is, is_mark-same, take_takes, take_again, begins_again}
-use Rattle.ispc_parser_front.specs.Front.{Reader, deeper, enter, take_at, name_in, name_of, in_parens}
+use Rattle.ispc_parser_front.specs.Front.{Reader, deeper, enter, take_at, name_in, name_of, Digits, digits_in, number_of, in_parens}
 use Rattle.std.proofs.lemmas.Option.{same_Some}
 use Rattle.ispc_lexer.proofs.Runs.{which, bind_some}
 
@@ -124,3 +124,23 @@ name_sound y (t ∷ ts) rest e =
 pub name_again : (at : Place) (n : Name) (ts rest : List Lexeme) → TakesAt (named n) at ts rest → name_of ts ≡ Some ((at, n), rest)
 unfolding name_of
 name_again at n ts rest h = rw (h.is, h.sort_is, h.place_is) refl
+
+-- ---- numbers
+
+digits_in_is : (s : Sort) (x : Digits) → digits_in s ≡ Some x → s ≡ numbered x.value x.is_unsigned x.is_long
+digits_in_is (numbered n u l) x e = subst (λ (y : Digits). numbered n u l ≡ numbered y.value y.is_unsigned y.is_long) (same_Some (record { value = n; is_unsigned = u; is_long = l }) x e) refl
+digits_in_is (named n) x e = absurd cc
+digits_in_is (marked m) x e = absurd cc
+
+pub number_sound : (x : Digits) (ts rest : List Lexeme) → number_of ts ≡ Some (x, rest) → Takes (numbered x.value x.is_unsigned x.is_long) ts rest
+unfolding number_of
+number_sound x [] rest e = absurd cc
+number_sound x (t ∷ ts) rest e =
+    let q = bind_some (digits_in t.sort) _ (x, rest) e in
+    subst (λ (y : Digits × List Lexeme). Takes (numbered y.0.value y.0.is_unsigned y.0.is_long) (t ∷ ts) y.1) (same_Some (q.0, ts) (x, rest) q.2)
+    (record { token = t; is = refl; sort_is = digits_in_is t.sort q.0 q.1 })
+
+pub number_again : (n : ℕ) (is_unsigned is_long : Bool) (ts rest : List Lexeme) → Takes (numbered n is_unsigned is_long) ts rest
+    → number_of ts ≡ Some (record { value = n; is_unsigned = is_unsigned; is_long = is_long }, rest)
+unfolding number_of
+number_again n u l ts rest h = rw (h.is, h.sort_is) refl

@@ -1,11 +1,12 @@
 -- What stands at the front of the tokens, by descent: marks, names and what stands round a part.
-use Rattle.std.specs.Prelude.{ℕ, zero, suc, List, [], ◌∷◌, Option, Some, None, if◌then◌else◌}
+use Rattle.std.specs.Prelude.{ℕ, zero, suc, Bool, List, [], ◌∷◌, Option, Some, None, if◌then◌else◌}
 use Rattle.gang_types.specs.declared.places.Place.{Place}
 use Rattle.gang_model.specs.declared.marks.Mark.{Mark}
 use Rattle.gang_model.specs.declared.marks.Mark.TheVariants as mark
-use Rattle.gang_model.specs.Source.Tokens.{Sort, named, Lexeme}
+use Rattle.gang_model.specs.Source.Tokens.{Sort, named, numbered, Lexeme}
 use Rattle.gang_model.specs.Source.Parsed.{Name}
 use Rattle.ispc_lexer.specs.Options.{◌>>=◌, if_some}
+use Rattle.ispc_lexer.specs.declared.token.Number.{Number}
 use Rattle.ispc_parser_words.specs.Front.{take, is_mark}
 use Rattle.ispc_parser_front.specs.declared.front.Identifier.{Identifier}
 
@@ -36,8 +37,25 @@ unfoldable pub name_of : Reader (Place × Name)
 name_of [] = None
 name_of (t ∷ ts) = name_in t.sort >>= λ n. Some ((t.place, n), ts)
 
+-- a number with its suffix
+pub record Digits : Type 0 where
+  pub value : ℕ
+  pub is_unsigned : Bool
+  pub is_long : Bool
+
+abbrev pub digits_in : Sort → Option Digits
+digits_in (numbered n u l) = Some (record { value = n; is_unsigned = u; is_long = l })
+digits_in _ = None
+
+unfoldable pub number_of : Reader Digits
+number_of [] = None
+number_of (t ∷ ts) = digits_in t.sort >>= λ n. Some (n, ts)
+
 abbrev pub name_view : Identifier → Place × Name
 name_view n = (n.place, n.text.items)
+
+abbrev pub digits_view : Number → Digits
+digits_view n = record { value = n.value; is_unsigned = n.is_unsigned; is_long = n.is_long }
 
 -- ---- what stands round a part
 

@@ -18,6 +18,7 @@ opening_of mark.MinusMinus = Some (opening.Plain plain.Simple)
 opening_of mark.LeftBrace = Some opening.Block
 opening_of mark.If = Some opening.If
 opening_of mark.Cif = Some opening.If
+opening_of mark.Switch = Some opening.Switch
 opening_of mark.Do = Some opening.Do
 opening_of mark.Cdo = Some opening.Do
 opening_of mark.While = Some (opening.Loop loop.While)

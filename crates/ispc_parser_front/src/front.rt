@@ -3,11 +3,11 @@ ghost use Rattle.std.specs.Prelude.{◌≡◌, IfOk};
 ghost use Rattle.ispc_lexer.specs.Views.{lexemes_of};
 ghost use Rattle.ispc_parser_words.specs.Front.{Gives, first_place};
 ghost use Rattle.ispc_parser_front.specs.Front as spec;
-ghost use Rattle.ispc_parser_front.specs.Front.{name_view};
+ghost use Rattle.ispc_parser_front.specs.Front.{name_view, digits_view};
 
 use gang_model::{Mark, RefusalNumber, SourceRefusal};
 use gang_types::Place;
-use ispc_lexer::{Kind, Token};
+use ispc_lexer::{Kind, Number, Token};
 use ispc_parser_words::{begins, take, unexpected};
 use source_answers::SourceFault;
 use std::alloc::{AllocError, Global};
@@ -115,6 +115,25 @@ pub fn name(context: Context, tokens: &[Token]) -> Read<'_, Identifier>
         [first, rest @ ..] => match &first.kind {
             Kind::Name(text) => Ok((copied_name(context.alloc, first.place, text)?, rest)),
             _ => Err(unexpected(tokens, context.end)),
+        },
+    }
+}
+
+/// A number with its suffix.
+///
+/// # Errors
+///
+/// S3 at what stands first in its place, or at the end.
+#[tactic(auto, unfolding(crate::specs::Front::number_of))]
+pub fn number(tokens: &[Token], end: Place) -> Read<'_, Number>
+    ensures { Gives (λ x. (digits_view x.0, lexemes_of x.1.now)) result
+        (spec.number_of (lexemes_of tokens.now)) }
+{
+    match tokens {
+        [] => Err(unexpected(tokens, end)),
+        [first, rest @ ..] => match first.kind {
+            Kind::Number(number) => Ok((number, rest)),
+            _ => Err(unexpected(tokens, end)),
         },
     }
 }

@@ -6,7 +6,7 @@ mod misfits;
 mod nodes;
 mod words;
 
-pub use front::{Context, Identifier, Read, copied_name, enter, name, refused_at, take_at};
+pub use front::{Context, Identifier, Read, copied_name, enter, name, number, refused_at, take_at};
 pub use misfits::{local_spec, outer_spec};
-pub use nodes::{block_of, closed, do_while, ended, if_else, if_then, push, with_rest};
+pub use nodes::{block_of, closed, do_while, ended, if_else, if_then, push, switch_of, with_rest};
 pub use words::{Loop, Opening, Plain, opening_of};

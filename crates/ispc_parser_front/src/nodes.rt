@@ -1,11 +1,11 @@
 //! Statements in boxes, with their parts.
 ghost use Rattle.std.specs.Prelude.{◌≡◌, [], ◌∷◌, ◌++◌, IfOk, OnOk};
-ghost use Rattle.gang_model.specs.Source.Parsed.{ParsedBlock, ParsedIf, ParsedIfElse, ParsedDo};
+ghost use Rattle.gang_model.specs.Source.Parsed.{ParsedBlock, ParsedIf, ParsedIfElse, ParsedDo, ParsedSwitch};
 ghost use Rattle.ispc_lexer.specs.Views.{lexemes_of};
 ghost use Rattle.ispc_parser_words.specs.Front.{Gives};
 ghost use Rattle.source_tree.specs.Expressions.{expr_view};
 ghost use Rattle.ispc_parser_front.specs.Front.{just, closed_by};
-ghost use Rattle.source_tree.specs.Tree.{stmt_view, stmts_view};
+ghost use Rattle.source_tree.specs.Tree.{stmt_view, stmts_view, segments_view};
 
 use crate::front::{Context, Read};
 use gang_model::Mark;
@@ -13,7 +13,7 @@ use gang_types::Place;
 use ispc_lexer::Token;
 use ispc_parser_words::take;
 use source_answers::boxed;
-use source_tree::{Expr, Stmt};
+use source_tree::{Expr, Segment, Stmt};
 use std::alloc::{AllocError, Global};
 
 /// A statement in a box. Statements are large, so what reads them hands on boxes.
@@ -144,4 +144,15 @@ pub fn do_while(
 {
     let (place, test) = tested;
     with_rest(alloc, Stmt::Do { body, place, test }, rest)
+}
+
+/// `switch` at this place, over these segments.
+pub fn switch_of(place: Place, selector: Expr, segments: Vec<Segment>) -> Stmt
+    ensures { stmt_view result ≡ ParsedSwitch place (expr_view selector) (segments_view segments.items) }
+{
+    Stmt::Switch {
+        place,
+        selector,
+        segments,
+    }
 }

@@ -30,6 +30,7 @@ pub enum Opening {
     Plain(Plain),
     Block,
     If,
+    Switch,
     Do,
     Loop(Loop),
 }
@@ -46,6 +47,7 @@ pub fn opening_of(mark: Mark) -> Option<Opening>
         Mark::PlusPlus | Mark::MinusMinus => Some(Opening::Plain(Plain::Simple)),
         Mark::LeftBrace => Some(Opening::Block),
         Mark::If | Mark::Cif => Some(Opening::If),
+        Mark::Switch => Some(Opening::Switch),
         Mark::Do | Mark::Cdo => Some(Opening::Do),
         Mark::While | Mark::Cwhile => Some(Opening::Loop(Loop::While)),
         Mark::For | Mark::Cfor => Some(Opening::Loop(Loop::For)),

@@ -1,3 +1,4 @@
 pub mod InsideHeads
 pub mod HeadsSound
 pub mod HeadsComplete
+pub mod LabelLaws

@@ -1,3 +1,4 @@
 pub mod Sequences
+pub mod SegmentSequences
 pub mod StatementsSound
 pub mod StatementsComplete

@@ -9,7 +9,7 @@ use Rattle.source_tree.specs.declared.tree.Stmt.{Stmt}
 use Rattle.source_tree.specs.Tree.{stmt_view, stmts_view}
 use Rattle.ispc_parser_front.specs.Front.{Reader}
 use Rattle.ispc_parser_front.proofs.Fails.{fails_when}
-use Rattle.ispc_parser_statements.specs.Statements.{ends_block, stmts_of}
+use Rattle.ispc_parser_statements.specs.Statements.{ends_stmts, stmts_of}
 
 abbrev pub append : ParsedStmts → ParsedStmts → ParsedStmts
 append ParsedLast ss = ss
@@ -39,7 +39,7 @@ module _ (one : Reader ParsedStmt) where
       go None = refl
       go (Some x) = refl
 
-  pub stmts_done : (n : ℕ) (front : ParsedStmts) (ts : List Lexeme) → ends_block ts ≡ true → after_front front (stmts_of one n ts) ≡ Some (front, ts)
+  pub stmts_done : (n : ℕ) (front : ParsedStmts) (ts : List Lexeme) → ends_stmts ts ≡ true → after_front front (stmts_of one n ts) ≡ Some (front, ts)
   unfolding stmts_of
   stmts_done zero front ts e = ap (λ (x : ParsedStmts). Some (x, ts)) (append-last front)
   stmts_done (suc n) front ts e = rw e (ap (λ (x : ParsedStmts). Some (x, ts)) (append-last front))
@@ -50,7 +50,7 @@ module _ (one : Reader ParsedStmt) where
   stmts_spent (suc n) front ts e = absurd (omega arith)
 
   module _ (n m : ℕ) (front : ParsedStmts) (ts : List Lexeme) (total : Option (ParsedStmts × List Lexeme))
-      (n-is : n ≡ suc m) (goes : ends_block ts ≡ false) (so_far : after_front front (stmts_of one n ts) ≡ total) where
+      (n-is : n ≡ suc m) (goes : ends_stmts ts ≡ false) (so_far : after_front front (stmts_of one n ts) ≡ total) where
     pub stmts_fail : (e : SourceFault) → Fails e (one ts) → Fails e total
     unfolding stmts_of
     stmts_fail e h = fails_when e (one ts) total (λ none. sym so_far ∙ rw (n-is, goes, none) refl) h

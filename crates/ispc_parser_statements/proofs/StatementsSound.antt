@@ -1,12 +1,12 @@
 -- What is read as statements is spelled so.
-use Rattle.std.proofs.Common.{◌≡◌, inl, inr, ℕ, zero, suc, List, [], ◌∷◌, length, Option, Some, None, false, refl, sym, ap, subst}
+use Rattle.std.proofs.Common.{◌≡◌, inl, inr, ℕ, zero, suc, ◌≤◌, List, [], ◌∷◌, length, Option, Some, None, false, refl, sym, ap, subst, arith}
 use Rattle.gang_types.specs.declared.places.Place.{Place}
 use Rattle.gang_model.specs.declared.marks.Mark.{Mark}
 use Rattle.gang_model.specs.declared.marks.Mark.TheVariants as mark
 use Rattle.gang_model.specs.Source.Tokens.{Sort, named, numbered, marked, Lexeme}
-use Rattle.gang_model.specs.Source.Parsed.{ParsedExpr, ParsedStmt, ParsedEmpty, ParsedBlock, ParsedDeclare, ParsedAssign, ParsedChange, ParsedIncrement, ParsedDoCall, ParsedBreak, ParsedContinue, ParsedReturn, ParsedIf, ParsedIfElse, ParsedDo, ParsedStmts, ParsedLast, ParsedNext}
+use Rattle.gang_model.specs.Source.Parsed.{ParsedExpr, ParsedStmt, ParsedEmpty, ParsedBlock, ParsedDeclare, ParsedAssign, ParsedChange, ParsedIncrement, ParsedDoCall, ParsedBreak, ParsedContinue, ParsedReturn, ParsedIf, ParsedIfElse, ParsedDo, ParsedSwitch, ParsedStmts, ParsedLast, ParsedNext, ParsedSegments, ParsedNoMore, ParsedSegment}
 use Rattle.gang_model.specs.Source.Spells.{Takes, TakesAt, WholeExpr}
-use Rattle.gang_model.specs.Source.SpellsStatements.{TakesEither, SpellsDeclaration, SpellsSimple, SpellsRounds, SpellsDims, SpellsDistinct, foreach_word, OpensBody, SpellsStmt, SpellsStmts}
+use Rattle.gang_model.specs.Source.SpellsStatements.{TakesEither, SpellsDeclaration, SpellsSimple, SpellsRounds, SpellsDims, SpellsDistinct, foreach_word, SpellsLabel, is_declaration, HasNoDeclaration, max_labels, label_count, OpensBody, SpellsStmt, SpellsStmts, SpellsSegments}
 use Rattle.ispc_parser_words.specs.Front.{begins, take}
 use Rattle.ispc_parser_words.specs.Words.{begins_word}
 use Rattle.ispc_parser_expressions.specs.Parse.{whole_expr}
@@ -23,10 +23,13 @@ use Rattle.ispc_parser_front.specs.Front.{Reader, take_at, name_of, in_parens, e
 use Rattle.ispc_parser_front.specs.Openings.{opening_of}
 use Rattle.ispc_parser_front.proofs.Tokens.{opens_here, not_next, first_at, take_at_sound, in_parens_sound, name_sound}
 use Rattle.ispc_parser_parts.specs.Parts.{declaration_of, simple_of}
+use Rattle.ispc_parser_parts.proofs.Beginnings.{declaration_word}
 use Rattle.ispc_parser_parts.proofs.PartsSound.{declaration_sound, simple_sound}
 use Rattle.ispc_parser_heads.specs.Heads.{optional_of, rounds_of, dims_of, distinct_of, ParsedHead, WhileHead, ForHead, ForEachHead, ActiveHead, UniqueHead, completed, head_of}
 use Rattle.ispc_parser_heads.proofs.HeadsSound.{optional_sound, rounds_sound, dims_sound, distinct_sound}
-use Rattle.ispc_parser_statements.specs.Statements.{plain_of, Below, block_of, body_of, else_of, if_of, do_test_of, do_of, loop_of, opened_of, stmt_at, stmt_of, ends_block, stmts_of, within, parsers}
+use Rattle.ispc_parser_heads.specs.Labels.{label_of}
+use Rattle.ispc_parser_heads.proofs.LabelLaws.{label_sound}
+use Rattle.ispc_parser_statements.specs.Statements.{plain_of, Below, block_of, body_of, else_of, if_of, switch_of, do_test_of, do_of, loop_of, opened_of, stmt_at, stmt_of, ends_stmts, stmts_of, segment_stmt_of, Segment, segment_of, segments_of, within, parsers}
 use Rattle.std.proofs.lemmas.Option.{same_Some}
 use Rattle.ispc_lexer.proofs.Runs.{which, bind_some}
 
@@ -51,6 +54,7 @@ TakesOpening None at ts rest = Unit {0}
 TakesOpening (Some (opening.Plain word)) at ts rest = TakesPlain word at ts rest
 TakesOpening (Some opening.Block) at ts rest = TakesAt (marked mark.LeftBrace) at ts rest
 TakesOpening (Some opening.If) at ts rest = TakesEither mark.If mark.Cif at ts rest
+TakesOpening (Some opening.Switch) at ts rest = TakesAt (marked mark.Switch) at ts rest
 TakesOpening (Some opening.Do) at ts rest = TakesEither mark.Do mark.Cdo at ts rest
 TakesOpening (Some (opening.Loop word)) at ts rest = TakesLoop word at ts rest
 
@@ -64,6 +68,7 @@ first_word mark.MinusMinus at ts rest h = tt
 first_word mark.LeftBrace at ts rest h = h
 first_word mark.If at ts rest h = inl h
 first_word mark.Cif at ts rest h = inr h
+first_word mark.Switch at ts rest h = h
 first_word mark.Do at ts rest h = inl h
 first_word mark.Cdo at ts rest h = inr h
 first_word mark.While at ts rest h = inl h
@@ -126,9 +131,13 @@ module _ (d : ℕ) where
 pub record Inside (d : ℕ) (b : Below) : Type 0 where
   pub stmt : (x : ParsedStmt) (ts rest : List Lexeme) → b.stmt ts ≡ Some (x, rest) → SpellsStmt x d ts rest
   pub stmts : (xs : ParsedStmts) (ts rest : List Lexeme) → b.stmts ts ≡ Some (xs, rest) → SpellsStmts xs d ts rest
+  pub segments : (xs : ParsedSegments) (ts rest : List Lexeme) → b.segments ts ≡ Some (xs, rest) → SpellsSegments xs d ts rest × (label_count xs ≤ max_labels)
 
 abbrev pub IsSound : ℕ → Option Below → Type 0
 IsSound d below = (b : Below) → below ≡ Some b → (n : ℕ) × (d ≡ suc n) × Inside n b
+
+one_more : (n k : ℕ) → k ≤ n → suc k ≤ suc n
+one_more n k h = omega arith
 
 module _ (d : ℕ) (below : Option Below) (sound : IsSound d below) where
   abbrev Body : ParsedStmt → List Lexeme → List Lexeme → Type 0
@@ -179,6 +188,20 @@ module _ (d : ℕ) (below : Option Below) (sound : IsSound d below) where
             subst (λ (y : ParsedStmt × List Lexeme). SpellsStmt y.0 d all y.1) (same_Some (ParsedIf at q1.0.0 q2.0.0, q2.0.1) (x, rest) p.1)
             (ts, q1.0.1, word, t, first, not_next mark.Else q2.0.1 p.0)
       ]
+
+  switch_sound : (at : Place) (x : ParsedStmt) (all ts rest : List Lexeme) → TakesAt (marked mark.Switch) at all ts → switch_of d below at ts ≡ Some (x, rest) → SpellsStmt x d all rest
+  unfolding switch_of
+  switch_sound at x all ts rest word e =
+      let q1 = bind_some (in_parens whole_expr d ts) _ (x, rest) e in
+      let q2 = bind_some (take mark.LeftBrace q1.0.1) _ (x, rest) q1.2 in
+      let q3 = bind_some below _ (x, rest) q2.2 in
+      let q4 = bind_some (q3.0.segments q2.0) _ (x, rest) q3.2 in
+      let q5 = bind_some (take mark.RightBrace q4.0.1) _ (x, rest) q4.2 in
+      let t = in_parens_sound whole_expr (λ test inner. WholeExpr inner test) whole_sound d q1.0.0 ts q1.0.1 q1.1 in
+      let i = sound q3.0 q3.1 in
+      let s = i.2.segments q4.0.0 q2.0 q4.0.1 q4.1 in
+      subst (λ (y : ParsedStmt × List Lexeme). SpellsStmt y.0 d all y.1) (same_Some (ParsedSwitch at q1.0.0 q4.0.0, q5.0) (x, rest) q5.2)
+      (ts, q1.0.1, q2.0, q4.0.1, word, t, take_takes mark.LeftBrace q1.0.1 q2.0 q2.1, opens_here d i.0 (λ n. SpellsSegments q4.0.0 n q2.0 q4.0.1) i.1 s.0, s.1, take_takes mark.RightBrace q4.0.1 q5.0 q5.1)
 
   do_sound : (start : Place) (x : ParsedStmt) (all ts rest : List Lexeme) → TakesEither mark.Do mark.Cdo start all ts → do_of d below ts ≡ Some (x, rest) → SpellsStmt x d all rest
   unfolding do_of do_test_of
@@ -233,6 +256,7 @@ module _ (d : ℕ) (below : Option Below) (sound : IsSound d below) where
   opened_sound (opening.Plain word) at x all ts rest first e = plain_sound d word at x all ts rest first e
   opened_sound opening.Block at x all ts rest first e = let q = block_sound x all rest e in subst (λ (y : ParsedStmt). SpellsStmt y d all rest) (sym q.1) q.2
   opened_sound opening.If at x all ts rest first e = if_sound at x all ts rest first e
+  opened_sound opening.Switch at x all ts rest first e = switch_sound at x all ts rest first e
   opened_sound opening.Do at x all ts rest first e = do_sound at x all ts rest first e
   opened_sound (opening.Loop word) at x all ts rest first e = loop_sound word at x all ts rest first e
 
@@ -259,7 +283,7 @@ module _ (d : ℕ) (below : Option Below) (sound : IsSound d below) where
   unfolding stmts_of
   stmts_sound zero xs ts rest e = subst (λ (y : ParsedStmts × List Lexeme). SpellsStmts y.0 d ts y.1) (same_Some (ParsedLast, ts) (xs, rest) e) refl
   stmts_sound (suc n) xs ts rest e =
-      elim (which (ends_block ts) _ _ (Some (xs, rest)) e) [
+      elim (which (ends_stmts ts) _ _ (Some (xs, rest)) e) [
         | inl p ↦ subst (λ (y : ParsedStmts × List Lexeme). SpellsStmts y.0 d ts y.1) (same_Some (ParsedLast, ts) (xs, rest) p.1) refl
         | inr p ↦
             let q1 = bind_some (stmt_of d below ts) _ (xs, rest) p.1 in
@@ -268,8 +292,71 @@ module _ (d : ℕ) (below : Option Below) (sound : IsSound d below) where
             (q1.0.1, stmt_sound q1.0.0 ts q1.0.1 q1.1, stmts_sound n q2.0.0 q1.0.1 q2.0.1 q2.1)
       ]
 
+  -- ---- segments
+
+  no_declaration : (x : ParsedStmt) (ts rest : List Lexeme) → begins_word ts ≡ false → SpellsStmt x d ts rest → is_declaration x ≡ false
+  no_declaration (ParsedDeclare at spec name_at n v) ts rest none h = let word = declaration_word d (ParsedDeclare at spec name_at n v) ts h.0 h.1 in absurd cc
+  no_declaration _ ts rest none h = refl
+
+  segment_stmt_sound : (x : ParsedStmt) (ts rest : List Lexeme) → segment_stmt_of d below ts ≡ Some (x, rest) → SpellsStmt x d ts rest × (is_declaration x ≡ false)
+  unfolding segment_stmt_of
+  segment_stmt_sound x ts rest e =
+      elim (which (begins_word ts) _ _ (Some (x, rest)) e) [
+        | inl p ↦ let no_value = p.1 in absurd cc
+        | inr p ↦ let h = stmt_sound x ts rest p.1 in (h, no_declaration x ts rest p.0 h)
+      ]
+
+  segment_stmts_sound : (n : ℕ) (xs : ParsedStmts) (ts rest : List Lexeme) → stmts_of (segment_stmt_of d below) n ts ≡ Some (xs, rest) → SpellsStmts xs d ts rest × HasNoDeclaration xs
+  unfolding stmts_of
+  segment_stmts_sound zero xs ts rest e =
+      subst (λ (y : ParsedStmts × List Lexeme). SpellsStmts y.0 d ts y.1 × HasNoDeclaration y.0) (same_Some (ParsedLast, ts) (xs, rest) e) (refl, tt)
+  segment_stmts_sound (suc n) xs ts rest e =
+      elim (which (ends_stmts ts) _ _ (Some (xs, rest)) e) [
+        | inl p ↦ subst (λ (y : ParsedStmts × List Lexeme). SpellsStmts y.0 d ts y.1 × HasNoDeclaration y.0) (same_Some (ParsedLast, ts) (xs, rest) p.1) (refl, tt)
+        | inr p ↦
+            let q1 = bind_some (segment_stmt_of d below ts) _ (xs, rest) p.1 in
+            let q2 = bind_some (stmts_of (segment_stmt_of d below) n q1.0.1) _ (xs, rest) q1.2 in
+            let first = segment_stmt_sound q1.0.0 ts q1.0.1 q1.1 in
+            let more = segment_stmts_sound n q2.0.0 q1.0.1 q2.0.1 q2.1 in
+            subst (λ (y : ParsedStmts × List Lexeme). SpellsStmts y.0 d ts y.1 × HasNoDeclaration y.0) (same_Some (ParsedNext q1.0.0 q2.0.0, q2.0.1) (xs, rest) q2.2)
+            ((q1.0.1, first.0, more.0), (first.1, more.1))
+      ]
+
+  abbrev SpellsSegment : Segment → List Lexeme → List Lexeme → Type 0
+  SpellsSegment x ts rest = (a : List Lexeme) × SpellsLabel x.at x.label ts a × SpellsStmts x.stmts d a rest × HasNoDeclaration x.stmts
+
+  segment_sound : (x : Segment) (ts rest : List Lexeme) → segment_of d below ts ≡ Some (x, rest) → SpellsSegment x ts rest
+  unfolding segment_of
+  segment_sound x ts rest e =
+      let q1 = bind_some (label_of ts) _ (x, rest) e in
+      let q2 = bind_some (stmts_of (segment_stmt_of d below) (length q1.0.1) q1.0.1) _ (x, rest) q1.2 in
+      let body = segment_stmts_sound (length q1.0.1) q2.0.0 q1.0.1 q2.0.1 q2.1 in
+      subst (λ (y : Segment × List Lexeme). SpellsSegment y.0 ts y.1) (same_Some (record { at = q1.0.0.0; label = q1.0.0.1; stmts = q2.0.0 }, q2.0.1) (x, rest) q2.2)
+      (q1.0.1, label_sound q1.0.0 ts q1.0.1 q1.1, body.0, body.1)
+
+  segments_sound : (n : ℕ) (xs : ParsedSegments) (ts rest : List Lexeme) → segments_of (segment_of d below) n ts ≡ Some (xs, rest) → SpellsSegments xs d ts rest × (label_count xs ≤ n)
+  unfolding segments_of
+  segments_sound zero xs ts rest e =
+      subst (λ (y : ParsedSegments × List Lexeme). SpellsSegments y.0 d ts y.1 × (label_count y.0 ≤ 0)) (same_Some (ParsedNoMore, ts) (xs, rest) e) (refl, omega arith)
+  segments_sound (suc n) xs ts rest e =
+      elim (which (begins mark.RightBrace ts) _ _ (Some (xs, rest)) e) [
+        | inl p ↦ subst (λ (y : ParsedSegments × List Lexeme). SpellsSegments y.0 d ts y.1 × (label_count y.0 ≤ suc n)) (same_Some (ParsedNoMore, ts) (xs, rest) p.1) (refl, omega arith)
+        | inr p ↦
+            let q1 = bind_some (segment_of d below ts) _ (xs, rest) p.1 in
+            let q2 = bind_some (segments_of (segment_of d below) n q1.0.1) _ (xs, rest) q1.2 in
+            let first = segment_sound q1.0.0 ts q1.0.1 q1.1 in
+            let more = segments_sound n q2.0.0 q1.0.1 q2.0.1 q2.1 in
+            subst (λ (y : ParsedSegments × List Lexeme). SpellsSegments y.0 d ts y.1 × (label_count y.0 ≤ suc n))
+            (same_Some (ParsedSegment q1.0.0.at q1.0.0.label q1.0.0.stmts q2.0.0, q2.0.1) (xs, rest) q2.2)
+            ((first.0, q1.0.1, first.1, first.2, first.3, more.0), one_more n (label_count q2.0.0) more.1)
+      ]
+
 pub within_sound : (d : ℕ) (below : Option Below) → IsSound d below → Inside d (within d below)
-within_sound d below sound = record { stmt = stmt_sound d below sound; stmts = λ xs ts rest e. stmts_sound d below sound (length ts) xs ts rest e }
+within_sound d below sound = record {
+  stmt = stmt_sound d below sound;
+  stmts = λ xs ts rest e. stmts_sound d below sound (length ts) xs ts rest e;
+  segments = segments_sound d below sound max_labels;
+}
 
 pub parsers_sound : (d : ℕ) → IsSound d (parsers d)
 unfolding parsers

@@ -4,24 +4,36 @@ ghost use Rattle.ispc_lexer.specs.Views.{sort_of, lexemes_of};
 ghost use Rattle.ispc_parser_words.specs.Front as front;
 ghost use Rattle.ispc_parser_words.specs.Front.{Gives};
 ghost use Rattle.source_tree.specs.Expressions.{expr_view};
-ghost use Rattle.source_tree.specs.Tree.{stmt_view, stmts_view};
+ghost use Rattle.source_tree.specs.Tree.{stmt_view, stmts_view, segments_view};
 ghost use Rattle.ispc_parser_front.specs.Front.{ended_of};
 ghost use Rattle.ispc_parser_parts.specs.Parts.{declaration_of, simple_of};
 ghost use Rattle.ispc_parser_statements.specs.Statements as spec;
-ghost use Rattle.ispc_parser_statements.specs.Statements.{within, parsers};
+ghost use Rattle.ispc_parser_statements.specs.Statements.{within, parsers, segment_view};
+ghost use Rattle.gang_model.specs.Source.SpellsStatements.{max_labels};
+ghost use Rattle.ispc_parser_front.specs.Refusals.{IsRefusal};
 
 use gang_model::{Mark, RefusalNumber};
 use gang_types::Place;
 use ispc_lexer::{Kind, Token};
 use ispc_parser_front::{
     Context, Loop, Opening, Plain, Read, block_of, closed, do_while, ended, if_else, if_then,
-    opening_of, push, refused_at, take_at, with_rest,
+    opening_of, push, refused_at, switch_of, take_at, with_rest,
 };
-use ispc_parser_heads::{head_of, optional, test};
+use ispc_parser_heads::{begins_label, head_of, label, optional, test};
 use ispc_parser_parts::{declaration, simple};
-use ispc_parser_words::{begins, begins_word, take, unexpected};
+use ispc_parser_words::{after, begins, begins_word, take, unexpected};
 use source_answers::SourceFault;
-use source_tree::{Expr, Stmt};
+use source_tree::{Expr, Segment, Stmt};
+
+/// How many labels a `switch` may have.
+const MAX_LABELS: usize = 256;
+
+/// What a list of statements stands in.
+#[derive(Clone, Copy, Drop)]
+enum Holder {
+    Block,
+    Segment,
+}
 
 // ---- statements that hold no other one
 
@@ -144,7 +156,7 @@ fn block(context: Context, depth: u32, tokens: &[Token]) -> Read<'_, Box<Stmt>>
 {
     let rest = take(Mark::LeftBrace, tokens, context.end)?;
     let inner = inside_block(depth, tokens, context.end)?;
-    let (stmts, rest) = stmts(context, inner, rest)?;
+    let (stmts, rest) = held(context, inner, Holder::Block, rest)?;
     closed(context, Mark::RightBrace, block_of(stmts), rest)
 }
 
@@ -194,6 +206,42 @@ fn if_stmt(context: Context, depth: u32, place: Place, tokens: &[Token]) -> Read
     }
     let (other, rest) = else_body(context, depth, rest)?;
     if_else(context.alloc, place, test, first, other, rest)
+}
+
+/// The refusal of what stands in place of the `}` that closes a `switch`.
+fn too_many(tokens: &[Token], end: Place) -> SourceFault
+    ensures { IsRefusal result }
+{
+    if begins_label(tokens) {
+        refused_at(RefusalNumber::S13, tokens, end)
+    } else {
+        unexpected(tokens, end)
+    }
+}
+
+/// The tokens after the `}` that closes a `switch`, behind as many labels as it may have.
+fn close_switch(tokens: &[Token], end: Place) -> Result<&[Token], SourceFault>
+    ensures { Gives (λ rest. lexemes_of rest.now) result (front.take Mark.RightBrace (lexemes_of tokens.now)) }
+{
+    match after(Mark::RightBrace, tokens) {
+        Some(rest) => Ok(rest),
+        None => Err(too_many(tokens, end)),
+    }
+}
+
+/// Behind `switch`, which stands at this place.
+#[cycle(statement)]
+#[tactic(auto, unfolding(crate::specs::Statements::switch_of))]
+fn switch_stmt(context: Context, depth: u32, place: Place, tokens: &[Token]) -> Read<'_, Box<Stmt>>
+    ensures { Gives (λ x. (stmt_view x.0.value, lexemes_of x.1.now)) result
+        (spec.switch_of depth (parsers depth) place (lexemes_of tokens.now)) }
+{
+    let (selector, opened) = test(context, depth, tokens)?;
+    let rest = take(Mark::LeftBrace, opened, context.end)?;
+    let inner = inside_block(depth, opened, context.end)?;
+    let (segments, rest) = segments(context, inner, rest)?;
+    let rest = close_switch(rest, context.end)?;
+    with_rest(context.alloc, switch_of(place, selector, segments), rest)
 }
 
 /// `while ( e ) ;` behind the body of a `do`: the place of its word, and the test.
@@ -255,6 +303,7 @@ fn opened_stmt<'a>(
         Opening::Plain(word) => plain_stmt(context, depth, word, place, tokens, rest),
         Opening::Block => block(context, depth, tokens),
         Opening::If => if_stmt(context, depth, place, rest),
+        Opening::Switch => switch_stmt(context, depth, place, rest),
         Opening::Do => do_stmt(context, depth, rest),
         Opening::Loop(word) => loop_stmt(context, depth, word, place, rest),
     }
@@ -287,38 +336,99 @@ fn stmt(context: Context, depth: u32, tokens: &[Token]) -> Read<'_, Box<Stmt>>
     }
 }
 
-fn ends_block(tokens: &[Token]) -> bool
-    ensures { result ≡ spec.ends_block (lexemes_of tokens.now) }
+/// Whether a list of statements ends here.
+fn ends_stmts(tokens: &[Token]) -> bool
+    ensures { result ≡ spec.ends_stmts (lexemes_of tokens.now) }
 {
     match tokens {
         [] => true,
         [first, ..] => match first.kind {
-            Kind::Mark(mark) => mark == Mark::RightBrace,
+            Kind::Mark(mark) => mark == Mark::RightBrace
+                || mark == Mark::Case
+                || mark == Mark::Default,
             _ => false,
         },
     }
 }
 
-/// The statements up to a `}` or the end, with so many nestings left.
-///
-/// # Errors
-///
-/// S3 at the first token that nothing goes on with there, or at the end; S4 at the token that opens a nesting too many; S13 at the
-/// fourth dimension, or at the 257th operator, call or indexing of an expression. Out of memory.
+/// A statement in a block or in a segment.
 #[cycle(statement)]
-pub fn stmts(context: Context, depth: u32, tokens: &[Token]) -> Read<'_, Vec<Stmt>>
+#[tactic(auto, unfolding(crate::specs::Statements::segment_stmt_of))]
+fn one(context: Context, depth: u32, holder: Holder, tokens: &[Token]) -> Read<'_, Box<Stmt>>
+    ensures { Gives (λ x. (stmt_view x.0.value, lexemes_of x.1.now)) result
+        (spec.one_of holder depth (parsers depth) (lexemes_of tokens.now)) }
+{
+    match holder {
+        Holder::Block => stmt(context, depth, tokens),
+        Holder::Segment => {
+            if begins_word(tokens) {
+                return Err(unexpected(tokens, context.end));
+            }
+            stmt(context, depth, tokens)
+        }
+    }
+}
+
+/// The statements up to a `}`, a label or the end.
+#[cycle(statement)]
+fn held(context: Context, depth: u32, holder: Holder, tokens: &[Token]) -> Read<'_, Vec<Stmt>>
     ensures { Gives (λ x. (stmts_view x.0.items, lexemes_of x.1.now)) result
-        ((within depth (parsers depth)).stmts (lexemes_of tokens.now)) }
+        (spec.held_of holder depth (parsers depth) (lexemes_of tokens.now)) }
 {
     let mut stmts = Vec::new(context.alloc);
     let mut rest = tokens;
     for _ in 0..tokens.len() {
-        if ends_block(rest) {
+        if ends_stmts(rest) {
             return Ok((stmts, rest));
         }
-        let (stmt, after) = stmt(context, depth, rest)?;
+        let (stmt, next) = one(context, depth, holder, rest)?;
         push(&mut stmts, stmt)?;
-        rest = after;
+        rest = next;
     }
     Ok((stmts, rest))
+}
+
+/// A label and the statements up to the next one.
+#[cycle(statement)]
+#[tactic(auto, unfolding(crate::specs::Statements::segment_of))]
+fn segment(context: Context, depth: u32, tokens: &[Token]) -> Read<'_, Segment>
+    ensures { Gives (λ x. (segment_view x.0, lexemes_of x.1.now)) result
+        (spec.segment_of depth (parsers depth) (lexemes_of tokens.now)) }
+{
+    let ((place, label), rest) = label(tokens, context.end)?;
+    let (body, rest) = held(context, depth, Holder::Segment, rest)?;
+    let segment = Segment { place, label, body };
+    Ok((segment, rest))
+}
+
+/// The segments of a `switch` up to its `}`, at most as many as it may have labels.
+#[cycle(statement)]
+fn segments(context: Context, depth: u32, tokens: &[Token]) -> Read<'_, Vec<Segment>>
+    ensures { Gives (λ x. (segments_view x.0.items, lexemes_of x.1.now)) result
+        (spec.segments_of (spec.segment_of depth (parsers depth)) max_labels (lexemes_of tokens.now)) }
+{
+    let mut segments = Vec::new(context.alloc);
+    let mut rest = tokens;
+    for _ in 0..MAX_LABELS {
+        if begins(Mark::RightBrace, rest) {
+            return Ok((segments, rest));
+        }
+        let (segment, next) = segment(context, depth, rest)?;
+        segments.push(segment)?;
+        rest = next;
+    }
+    Ok((segments, rest))
+}
+
+/// The statements up to a `}`, a label or the end, with so many nestings left.
+///
+/// # Errors
+///
+/// S3 at the first token that nothing goes on with there, or at the end; S4 at the token that opens a nesting too many; S13 at the
+/// fourth dimension, at the 257th label of a `switch`, or at the 257th operator, call or indexing of an expression. Out of memory.
+pub fn stmts(context: Context, depth: u32, tokens: &[Token]) -> Read<'_, Vec<Stmt>>
+    ensures { Gives (λ x. (stmts_view x.0.items, lexemes_of x.1.now)) result
+        ((within depth (parsers depth)).stmts (lexemes_of tokens.now)) }
+{
+    held(context, depth, Holder::Block, tokens)
 }

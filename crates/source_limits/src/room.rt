@@ -1,11 +1,11 @@
 //! How many variables a function has room for, walked in the order of the source.
 ghost use Rattle.std.specs.Prelude.{◌≡◌, [], ◌∷◌, map};
 ghost use Rattle.gang_model.specs.Source.Limits as limits;
-ghost use Rattle.source_tree.specs.Tree.{stmt_view, stmts_view, function_view, dim_view, param_view};
+ghost use Rattle.source_tree.specs.Tree.{stmt_view, stmts_view, segments_view, function_view, dim_view, param_view};
 ghost use Rattle.source_limits.specs.Room.{room_after};
 
 use gang_types::Place;
-use source_tree::{Dim, Function, Param, Stmt};
+use source_tree::{Dim, Function, Param, Segment, Stmt};
 
 /// The room after one variable.
 fn after_name(place: Place, room: usize) -> Result<usize, Place>
@@ -68,6 +68,7 @@ fn after_statement(stmt: &Stmt, room: usize) -> Result<usize, Place>
             let room = after_statement(update, room)?;
             after_statement(body, room)
         }
+        Stmt::Switch { segments, .. } => after_segments(segments, room),
         Stmt::ForEach { dims, body, .. } => {
             let room = after_dims(dims, room)?;
             after_statement(body, room)
@@ -95,6 +96,17 @@ fn after_statements(stmts: &[Stmt], room: usize) -> Result<usize, Place>
     let mut room = room;
     for stmt in stmts {
         room = after_statement(stmt, room)?;
+    }
+    Ok(room)
+}
+
+#[cycle(statement)]
+fn after_segments(segments: &[Segment], room: usize) -> Result<usize, Place>
+    ensures { result ≡ room_after room (limits.declared_in_segments (segments_view segments.now)) }
+{
+    let mut room = room;
+    for segment in segments {
+        room = after_statements(&segment.body, room)?;
     }
     Ok(room)
 }

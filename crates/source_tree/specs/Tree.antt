@@ -1,7 +1,7 @@
 -- Trees, without where they lie in memory.
 use Rattle.std.specs.Prelude.{List, [], ◌∷◌, map, option_map}
 use Rattle.gang_types.specs.declared.places.Place.{Place}
-use Rattle.gang_model.specs.Source.Parsed.{ParsedExpr, ParsedDim, ParsedTarget, ParsedStmt, ParsedEmpty, ParsedBlock, ParsedDeclare, ParsedAssign, ParsedChange, ParsedIncrement, ParsedDoCall, ParsedBreak, ParsedContinue, ParsedReturn, ParsedIf, ParsedIfElse, ParsedWhile, ParsedDo, ParsedFor, ParsedForEach, ParsedForEachActive, ParsedForEachUnique, ParsedStmts, ParsedLast, ParsedNext, ParsedParam, ParsedFunction, ParsedGlobal, ParsedItem, ParsedFunctionItem, ParsedGlobalItem, ParsedSource}
+use Rattle.gang_model.specs.Source.Parsed.{ParsedExpr, ParsedDim, ParsedTarget, ParsedStmt, ParsedEmpty, ParsedBlock, ParsedDeclare, ParsedAssign, ParsedChange, ParsedIncrement, ParsedDoCall, ParsedBreak, ParsedContinue, ParsedReturn, ParsedIf, ParsedIfElse, ParsedWhile, ParsedDo, ParsedFor, ParsedSwitch, ParsedForEach, ParsedForEachActive, ParsedForEachUnique, ParsedStmts, ParsedLast, ParsedNext, ParsedSegments, ParsedNoMore, ParsedSegment, ParsedParam, ParsedFunction, ParsedGlobal, ParsedItem, ParsedFunctionItem, ParsedGlobalItem, ParsedSource}
 use Rattle.source_tree.specs.Expressions.{expr_view, args_view}
 use Rattle.source_tree.specs.declared.tree.Tree.{Tree}
 use Rattle.source_tree.specs.declared.tree.Item.{Item}
@@ -11,7 +11,8 @@ use Rattle.source_tree.specs.declared.tree.Param.{Param}
 use Rattle.source_tree.specs.declared.tree.GlobalVariable.{GlobalVariable}
 use Rattle.source_tree.specs.declared.tree.Target.{Target}
 use Rattle.source_tree.specs.declared.tree.Dim.{Dim}
-use Rattle.source_tree.specs.declared.tree.Stmt.{Stmt, Empty, Block', Declare, Assign, Change, Increment, Call, Break, Continue, Return, If', While', Do', For', ForEach', ForEachActive', ForEachUnique', Held-Stmt-If-3, None', Some', Row_of-Stmt, end_of-Stmt, more_of-Stmt}
+use Rattle.source_tree.specs.declared.tree.Stmt.{Stmt, Empty, Block', Declare, Assign, Change, Increment, Call, Break, Continue, Return, If', While', Do', For', Switch', ForEach', ForEachActive', ForEachUnique', Held-Stmt-If-3, None', Some', Row_of-Stmt, end_of-Stmt, more_of-Stmt, Row_of-Segment, end_of-Segment, more_of-Segment}
+use Rattle.source_tree.specs.declared.tree.Segment.{Segment}
 
 abbrev pub target_view : Target → ParsedTarget
 target_view t = record { at = t.place; name = t.name.items; index = option_map expr_view t.index }
@@ -35,6 +36,7 @@ abbrev mutual
   stmt_view (While' at e p x) = ParsedWhile at (expr_view e) (stmt_view x)
   stmt_view (Do' p x at e) = ParsedDo (stmt_view x) at (expr_view e)
   stmt_view (For' at p start test q update r x) = ParsedFor at (stmt_view start) (option_map expr_view test) (stmt_view update) (stmt_view x)
+  stmt_view (Switch' at e shape segments) = ParsedSwitch at (expr_view e) (segment_row_view segments)
   stmt_view (ForEach' at is_tiled dims p x) = ParsedForEach at is_tiled (map dim_view dims.items) (stmt_view x)
   stmt_view (ForEachActive' at name_at name p x) = ParsedForEachActive at name_at name.items (stmt_view x)
   stmt_view (ForEachUnique' at name_at name e p x) = ParsedForEachUnique at name_at name.items (expr_view e) (stmt_view x)
@@ -47,9 +49,21 @@ abbrev mutual
   row_view end_of-Stmt = ParsedLast
   row_view (more_of-Stmt s ss) = ParsedNext (stmt_view s) (row_view ss)
 
+  pub segment_row_view : {n : _} → Row_of-Segment n → ParsedSegments
+  segment_row_view end_of-Segment = ParsedNoMore
+  segment_row_view (more_of-Segment at label shape ss segments) = ParsedSegment at label (row_view ss) (segment_row_view segments)
+
 abbrev pub stmts_view : List Stmt → ParsedStmts
 stmts_view [] = ParsedLast
 stmts_view (s ∷ ss) = ParsedNext (stmt_view s) (stmts_view ss)
+
+-- a segment, and those after it
+abbrev pub with_segment : Segment → ParsedSegments → ParsedSegments
+with_segment s segments = ParsedSegment s.place s.label (stmts_view s.body.items) segments
+
+abbrev pub segments_view : List Segment → ParsedSegments
+segments_view [] = ParsedNoMore
+segments_view (s ∷ segments) = with_segment s (segments_view segments)
 
 abbrev pub param_view : Param → ParsedParam
 param_view p = record { at = p.place; name = p.name.items; spec = p.spec; is_array = p.is_array }

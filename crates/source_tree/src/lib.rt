@@ -5,4 +5,4 @@ mod expressions;
 mod tree;
 
 pub use expressions::{Arg, Expr};
-pub use tree::{Dim, Function, GlobalVariable, Item, Param, Stmt, Target, Tree};
+pub use tree::{Dim, Function, GlobalVariable, Item, Param, Segment, Stmt, Target, Tree};

@@ -1,7 +1,7 @@
 //! The tree of a source.
 
 use crate::expressions::{Arg, Expr};
-use gang_model::{GlobalForm, Spec};
+use gang_model::{GlobalForm, Label, Spec};
 use gang_types::{BinaryOp, Place};
 
 /// The functions and file-scope variables of a source, in order.
@@ -127,6 +127,7 @@ impl Drop for Dim {
 }
 
 /// A statement. Its place is that of its first token, and that of `do` is its `while`.
+#[cycle(statement)]
 pub enum Stmt {
     Empty,
     Block(Vec<Stmt>),
@@ -194,6 +195,11 @@ pub enum Stmt {
         update: Box<Stmt>,
         body: Box<Stmt>,
     },
+    Switch {
+        place: Place,
+        selector: Expr,
+        segments: Vec<Segment>,
+    },
     ForEach {
         place: Place,
         is_tiled: bool,
@@ -216,6 +222,7 @@ pub enum Stmt {
 }
 
 impl Drop for Stmt {
+    #[cycle(statement)]
     fn drop(self) {
         match self {
             Stmt::Empty
@@ -274,6 +281,11 @@ impl Drop for Stmt {
                 update: _,
                 body: _,
             }
+            | Stmt::Switch {
+                place: _,
+                selector: _,
+                segments: _,
+            }
             | Stmt::ForEach {
                 place: _,
                 is_tiled: _,
@@ -294,5 +306,24 @@ impl Drop for Stmt {
                 body: _,
             } => {}
         }
+    }
+}
+
+/// A label of a `switch`, `None` for `default`, and the statements up to the next one.
+#[cycle(statement)]
+pub struct Segment {
+    pub place: Place,
+    pub label: Option<Label>,
+    pub body: Vec<Stmt>,
+}
+
+impl Drop for Segment {
+    #[cycle(statement)]
+    fn drop(self) {
+        let Self {
+            place: _,
+            label: _,
+            body: _,
+        } = self;
     }
 }

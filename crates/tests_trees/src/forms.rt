@@ -1,9 +1,9 @@
 //! Sources that have a tree.
 
 use crate::reading::{body, read};
-use gang_model::{GlobalForm, Literal, Spec};
+use gang_model::{GlobalForm, Label, Literal, Spec};
 use gang_types::{BinaryOp, IntType, Place, Rate};
-use source_tree::{Item, Stmt};
+use source_tree::{Item, Segment, Stmt};
 use std::test::*;
 
 #[test]
@@ -21,12 +21,13 @@ fn every_form_is_read(rt: HostRuntime) -> Result<(), Fail> {
             foreach (i = 0 ... 4) ; foreach_tiled (i = 0 ... 4, j = 1 ... 2, k = 1 ... 3) { }
             foreach_active (i) x = 1;
             foreach_unique (v in x + 1) x = v;
+            switch (x) { }
             return;
         }";
     let tree = read(rt.alloc(), source)?;
     assert_eq!(rt; tree.items.len(), 6);
     let go = body(&tree, 5).ok_or("no function")?;
-    assert_eq!(rt; go.len(), 22);
+    assert_eq!(rt; go.len(), 23);
     assert_eq!(rt; read(rt.alloc(), "")?.items.len(), 0);
     Ok(())
 }
@@ -154,5 +155,73 @@ fn places_and_operators(rt: HostRuntime) -> Result<(), Fail> {
         }
         _ => return Err("other statements")?,
     }
+    Ok(())
+}
+
+/// The segments of a `switch`.
+fn segments(stmt: &Stmt) -> Option<&[Segment]> {
+    match stmt {
+        Stmt::Switch { segments, .. } => Some(segments),
+        _ => None,
+    }
+}
+
+/// What stands at a label: its column in the first line, its number, and how many statements.
+fn shown(segment: &Segment) -> (u32, Option<Label>, usize) {
+    (segment.place.col, segment.label, segment.body.len())
+}
+
+#[test]
+fn segments_begin_at_their_labels(rt: HostRuntime) -> Result<(), Fail> {
+    let tree = read(
+        rt.alloc(),
+        "void f() { switch (1) { default: case -2ul: ; ; case 0x10: { int x; } break; case -0: } }",
+    )?;
+    let stmts = body(&tree, 0).ok_or("no function")?;
+    let segments = segments(stmts.first().ok_or("no statement")?).ok_or("no switch")?;
+    match segments {
+        [first, second, third, last] => {
+            assert_eq!(rt; shown(first), (25, None, 0));
+            let label = |is_negative, value| Some(Label { is_negative, value });
+            assert_eq!(rt; shown(second), (34, label(true, 2), 2));
+            assert_eq!(rt; shown(third), (49, label(false, 16), 2));
+            assert_eq!(rt; shown(last), (78, label(true, 0), 0));
+        }
+        _ => return Err("other segments")?,
+    }
+    Ok(())
+}
+
+#[test]
+fn default_stands_anywhere(rt: HostRuntime) -> Result<(), Fail> {
+    for (labels, place) in [
+        ("default: x = 1; case 1: case 2: ;", 0),
+        ("case 1: x = 1; default: break; case 2: ;", 1),
+        ("case 1: ; case 2: x = 1; default:", 2),
+    ] {
+        let source = format!(in rt.alloc(); "void f() {{ switch (x) {{ {labels} }} }}")?;
+        let tree = read(rt.alloc(), &source)?;
+        let stmts = body(&tree, 0).ok_or("no function")?;
+        let segments = segments(stmts.first().ok_or("no statement")?).ok_or("no switch")?;
+        assert_eq!(rt; segments.len(), 3);
+        let default = segments.iter().position(|segment| segment.label.is_none());
+        assert_eq!(rt; default, Some(place), "{labels}");
+    }
+    Ok(())
+}
+
+#[test]
+fn a_label_belongs_to_the_innermost_switch(rt: HostRuntime) -> Result<(), Fail> {
+    let tree = read(
+        rt.alloc(),
+        "void f() { switch (1) { case 1: switch (2) { default: ; case 2: ; } x = 1; case 3: } }",
+    )?;
+    let stmts = body(&tree, 0).ok_or("no function")?;
+    let outer = segments(stmts.first().ok_or("no statement")?).ok_or("no switch")?;
+    assert_eq!(rt; outer.len(), 2);
+    let first = outer.first().ok_or("no segment")?;
+    assert_eq!(rt; first.body.len(), 2);
+    let inner = segments(first.body.first().ok_or("no statement")?).ok_or("no switch")?;
+    assert_eq!(rt; inner.len(), 2);
     Ok(())
 }

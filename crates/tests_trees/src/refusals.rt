@@ -44,7 +44,6 @@ fn stand_in_a_function(rt: HostRuntime) -> Result<(), Fail> {
         ("int int static x; }", 24),
         ("const export int x; }", 26),
         ("else x = 1; }", 20),
-        ("switch (1) { } }", 20),
         ("case 1: x = 1; }", 20),
         ("1 = x; }", 20),
         ("f(x) = 1; }", 25),
@@ -66,6 +65,73 @@ fn stand_in_a_function(rt: HostRuntime) -> Result<(), Fail> {
     ] {
         let source = format!(in rt.alloc(); "export void go() {{ {statement}")?;
         assert!(rt; is_refused(rt.alloc(), &source, S3, 1, col), "{statement}");
+    }
+    Ok(())
+}
+
+#[test]
+fn stand_in_a_switch(rt: HostRuntime) -> Result<(), Fail> {
+    for (statement, col) in [
+        ("default: ; }", 20),
+        ("switch 1 { } }", 27),
+        ("switch (1) case 1: ; }", 31),
+        ("switch (1) { x = 1; } }", 33),
+        ("switch (1) { int x; } }", 33),
+        ("switch (1) { case 1: int x; } }", 41),
+        ("switch (1) { case 1: ; const int x = 1; } }", 43),
+        ("switch (1) { case 1 ; } }", 40),
+        ("switch (1) { case x: ; } }", 38),
+        ("switch (1) { case true: ; } }", 38),
+        ("switch (1) { case -: ; } }", 39),
+        ("switch (1) { case - -1: ; } }", 40),
+        ("switch (1) { case 1 + 1: ; } }", 40),
+        ("switch (1) { default 1: ; } }", 41),
+        ("switch (1) { case 1: { case 2: ; } } }", 43),
+        ("switch (1) { case 1: if (1) default: ; } }", 48),
+        ("switch (1) { case 1: ; ) } }", 43),
+        ("switch (1) { case 1: ; ", 43),
+    ] {
+        let source = format!(in rt.alloc(); "export void go() {{ {statement}")?;
+        assert!(rt; is_refused(rt.alloc(), &source, S3, 1, col), "{statement}");
+    }
+    Ok(())
+}
+
+#[test]
+fn nestings_of_switches_end_at_64(rt: HostRuntime) -> Result<(), Fail> {
+    let opened = "switch (1) { case 1: ".repeat(rt.alloc(), 63)?;
+    let closed = "} ".repeat(rt.alloc(), 63)?;
+    let source = format!(in rt.alloc(); "export void go() {{ {opened}x = 1; {closed}}}")?;
+    let _tree = read(rt.alloc(), &source)?;
+    // The parenthesis of one more opens the 65th nesting, and so does a block.
+    let source = format!(in rt.alloc(); "export void go() {{ {opened}switch (1) ")?;
+    assert!(rt; is_refused(rt.alloc(), &source, S4, 1, 1350));
+    let source = format!(in rt.alloc(); "export void go() {{ {opened}{{ ")?;
+    assert!(rt; is_refused(rt.alloc(), &source, S4, 1, 1343));
+    // A body that is a `switch` is a nesting.
+    let words = "do ".repeat(rt.alloc(), 64)?;
+    let source = format!(in rt.alloc(); "export void go() {{ {words}switch (1) ")?;
+    assert!(rt; is_refused(rt.alloc(), &source, S4, 1, 212));
+    Ok(())
+}
+
+#[test]
+fn labels_of_a_switch_end_at_256(rt: HostRuntime) -> Result<(), Fail> {
+    let labels = "case 0: ".repeat(rt.alloc(), 256)?;
+    // A `switch` in a `switch` has labels of its own.
+    for inside in ["", "; ", "switch (1) { case 0: case 1: } "] {
+        let source = format!(in rt.alloc();
+            "export void go() {{ switch (1) {{ {labels}{inside}}} }}"
+        )?;
+        let _tree = read(rt.alloc(), &source)?;
+    }
+    for label in ["case 0: } }", "default: } }", "case", "default"] {
+        let source = format!(in rt.alloc(); "export void go() {{ switch (1) {{ {labels}{label}")?;
+        assert!(rt; is_refused(rt.alloc(), &source, S13, 1, 2081), "{label}");
+    }
+    for other in ["int x; } }", ") } }", ""] {
+        let source = format!(in rt.alloc(); "export void go() {{ switch (1) {{ {labels}{other}")?;
+        assert!(rt; is_refused(rt.alloc(), &source, S3, 1, 2081), "{other}");
     }
     Ok(())
 }

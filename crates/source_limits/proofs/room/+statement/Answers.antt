@@ -2,7 +2,7 @@ use Rattle.std.proofs.Common.{◌∙◌, ◌+◌, ◌∷◌, drop, sym, ap}
 use Rattle.std.proofs.lemmas.List.{drop_more}
 use Rattle.std.proofs.lemmas.Result.{err_from_is_err_and}
 use Rattle.source_tree.specs.declared.tree.Stmt.{If}
-use Rattle.source_limits.proofs.StmtRooms.{in_block, in_if, in_for, in_for_each, next_room, stop_room}
+use Rattle.source_limits.proofs.StmtRooms.{in_block, in_if, in_for, in_switch, in_for_each, next_room, stop_room, next_segment, stop_segment}
 use Rattle.source_limits.proofs.room.+statement.Goals as goal
 
 pub after_statement-returns-in-Block : goal.after_statement-returns-in-Block
@@ -42,3 +42,26 @@ after_statements-loop-stmt-preserved t c =
     c.loop-stmt.invariant
     ∙ next_room (drop i items) (drop (i + 1) items) c.stmt-item.result c.loop-stmt.room c.in_ok-room.room
     (drop_more items i c.stmt-item.result c.loop-stmt-test.true ∙ ap (λ x. x ∷ drop (i + 1) items) (sym c.stmt-item.is)) c.in_ok-room.ensures
+
+pub after_statement-returns-in-Switch : goal.after_statement-returns-in-Switch
+after_statement-returns-in-Switch t c =
+    in_switch c.args.stmt.now c.in-Switch.place c.in-Switch.selector c.in-Switch.segments c.deref-in-Switch.result.now c.args.room c.after_segments.result c.in-Switch.is c.deref-in-Switch.ensures.value
+    c.after_segments.ensures
+
+pub after_segments-returns-in_err-room : goal.after_segments-returns-in_err-room
+after_segments-returns-in_err-room t c =
+    let items = c.args.segments.now in
+    let i = c.loop-segment.segment-index in
+    let p = err_from_is_err_and c.from_residual.result c.from_residual.ensures.1 in
+    rw (p.1, p.2)
+    (stop_segment (drop i items) (drop (i + 1) items) c.segment-item.result c.deref.result.now c.loop-segment.room c.in_err-room.field-0.0
+    (drop_more items i c.segment-item.result c.loop-segment-test.true ∙ ap (λ x. x ∷ drop (i + 1) items) (sym c.segment-item.is)) c.deref.ensures.value c.in_err-room.ensures
+    ∙ sym c.loop-segment.invariant)
+
+pub after_segments-loop-segment-preserved : goal.after_segments-loop-segment-preserved
+after_segments-loop-segment-preserved t c =
+    let items = c.args.segments.now in
+    let i = c.loop-segment.segment-index in
+    c.loop-segment.invariant
+    ∙ next_segment (drop i items) (drop (i + 1) items) c.segment-item.result c.deref.result.now c.loop-segment.room c.in_ok-room.room
+    (drop_more items i c.segment-item.result c.loop-segment-test.true ∙ ap (λ x. x ∷ drop (i + 1) items) (sym c.segment-item.is)) c.deref.ensures.value c.in_ok-room.ensures
