@@ -1,2 +1,3 @@
 pub mod ScopeSteps
 pub mod Found
+pub mod Segments

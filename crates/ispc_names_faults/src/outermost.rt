@@ -4,38 +4,16 @@ ghost use Rattle.std.specs.List.{flat_map};
 ghost use Rattle.gang_model.specs.Source.Judged.{least_fault};
 ghost use Rattle.gang_model.specs.Types.LibraryTable as table;
 ghost use Rattle.gang_model.specs.Names.NameFaults as names;
-ghost use Rattle.gang_model.specs.Names.Scope as scope;
-ghost use Rattle.ispc_names_scopes.specs.Scopes.{site};
-ghost use Rattle.source_tree.specs.Tree.{function_view, stmts_view};
-ghost use Rattle.ispc_names_parts.specs.MayStand.{allowed_view};
+ghost use Rattle.source_tree.specs.Tree.{function_view};
 
-use crate::statements::statement_fault;
+use crate::statements::body_fault;
 use gang_model::{RefusalNumber, SourceRefusal};
 use ispc_names_declarations::params_fault;
-use ispc_names_parts::{Allowed, in_function};
+use ispc_names_parts::in_function;
 use ispc_names_scopes::{FunctionNames, Scopes, is_library_name, statement_call};
 use source_answers::{fault_if, least};
-use source_tree::{Function, Stmt};
+use source_tree::Function;
 use std::alloc::{AllocError, Global};
-
-/// The first fault of names in statements, each after those before it, in the present scope.
-fn body_fault(
-    alloc: Global,
-    stmts: &[Stmt],
-    may: Allowed,
-    functions: &FunctionNames,
-    scopes: &mut Scopes,
-) -> Result<Option<SourceRefusal>, AllocError>
-    ensures fault { IfOk result (λ fault. fault ≡ least_fault (names.stmts_names (stmts_view stmts.now) (allowed_view functions.now may) (site scopes.old))) }
-    ensures after { OnOk result (site scopes.new ≡ scope.after_all (stmts_view stmts.now) (site scopes.old)) }
-    ensures outside { OnOk result (scopes.new.outside ≡ scopes.old.outside) }
-{
-    let mut first = None;
-    for stmt in stmts {
-        first = least(first, statement_fault(alloc, stmt, may, functions, scopes)?);
-    }
-    Ok(first)
-}
 
 /// Whether a name is the library's.
 fn is_of_library(name: &[u8]) -> bool

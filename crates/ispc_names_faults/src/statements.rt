@@ -1,5 +1,5 @@
 //! The faults of names in statements.
-ghost use Rattle.std.specs.Prelude.{◌≡◌, ◌++◌, ◌+◌, Bool, IfOk, OnOk, length, map, option_map};
+ghost use Rattle.std.specs.Prelude.{◌≡◌, [], ◌++◌, ◌+◌, Bool, IfOk, OnOk, length, map, option_map};
 ghost use Rattle.gang_types.specs.declared.places.Place.{Place};
 ghost use Rattle.gang_model.specs.Source.Judged.{least_fault};
 ghost use Rattle.gang_model.specs.Names.NameFaults as names;
@@ -7,19 +7,19 @@ ghost use Rattle.gang_model.specs.Source.Parsed.{ParsedFor, ParsedForEach, Parse
 ghost use Rattle.gang_model.specs.Names.Scope as scope;
 ghost use Rattle.source_tree.specs.Expressions.{expr_view};
 ghost use Rattle.ispc_names_scopes.specs.Scopes.{site};
-ghost use Rattle.source_tree.specs.Tree.{dim_view, stmt_view, stmts_view};
+ghost use Rattle.source_tree.specs.Tree.{dim_view, segments_view, stmt_view, stmts_view};
 ghost use Rattle.ispc_names_parts.specs.MayStand.{allowed_view};
 ghost use Rattle.ispc_names_faults.specs.Moved.{moved};
 
 use gang_model::SourceRefusal;
 use gang_types::Place;
 use ispc_names_parts::{
-    Allowed, domain_head_fault, expression_fault, round_head_fault, simple_fault,
+    Allowed, domain_head_fault, expression_fault, label_fault, round_head_fault, simple_fault,
     some_expression_fault,
 };
 use ispc_names_scopes::{FunctionNames, Scopes};
 use source_answers::least;
-use source_tree::{Dim, Expr, Stmt};
+use source_tree::{Dim, Expr, Segment, Stmt};
 use std::alloc::{AllocError, Global};
 
 type Found = Result<Option<SourceRefusal>, AllocError>;
@@ -58,6 +58,14 @@ pub(crate) fn statement_fault(
             body,
             ..
         } => for_fault(alloc, start, update, body, test, may, functions, scopes),
+        Stmt::Switch {
+            selector,
+            segments,
+            ..
+        } => Ok(least(
+            expression_fault(selector, functions, scopes),
+            segments_fault(alloc, segments, may.in_switch(), functions, scopes)?,
+        )),
         Stmt::ForEach {
             place,
             dims,
@@ -80,7 +88,15 @@ pub(crate) fn statement_fault(
             expression_fault(value, functions, scopes),
             rounds_fault(alloc, body, *name_place, name, may, functions, scopes)?,
         )),
-        _ => simple_fault(alloc, stmt, may, functions, scopes),
+        Stmt::Empty
+        | Stmt::Declare { .. }
+        | Stmt::Assign { .. }
+        | Stmt::Change { .. }
+        | Stmt::Increment { .. }
+        | Stmt::Call { .. }
+        | Stmt::Break { .. }
+        | Stmt::Continue { .. }
+        | Stmt::Return { .. } => simple_fault(alloc, stmt, may, functions, scopes),
     }
 }
 
@@ -97,12 +113,49 @@ fn block_fault(
     ensures after { OnOk result (scopes.new ≡ moved (scope.locals_in_all (stmts_view stmts.now)) scopes.old) }
 {
     let mark = scopes.enter();
+    let fault = body_fault(alloc, stmts, may, functions, scopes)?;
+    scopes.leave(mark);
+    Ok(fault)
+}
+
+/// The first fault of names in statements, each after those before it, in the present scope.
+#[cycle(statement)]
+pub(crate) fn body_fault(
+    alloc: Global,
+    stmts: &[Stmt],
+    may: Allowed,
+    functions: &FunctionNames,
+    scopes: &mut Scopes,
+) -> Found
+    ensures fault { IfOk result (λ fault. fault ≡ least_fault (names.stmts_names (stmts_view stmts.now) (allowed_view functions.now may) (site scopes.old))) }
+    ensures after { OnOk result (site scopes.new ≡ scope.after_all (stmts_view stmts.now) (site scopes.old)) }
+    ensures outside { OnOk result (scopes.new.outside ≡ scopes.old.outside) }
+{
     let mut first = None;
-    for inner in stmts {
-        first = least(
-            first,
-            statement_fault(alloc, inner, may, functions, scopes)?,
-        );
+    for stmt in stmts {
+        first = least(first, statement_fault(alloc, stmt, may, functions, scopes)?);
+    }
+    Ok(first)
+}
+
+/// The first fault of names in the segments of a switch, which have one scope: in their labels and their statements.
+#[cycle(statement)]
+fn segments_fault(
+    alloc: Global,
+    segments: &[Segment],
+    may: Allowed,
+    functions: &FunctionNames,
+    scopes: &mut Scopes,
+) -> Found
+    ensures fault { IfOk result (λ fault. fault ≡ least_fault (names.segments_names (segments_view segments.now) [] (allowed_view functions.now may) (scope.enclosed (site scopes.old)))) }
+    ensures after { OnOk result (scopes.new ≡ moved (scope.locals_in_segments (segments_view segments.now)) scopes.old) }
+{
+    let mark = scopes.enter();
+    let mut first = None;
+    for (number, segment) in segments.iter().enumerate() {
+        let in_label = label_fault(segment.place, segment.label, &segments[..number]);
+        let in_body = body_fault(alloc, &segment.body, may, functions, scopes)?;
+        first = least(first, least(in_label, in_body));
     }
     scopes.leave(mark);
     Ok(first)

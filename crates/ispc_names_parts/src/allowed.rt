@@ -12,7 +12,7 @@ pub struct Allowed {
     pub domains: bool,
 }
 
-/// What may stand in a function, outside loops and foreach forms.
+/// What may stand in a function, outside loops, switches and foreach forms.
 pub fn in_function() -> Allowed
     ensures { (functions : List (List ℕ)) → allowed_view functions result ≡ names.in_function functions }
 {
@@ -30,8 +30,17 @@ impl Allowed {
         ensures { (functions : List (List ℕ)) → allowed_view functions result ≡ names.in_loop (allowed_view functions self) }
     {
         Allowed {
-            breaks: true,
             continues: true,
+            ..self.in_switch()
+        }
+    }
+
+    /// What may stand in a switch: `break` belongs to it, `continue` to the loop or round outside.
+    pub fn in_switch(self) -> Allowed
+        ensures { (functions : List (List ℕ)) → allowed_view functions result ≡ names.in_switch (allowed_view functions self) }
+    {
+        Allowed {
+            breaks: true,
             ..self
         }
     }

@@ -12,7 +12,7 @@ use Rattle.ispc_names_table.specs.declared.table.Declaration.{Declaration}
 use Rattle.ispc_names_steps.specs.Sites.{Declares}
 use Rattle.ispc_names_steps.proofs.Growth.{declares-join, declares-length}
 
-one_more : {A : Type 0} (xs : List A) (i : ℕ) (x : A) → i < length xs → x ≡ get_or xs i x → take (i + 1) xs ≡ take i xs ++ x ∷ []
+pub one_more : {A : Type 0} (xs : List A) (i : ℕ) (x : A) → i < length xs → x ≡ get_or xs i x → take (i + 1) xs ≡ take i xs ++ x ∷ []
 one_more xs i x lt is = take_more xs i x lt ∙ ap (λ z. take i xs ++ z ∷ []) (sym is)
 
 -- the last variable that is declared has the number of those before

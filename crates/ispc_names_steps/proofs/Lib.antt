@@ -3,3 +3,4 @@ pub mod Functions
 pub mod Growth
 pub mod Passing
 pub mod Sequences
+pub mod Segments

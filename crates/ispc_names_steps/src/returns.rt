@@ -1,9 +1,9 @@
 //! The statements that hold a `return`.
 ghost use Rattle.std.specs.Prelude.{◌≡◌, ◌≤◌, length, take};
 ghost use Rattle.gang_model.specs.Names.Scope as scope;
-ghost use Rattle.source_tree.specs.Tree.{stmt_view, stmts_view};
+ghost use Rattle.source_tree.specs.Tree.{segments_view, stmt_view, stmts_view};
 
-use source_tree::Stmt;
+use source_tree::{Segment, Stmt};
 
 /// Whether a statement holds a `return`.
 #[cycle(returning)]
@@ -29,6 +29,7 @@ fn has_return(stmt: &Stmt) -> bool
         | Stmt::ForEach { body, .. }
         | Stmt::ForEachActive { body, .. }
         | Stmt::ForEachUnique { body, .. } => has_return(body),
+        Stmt::Switch { segments, .. } => one_segment_returns(segments),
         Stmt::Empty
         | Stmt::Declare { .. }
         | Stmt::Assign { .. }
@@ -47,6 +48,19 @@ fn one_returns(stmts: &[Stmt]) -> bool
 {
     for stmt in stmts {
         if has_return(stmt) {
+            return true;
+        }
+    }
+    false
+}
+
+/// Whether one of the segments of a switch holds a `return`.
+#[cycle(returning)]
+fn one_segment_returns(segments: &[Segment]) -> bool
+    ensures { result ≡ scope.some_segment_returns (segments_view segments.now) }
+{
+    for segment in segments {
+        if one_returns(&segment.body) {
             return true;
         }
     }

@@ -2,15 +2,15 @@
 ghost use Rattle.std.specs.Prelude.{◌≡◌, ◌++◌, Bool, List, OnOk, Option, length, map};
 ghost use Rattle.gang_types.specs.declared.places.Place.{Place};
 ghost use Rattle.gang_model.specs.Names.Bindings.{bindings_in, bindings_in_all};
-ghost use Rattle.gang_model.specs.Source.Parsed.{ParsedBlock, ParsedExpr, ParsedFor, ParsedForEach, ParsedForEachActive, ParsedIf, ParsedIfElse};
+ghost use Rattle.gang_model.specs.Source.Parsed.{ParsedBlock, ParsedExpr, ParsedFor, ParsedForEach, ParsedForEachActive, ParsedIf, ParsedIfElse, ParsedSwitch};
 ghost use Rattle.gang_model.specs.Names.Scope.{NameStanding, Site, after, after_all, locals_in, past, standings_in, standings_in_all};
-ghost use Rattle.source_tree.specs.Tree.{dim_view, stmt_view, stmts_view};
+ghost use Rattle.source_tree.specs.Tree.{dim_view, segments_view, stmt_view, stmts_view};
 ghost use Rattle.ispc_names_steps.specs.Sites.{Declares, Passes, Stands};
 
 use crate::declared::{Declared, declare, declare_dims, step, steps_after_body};
 use gang_types::Place;
 use ispc_names_table::Standing;
-use source_tree::{Dim, Stmt};
+use source_tree::{Dim, Segment, Stmt};
 use std::alloc::{AllocError, Global};
 
 /// The steps of a statement, by their numbers. What it declares is then what the next statement finds.
@@ -59,6 +59,11 @@ fn statement_steps(
             body,
             ..
         } => for_steps(alloc, start, update, body, *place, declared, standings),
+        Stmt::Switch {
+            place,
+            segments,
+            ..
+        } => switch_steps(alloc, segments, *place, declared, standings),
         Stmt::ForEach {
             place,
             dims,
@@ -155,6 +160,28 @@ fn for_steps(
     inner_steps(alloc, update, declared, &mut last)?;
     inner_steps(alloc, body, declared, standings)?;
     steps_after_body(place, &last, declared, standings)?;
+    declared.innermost = outside;
+    Ok(())
+}
+
+/// The steps of a switch: its own, then those of its segments. Its labels are no steps.
+#[cycle(statement)]
+fn switch_steps(
+    alloc: Global,
+    segments: &[Segment],
+    place: Place,
+    declared: &mut Declared,
+    standings: &mut Vec<Standing>,
+) -> Result<(), AllocError>
+    ensures declares { OnOk result ((selector : ParsedExpr) → Declares declared.old.declarations.items declared.new.declarations.items
+        (bindings_in (ParsedSwitch place selector (segments_view segments.now)) (length declared.old.declarations.items))) }
+    ensures stands { OnOk result ((selector : ParsedExpr) → Passes (ParsedSwitch place selector (segments_view segments.now)) declared.old declared.new standings.old.items standings.new.items) }
+{
+    let outside = declared.innermost;
+    step(place, declared, standings)?;
+    for segment in segments {
+        list_steps(alloc, &segment.body, declared, standings)?;
+    }
     declared.innermost = outside;
     Ok(())
 }

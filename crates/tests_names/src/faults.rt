@@ -107,3 +107,67 @@ fn the_first_of_two_faults(rt: HostRuntime) {
     let rows: [(&[u8], u32); 1] = [(b"void f() { break; x = 1; }", 12)];
     are_refused(&rt, rt.alloc(), RefusalNumber::S11, &rows);
 }
+
+#[test]
+fn jumps_in_a_switch(rt: HostRuntime) {
+    let rows: [(&[u8], u32); 4] = [
+        (b"void f() { switch (1) { default: continue; } }", 34),
+        (b"void f() { switch (1) { default: ; } break; }", 38),
+        (
+            b"void f() { switch (1) { case 0: foreach (i = 0 ... 2) break; } }",
+            55,
+        ),
+        (
+            b"void f() { foreach (i = 0 ... 2) switch (i) { default: return; } }",
+            56,
+        ),
+    ];
+    are_refused(&rt, rt.alloc(), RefusalNumber::S11, &rows);
+    let sources: [&[u8]; 3] = [
+        b"void f() { switch (1) { case 0: break; default: if (true) break; } }",
+        b"void f() { while (true) switch (1) { case 0: continue; default: break; } }",
+        b"void f() { foreach (i = 0 ... 2) switch (i) { case 0: break; default: continue; } }",
+    ];
+    are_accepted(&rt, rt.alloc(), &sources);
+}
+
+#[test]
+fn labels_that_stand_twice(rt: HostRuntime) {
+    let rows: [(&[u8], u32); 6] = [
+        (b"export void go() { switch (1) { case 1: case 1: ; } }", 41),
+        (b"void f() { switch (1) { case 1: ; case 0x1: ; } }", 35),
+        (b"void f() { switch (1) { case 0: ; case -0: ; } }", 35),
+        (
+            b"void f() { switch (1) { default: ; case 1: ; default: ; } }",
+            46,
+        ),
+        (b"void f() { switch (1) { case 1: case 2: case 1: ; } }", 41),
+        (
+            b"void f() { switch (1) { case 1: switch (2) { default: ; } case 1: ; } }",
+            59,
+        ),
+    ];
+    are_refused(&rt, rt.alloc(), RefusalNumber::S6, &rows);
+    let sources: [&[u8]; 2] = [
+        b"void f() { switch (1) { case 1: case -1: case 0: case 10: default: ; } }",
+        b"void f() { switch (1) { case 1: switch (2) { case 1: ; default: ; } default: ; } }",
+    ];
+    are_accepted(&rt, rt.alloc(), &sources);
+}
+
+#[test]
+fn names_in_a_switch(rt: HostRuntime) {
+    let rows: [(&[u8], u32); 3] = [
+        (b"void f() { switch (x) { default: ; } }", 20),
+        (
+            b"void f() { switch (1) { case 0: { int x; } case 1: x = 1; } }",
+            52,
+        ),
+        (b"void f() { switch (1) { case 0: { int x; } } x = 1; }", 46),
+    ];
+    are_refused(&rt, rt.alloc(), RefusalNumber::S5, &rows);
+    let sources: [&[u8]; 1] = [
+        b"void f() { int x; switch (x) { case 0: { int x; } default: { int x; x = 1; } } }",
+    ];
+    are_accepted(&rt, rt.alloc(), &sources);
+}

@@ -1,4 +1,5 @@
 //! Functions with their steps: what is listed at each, by the names of the variables.
+use gang_types::Place;
 use ispc_lexer::{source_end, tokens};
 use ispc_names_steps::steps_of;
 use ispc_names_table::StepScopes;
@@ -81,5 +82,34 @@ fn index_variables_are_in_scope_in_the_body(rt: HostRuntime) -> Result<(), Sourc
     let rows: [(usize, &[usize]); 3] = [(0, &[]), (1, &[0, 1]), (2, &[])];
     let steps = list(&rt, rt.alloc(), source, &rows)?;
     assert!(&rt; steps.find(1, b"j") == Some(1));
+    Ok(())
+}
+
+#[test]
+fn labels_and_the_end_of_a_switch_are_no_steps(rt: HostRuntime) -> Result<(), SourceFault> {
+    let source =
+        b"void f() { switch (1) { case 0: { int x = 1; x = 2; } switch (2) { case 0: ; default: break; } default: { int y = 2; y = 3; } } return; }";
+    let rows: [(usize, &[usize]); 9] = [
+        (0, &[]),
+        (1, &[]),
+        (2, &[0]),
+        (3, &[]),
+        (4, &[]),
+        (5, &[]),
+        (6, &[1]),
+        (7, &[]),
+        (8, &[]),
+    ];
+    let steps = list(&rt, rt.alloc(), source, &rows)?;
+    assert!(&rt; steps.declarations.len() == 2 && steps.standings.len() == 9);
+    assert!(&rt; steps.standings[3].place == Place { line: 1, col: 55 });
+    Ok(())
+}
+
+#[test]
+fn a_return_in_a_switch_is_seen(rt: HostRuntime) -> Result<(), SourceFault> {
+    let source = b"void f() { int x = 1; switch (x) { case 0: return; } int y = 2; }";
+    let rows: [(usize, &[usize]); 4] = [(1, &[0]), (2, &[0]), (3, &[0]), (4, &[0])];
+    let _steps = list(&rt, rt.alloc(), source, &rows)?;
     Ok(())
 }

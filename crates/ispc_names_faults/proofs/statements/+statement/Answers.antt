@@ -1,20 +1,21 @@
 use Rattle.std.specs.Prelude.{option_map}
-use Rattle.std.proofs.Common.{◌≡◌, ◌∙◌, ◌+◌, drop, map, ap, sym, refl, length, arith, inl, inr}
-use Rattle.std.proofs.lemmas.List.{drop_all, length-map}
+use Rattle.std.proofs.Common.{◌≡◌, ◌∙◌, [], ◌+◌, drop, take, map, ap, sym, refl, length, arith, inl, inr}
+use Rattle.std.proofs.lemmas.List.{drop_all, length-map, take_all}
 use Rattle.gang_model.specs.Source.Judged.{least_fault}
-use Rattle.gang_model.specs.Names.NameFaults.{names_in, stmt_names}
-use Rattle.gang_model.specs.Source.Parsed.{ParsedBlock, ParsedIf, ParsedIfElse, ParsedWhile, ParsedDo, ParsedFor, ParsedForEach, ParsedForEachUnique}
-use Rattle.gang_model.specs.Names.Scope.{after_all, enclosed, locals_in, locals_in_all}
+use Rattle.gang_model.specs.Names.NameFaults.{names_in, segments_names, stmt_names, stmts_names}
+use Rattle.gang_model.specs.Source.Parsed.{ParsedBlock, ParsedIf, ParsedIfElse, ParsedWhile, ParsedDo, ParsedFor, ParsedSwitch, ParsedForEach, ParsedForEachUnique}
+use Rattle.gang_model.specs.Names.Scope.{after, after_all, enclosed, locals_in, locals_in_all, locals_in_segments}
 use Rattle.gang_model.proofs.WalkedLists.{next_item}
 use Rattle.ispc_names_scopes.specs.Scopes.{site}
 use Rattle.source_tree.specs.Expressions.{expr_view}
 use Rattle.source_tree.specs.declared.tree.Stmt.{If}
-use Rattle.source_tree.specs.Tree.{dim_view, stmt_view, stmts_view}
-use Rattle.source_tree.proofs.StatementRows.{view_block}
+use Rattle.source_tree.specs.Tree.{dim_view, segments_view, stmt_view, stmts_view}
+use Rattle.source_tree.proofs.StatementRows.{view_block, view_switch}
 use Rattle.ispc_names_parts.specs.MayStand.{allowed_view}
-use Rattle.ispc_names_declarations.proofs.Merging.{pair_fault}
+use Rattle.ispc_names_declarations.proofs.Merging.{all_found, pair_fault}
 use Rattle.ispc_names_faults.proofs.ScopeSteps.{marked_within, left_for, reach_entered, reach_after, reach_moved, reach_dims, reach_block, reach_here, reach_inner, reach_rounds, reach_same, moved_twice}
 use Rattle.ispc_names_faults.proofs.Found.{domain_found, rounds_found, stmts_step, stmts_passed, stmts_found, if_else_found, for_found, for_each_unique_found, found_as, found_at, after_as, while_found, do_found}
+use Rattle.ispc_names_faults.proofs.Segments.{labels_after, segments_step, segments_reach, switch_found}
 use Rattle.ispc_names_faults.proofs.statements.+statement.Goals as goal
 
 -- ---- the foreach forms
@@ -93,40 +94,87 @@ update_fault-returns-clause-after t c =
     (reach_here c.args.scopes.now c.statement_fault.new.scopes (stmt_view c.args.stmt.now) c.in_ok-fault.ensures.after)
     (record { environment_is = c.leave.ensures.environment; outside_is = c.leave.ensures.outside; next_is = c.leave.ensures.next })
 
--- ---- blocks
+-- ---- blocks, and the segments of a switch
 
-pub block_fault-loop-inner-preserved : goal.block_fault-loop-inner-preserved
-block_fault-loop-inner-preserved t c =
+pub body_fault-loop-stmt-preserved : goal.body_fault-loop-stmt-preserved
+body_fault-loop-stmt-preserved t c =
     let items = c.args.stmts.now in
-    let i = c.loop-inner.inner-index in
-    let split = next_item items i c.inner-item.result c.loop-inner-test.true c.inner-item.is in
-    let s = c.loop-inner.scopes in
+    let i = c.loop-stmt.stmt-index in
+    let split = next_item items i c.stmt-item.result c.loop-stmt-test.true c.stmt-item.is in
+    let s = c.loop-stmt.scopes in
     let s' = c.statement_fault.new.scopes in
     record {
-      found = stmts_step (drop i items) (drop (i + 1) items) c.inner-item.result (allowed_view c.args.functions.now c.args.may) s s' _ _ _ _ split c.loop-inner.invariant.found
+      found = stmts_step (drop i items) (drop (i + 1) items) c.stmt-item.result (allowed_view c.args.functions.now c.args.may) s s' _ _ _ _ split c.loop-stmt.invariant.found
           c.in_ok-statement_fault.ensures.fault c.in_ok-statement_fault.ensures.after c.least-first.ensures;
-      after = stmts_passed (drop i items) (drop (i + 1) items) c.inner-item.result s s' _ split c.loop-inner.invariant.after c.in_ok-statement_fault.ensures.after;
+      after = stmts_passed (drop i items) (drop (i + 1) items) c.stmt-item.result s s' _ split c.loop-stmt.invariant.after c.in_ok-statement_fault.ensures.after;
+      outside = c.in_ok-statement_fault.ensures.outside ∙ c.loop-stmt.invariant.outside;
     }
+
+pub body_fault-returns-clause-fault : goal.body_fault-returns-clause-fault
+body_fault-returns-clause-fault t c =
+    let items = c.args.stmts.now in
+    let i = c.loop-stmt.stmt-index in
+    stmts_found items (drop i items) (allowed_view c.args.functions.now c.args.may) c.loop-stmt.scopes (site c.args.scopes.now) c.loop-stmt.first
+    c.loop-stmt.invariant.found (drop_all i items c.loop-stmt-test.false)
+
+pub body_fault-returns-clause-after : goal.body_fault-returns-clause-after
+body_fault-returns-clause-after t c =
+    sym (c.loop-stmt.invariant.after
+    ∙ ap (λ xs. after_all (stmts_view xs) (site c.loop-stmt.scopes)) (drop_all c.loop-stmt.stmt-index c.args.stmts.now c.loop-stmt-test.false))
 
 pub block_fault-leave-requires-clause-declared : goal.block_fault-leave-requires-clause-declared
 block_fault-leave-requires-clause-declared t c =
-    marked_within c.args.scopes.now c.loop-inner.scopes _ c.enter-mark.result.declared c.enter-mark.result.outside (record { declared_is = c.enter-mark.ensures.declared; outside_is = c.enter-mark.ensures.before })
-    (reach_block c.args.scopes.now c.loop-inner.scopes (stmts_view c.args.stmts.now)
-    (sym (c.loop-inner.invariant.after ∙ ap (λ xs. after_all (stmts_view xs) (site c.loop-inner.scopes)) (drop_all c.loop-inner.inner-index c.args.stmts.now c.loop-inner-test.false))))
+    marked_within c.args.scopes.now c.body_fault.new.scopes _ c.enter-mark.result.declared c.enter-mark.result.outside (record { declared_is = c.enter-mark.ensures.declared; outside_is = c.enter-mark.ensures.before })
+    (reach_block c.args.scopes.now c.body_fault.new.scopes (stmts_view c.args.stmts.now) (c.in_ok-fault.ensures.after ∙ ap (after_all (stmts_view c.args.stmts.now)) c.enter-mark.ensures.inside))
 
 pub block_fault-returns-clause-fault : goal.block_fault-returns-clause-fault
 block_fault-returns-clause-fault t c =
-    let items = c.args.stmts.now in
-    let i = c.loop-inner.inner-index in
-    stmts_found items (drop i items) (allowed_view c.args.functions.now c.args.may) c.loop-inner.scopes (enclosed (site c.args.scopes.now)) c.loop-inner.first
-    c.loop-inner.invariant.found (drop_all i items c.loop-inner-test.false)
+    c.in_ok-fault.ensures.fault ∙ ap (λ s. least_fault (stmts_names (stmts_view c.args.stmts.now) (allowed_view c.args.functions.now c.args.may) s)) c.enter-mark.ensures.inside
 
 pub block_fault-returns-clause-after : goal.block_fault-returns-clause-after
 block_fault-returns-clause-after t c =
-    left_for c.args.scopes.now c.loop-inner.scopes c.leave.new.self _ c.enter-mark.result.declared c.enter-mark.result.outside
+    left_for c.args.scopes.now c.body_fault.new.scopes c.leave.new.self _ c.enter-mark.result.declared c.enter-mark.result.outside
     (record { declared_is = c.enter-mark.ensures.declared; outside_is = c.enter-mark.ensures.before })
-    (reach_block c.args.scopes.now c.loop-inner.scopes (stmts_view c.args.stmts.now)
-    (sym (c.loop-inner.invariant.after ∙ ap (λ xs. after_all (stmts_view xs) (site c.loop-inner.scopes)) (drop_all c.loop-inner.inner-index c.args.stmts.now c.loop-inner-test.false))))
+    (reach_block c.args.scopes.now c.body_fault.new.scopes (stmts_view c.args.stmts.now) (c.in_ok-fault.ensures.after ∙ ap (after_all (stmts_view c.args.stmts.now)) c.enter-mark.ensures.inside))
+    (record { environment_is = c.leave.ensures.environment; outside_is = c.leave.ensures.outside; next_is = c.leave.ensures.next })
+
+pub segments_fault-loop-number-init : goal.segments_fault-loop-number-init
+segments_fault-loop-number-init t c = record {
+  found = ap (λ s. least_fault (segments_names (segments_view c.args.segments.now) [] (allowed_view c.args.functions.now c.args.may) s)) (sym c.enter-mark.ensures.inside);
+  reaches = reach_entered c.args.scopes.now c.enter-mark.new.self c.enter-mark.ensures.inside;
+}
+
+pub segments_fault-loop-number-preserved : goal.segments_fault-loop-number-preserved
+segments_fault-loop-number-preserved t c =
+    let items = c.args.segments.now in
+    let i = c.loop-number.number in
+    let x = c.index-segments-number.result in
+    let s = c.loop-number.scopes in
+    let s' = c.body_fault.new.scopes in
+    record {
+      found = segments_step items i x c.deref.result.now c.loop-number-test.true c.index-segments-number.is c.deref.ensures.value (allowed_view c.args.functions.now c.args.may) s s' _ _ _ _ _ _
+          c.loop-number.invariant.found c.label_fault-in_label.ensures c.in_ok-in_body.ensures.fault c.in_ok-in_body.ensures.after c.least.ensures c.least-first.ensures;
+      reaches = segments_reach items i x c.deref.result.now c.loop-number-test.true c.index-segments-number.is c.deref.ensures.value c.args.scopes.now s s' c.loop-number.invariant.reaches c.in_ok-in_body.ensures.after;
+    }
+
+pub segments_fault-leave-requires-clause-declared : goal.segments_fault-leave-requires-clause-declared
+segments_fault-leave-requires-clause-declared t c =
+    marked_within c.args.scopes.now c.loop-number.scopes _ c.enter-mark.result.declared c.enter-mark.result.outside (record { declared_is = c.enter-mark.ensures.declared; outside_is = c.enter-mark.ensures.before })
+    c.loop-number.invariant.reaches
+
+pub segments_fault-returns-clause-fault : goal.segments_fault-returns-clause-fault
+segments_fault-returns-clause-fault t c =
+    let items = c.args.segments.now in
+    let i = c.loop-number.number in
+    all_found _ c.loop-number.first _ c.loop-number.invariant.found
+    (ap (λ xs. least_fault (segments_names (segments_view xs) (labels_after [] (take i items)) (allowed_view c.args.functions.now c.args.may) (site c.loop-number.scopes))) (drop_all i items c.loop-number-test.false))
+
+pub segments_fault-returns-clause-after : goal.segments_fault-returns-clause-after
+segments_fault-returns-clause-after t c =
+    left_for c.args.scopes.now c.loop-number.scopes c.leave.new.self _ c.enter-mark.result.declared c.enter-mark.result.outside
+    (record { declared_is = c.enter-mark.ensures.declared; outside_is = c.enter-mark.ensures.before })
+    (reach_same c.args.scopes.now c.loop-number.scopes _ _ (ap (λ xs. locals_in_segments (segments_view xs)) (take_all c.loop-number.number c.args.segments.now c.loop-number-test.false))
+    c.loop-number.invariant.reaches)
     (record { environment_is = c.leave.ensures.environment; outside_is = c.leave.ensures.outside; next_is = c.leave.ensures.next })
 
 -- ---- a test, and a `for`
@@ -277,6 +325,29 @@ statement_fault-returns-in_ok-rounds_fault-in-ForEachUnique-clause-fault t c =
     let name = c.in-ForEachUnique.name.items in
     let e = expr_view c.in-ForEachUnique.value in
     for_each_unique_found s p at name c.deref-in-ForEachUnique-2.result.now e (stmt_view c.deref-in-ForEachUnique.result.now) may _ _ _
-    c.expression_fault.ensures c.deref-in-ForEachUnique-2.ensures.value c.in_ok-rounds_fault-in-ForEachUnique.ensures.fault c.least.ensures
+    c.expression_fault-in-ForEachUnique.ensures c.deref-in-ForEachUnique-2.ensures.value c.in_ok-rounds_fault-in-ForEachUnique.ensures.fault c.least-in-ForEachUnique.ensures
     ∙ (ap (λ x. least_fault (stmt_names (ParsedForEachUnique p at name e (stmt_view x)) may (site s))) c.deref-in-ForEachUnique.ensures
     ∙ sym (ap (λ x. least_fault (stmt_names (stmt_view x) may (site s))) c.in-ForEachUnique.is))
+
+pub statement_fault-returns-in_ok-segments_fault-in-Switch-clause-fault : goal.statement_fault-returns-in_ok-segments_fault-in-Switch-clause-fault
+statement_fault-returns-in_ok-segments_fault-in-Switch-clause-fault t c =
+    let functions = c.args.functions.now in
+    let may = allowed_view functions c.args.may in
+    let s = c.args.scopes.now in
+    let p = c.in-Switch.place in
+    let e = expr_view c.in-Switch.selector in
+    let segments = segments_view c.deref-in-Switch.result.now in
+    let is : stmt_view c.args.stmt.now ≡ ParsedSwitch p e segments =
+    ap stmt_view c.in-Switch.is ∙ (view_switch p c.in-Switch.selector c.in-Switch.segments ∙ ap (λ xs. ParsedSwitch p e (segments_view xs)) (sym c.deref-in-Switch.ensures.value)) in
+    switch_found s p e segments may (allowed_view functions c.in_switch.result) _ _ _
+    c.expression_fault.ensures (c.in_switch.ensures functions) c.in_ok-segments_fault-in-Switch.ensures.fault c.least.ensures
+    ∙ sym (ap (λ x. least_fault (stmt_names x may (site s))) is)
+
+pub statement_fault-returns-in_ok-segments_fault-in-Switch-clause-after : goal.statement_fault-returns-in_ok-segments_fault-in-Switch-clause-after
+statement_fault-returns-in_ok-segments_fault-in-Switch-clause-after t c =
+    let p = c.in-Switch.place in
+    let e = expr_view c.in-Switch.selector in
+    let segments = segments_view c.deref-in-Switch.result.now in
+    let is : stmt_view c.args.stmt.now ≡ ParsedSwitch p e segments =
+    ap stmt_view c.in-Switch.is ∙ (view_switch p c.in-Switch.selector c.in-Switch.segments ∙ ap (λ xs. ParsedSwitch p e (segments_view xs)) (sym c.deref-in-Switch.ensures.value)) in
+    ap site c.in_ok-segments_fault-in-Switch.ensures.after ∙ sym (ap (λ x. after x (site c.args.scopes.now)) is)

@@ -1,19 +1,21 @@
 use Rattle.std.specs.Prelude.{option_map}
-use Rattle.std.proofs.Common.{◌≡◌, suc, ◌+◌, [], ◌∷◌, ◌++◌, refl, sym, ap, ◌∙◌, subst, arith, append_assoc, length, take, map, inl, inr, Bool}
+use Rattle.std.proofs.Common.{◌≡◌, suc, ◌+◌, [], ◌∷◌, ◌++◌, refl, sym, ap, ◌∙◌, subst, arith, append_assoc, append-nil, length, take, map, inl, inr, Bool}
 use Rattle.gang_types.specs.declared.places.Place.{Place}
 use Rattle.gang_types.specs.declared.places.VarId.TheVariants.{Local}
-use Rattle.gang_model.specs.Source.Parsed.{ParsedBlock, ParsedDeclare, ParsedExpr, ParsedIf, ParsedIfElse, ParsedWhile, ParsedDo, ParsedFor, ParsedForEach, ParsedForEachActive, ParsedForEachUnique}
-use Rattle.gang_model.specs.Names.Bindings.{bindings_in}
-use Rattle.gang_model.specs.Names.Scope.{bound, after_all, enclosed, past, at_test, in_for, in_rounds, in_domain, locals_in, standings_in, standings_in_all, standing}
+use Rattle.std.proofs.lemmas.List.{take_all}
+use Rattle.gang_model.specs.Source.Parsed.{ParsedBlock, ParsedDeclare, ParsedExpr, ParsedIf, ParsedIfElse, ParsedWhile, ParsedDo, ParsedFor, ParsedSwitch, ParsedForEach, ParsedForEachActive, ParsedForEachUnique}
+use Rattle.gang_model.specs.Names.Bindings.{bindings_in, bindings_in_segments}
+use Rattle.gang_model.specs.Names.Scope.{bound, after_all, enclosed, past, at_test, in_for, in_rounds, in_domain, locals_in, standings_in, standings_in_all, standings_in_segments, standing}
 use Rattle.gang_model.proofs.ScopeLaws.{after-next, after_all-next}
 use Rattle.source_tree.specs.Expressions.{expr_view}
 use Rattle.source_tree.specs.declared.tree.Stmt.{If}
-use Rattle.source_tree.specs.Tree.{stmt_view, stmts_view, dim_view}
-use Rattle.source_tree.proofs.StatementRows.{view_block}
+use Rattle.source_tree.specs.Tree.{stmt_view, stmts_view, segments_view, dim_view}
+use Rattle.source_tree.proofs.StatementRows.{view_block, view_switch}
 use Rattle.ispc_names_steps.specs.Sites.{Declares, Lists, Passes, Stands}
 use Rattle.ispc_names_steps.proofs.DeclaredLists.{dims-length}
-use Rattle.ispc_names_steps.proofs.Growth.{lists-none, lists-more}
+use Rattle.ispc_names_steps.proofs.Growth.{declares-none, lists-none, lists-more}
 use Rattle.ispc_names_steps.proofs.Passing.{declares_for, on_ok_any, on_ok, stands_as, stands_left, ends_as, declares_at, declares_in, passes_at, passes_in, declares_two, declares_body}
+use Rattle.ispc_names_steps.proofs.Segments.{after_segments, after_segments-next, segments_declares, segments_stand}
 use Rattle.ispc_names_steps.proofs.Sequences.{list_declares, list_stands}
 use Rattle.ispc_names_steps.proofs.statements.+statement.Goals as goal
 use Rattle.gang_model.proofs.StandingLaws.{with_dims-next}
@@ -210,6 +212,52 @@ rounds_steps-returns-clause-stands t c =
     let order : (head ++ rounds) ++ standing p site ∷ [] ≡ steps ++ standing p site ∷ (rounds ++ standing p site ∷ []) = simp append_assoc in
     stands_as _ _ _ _ _ _ _ _ refl order g)
 
+-- ---- a switch
+
+pub switch_steps-loop-segment-init : goal.switch_steps-loop-segment-init
+switch_steps-loop-segment-init t c = record {
+  declares = declares-none c.args.declared.now.declarations.items;
+  stands = λ site steps h. stands_as _ _ _ _ _ _ _ _ refl (sym (append-nil (steps ++ standing c.args.place site ∷ []))) (c.in_ok-step.ensures.stands site steps h);
+}
+
+pub switch_steps-loop-segment-preserved : goal.switch_steps-loop-segment-preserved
+switch_steps-loop-segment-preserved t c =
+    let xs = c.args.segments.now in
+    let i = c.loop-segment.segment-index in
+    let x = c.segment-item.result in
+    let body = c.deref.result.now in
+    let d = c.in_ok-list_steps.ensures in
+    let new = c.list_steps.new in
+    let front = take i xs in
+    record {
+      declares = segments_declares xs i x body c.loop-segment-test.true c.segment-item.is c.deref.ensures.value c.args.declared.now.declarations.items c.loop-segment.declared.declarations.items
+          new.declared.declarations.items c.loop-segment.invariant.declares d.declares;
+      stands = λ site steps h.
+          let head = steps ++ standing c.args.place site ∷ [] in
+          segments_stand xs i x body c.loop-segment-test.true c.segment-item.is c.deref.ensures.value new.declared new.standings.items (enclosed site) head
+          (d.stands (after_segments front (enclosed site)) (head ++ standings_in_segments (segments_view front) (enclosed site)) (c.loop-segment.invariant.stands site steps h));
+    }
+
+pub switch_steps-returns-clause-declares : goal.switch_steps-returns-clause-declares
+switch_steps-returns-clause-declares t c = λ selector.
+    let a = c.args.declared.now.declarations.items in
+    subst (λ xs. Declares a c.loop-segment.declared.declarations.items (bindings_in_segments (segments_view xs) (length a))) (take_all c.loop-segment.segment-index c.args.segments.now (omega arith))
+    c.loop-segment.invariant.declares
+
+pub switch_steps-returns-clause-stands : goal.switch_steps-returns-clause-stands
+switch_steps-returns-clause-stands t c = λ selector site steps h.
+    let xs = c.args.segments.now in
+    let p = c.args.place in
+    let a = c.args.declared.now.declarations.items in
+    let d = c.loop-segment.declared in
+    let ss = c.loop-segment.standings.items in
+    let all : take c.loop-segment.segment-index xs ≡ xs = take_all c.loop-segment.segment-index xs (omega arith) in
+    let own = subst (λ ys. Declares a d.declarations.items (bindings_in_segments (segments_view ys) (length a))) all c.loop-segment.invariant.declares in
+    let inside = subst (λ ys. Stands d ss (after_segments ys (enclosed site)) ((steps ++ standing p site ∷ []) ++ standings_in_segments (segments_view ys) (enclosed site))) all
+    (c.loop-segment.invariant.stands site steps h) in
+    stands_left _ _ _ c.args.declared.now.innermost _ _ _ _ _ _ _ own h.reaches (after_segments-next xs (enclosed site))
+    (stands_as _ _ _ _ _ _ _ _ refl (append_assoc steps (standing p site ∷ []) (standings_in_segments (segments_view xs) (enclosed site))) inside)
+
 -- ---- a statement of each of these forms
 
 pub statement_steps-returns-in-Block-clause-declares : goal.statement_steps-returns-in-Block-clause-declares
@@ -361,3 +409,21 @@ statement_steps-returns-in-None-clause-stands t c =
     let e : stmt_view c.args.stmt.now ≡ ParsedIf p test first =
     ap stmt_view (arm.is ∙ ap (λ o. If p arm.test arm.first o) c.in-None.is) ∙ ap (λ x. ParsedIf p test (stmt_view x)) (sym c.deref-in-None.ensures) in
     passes_at _ _ (λ x. ParsedIf p x first) test e c.args.declared.now c.branch_steps.new.declared _ _ c.branch_steps.ensures.stands
+
+pub statement_steps-returns-in-Switch-clause-declares : goal.statement_steps-returns-in-Switch-clause-declares
+statement_steps-returns-in-Switch-clause-declares t c =
+    let p = c.in-Switch.place in
+    let e = expr_view c.in-Switch.selector in
+    let segments = segments_view c.deref-in-Switch.result.now in
+    let is : stmt_view c.args.stmt.now ≡ ParsedSwitch p e segments =
+    ap stmt_view c.in-Switch.is ∙ view_switch p c.in-Switch.selector c.in-Switch.segments ∙ ap (λ xs. ParsedSwitch p e (segments_view xs)) (sym c.deref-in-Switch.ensures.value) in
+    declares_at _ _ (λ x. ParsedSwitch p x segments) e is c.args.declared.now c.switch_steps.new.declared c.switch_steps.ensures.declares
+
+pub statement_steps-returns-in-Switch-clause-stands : goal.statement_steps-returns-in-Switch-clause-stands
+statement_steps-returns-in-Switch-clause-stands t c =
+    let p = c.in-Switch.place in
+    let e = expr_view c.in-Switch.selector in
+    let segments = segments_view c.deref-in-Switch.result.now in
+    let is : stmt_view c.args.stmt.now ≡ ParsedSwitch p e segments =
+    ap stmt_view c.in-Switch.is ∙ view_switch p c.in-Switch.selector c.in-Switch.segments ∙ ap (λ xs. ParsedSwitch p e (segments_view xs)) (sym c.deref-in-Switch.ensures.value) in
+    passes_at _ _ (λ x. ParsedSwitch p x segments) e is c.args.declared.now c.switch_steps.new.declared _ _ c.switch_steps.ensures.stands
