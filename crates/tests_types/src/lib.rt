@@ -14,4 +14,6 @@ mod scopes;
 #[cfg(test)]
 mod sources;
 #[cfg(test)]
+mod switches;
+#[cfg(test)]
 mod values;

@@ -1,12 +1,12 @@
 //! The numbers of steps.
 ghost use Rattle.std.specs.Prelude.{◌≡◌, ◌+◌, IfOk, OnOk, min};
 ghost use Rattle.gang_model.specs.Running.Numbering as model;
-ghost use Rattle.source_tree.specs.Tree.{stmt_view};
+ghost use Rattle.source_tree.specs.Tree.{segments_view, stmt_view, stmts_view};
 ghost use Rattle.source_answers.specs.Apart.{apart};
 ghost use Rattle.type_check_parts.specs.Steps as steps;
 
 use source_answers::{Answer, SourceFault, set_apart};
-use source_tree::Stmt;
+use source_tree::{Segment, Stmt};
 use std::alloc::AllocError;
 
 /// The number that comes so many steps later.
@@ -48,17 +48,14 @@ fn own_steps(stmt: &Stmt) -> usize
 }
 
 /// The number that comes after the steps of a statement whose first one has this number, or the greatest number.
+#[cycle(after)]
 fn after_steps(step: usize, stmt: &Stmt) -> usize
     ensures { result ≡ min (step + model.steps_in (stmt_view stmt.now)) steps.greatest }
 {
     let mut after = step.saturating_add(own_steps(stmt));
     match stmt {
-        Stmt::Block(stmts) => {
-            for inner in stmts {
-                after = after_steps(after, inner);
-            }
-            after
-        }
+        Stmt::Block(stmts) => after_all(after, stmts),
+        Stmt::Switch { segments, .. } => after_segments(after, segments),
         Stmt::If { first, other, .. } => {
             after = after_steps(after, first);
             match other {
@@ -77,8 +74,40 @@ fn after_steps(step: usize, stmt: &Stmt) -> usize
         | Stmt::ForEach { body, .. }
         | Stmt::ForEachActive { body, .. }
         | Stmt::ForEachUnique { body, .. } => after_steps(after, body),
-        _ => after,
+        Stmt::Empty
+        | Stmt::Declare { .. }
+        | Stmt::Assign { .. }
+        | Stmt::Change { .. }
+        | Stmt::Increment { .. }
+        | Stmt::Call { .. }
+        | Stmt::Break { .. }
+        | Stmt::Continue { .. }
+        | Stmt::Return { .. } => after,
     }
+}
+
+/// The same after statements in order.
+#[cycle(after)]
+fn after_all(step: usize, stmts: &[Stmt]) -> usize
+    ensures { result ≡ min (step + model.steps_in_all (stmts_view stmts.now)) steps.greatest }
+{
+    let mut after = step;
+    for stmt in stmts {
+        after = after_steps(after, stmt);
+    }
+    after
+}
+
+/// The same after the segments of a `switch`.
+#[cycle(after)]
+fn after_segments(step: usize, segments: &[Segment]) -> usize
+    ensures { result ≡ min (step + model.steps_in_segments (segments_view segments.now)) steps.greatest }
+{
+    let mut after = step;
+    for segment in segments {
+        after = after_all(after, &segment.body);
+    }
+    after
 }
 
 /// How many steps a statement has.

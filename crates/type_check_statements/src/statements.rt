@@ -3,32 +3,33 @@ ghost use Rattle.std.specs.Prelude.{◌≡◌, ◌+◌, ◌∷◌, IfOk, OnOk, l
 ghost use Rattle.gang_types.specs.declared.places.Place.{Place};
 ghost use Rattle.gang_types.specs.declared.places.VarId.TheVariants.{Local};
 ghost use Rattle.source_tree.specs.Expressions.{expr_view};
-ghost use Rattle.gang_model.specs.Running.Numbering.{steps_in, steps_in_all};
-ghost use Rattle.gang_model.specs.Source.Parsed.{ParsedFor, ParsedForEach, ParsedForEachActive, ParsedForEachUnique, ParsedIf, ParsedIfElse, ParsedWhile, ParsedDo};
-ghost use Rattle.gang_model.specs.Names.Scope.{locals_in, locals_in_all};
+ghost use Rattle.gang_model.specs.Running.Numbering.{steps_in, steps_in_all, steps_in_segments};
+ghost use Rattle.gang_model.specs.Source.Parsed.{ParsedFor, ParsedForEach, ParsedForEachActive, ParsedForEachUnique, ParsedIf, ParsedIfElse, ParsedSwitch, ParsedWhile, ParsedDo};
+ghost use Rattle.gang_model.specs.Names.Scope.{locals_in, locals_in_all, locals_in_segments};
 ghost use Rattle.gang_model.specs.Types.Statements as model;
 ghost use Rattle.source_tree.specs.Tree as parsed;
 ghost use Rattle.typed_tree.specs.Boxes.{boxed_stmt_view};
-ghost use Rattle.typed_tree.specs.Views.{stmts_view};
+ghost use Rattle.typed_tree.specs.Views.{segments_view, stmts_view};
 ghost use Rattle.type_check_calls.specs.Calls.{context_view};
 ghost use Rattle.type_check_scopes.specs.Entries.{declared_view};
 ghost use Rattle.type_check_parts.specs.Typed.{IsTyped, IsTypedStatement, with_index};
 
 use gang_types::{IntType, Rate, VarId};
 use source_answers::{Answer, both_answers};
-use source_tree::{Dim, Expr, Stmt as ParsedStmt};
+use source_tree::{Dim, Expr, Segment as ParsedSegment, Stmt as ParsedStmt};
 use std::alloc::{AllocError, Global};
 use type_check_calls::Context;
 use type_check_forms::{
-    block, body_first, choice, conditional, more_statements, over_lanes, over_values, type_of,
+    block, body_first, choice, conditional, label_word, more_segments, more_statements, over_lanes,
+    over_values, switch_of, type_of,
 };
 use type_check_parts::{advanced, variable_of};
 use type_check_scopes::{Declared, TypeScope, index_variable};
 use type_check_steps::{
-    for_each_head, for_each_of, for_of, for_test, rounds_head, simple_statement, test_apart,
-    test_step, update_number, value_apart, while_of,
+    for_each_head, for_each_of, for_of, for_test, rounds_head, selector_step, simple_statement,
+    test_apart, test_step, update_number, value_apart, while_of,
 };
-use typed_tree::Stmt;
+use typed_tree::{Segment, Stmt};
 
 /// The typed form of a statement. What it declares is in scope then, and the step is that of the next statement; so also where
 /// it has a fault.
@@ -69,6 +70,11 @@ pub(crate) fn statement(
             body,
             ..
         } => for_loop(alloc, start, test, update, body, context, scope, step),
+        ParsedStmt::Switch {
+            selector,
+            segments,
+            ..
+        } => switch(alloc, segments, selector, context, scope, step),
         ParsedStmt::ForEach {
             is_tiled,
             dims,
@@ -84,7 +90,15 @@ pub(crate) fn statement(
             body,
             ..
         } => for_each_unique(alloc, name, value, body, context, scope, step),
-        _ => simple_statement(alloc, stmt, context, scope, step),
+        ParsedStmt::Empty
+        | ParsedStmt::Declare { .. }
+        | ParsedStmt::Assign { .. }
+        | ParsedStmt::Change { .. }
+        | ParsedStmt::Increment { .. }
+        | ParsedStmt::Call { .. }
+        | ParsedStmt::Break { .. }
+        | ParsedStmt::Continue { .. }
+        | ParsedStmt::Return { .. } => simple_statement(alloc, stmt, context, scope, step),
     }
 }
 
@@ -242,6 +256,52 @@ fn for_loop(
     scope.leave(mark);
     *step = at;
     for_of(alloc, start, test, update, body, step)
+}
+
+/// `switch`. Where its selector has a fault the segments are typed all the same, so that their variables and steps are numbered,
+/// but none of their faults counts.
+#[cycle(statement)]
+fn switch(
+    alloc: Global,
+    segments: &[ParsedSegment],
+    selector: &Expr,
+    context: &Context,
+    scope: &mut TypeScope,
+    step: &mut usize,
+) -> Result<Answer<Box<Stmt>>, AllocError>
+    ensures typed { IfOk result (λ answer. (p : Place) → IsTyped boxed_stmt_view answer (model.statement (ParsedSwitch p (expr_view selector.now) (parsed.segments_view segments.now)) (context_view context.now) scope.old.entries (length scope.old.locals) step.old)
+        scope.old.locals scope.new.locals (locals_in_segments (parsed.segments_view segments.now))) }
+    ensures after { OnOk result (scope.new.entries ≡ scope.old.entries) }
+    ensures steps { OnOk result (step.new ≡ step.old + (1 + steps_in_segments (parsed.segments_view segments.now))) }
+{
+    let at = *step;
+    let value = selector_step(alloc, scope, selector, step)?;
+    let typed = typed_segments(alloc, type_of(&value), segments, context, scope, step)?;
+    switch_of(alloc, at, value, typed)
+}
+
+/// The segments of a `switch` whose selector has this type.
+#[cycle(statement)]
+fn typed_segments(
+    alloc: Global,
+    selector_type: IntType,
+    segments: &[ParsedSegment],
+    context: &Context,
+    scope: &mut TypeScope,
+    step: &mut usize,
+) -> Result<Answer<Vec<Segment>>, AllocError>
+    ensures typed { IfOk result (λ answer. IsTyped (λ made. segments_view made.items) answer (model.segments_of (parsed.segments_view segments.now) selector_type (context_view context.now) scope.old.entries (length scope.old.locals) step.old)
+        scope.old.locals scope.new.locals (locals_in_segments (parsed.segments_view segments.now))) }
+    ensures after { OnOk result (scope.new.entries ≡ scope.old.entries) }
+    ensures steps { OnOk result (step.new ≡ step.old + steps_in_segments (parsed.segments_view segments.now)) }
+{
+    let mut typed = Ok(Vec::new(alloc));
+    for segment in segments {
+        let label = label_word(segment.place, selector_type, segment.label);
+        let body = statements(alloc, &segment.body, context, scope, step)?;
+        typed = more_segments(typed, label, body)?;
+    }
+    Ok(typed)
 }
 
 /// `foreach` and `foreach_tiled`.

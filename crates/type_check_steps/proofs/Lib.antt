@@ -1,2 +1,3 @@
 pub mod SingleSteps
 pub mod Singles
+pub mod Switches

@@ -8,14 +8,17 @@ ghost use Rattle.gang_model.specs.Types.Typing as typing;
 ghost use Rattle.source_tree.specs.Expressions.{expr_view};
 ghost use Rattle.source_tree.specs.Tree.{dim_view, stmt_view};
 ghost use Rattle.typed_tree.specs.Views.{boxed_view, dimension_view};
+ghost use Rattle.source_answers.specs.Answers.{Answers};
 ghost use Rattle.source_answers.specs.Apart.{seen};
 ghost use Rattle.type_check_values.specs.Views.{typed_view};
 ghost use Rattle.type_check_scopes.specs.Entries.{declared_view};
 
-use source_answers::{Answer, set_apart};
+use gang_model::RefusalNumber;
+use gang_types::is_bool;
+use source_answers::{Answer, SourceFault, fault_if, refuse, set_apart};
 use source_tree::{Dim, Expr, Stmt};
 use std::alloc::{AllocError, Global};
-use type_check_expressions::expression;
+use type_check_expressions::{expression, first_of};
 use type_check_parts::{
     advanced, declare_indices, dimensions, one_step, some_test, steps_in, test_of,
 };
@@ -137,4 +140,34 @@ pub fn value_apart(
     ensures value { IfOk result (λ answer. answer_of (typing.expression (expr_view value.now) scope.now.entries) ≡ seen typed_view answer) }
 {
     set_apart(expression(alloc, value, scope))
+}
+
+/// What a `switch` selects by: no bool.
+fn selector_of(alloc: Global, scope: &TypeScope, selector: &Expr) -> Result<Typed, SourceFault>
+    ensures { Answers typed_view result (model.selector scope.now.entries (expr_view selector.now)) }
+{
+    let value = expression(alloc, selector, scope)?;
+    refuse(fault_if(
+        is_bool(value.value_type),
+        RefusalNumber::S8,
+        first_of(selector),
+    ))?;
+    Ok(value)
+}
+
+/// What a `switch` selects by, its only step of its own.
+///
+/// # Errors
+///
+/// Out of memory.
+pub fn selector_step(
+    alloc: Global,
+    scope: &TypeScope,
+    selector: &Expr,
+    step: &mut usize,
+) -> Result<Answer<Typed>, AllocError>
+    ensures selector { IfOk result (λ answer. answer_of (model.selector scope.now.entries (expr_view selector.now)) ≡ seen typed_view answer) }
+    ensures steps { OnOk result (step.new ≡ step.old + 1) }
+{
+    one_step(selector_of(alloc, scope, selector), step)
 }

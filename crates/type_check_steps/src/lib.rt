@@ -6,7 +6,8 @@ mod simple;
 mod whole;
 
 pub use heads::{
-    for_each_head, for_test, rounds_head, test_apart, test_step, update_number, value_apart,
+    for_each_head, for_test, rounds_head, selector_step, test_apart, test_step, update_number,
+    value_apart,
 };
 pub use simple::simple_statement;
 pub use whole::{for_each_of, for_of, while_of};

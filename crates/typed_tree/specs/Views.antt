@@ -1,8 +1,6 @@
 -- Programs, without where they lie in memory.
-use Rattle.std.specs.Prelude.{Box, List, [], ◌∷◌, ◌++◌, Option, Some, None, map, option_map}
+use Rattle.std.specs.Prelude.{Box, List, [], ◌∷◌, map, option_map}
 use Rattle.std.specs.declared.alloc.Global.{Global as Allocator}
-use Rattle.gang_types.specs.declared.types.Rate.{Rate}
-use Rattle.gang_types.specs.declared.types.Rate.TheVariants.{Varying}
 use Rattle.gang_model.specs.Types.Tree as t
 use Rattle.gang_model.specs.Types.Resolved.{standing_with}
 use Rattle.ispc_names_table.specs.Scopes.{standings_view}
@@ -25,7 +23,8 @@ use Rattle.typed_tree.specs.declared.statements.ResultFor.TheVariants as result
 use Rattle.typed_tree.specs.declared.statements.Dimension.{Dimension}
 use Rattle.typed_tree.specs.declared.statements.Rounds.{Rounds}
 use Rattle.typed_tree.specs.declared.statements.Rounds.TheVariants as rounds
-use Rattle.typed_tree.specs.declared.statements.Stmt.{Stmt, Empty, Block', Then', Declare, Assign, Change, If', Loop', BodyFirst', Break, Continue, Return, ForEach', Call, Check, PackedStore, PackedLoad, Row_of-Stmt, end_of-Stmt, more_of-Stmt}
+use Rattle.typed_tree.specs.declared.statements.Stmt.{Stmt, Empty, Block', Then', Declare, Assign, Change, If', Loop', BodyFirst', Break, Continue, Return, Switch', ForEach', Call, Check, PackedStore, PackedLoad, Row_of-Stmt, end_of-Stmt, more_of-Stmt, Row_of-Segment, end_of-Segment, more_of-Segment}
+use Rattle.typed_tree.specs.declared.statements.Segment.{Segment}
 use Rattle.typed_tree.specs.declared.program.Variable.{Variable}
 use Rattle.typed_tree.specs.declared.program.Function.{Function}
 use Rattle.typed_tree.specs.declared.program.Global.{Global}
@@ -124,6 +123,7 @@ abbrev mutual
   stmt_view (Break n) = t.Break n
   stmt_view (Continue n) = t.Continue n
   stmt_view (Return n e) = t.Return n (option_map boxed_view e)
+  stmt_view (Switch' n e shape segments) = t.Switch n (boxed_view e) (segment_row_view segments)
   stmt_view (ForEach' n r p body) = t.ForEach n (rounds_view r) (stmt_view body)
   stmt_view (Call n f args r) = t.Call n f (map arg_view args.items) (result_view r)
   stmt_view (Check n e) = t.Check n (boxed_view e)
@@ -134,10 +134,19 @@ abbrev mutual
   row_view end_of-Stmt = t.Empty
   row_view (more_of-Stmt s ss) = t.Then (stmt_view s) (row_view ss)
 
+  pub segment_row_view : {n : _} → Row_of-Segment n → t.Stmt
+  segment_row_view end_of-Segment = t.Empty
+  segment_row_view (more_of-Segment label shape body segments) = t.Segment label (row_view body) (segment_row_view segments)
+
 -- statements in order
 abbrev pub stmts_view : List Stmt → t.Stmt
 stmts_view [] = t.Empty
 stmts_view (s ∷ ss) = t.Then (stmt_view s) (stmts_view ss)
+
+-- the segments of a switch, in order
+abbrev pub segments_view : List Segment → t.Stmt
+segments_view [] = t.Empty
+segments_view (s ∷ ss) = t.Segment s.label (stmts_view s.body.items) (segments_view ss)
 
 abbrev pub variable_view : Variable → t.Variable
 variable_view v = record { name = v.name.items; id = v.id; type = v.value_type; rate = v.rate; is_array = v.is_array; is_parameter = v.is_parameter; is_constant = v.is_constant }

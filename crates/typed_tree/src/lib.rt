@@ -7,4 +7,4 @@ mod statements;
 
 pub use expressions::{Expr, OneCall, Reduction, Scan, TwoCall, Var};
 pub use program::{Function, Global, Program, Variable};
-pub use statements::{Arg, Dimension, ResultFor, Rounds, Stmt, Target};
+pub use statements::{Arg, Dimension, ResultFor, Rounds, Segment, Stmt, Target};

@@ -158,6 +158,12 @@ pub enum Stmt {
         step: usize,
         value: Option<Box<Expr>>,
     },
+    /// The segments in the order of the source.
+    Switch {
+        step: usize,
+        selector: Box<Expr>,
+        segments: Vec<Segment>,
+    },
     ForEach {
         step: usize,
         rounds: Rounds,
@@ -235,6 +241,11 @@ impl Drop for Stmt {
             | Stmt::Break { step: _ }
             | Stmt::Continue { step: _ }
             | Stmt::Return { step: _, value: _ }
+            | Stmt::Switch {
+                step: _,
+                selector: _,
+                segments: _,
+            }
             | Stmt::ForEach {
                 step: _,
                 rounds: _,
@@ -262,5 +273,19 @@ impl Drop for Stmt {
                 result_for: _,
             } => {}
         }
+    }
+}
+
+/// A segment of a `switch`: the word of its label, none for `default`, and the statements up to the next label.
+#[cycle(statement)]
+pub struct Segment {
+    pub label: Option<u64>,
+    pub body: Vec<Stmt>,
+}
+
+impl Drop for Segment {
+    #[cycle(statement)]
+    fn drop(self) {
+        let Self { label: _, body: _ } = self;
     }
 }

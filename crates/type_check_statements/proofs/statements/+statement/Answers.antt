@@ -8,12 +8,12 @@ use Rattle.gang_types.specs.declared.types.Rate.TheVariants.{Uniform}
 use Rattle.source_tree.specs.Expressions.{expr_view}
 use Rattle.gang_model.specs.Source.Judged.{both_answers}
 use Rattle.gang_model.specs.Names.Scope.{locals_in}
-use Rattle.gang_model.specs.Source.Parsed.{ParsedBlock, ParsedIf, ParsedIfElse, ParsedWhile, ParsedDo, ParsedFor, ParsedForEach, ParsedForEachActive, ParsedForEachUnique}
+use Rattle.gang_model.specs.Source.Parsed.{ParsedBlock, ParsedIf, ParsedIfElse, ParsedWhile, ParsedDo, ParsedFor, ParsedSwitch, ParsedSegment, ParsedForEach, ParsedForEachActive, ParsedForEachUnique}
 use Rattle.gang_model.specs.Types.Typing.{index_entry}
 use Rattle.gang_model.proofs.WalkedLists.{next_item}
 use Rattle.source_tree.specs.declared.tree.Stmt.{If}
 use Rattle.source_tree.specs.Tree as parsed
-use Rattle.source_tree.proofs.StatementRows.{view_block}
+use Rattle.source_tree.proofs.StatementRows.{view_block, view_switch}
 use Rattle.typed_tree.specs.Views as typed
 use Rattle.type_check_values.specs.Views.{typed_view}
 use Rattle.type_check_scopes.specs.Entries.{declared_view}
@@ -22,6 +22,7 @@ use Rattle.type_check_forms.specs.Sequences.{type_or_int32}
 use Rattle.source_answers.specs.Apart.{seen}
 use Rattle.type_check_parts.proofs.Named.{index-named}
 use Rattle.type_check_steps.proofs.SingleSteps.{typed-form, steps-form, counted-as, ends-at, in-any-case}
+use Rattle.type_check_steps.proofs.Switches.{segments-none, segments-next, segments-typed, segments-numbered, switched}
 use Rattle.type_check_statements.proofs.InSequence.{begun-none, begun-next, begun-all, whole-typed, typed-block}
 use Rattle.type_check_statements.proofs.Compound.{if-only, if-else, while-loop, do-loop, for-loop, for-each, in-rounds, for-each-active, for-each-unique}
 use Rattle.type_check_statements.proofs.ScopeSteps.{extends-after, extends-indices, extends-one, extends-same, extends-next, extends-marked, extends-left}
@@ -225,6 +226,54 @@ for_each_unique-returns-clause-typed t c =
     c.variable_of.ensures c.in_ok-body.ensures.typed form)
     c.over_values.ensures.form
 
+-- ---- `switch`
+
+pub switch-returns-clause-typed : goal.switch-returns-clause-typed
+switch-returns-clause-typed t c =
+    let scope = c.args.scope.now in
+    IfOk-weaker c.switch_of.result _ _ (λ answer form p.
+    switched typed_view (λ v. typed.segments_view v.items) p (expr_view c.args.selector.now) (parsed.segments_view c.args.segments.now) (context_view c.args.context.now) scope.entries scope.entries
+    scope.locals c.typed_segments.new.scope.locals c.args.step.now _ c.type_of.result c.in_ok-value.value c.in_ok-typed.typed answer
+    c.in_ok-value.ensures.selector (λ x is. c.type_of.ensures ∙ ap type_or_int32 is) c.in_ok-typed.ensures.typed refl c.in_ok-value.ensures.steps form)
+    c.switch_of.ensures.form
+
+pub typed_segments-loop-segment-init : goal.typed_segments-loop-segment-init
+typed_segments-loop-segment-init t c =
+    let scope = c.args.scope.now in
+    segments-none (context_view c.args.context.now) c.args.selector_type (parsed.segments_view c.args.segments.now) _ scope.entries scope.locals c.args.step.now (ap Ok c.new.ensures.items)
+
+pub typed_segments-loop-segment-preserved : goal.typed_segments-loop-segment-preserved
+typed_segments-loop-segment-preserved t c =
+    let scope = c.args.scope.now in
+    let items = c.args.segments.now in
+    let i = c.loop-segment.segment-index in
+    let here = c.loop-segment.scope in
+    let there = c.statements.new.scope in
+    let segment = c.segment-item.result in
+    segments-next (context_view c.args.context.now) c.args.selector_type (parsed.segments_view items) (parsed.segments_view (drop i items)) (parsed.segments_view (drop (i + 1) items))
+    segment.place segment.label (parsed.stmts_view c.deref.result.now) (seen (λ v. v.items) c.loop-segment.typed) _ c.label_word-label.result c.in_ok-body.body
+    scope.entries here.entries there.entries scope.locals here.locals there.locals c.args.step.now c.loop-segment.step _
+    c.loop-segment.invariant
+    (ap parsed.segments_view (next_item items i segment c.loop-segment-test.true c.segment-item.is)
+    ∙ ap (λ xs. ParsedSegment segment.place segment.label (parsed.stmts_view xs) (parsed.segments_view (drop (i + 1) items))) (sym c.deref.ensures.value))
+    c.label_word-label.ensures c.in_ok-body.ensures.typed c.in_ok-body.ensures.after c.in_ok-body.ensures.steps c.in_ok-typed.ensures.more
+
+pub typed_segments-returns-clause-typed : goal.typed_segments-returns-clause-typed
+typed_segments-returns-clause-typed t c =
+    let scope = c.args.scope.now in
+    let items = c.args.segments.now in
+    let i = c.loop-segment.segment-index in
+    segments-typed (context_view c.args.context.now) c.args.selector_type (parsed.segments_view items) (parsed.segments_view (drop i items)) c.loop-segment.typed scope.entries c.loop-segment.scope.entries
+    scope.locals c.loop-segment.scope.locals c.args.step.now c.loop-segment.step c.loop-segment.invariant (ap parsed.segments_view (drop_all i items c.loop-segment-test.false))
+
+pub typed_segments-returns-clause-steps : goal.typed_segments-returns-clause-steps
+typed_segments-returns-clause-steps t c =
+    let scope = c.args.scope.now in
+    let items = c.args.segments.now in
+    let i = c.loop-segment.segment-index in
+    segments-numbered (context_view c.args.context.now) c.args.selector_type (parsed.segments_view items) (parsed.segments_view (drop i items)) (seen (λ v. v.items) c.loop-segment.typed) scope.entries c.loop-segment.scope.entries
+    scope.locals c.loop-segment.scope.locals c.args.step.now c.loop-segment.step c.loop-segment.invariant (ap parsed.segments_view (drop_all i items c.loop-segment-test.false))
+
 -- ---- statements in order
 
 pub statements-loop-stmt-init : goal.statements-loop-stmt-init
@@ -339,6 +388,27 @@ statement-returns-in-For-clause-typed t c =
     ∙ ap (λ x. ParsedFor c.in-For.place (parsed.stmt_view c.deref-in-For.result.now) (option_map expr_view c.in-For.test) (parsed.stmt_view c.deref-in-For-2.result.now) (parsed.stmt_view x)) (sym c.deref-in-For-3.ensures))) in
     typed-form c.for_loop.result s form (context_view c.args.context.now) scope.entries (length scope.locals) c.args.step.now scope.locals c.for_loop.new.scope.locals e
     (IfOk-weaker c.for_loop.result _ _ (λ answer h. h c.in-For.place) c.for_loop.ensures.typed)
+
+pub statement-returns-in-Switch-clause-typed : goal.statement-returns-in-Switch-clause-typed
+statement-returns-in-Switch-clause-typed t c =
+    let scope = c.args.scope.now in
+    let s = parsed.stmt_view c.args.stmt.now in
+    let e = expr_view c.in-Switch.selector in
+    let form = ParsedSwitch c.in-Switch.place e (parsed.segments_view c.deref-in-Switch.result.now) in
+    let is : s ≡ form =
+    ap parsed.stmt_view c.in-Switch.is ∙ (view_switch c.in-Switch.place c.in-Switch.selector c.in-Switch.segments
+    ∙ ap (λ xs. ParsedSwitch c.in-Switch.place e (parsed.segments_view xs)) (sym c.deref-in-Switch.ensures.value)) in
+    typed-form c.switch.result s form (context_view c.args.context.now) scope.entries (length scope.locals) c.args.step.now scope.locals c.switch.new.scope.locals is
+    (IfOk-weaker c.switch.result _ _ (λ answer h. h c.in-Switch.place) c.switch.ensures.typed)
+
+pub statement-returns-in-Switch-clause-steps : goal.statement-returns-in-Switch-clause-steps
+statement-returns-in-Switch-clause-steps t c =
+    let e = expr_view c.in-Switch.selector in
+    let form = ParsedSwitch c.in-Switch.place e (parsed.segments_view c.deref-in-Switch.result.now) in
+    let is : parsed.stmt_view c.args.stmt.now ≡ form =
+    ap parsed.stmt_view c.in-Switch.is ∙ (view_switch c.in-Switch.place c.in-Switch.selector c.in-Switch.segments
+    ∙ ap (λ xs. ParsedSwitch c.in-Switch.place e (parsed.segments_view xs)) (sym c.deref-in-Switch.ensures.value)) in
+    steps-form c.switch.result (parsed.stmt_view c.args.stmt.now) form c.args.step.now c.switch.new.step is c.switch.ensures.steps
 
 pub statement-returns-in-ForEach-clause-typed : goal.statement-returns-in-ForEach-clause-typed
 statement-returns-in-ForEach-clause-typed t c =

@@ -1,9 +1,10 @@
 use Rattle.std.proofs.Common.{◌+◌, ◌*◌, drop}
 use Rattle.std.specs.Prelude.{max}
 use Rattle.source_tree.specs.declared.tree.Stmt.{size-Stmt}
-use Rattle.source_tree.specs.Tree.{stmts_view}
+use Rattle.source_tree.specs.Tree.{segments_view, stmts_view}
 use Rattle.type_check_calls.specs.Calls.{context_view}
 use Rattle.source_answers.specs.Apart.{seen}
+use Rattle.type_check_steps.proofs.Switches.{AreBegun}
 use Rattle.type_check_statements.proofs.InSequence.{IsBegun}
 use Rattle.type_check_statements.proofs.statements.+statement.Given as goal
 
@@ -33,6 +34,12 @@ decreases-do_loop l = 4 * size-Stmt l.body.now + 2
 abbrev pub decreases-for_loop : goal.decreases-for_loop
 decreases-for_loop l = 4 * max (size-Stmt l.start.now) (max (size-Stmt l.update.now) (size-Stmt l.body.now)) + 2
 
+abbrev pub decreases-switch : goal.decreases-switch
+decreases-switch l = 4 * goal.size-switch l + 3
+
+abbrev pub decreases-typed_segments : goal.decreases-typed_segments
+decreases-typed_segments l = 4 * goal.size-typed_segments l + 2
+
 abbrev pub decreases-for_each : goal.decreases-for_each
 decreases-for_each l = 4 * size-Stmt l.body.now + 2
 
@@ -49,4 +56,10 @@ decreases-for_each_unique l = 4 * size-Stmt l.body.now + 3
 abbrev pub invariant-statements-loop-stmt : goal.invariant-statements-loop-stmt
 invariant-statements-loop-stmt l =
     IsBegun (context_view l.context) (stmts_view l.stmts) (stmts_view (drop l.stmt-index l.stmts)) (seen (λ stmts. stmts.items) l.typed)
+    l.fn.scope.entries l.scope.entries l.fn.scope.locals l.scope.locals l.fn.step l.step
+
+-- the same of the segments of a switch
+abbrev pub invariant-typed_segments-loop-segment : goal.invariant-typed_segments-loop-segment
+invariant-typed_segments-loop-segment l =
+    AreBegun (context_view l.context) l.selector_type (segments_view l.segments) (segments_view (drop l.segment-index l.segments)) (seen (λ segments. segments.items) l.typed)
     l.fn.scope.entries l.scope.entries l.fn.scope.locals l.scope.locals l.fn.step l.step
