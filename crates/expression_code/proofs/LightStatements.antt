@@ -5,7 +5,7 @@ use Rattle.gang_model.specs.declared.marks.Mark.{Mark}
 use Rattle.gang_model.specs.Source.Tokens.{Lexeme}
 use Rattle.gang_model.specs.Source.Parsed.{ParsedExpr, ParsedDim, ParsedTarget, ParsedStmt, ParsedEmpty, ParsedBlock, ParsedDeclare, ParsedAssign, ParsedChange, ParsedIncrement, ParsedDoCall, ParsedBreak, ParsedContinue, ParsedReturn, ParsedIf, ParsedIfElse, ParsedWhile, ParsedDo, ParsedFor, ParsedSwitch, ParsedForEach, ParsedForEachActive, ParsedForEachUnique, ParsedStmts, ParsedLast, ParsedNext, ParsedSegments, ParsedNoMore, ParsedSegment, ParsedFunction, ParsedSource, ParsedFunctionItem, ParsedGlobalItem, functions_in}
 use Rattle.gang_model.specs.Source.Spells.{WholeExpr, WholeArgs, AreLight, weight, max_weight}
-use Rattle.gang_model.specs.Source.SpellsStatements.{Maybe, InParens, InBrackets, SpellsList, SpellsValue, SpellsDeclaration, SpellsTarget, TargetThen, ThenTarget, SpellsSimple, SpellsStart, SpellsUpdate, SpellsRounds, SpellsDim, SpellsDims, SpellsDistinct, OpensBody, SpellsStmt, SpellsStmts}
+use Rattle.gang_model.specs.Source.SpellsStatements.{Maybe, InParens, InBrackets, SpellsList, SpellsValue, SpellsDeclaration, SpellsTarget, TargetThen, ThenTarget, SpellsSimple, SpellsStart, SpellsUpdate, SpellsRounds, SpellsDim, SpellsDims, SpellsDistinct, OpensBody, SpellsStmt, SpellsStmts, SpellsSegments}
 use Rattle.gang_model.specs.Source.SpellsSource.{SpellsFunction, IsTree, max_nesting}
 use Rattle.gang_model.proofs.StandingLaws.{Each}
 use Rattle.gang_model.proofs.NestingLaws.{opened}
@@ -137,7 +137,9 @@ mutual
   light_stmt (ParsedFor at start test update x) d ts rest h =
       in_parens d (SpellsRounds start test update) (IsLightStmt (ParsedFor at start test update x)) h.0 h.1 h.3
       (λ inner a b k. (light_start inner start a k.0 k.4, light_if_any inner test k.1 k.2 k.6, light_update inner update k.3 b k.8, light_body x (light_stmt x) d h.1 rest h.4))
-  light_stmt (ParsedSwitch at e segments) d ts rest h = absurd h
+  light_stmt (ParsedSwitch at e segments) d ts rest h =
+      let inside = opened d (λ inner. SpellsSegments segments inner h.2 h.3) h.7 in
+      (light_in_parens d e h.0 h.1 h.5, light_segments segments inside.0 h.2 h.3 inside.2)
   light_stmt (ParsedForEach at is_tiled dims x) d ts rest h = (
     in_parens d (SpellsDims dims) (AreLightDims dims) h.0 h.1 h.3 (λ inner a b k. light_dims inner dims a b k.0),
     light_body x (light_stmt x) d h.1 rest h.4,
@@ -152,6 +154,10 @@ mutual
   light_stmts : (ss : ParsedStmts) (d : ℕ) (ts rest : List Lexeme) → SpellsStmts ss d ts rest → AreLightStmts ss
   light_stmts ParsedLast d ts rest h = tt
   light_stmts (ParsedNext s ss) d ts rest h = (light_stmt s d ts h.0 h.1, light_stmts ss d h.0 rest h.2)
+
+  light_segments : (segments : ParsedSegments) (d : ℕ) (ts rest : List Lexeme) → SpellsSegments segments d ts rest → AreLightSegments segments
+  light_segments ParsedNoMore d ts rest h = tt
+  light_segments (ParsedSegment at label ss segments) d ts rest h = (light_stmts ss d h.0 h.1 h.3, light_segments segments d h.1 rest h.5)
 
 -- ---- sources
 

@@ -1,7 +1,7 @@
 -- Worked rows: the rounds of some forms by counters.
 use Rattle.std.specs.Prelude.{◌≡◌, refl, true, false, ℕ, List, [], ◌∷◌, map, is_some, Some, None, ℤ, pos, negsuc}
 use Rattle.gang_types.specs.Lanes.{Lanes}
-use Rattle.gang_model.specs.Types.Tree.{Expr, EachLane, EachValue, Var, RoundsOf, Stmt, Empty, Then, Break, ForEach}
+use Rattle.gang_model.specs.Types.Tree.{Expr, EachLane, EachValue, Var, RoundsOf, Empty, Then, Break, ForEach}
 use Rattle.foreach_lowering.specs.Grids.{Grid, grid, to_come, all_left, next}
 use Rattle.foreach_lowering.specs.Domains.{row_grid, row_place, tile_grid, tile_place}
 use Rattle.foreach_lowering.specs.Kept.{turns_left, kept_lanes}

@@ -32,15 +32,15 @@ struct Nesting<'a> {
 
 impl<'a> Nesting<'a> {
     /// Goes past a point; answers the form whose rounds it is.
-    fn pass(&mut self, point: Point<'a>) -> Result<Option<&'a Rounds>, AllocError>
-        ensures form { IfOk result (λ form. form_view form ≡ form_at (point_view point.entry) (nesting_view self.old)) }
-        ensures round { IfOk result (λ form. nesting_view self.new ≡ passed (point_view point.entry) (nesting_view self.old)) }
+    fn pass(&mut self, point: &Point<'a>) -> Result<Option<&'a Rounds>, AllocError>
+        ensures form { IfOk result (λ form. form_view form ≡ form_at (point_view point.now) (nesting_view self.old)) }
+        ensures round { IfOk result (λ form. nesting_view self.new ≡ passed (point_view point.now) (nesting_view self.old)) }
         ensures depth { IfOk result (λ form. self.new.depth ≡ max self.old.depth (length (nesting_view self.old))) }
     {
         self.depth = self.depth.max(self.forms.len());
         match point {
             Point::Begin { form, .. } => {
-                self.forms.push(form)?;
+                self.forms.push(*form)?;
                 Ok(None)
             }
             Point::Turn { .. } => Ok(self.forms.pop()),
@@ -59,7 +59,7 @@ fn forms_of<'a>(alloc: Global, points: &[Point<'a>]) -> Result<FunctionForms<'a>
     };
     let mut rounds = Vec::with_capacity(alloc, points.len())?;
     for point in points {
-        let form = nesting.pass(*point)?;
+        let form = nesting.pass(point)?;
         rounds.push(form)?;
     }
     let depth = nesting.depth;

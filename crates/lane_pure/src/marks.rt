@@ -1,9 +1,9 @@
 //! Which functions are called.
 ghost use Rattle.std.specs.Prelude.{◌≡◌, true, slice_set};
-ghost use Rattle.typed_tree.specs.Views.{stmt_view, stmts_view};
+ghost use Rattle.typed_tree.specs.Views.{segments_view, stmt_view, stmts_view};
 ghost use Rattle.lane_pure.specs.Marks.{marked};
 
-use typed_tree::Stmt;
+use typed_tree::{Segment, Stmt};
 
 /// Sets a mark, if there is such a one.
 pub(crate) fn set_mark(marks: &mut [bool], number: usize)
@@ -34,8 +34,19 @@ fn mark_statement(statement: &Stmt, marks: &mut [bool])
             mark_statement(body, marks);
         }
         Stmt::BodyFirst { body, .. } => mark_statement(body, marks),
+        Stmt::Switch { segments, .. } => mark_segments(segments, marks),
         Stmt::Call { function, .. } => set_mark(marks, *function),
         _ => {}
+    }
+}
+
+/// Marks the functions that the segments of a switch call.
+#[cycle(marking)]
+fn mark_segments(segments: &[Segment], marks: &mut [bool])
+    ensures { marks.new ≡ marked (segments_view segments.now) marks.old }
+{
+    for segment in segments {
+        mark_statements(&segment.body, marks);
     }
 }
 

@@ -1,10 +1,10 @@
 //! Statements with varying variables alone, no store to an array, no foreach form and no call of the library.
 ghost use Rattle.std.specs.Prelude.{◌≡◌, map, option_map, [], ◌∷◌};
 ghost use Rattle.gang_model.specs.Running.LanePure as pure;
-ghost use Rattle.typed_tree.specs.Views.{arg_view, boxed_view, result_view, stmt_view, stmts_view, target_view};
+ghost use Rattle.typed_tree.specs.Views.{arg_view, boxed_view, result_view, segments_view, stmt_view, stmts_view, target_view};
 
 use crate::expressions::{is_pure, is_varying};
-use typed_tree::{Arg, Expr, ResultFor, Stmt, Target};
+use typed_tree::{Arg, Expr, ResultFor, Segment, Stmt, Target};
 
 /// Whether what is assigned is a varying variable.
 fn is_pure_target(target: &Target) -> bool
@@ -88,6 +88,11 @@ fn is_pure_statement(statement: &Stmt) -> bool
         } => { is_pure(test) && is_pure_statement(update) && is_pure_statement(body) }
         Stmt::BodyFirst { test, body, .. } => is_pure(test) && is_pure_statement(body),
         Stmt::Return { value, .. } => is_pure_option(value),
+        Stmt::Switch {
+            selector,
+            segments,
+            ..
+        } => is_pure(selector) && are_pure_segments(segments),
         Stmt::Call {
             args,
             result_for,
@@ -95,6 +100,19 @@ fn is_pure_statement(statement: &Stmt) -> bool
         } => { are_pure_arguments(args) && is_pure_result(*result_for) }
         _ => false,
     }
+}
+
+/// Whether the segments of a switch are lane-pure.
+#[cycle(purity)]
+fn are_pure_segments(segments: &[Segment]) -> bool
+    ensures { result ≡ pure.is_pure_stmt (segments_view segments.now) }
+{
+    for segment in segments {
+        if !are_pure_statements(&segment.body) {
+            return false;
+        }
+    }
+    true
 }
 
 /// Whether statements in order are lane-pure.

@@ -1,11 +1,12 @@
 -- The points of each form of statement, from those of its parts.
 use Rattle.std.proofs.Common.{◌≡◌, ℕ, ◌+◌, ◌-◌, List, [], ◌∷◌, ◌++◌, length, refl, ap, sym, ◌∙◌, subst, arith, append_assoc, length-append}
-use Rattle.std.specs.Prelude.{slice_set}
+use Rattle.std.specs.Prelude.{Option, Some, slice_set}
 use Rattle.std.proofs.lemmas.List.{length-set}
-use Rattle.gang_model.specs.Types.Tree.{StepNumber, Expr, RoundsOf, Stmt, Empty, Then, If, Loop, BodyFirst, ForEach}
+use Rattle.gang_model.specs.Types.Tree.{StepNumber, Expr, RoundsOf, Stmt, Empty, Then, If, Loop, BodyFirst, Switch, Segment, ForEach}
 use Rattle.gang_model.specs.Running.Step.{steps_of, round_number}
+use Rattle.gang_model.specs.Running.RunningOrder.{IsNumbered}
 use Rattle.mask_states.specs.Points as p
-use Rattle.mask_states.specs.Points.{Ways, before_step, body_ways, update_ways, round_ways, entry_of, points_of}
+use Rattle.mask_states.specs.Points.{Ways, before_step, body_ways, update_ways, round_ways, entry_of, entries_of, points_of}
 use Rattle.mask_lowering.specs.declared.point.Point.{Point}
 use Rattle.mask_lowering.specs.PointViews.{point_view}
 use Rattle.mask_lowering.specs.Lowering.{Lowered, in_order}
@@ -129,6 +130,64 @@ lowered_for_each steps c0 c1 c2 c3 c4 number form body ways n rounds first hole 
             ∙ ap (λ y. bs ++ y ∷ in_order c0) (is_turn ∙ ap p.Turn b.waits)
             ∙ sym (append_assoc bs (p.Turn (entry_of body rounds) ∷ []) (in_order c0)))
             ∙ ap (λ r. p.Begin form r ways.next ∷ ((points_of body (round_ways r) ++ p.Turn (entry_of body r) ∷ []) ++ in_order c0)) round;
+        waits = refl;
+      };
+}
+
+-- ---- a switch
+
+-- the points of segments stand before the old ones, and these are the numbers where they begin
+pub record LoweredSegments (steps : ℕ) (old new : List Point) (s : Stmt) (ways : Ways) (entries : List StepNumber) : Type 0 where
+  pub counted : length new ≡ length old + steps_of s
+  pub placed : (from : ℕ) → IsNumbered from s → from + steps_of s + length old ≡ steps → (in_order new ≡ points_of s ways ++ in_order old) × (entries ≡ entries_of s ways.next)
+
+pub lowered_no_segment : (steps : ℕ) (old : List Point) (ways : Ways) → LoweredSegments steps old old Empty ways []
+lowered_no_segment steps old ways = record { counted = omega arith; placed = λ from is ends. (refl, refl) }
+
+-- a segment runs on into the next ones, as a statement does into those behind it
+pub lowered_segment : (steps : ℕ) (old mid new : List Point) (label : Option ℕ) (body rest : Stmt) (ways : Ways) (next entry : StepNumber) → Lowered steps old mid rest ways next
+    → Lowered steps mid new body (before_step next ways) entry → Lowered steps old new (Segment label body rest) ways entry
+lowered_segment steps old mid new label body rest ways next entry later sooner =
+    let both = lowered_then steps old mid new body rest ways next entry later sooner in
+    record {
+      counted = both.counted;
+      placed = λ from is ends.
+          let made = both.placed from is ends in
+          record { points = made.points; waits = made.waits };
+    }
+
+-- the segments with one more before them, from where they begin
+pub lowered_segments : (steps : ℕ) (old mid new : List Point) (label : Option ℕ) (body rest : Stmt) (ways : Ways) (next entry : StepNumber) (entries : List StepNumber)
+    → Lowered steps old mid rest ways next → Lowered steps mid new body (before_step next ways) entry → LoweredSegments steps old mid rest ways entries
+    → LoweredSegments steps old new (Segment label body rest) ways (entry ∷ entries)
+lowered_segments steps old mid new label body rest ways next entry entries later sooner begun =
+    let whole = lowered_segment steps old mid new label body rest ways next entry later sooner in
+    record {
+      counted = whole.counted;
+      placed = λ from is ends.
+          let l = later.counted in
+          let made = whole.placed from is ends in
+          let begin = (begun.placed (from + steps_of body) is.1 (omega arith)).1 in (
+            made.points,
+            ap (λ first. first ∷ entries) made.waits ∙ ap (λ others. entry_of (Segment label body rest) ways.next ∷ others) begin,
+          );
+    }
+
+pub lowered_switch : (steps : ℕ) (c0 c1 c2 : List Point) (number : StepNumber) (selector : Expr) (segments : Stmt) (ways : Ways) (entries : List StepNumber) (x : Point)
+    → LoweredSegments steps c0 c1 segments (record ways { on_break = Some ways.next }) entries → c2 ≡ c1 ++ x ∷ []
+    → point_view x ≡ p.Choose selector segments entries ways.next → Lowered steps c0 c2 (Switch number selector segments) ways number
+lowered_switch steps c0 c1 c2 number selector segments ways entries x inner made is = record {
+  counted = let l = inner.counted in let n = one_longer c1 c2 x made in omega arith;
+  placed = λ from numbered ends.
+      let l = inner.counted in
+      let ss = inner.placed (from + 1) numbered.1 (omega arith) in
+      let points = points_of segments (record ways { on_break = Some ways.next }) in
+      record {
+        points =
+            order_more c1 c2 x made
+            ∙ ap (λ y. y ∷ in_order c1) is
+            ∙ ap (λ behind. p.Choose selector segments entries ways.next ∷ behind) ss.0
+            ∙ ap (λ begin. p.Choose selector segments begin ways.next ∷ (points ++ in_order c0)) ss.1;
         waits = refl;
       };
 }

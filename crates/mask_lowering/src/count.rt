@@ -1,10 +1,10 @@
 //! How many steps statements have.
 ghost use Rattle.std.specs.Prelude.{◌≡◌, ◌+◌, IfOk};
 ghost use Rattle.gang_model.specs.Running.Step.{steps_of};
-ghost use Rattle.typed_tree.specs.Views.{stmt_view, stmts_view};
+ghost use Rattle.typed_tree.specs.Views.{segments_view, stmt_view, stmts_view};
 
 use std::alloc::AllocError;
-use typed_tree::Stmt;
+use typed_tree::{Segment, Stmt};
 
 /// One step more. More steps than a number counts have points for which no memory has room.
 fn one_more(count: usize) -> Result<usize, AllocError>
@@ -34,9 +34,22 @@ fn with_statement(statement: &Stmt, count: usize) -> Result<usize, AllocError>
             one_more(with_statement(update, count)?)
         }
         Stmt::BodyFirst { body, .. } => one_more(with_statement(body, count)?),
+        Stmt::Switch { segments, .. } => with_segments(segments, one_more(count)?),
         Stmt::ForEach { body, .. } => one_more(with_statement(body, one_more(count)?)?),
         _ => one_more(count),
     }
+}
+
+/// The count with the steps of a switch's segments.
+#[cycle(counting)]
+fn with_segments(segments: &[Segment], count: usize) -> Result<usize, AllocError>
+    ensures { IfOk result (λ sum. sum ≡ count + steps_of (segments_view segments.now)) }
+{
+    let mut count = count;
+    for segment in segments {
+        count = with_statements(&segment.body, count)?;
+    }
+    Ok(count)
 }
 
 /// The count with the steps of statements in order.

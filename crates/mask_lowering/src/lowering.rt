@@ -1,15 +1,15 @@
 //! The points of statements, made from the last step to the first: so it is known where lanes go on after a step.
 ghost use Rattle.std.specs.Prelude.{◌≡◌, ◌≤◌, ◌+◌, length, IfOk};
-ghost use Rattle.gang_model.specs.Types.Tree.{ForEach, Loop};
+ghost use Rattle.gang_model.specs.Types.Tree.{ForEach, Loop, Switch};
 ghost use Rattle.gang_model.specs.Running.Step.{steps_of};
-ghost use Rattle.typed_tree.specs.Views.{expr_view, rounds_view, stmt_view, stmts_view};
+ghost use Rattle.typed_tree.specs.Views.{expr_view, rounds_view, segments_view, stmt_view, stmts_view};
 ghost use Rattle.mask_lowering.specs.Lowering.{Lowered, ways_view};
 
 use crate::point::{Point, put};
 use crate::steps::lower_step;
 use crate::ways::Ways;
 use std::alloc::AllocError;
-use typed_tree::{Expr, Rounds, Stmt};
+use typed_tree::{Expr, Rounds, Segment, Stmt};
 
 /// Adds the points of a statement, the last first, and answers where lanes wait that have it to do. The function has `steps` steps, of
 /// which those behind the statement have their points.
@@ -55,6 +55,11 @@ fn lower_statement<'a>(
             points[place] = Point::Branch { test, yes, no };
             Ok(yes)
         }
+        Stmt::Switch {
+            step,
+            selector,
+            segments,
+        } => lower_switch(points, segments, selector, *step, steps, ways),
         Stmt::ForEach { step, rounds, body } => {
             lower_for_each(points, body, rounds, *step, steps, ways)
         }
@@ -105,6 +110,40 @@ fn lower_for_each<'a>(
     points[place] = Point::Turn { body };
     let next = ways.next;
     put(points, Point::Begin { form, rounds, next })?;
+    Ok(step)
+}
+
+/// The same of a switch, whose segments run on into one another.
+#[cycle(statement)]
+fn lower_switch<'a>(
+    points: &mut Vec<Point<'a>>,
+    segments: &'a [Segment],
+    selector: &'a Expr,
+    step: usize,
+    steps: usize,
+    ways: Ways,
+) -> Result<usize, AllocError>
+    requires { length points.old.items + steps_of (segments_view segments.now) + 1 ≤ steps }
+    ensures { IfOk result (Lowered steps points.old.items points.new.items (Switch step (expr_view selector.now) (segments_view segments.now)) (ways_view ways)) }
+{
+    let inner = ways.of_segments();
+    let mut entries = Vec::with_capacity(*points.allocator(), segments.len())?;
+    let mut begin = ways.next;
+    for i in (0..segments.len()).rev() {
+        begin = lower_statements(points, &segments[i].body, steps, inner.before_step(begin))?;
+        entries.push(begin)?;
+    }
+    entries.reverse();
+    let next = ways.next;
+    put(
+        points,
+        Point::Choose {
+            selector,
+            segments,
+            entries,
+            next,
+        },
+    )?;
     Ok(step)
 }
 

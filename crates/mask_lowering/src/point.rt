@@ -2,10 +2,9 @@
 ghost use Rattle.std.specs.Prelude.{◌≡◌, [], ◌∷◌, ◌++◌, OnOk};
 
 use std::alloc::AllocError;
-use typed_tree::{Arg, Expr, ResultFor, Rounds, Stmt};
+use typed_tree::{Arg, Expr, ResultFor, Rounds, Segment, Stmt};
 
 /// What a step does, and the numbers of the steps that its lanes wait for next.
-#[derive(Clone, Copy)]
 pub enum Point<'a> {
     /// The statement, which moves no lane.
     Put {
@@ -20,6 +19,13 @@ pub enum Point<'a> {
         test: &'a Expr,
         yes: usize,
         no: usize,
+    },
+    /// A switch: its segments, where each of them begins, and what follows them.
+    Choose {
+        selector: &'a Expr,
+        segments: &'a [Segment],
+        entries: Vec<usize>,
+        next: usize,
     },
     /// A foreach form: the number of its rounds, and what follows it.
     Begin {
@@ -38,6 +44,41 @@ pub enum Point<'a> {
         result_for: ResultFor,
         next: usize,
     },
+}
+
+impl Drop for Point<'_> {
+    fn drop(self) {
+        match self {
+            Point::Put {
+                statement: _,
+                next: _,
+            }
+            | Point::Go { next: _ }
+            | Point::Branch {
+                test: _,
+                yes: _,
+                no: _,
+            }
+            | Point::Choose {
+                selector: _,
+                segments: _,
+                entries: _,
+                next: _,
+            }
+            | Point::Begin {
+                form: _,
+                rounds: _,
+                next: _,
+            }
+            | Point::Turn { body: _ }
+            | Point::Enter {
+                function: _,
+                args: _,
+                result_for: _,
+                next: _,
+            } => {}
+        }
+    }
 }
 
 /// One more point.

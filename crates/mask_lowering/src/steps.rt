@@ -69,6 +69,7 @@ fn step_point<'a>(statement: &'a Stmt, ways: Ways) -> (usize, Point<'a>)
         | Stmt::If { .. }
         | Stmt::Loop { .. }
         | Stmt::BodyFirst { .. }
+        | Stmt::Switch { .. }
         | Stmt::ForEach { .. } => unreachable!(),
     }
 }

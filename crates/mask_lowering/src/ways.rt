@@ -1,5 +1,5 @@
 //! Where lanes go on after a statement.
-ghost use Rattle.std.specs.Prelude.{◌≡◌};
+ghost use Rattle.std.specs.Prelude.{◌≡◌, Some};
 ghost use Rattle.gang_model.specs.Types.Tree.{Function};
 ghost use Rattle.mask_states.specs.Points as points;
 ghost use Rattle.typed_tree.specs.Views.{result_view};
@@ -54,6 +54,16 @@ impl Ways {
     {
         Ways {
             next: test,
+            on_break: Some(self.next),
+            ..self
+        }
+    }
+
+    /// Those of a switch's segments.
+    pub(crate) fn of_segments(self) -> Ways
+        ensures { let ways = ways_view self in ways_view result ≡ record ways { on_break = Some ways.next } }
+    {
+        Ways {
             on_break: Some(self.next),
             ..self
         }

@@ -14,6 +14,8 @@ mod operations;
 #[cfg(test)]
 mod points;
 #[cfg(test)]
+mod switches;
+#[cfg(test)]
 mod trees;
 #[cfg(test)]
 mod wide;

@@ -14,20 +14,22 @@ const VARIABLE: Var = Var {
 
 /// A point by its numbers.
 #[derive(Clone, Copy, Debug, PartialEq, Eq)]
-enum Numbers {
+pub(crate) enum Numbers {
     Put(usize),
     Go(usize),
     Branch(usize, usize),
+    Choose(usize),
     Begin(usize, usize),
     Turn(usize),
     Enter(usize, usize),
 }
 
-fn numbers_of(point: &Point<'_>) -> Numbers {
+pub(crate) fn numbers_of(point: &Point<'_>) -> Numbers {
     match point {
         Point::Put { next, .. } => Numbers::Put(*next),
         Point::Go { next } => Numbers::Go(*next),
         Point::Branch { yes, no, .. } => Numbers::Branch(*yes, *no),
+        Point::Choose { next, .. } => Numbers::Choose(*next),
         Point::Begin { rounds, next, .. } => Numbers::Begin(*rounds, *next),
         Point::Turn { body } => Numbers::Turn(*body),
         Point::Enter { function, next, .. } => Numbers::Enter(*function, *next),
@@ -35,12 +37,12 @@ fn numbers_of(point: &Point<'_>) -> Numbers {
 }
 
 /// `x`
-fn read(alloc: Global) -> Result<Box<Expr>, AllocError> {
+pub(crate) fn read(alloc: Global) -> Result<Box<Expr>, AllocError> {
     Ok(Box::new(alloc, Expr::Read(VARIABLE))?)
 }
 
 /// `x = 1;`
-fn assign(alloc: Global, step: usize) -> Result<Stmt, AllocError> {
+pub(crate) fn assign(alloc: Global, step: usize) -> Result<Stmt, AllocError> {
     Ok(Stmt::Assign {
         step,
         target: Target::Scalar(VARIABLE),
@@ -115,12 +117,13 @@ fn body(alloc: Global) -> Result<Vec<Stmt>, AllocError> {
     ]?)
 }
 
-fn program(alloc: Global) -> Result<Program, AllocError> {
+/// A program of one function with this body.
+pub(crate) fn program(alloc: Global, body: Vec<Stmt>) -> Result<Program, AllocError> {
     let function = Function {
         name: Vec::new(alloc),
         result: Rate::Uniform,
         result_type: IntType::Int32,
-        body: body(alloc)?,
+        body,
         variables: Vec::new(alloc),
         scopes: StepScopes {
             declarations: Vec::new(alloc),
@@ -135,7 +138,7 @@ fn program(alloc: Global) -> Result<Program, AllocError> {
 
 #[test]
 fn lanes_go_on_where_the_language_says(rt: HostRuntime) -> Result<(), AllocError> {
-    let program = program(rt.alloc())?;
+    let program = program(rt.alloc(), body(rt.alloc())?)?;
     let masked = lower(rt.alloc(), &program)?;
     let expected = [
         Numbers::Put(5),

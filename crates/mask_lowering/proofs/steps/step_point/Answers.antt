@@ -1,5 +1,5 @@
 use Rattle.std.proofs.Common.{inl, inr, refl}
-use Rattle.mask_lowering.proofs.Rows.{block_is_row, not_both}
+use Rattle.mask_lowering.proofs.Rows.{block_is_row, not_both, switch_is_not_single}
 use Rattle.mask_lowering.proofs.steps.step_point.Goals as goal
 
 pub unreachable-requires : goal.unreachable-requires
@@ -10,5 +10,6 @@ unreachable-requires c = elim c.in-Empty.is [
   | inr (inr (inr (inl (n, test, x, y, e)))) ↦ not_both c.args.statement.now _ e refl c.requires
   | inr (inr (inr (inr (inl (n, test, x, y, e))))) ↦ not_both c.args.statement.now _ e refl c.requires
   | inr (inr (inr (inr (inr (inl (n, test, x, e)))))) ↦ not_both c.args.statement.now _ e refl c.requires
-  | inr (inr (inr (inr (inr (inr (n, form, x, e)))))) ↦ not_both c.args.statement.now _ e refl c.requires
+  | inr (inr (inr (inr (inr (inr (inl (n, selector, v, e))))))) ↦ not_both c.args.statement.now _ e (switch_is_not_single n selector v) c.requires
+  | inr (inr (inr (inr (inr (inr (inr (n, form, x, e))))))) ↦ not_both c.args.statement.now _ e refl c.requires
 ]
