@@ -4,7 +4,7 @@ use mathlib.Core.Former.{Count}
 use Rattle.mask_states.specs.Points.{Put}
 use Rattle.machine_states.specs.Variables.{Variables}
 use Rattle.machine_states.specs.Plain.{IsPlainPoint}
-use Rattle.typed_tree.specs.declared.statements.Stmt.{Stmt, Empty, Block', Then', Declare, Assign, Change, If', Loop', BodyFirst', Break, Continue, Return, ForEach', Call, Check, PackedStore, PackedLoad, Row_of-Stmt, end_of-Stmt, more_of-Stmt}
+use Rattle.typed_tree.specs.declared.statements.Stmt.{Stmt, Empty, Block', Then', Declare, Assign, Change, If', Loop', BodyFirst', Break, Continue, Return, Switch', ForEach', Call, Check, PackedStore, PackedLoad, Row_of-Stmt, end_of-Stmt, more_of-Stmt}
 use Rattle.typed_tree.specs.Views.{row_view, stmt_view}
 
 module _ (variables : Variables) (n : ℕ) where
@@ -29,6 +29,7 @@ module _ (variables : Variables) (n : ℕ) where
   one_of_seven (Break k) next h d a c r ch st ld = h
   one_of_seven (Continue k) next h d a c r ch st ld = h
   one_of_seven (Return x y) next h d a c r ch st ld = r x y refl
+  one_of_seven (Switch' k e shape segments) next h d a c r ch st ld = h
   one_of_seven (ForEach' k rounds p body) next h d a c r ch st ld = h
   one_of_seven (Call k f args result) next h d a c r ch st ld = h
   one_of_seven (Check k e) next h d a c r ch st ld = ch k e refl

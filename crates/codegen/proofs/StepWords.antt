@@ -52,7 +52,7 @@ module _ (width : ℕ) where
   step_sets (step.Check test next) (p.Put (t.Check number e) then) h = refl
   step_sets (step.Go next) (p.Go then) h = refl
   step_sets (step.Branch test yes' no') (p.Branch e on off) h = refl
-  step_sets (step.Enter function args result_for next) (p.Enter called given for then) h = ap (λ n. n * width + width + 4) (fit_long IsArg args.items given h.1)
+  step_sets (step.Enter function args result_for next) (p.Enter called given for then) h = ap (λ n. n * width + width + 5) (fit_long IsArg args.items given h.1)
   step_sets code point h = absurd h
 
   steps_set : (steps : List StepCode) (points : List p.Point) → DoAll steps points → most_set width steps ≡ greatest (words_set width) points

@@ -17,7 +17,7 @@ words_set_by width (step.Return value next) = 2 * width + 1
 words_set_by width (step.Check test next) = width
 words_set_by width (step.Go next) = width
 words_set_by width (step.Branch test yes' no') = width
-words_set_by width (step.Enter function args result_for next) = length args.items * width + width + 4
+words_set_by width (step.Enter function args result_for next) = length args.items * width + width + 5
 
 -- the most of a function, and of a program
 abbrev pub most_set : (width : ℕ) → List StepCode → ℕ

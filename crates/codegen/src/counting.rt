@@ -55,6 +55,6 @@ fn words_set(step: &StepCode, width: usize) -> usize
         | StepCode::ChangeElement { .. } => 2 * width,
         StepCode::Return { .. } => 2 * width + 1,
         StepCode::PackedStore { .. } | StepCode::PackedLoad { .. } => 3 * width + 1,
-        StepCode::Enter { args, .. } => args.len() * width + width + 4,
+        StepCode::Enter { args, .. } => args.len() * width + width + 5,
     }
 }

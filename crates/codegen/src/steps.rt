@@ -36,7 +36,7 @@ pub(crate) fn step(alloc: Global, point: &Point<'_>) -> Result<StepCode, AllocEr
             result_for: *result_for,
             next: *next,
         }),
-        Point::Begin { .. } | Point::Turn { .. } => unreachable!(),
+        Point::Choose { .. } | Point::Begin { .. } | Point::Turn { .. } => unreachable!(),
     }
 }
 

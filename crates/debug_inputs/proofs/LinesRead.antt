@@ -14,12 +14,13 @@ use Rattle.debug_inputs.specs.declared.fault.InputFault.{InputFault}
 use Rattle.debug_inputs.specs.declared.fault.InputFault.TheVariants.{BadLine, Missing, Range, TooLarge, Memory}
 use Rattle.debug_inputs.specs.declared.reading.Reading.{Reading}
 use Rattle.debug_inputs.specs.declared.receivers.Receiver.{Receiver}
-use Rattle.debug_inputs.specs.declared.row.InputRow.{InputRow}
+use Rattle.input_rows.specs.declared.row.InputRow.{InputRow}
 use Rattle.debug_inputs.specs.declared.values.Values.{Values}
 use Rattle.debug_inputs.specs.Lines.{ReadsLines, ReadsRow, Rest, Stands, lines_then, row_behind}
 use Rattle.debug_inputs.specs.LineValues.{ReadsValues, ShowsValues}
 use Rattle.debug_inputs.specs.Remaining.{all_receivers, first_named, receiver_view, remaining_at}
-use Rattle.debug_inputs.specs.Rows.{AnswersInput, IsRefusedBy, row_view}
+use Rattle.input_rows.specs.Rows.{row_view}
+use Rattle.debug_inputs.specs.Rows.{AnswersInput, IsRefusedBy}
 
 -- ---- one line
 

@@ -13,12 +13,12 @@ use Rattle.std.specs.Borrow.{Bor}
 use Rattle.typed_tree.specs.declared.program.Variable.{Variable as TreeVariable}
 use Rattle.typed_tree.specs.Views.{variable_view}
 use Rattle.gang_model.proofs.SameTexts.{same_text-refl, same_text-sym}
-use Rattle.debug_inputs.specs.declared.row.InputRow.{InputRow}
+use Rattle.input_rows.specs.declared.row.InputRow.{InputRow}
 use Rattle.debug_inputs.specs.declared.reading.Reading.{Reading}
 use Rattle.debug_inputs.specs.declared.receivers.Receiver.{Receiver}
 use Rattle.debug_inputs.specs.Lines.{Stands}
 use Rattle.debug_inputs.specs.Remaining.{first_named, receiver_view, remaining_at}
-use Rattle.debug_inputs.specs.Rows.{numbered, row_view}
+use Rattle.input_rows.specs.Rows.{numbered, row_view}
 
 -- ---- one more row
 

@@ -8,7 +8,8 @@ use Rattle.gang_model.specs.Texts.Transcript.{lines_of}
 use Rattle.debug_inputs.specs.declared.fault.InputFault.{InputFault}
 use Rattle.debug_inputs.specs.declared.reading.Reading.{Reading}
 use Rattle.debug_inputs.specs.Remaining.{remaining_at}
-use Rattle.debug_inputs.specs.Rows.{AreRows, IsRefusedBy}
+use Rattle.input_rows.specs.Rows.{AreRows}
+use Rattle.debug_inputs.specs.Rows.{IsRefusedBy}
 
 -- the rows so far, what may still have one, and how many words of entry arrays are left
 pub record Stands (receivers : List text.Receiver) (rows : List Row) (reading : Reading) : Type 0 where

@@ -1,25 +1,13 @@
 -- Rows and refusals of an input, as the definitions have them.
-use Rattle.std.specs.Prelude.{◌≡◌, ℕ, List, map, Result, Ok, Err, Vec}
+use Rattle.std.specs.Prelude.{◌≡◌, List, Result, Ok, Err, Vec}
 use Rattle.std.specs.Global.{Global}
-use Rattle.gang_types.specs.declared.places.VarId.{VarId}
 use Rattle.gang_model.specs.Debugger.Events.{Row}
 use Rattle.gang_model.specs.Types.Tree.{Variable}
 use Rattle.gang_model.specs.Texts.InputText as text
-use Rattle.debug_inputs.specs.declared.row.InputRow.{InputRow}
+use Rattle.input_rows.specs.declared.row.InputRow.{InputRow}
+use Rattle.input_rows.specs.Rows.{AreRows}
 use Rattle.debug_inputs.specs.declared.fault.InputFault.{InputFault}
 use Rattle.debug_inputs.specs.declared.fault.InputFault.TheVariants.{BadLine, Missing, Range, TooLarge, Memory}
-
--- a row by its variable's number, and its words
-abbrev pub numbered : Row → VarId × List ℕ
-numbered row = (row.variable.id, row.words)
-
--- an input row by its variable's number, and its words
-abbrev pub row_view : InputRow → VarId × List ℕ
-row_view row = (row.var, row.values.items)
-
--- input rows are these rows, one by one
-abbrev pub AreRows : List Row → List InputRow → Type 0
-AreRows rows inputs = map numbered rows ≡ map row_view inputs
 
 -- the refusal is this one; out of memory says nothing
 abbrev pub IsRefusedBy : {A : Type 0} → InputFault → Result A text.InputRefusal → Type 0

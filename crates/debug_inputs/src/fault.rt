@@ -6,7 +6,7 @@ use std::alloc::{AllocError, AllocFailed};
 use thiserror::Error;
 
 /// Why an input is refused. Lines count from 1.
-#[derive(Debug, Error)]
+#[derive(Debug, PartialEq, Eq, Error)]
 pub enum InputFault {
     /// A line has a wrong form, or names what has a row or may have none.
     #[error("line {0}: the line is no row")]

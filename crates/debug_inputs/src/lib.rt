@@ -7,9 +7,8 @@ mod numbers;
 mod parameters;
 mod reading;
 mod receivers;
-mod row;
 mod values;
 
 pub use fault::InputFault;
-pub use reading::read_inputs;
-pub use row::InputRow;
+pub use input_rows::InputRow;
+pub use reading::{MOST_BYTES, read_inputs};

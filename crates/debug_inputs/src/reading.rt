@@ -14,14 +14,14 @@ use crate::fault::InputFault;
 use crate::lines::{is_skipped, name_and_values, next_line};
 use crate::parameters::entry_parameters;
 use crate::receivers::{Receiver, Receivers};
-use crate::row::InputRow;
 use crate::values::read_values;
 use gang_types::FuncId;
+use input_rows::InputRow;
 use std::alloc::{AllocError, Global};
 use typed_tree::{Program, Variable};
 
 /// The most bytes of an input.
-const MOST_BYTES: usize = 4_194_304;
+pub const MOST_BYTES: usize = 4_194_304;
 
 /// The most words of all arrays that the entry is given.
 const MOST_WORDS: u64 = 1 << 20;

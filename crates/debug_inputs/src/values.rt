@@ -10,9 +10,9 @@ ghost use Rattle.debug_inputs.specs.Rows.{AnswersRow};
 
 use crate::fault::InputFault;
 use crate::numbers::{is_value, number};
-use crate::row::InputRow;
 use debug_words::{Marks, next_word};
 use gang_types::{IntType, wrap};
+use input_rows::InputRow;
 use std::alloc::{AllocError, Global};
 use typed_tree::Variable;
 

@@ -71,13 +71,13 @@ module _ (w entry : ℕ) (program : Program) (lines : List ℕ) (layout : Layout
 
   -- the masked state where the machine stands
   abbrev pub masked_now : Masked
-  masked_now = masked_at w entry p d.events
+  masked_now = masked_at w entry p stands.rows d.events
 
-  now_is : now s d ≡ after p (start p entry [] w) d.events
+  now_is : now s d ≡ after p (start p entry stands.rows w) d.events
   now_is = ap₂ (λ q first. after q first d.events) stands.program stands.first
 
   pub agrees : AgreesWith p w (now s d) masked_now
-  agrees = subst (λ state. AgreesWith p w state masked_now) (sym now_is) (runs_alike p lowerable entry [] w d.events)
+  agrees = subst (λ state. AgreesWith p w state masked_now) (sym now_is) (runs_alike p lowerable entry stands.rows w d.events)
 
   -- ---- steps
 
@@ -94,7 +94,7 @@ module _ (w entry : ℕ) (program : Program) (lines : List ℕ) (layout : Layout
   step_over is = is_over p w (step s.program (now s d)) (ends_alike Over is)
 
   -- the masked state after the step
-  pub masked_next : (next : Masked) → masked_step p masked_now ≡ Goes next → masked_at w entry p (Step ∷ d.events) ≡ next
+  pub masked_next : (next : Masked) → masked_step p masked_now ≡ Goes next → masked_at w entry p stands.rows (Step ∷ d.events) ≡ next
   masked_next next is = ap (λ stepped. masked_gone stepped masked_now) is
 
   -- ---- what is shown

@@ -5,7 +5,7 @@ use Rattle.std.specs.Prelude.{cond, filter, fold}
 use Rattle.undo_log.specs.declared.timeline.Undone.{Undone}
 use Rattle.undo_log.specs.History.{History, Moment, moment, steps_in, is_step as is_kept_step}
 use Rattle.debug_machine.specs.Machines.{kind_of}
-use Rattle.gang_model.specs.Debugger.Events.{Event, Step, Poke}
+use Rattle.gang_model.specs.Debugger.Events.{Event, Row, Step, Poke}
 use Rattle.gang_model.specs.Debugger.Debugger.{Debugger, Setting, is_step, kept_steps, moved, taken_back}
 use Rattle.typed_tree.specs.declared.program.Program.{Program}
 use Rattle.typed_tree.specs.Views.{program_view}
@@ -19,31 +19,32 @@ count_from (Poke what word ∷ events) n = count_from events (n + 0) ∙ omega a
 
 module _ (w entry : ℕ) (program : Program) (layout : Layout) where
   -- each kept list of words shows the state before its event
-  abbrev pub Kept : List Event → List Moment → Type 0
-  Kept events past = AreKept w entry program layout events past
+  abbrev pub Kept : List Row → List Event → List Moment → Type 0
+  Kept rows events past = AreKept w entry program layout rows events past
 
-  pub kept_front : (n : ℕ) (events : List Event) (past : List Moment) → Kept events past → Kept events (take n past)
-  kept_front zero events past h = tt
-  kept_front (suc n) events [] h = tt
-  kept_front (suc n) [] (m ∷ past) h = absurd h
-  kept_front (suc n) (event ∷ events) (m ∷ past) h = (h.0, h.1, kept_front n events past h.2)
+  pub kept_front : (rows : List Row) (n : ℕ) (events : List Event) (past : List Moment) → Kept rows events past → Kept rows events (take n past)
+  kept_front rows zero events past h = tt
+  kept_front rows (suc n) events [] h = tt
+  kept_front rows (suc n) [] (m ∷ past) h = absurd h
+  kept_front rows (suc n) (event ∷ events) (m ∷ past) h = (h.0, h.1, kept_front rows n events past h.2)
 
   -- they are the newest ones
-  pub events_kept : (events : List Event) (past : List Moment) → Kept events past → map (λ (m : Moment). m.event) past ≡ map kind_of (take (length past) events)
-  events_kept events [] h = refl
-  events_kept [] (m ∷ past) h = absurd h
-  events_kept (event ∷ events) (m ∷ past) h = rw (h.0, events_kept events past h.2)
+  pub events_kept : (rows : List Row) (events : List Event) (past : List Moment) → Kept rows events past → map (λ (m : Moment). m.event) past ≡ map kind_of (take (length past) events)
+  events_kept rows events [] h = refl
+  events_kept rows [] (m ∷ past) h = absurd h
+  events_kept rows (event ∷ events) (m ∷ past) h = rw (h.0, events_kept rows events past h.2)
 
   module _ (lines : List ℕ) (old : History) (s : Setting) (d : Debugger) (stands : Stands (view_of w entry program lines layout old) s d) where
     -- an event that is recorded, and does what the definitions' does
-    pub stands_moved : (event : Event) (new : History) → ShowsWords w program layout new.words (masked_at w entry (program_view program) (event ∷ d.events))
+    pub stands_moved : (event : Event) (new : History) → ShowsWords w program layout new.words (masked_at w entry (program_view program) stands.rows (event ∷ d.events))
         → new.past ≡ take old.limit (moment (kind_of event) old.words ∷ old.past) → new.limit ≡ old.limit → Stands (view_of w entry program lines layout new) s (moved event d)
     stands_moved event new shows past limit = record {
       program = stands.program;
+      rows = stands.rows;
       first = stands.first;
       lines = stands.lines;
       words = shows;
-      past = rw past (kept_front old.limit (event ∷ d.events) (moment (kind_of event) old.words ∷ old.past) (refl, stands.words, stands.past));
+      past = rw past (kept_front stands.rows old.limit (event ∷ d.events) (moment (kind_of event) old.words ∷ old.past) (refl, stands.words, stands.past));
       kept = rw (past, length-take, stands.kept, stands.limit) (omega arith);
       limit = stands.limit ∙ sym limit;
     }
@@ -51,13 +52,13 @@ module _ (w entry : ℕ) (program : Program) (layout : Layout) where
     -- the newest event is taken back
     pub stands_undone : (new : History) (kind : Undone) → old.past ≡ moment kind new.words ∷ new.past → new.limit ≡ old.limit
         → (event : Event) × (events : List Event) × (kept : ℕ) × (d.events ≡ event ∷ events) × (d.kept ≡ kept + 1) × (kind ≡ kind_of event) × Stands (view_of w entry program lines layout new) s (taken_back d)
-    stands_undone new kind past limit = go d.events refl (subst (Kept d.events) past stands.past) (stands.kept ∙ ap length past)
+    stands_undone new kind past limit = go d.events refl (subst (Kept stands.rows d.events) past stands.past) (stands.kept ∙ ap length past)
       where
-        go : (events : List Event) → d.events ≡ events → Kept d.events (moment kind new.words ∷ new.past) → d.kept ≡ suc (length new.past)
+        go : (events : List Event) → d.events ≡ events → Kept stands.rows d.events (moment kind new.words ∷ new.past) → d.kept ≡ suc (length new.past)
             → (event : Event) × (events : List Event) × (kept : ℕ) × (d.events ≡ event ∷ events) × (d.kept ≡ kept + 1) × (kind ≡ kind_of event) × Stands (view_of w entry program lines layout new) s (taken_back d)
-        go [] is are count = absurd (subst (λ events. Kept events (moment kind new.words ∷ new.past)) is are)
+        go [] is are count = absurd (subst (λ events. Kept stands.rows events (moment kind new.words ∷ new.past)) is are)
         go (event ∷ events) is are count =
-            let all = subst (λ events. Kept events (moment kind new.words ∷ new.past)) is are in (
+            let all = subst (λ events. Kept stands.rows events (moment kind new.words ∷ new.past)) is are in (
               event,
               events,
               length new.past,
@@ -66,6 +67,7 @@ module _ (w entry : ℕ) (program : Program) (layout : Layout) where
               all.0,
               record {
                 program = stands.program;
+                rows = stands.rows;
                 first = stands.first;
                 lines = stands.lines;
                 words = rw is all.1;
@@ -77,5 +79,5 @@ module _ (w entry : ℕ) (program : Program) (layout : Layout) where
 
     pub steps_kept : steps_in old.past ≡ kept_steps d
     steps_kept =
-        ap (count_by is_kept_step) (events_kept d.events old.past stands.past ∙ ap (λ n. map kind_of (take n d.events)) (sym stands.kept))
+        ap (count_by is_kept_step) (events_kept stands.rows d.events old.past stands.past ∙ ap (λ n. map kind_of (take n d.events)) (sym stands.kept))
         ∙ count_from (take d.kept d.events) 0 ∙ omega arith

@@ -1,7 +1,9 @@
 pub mod Agreeing
 pub mod Beginnings
+pub mod EntryArrays
 pub mod Finding
 pub mod Keeping
+pub mod Limiting
 pub mod Placing
 pub mod PokedLengths
 pub mod Poking

@@ -52,7 +52,7 @@ module _ {T : Type 0} (history : T → History) (w entry : ℕ) (compiled : Comp
     (shows : (masked : Masked) (u : Variable) → WordsShow history w compiled old masked → IsSeen compiled masked u → u.id ≡ shown.id → IsPartOf masked u at
     → WordsShow history w compiled new (record masked { state = poked (poked_by u at) word masked.state })) where
   abbrev masked : Masked
-  masked = masked_at w entry (program_view compiled.program) d.events
+  masked = masked_at w entry (program_view compiled.program) stands.rows d.events
 
   abbrev after : Debugger
   after = moved (Poke (poked_by v at) word) d
@@ -66,7 +66,7 @@ module _ {T : Type 0} (history : T → History) (w entry : ℕ) (compiled : Comp
       ∙ ap (λ n. bad_part false at v.is_array v.rate n) is.count
       ∙ ap₂ (λ b r. bad_part false at b r shown.count) is.is_array is.rate ∙ part
 
-  words : ShowsWords w compiled.program new.layout (history new.store.timeline).words (masked_at w entry (program_view compiled.program) (Poke (poked_by v at) word ∷ d.events))
+  words : ShowsWords w compiled.program new.layout (history new.store.timeline).words (masked_at w entry (program_view compiled.program) stands.rows (Poke (poked_by v at) word ∷ d.events))
   words =
       let now_shown = shows masked v (shown_here history w entry compiled lines old machine s d stands) seen is.id set in
       record { shows = now_shown.shows; declared = now_shown.declared }
@@ -78,7 +78,7 @@ module _ {T : Type 0} (history : T → History) (w entry : ℕ) (compiled : Comp
       let event = Poke (poked_by v at) word in
       subst (λ l. Stands (view_of w entry p lines l h) s after) (sym records.layout)
       (stands_moved w entry p old.layout lines (history old.store.timeline) s d stands event h
-      (subst (λ l. ShowsWords w p l h.words (masked_at w entry (program_view p) (event ∷ d.events))) records.layout words)
+      (subst (λ l. ShowsWords w p l h.words (masked_at w entry (program_view p) stands.rows (event ∷ d.events))) records.layout words)
       (past_is history w compiled old new undone.Poke records) (limit_is history w compiled old new undone.Poke records))
 
   there : IsOneOf (scope_now s.program (now s d)) v ⊎ IsOneOf (variables_of_file s) v → IsOneOf (scope_now s.program (now s after)) v ⊎ IsOneOf (variables_of_file s) v

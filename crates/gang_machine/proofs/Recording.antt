@@ -1,5 +1,5 @@
 -- What events leave of a machine.
-use Rattle.std.proofs.Common.{◌≡◌, ℕ, [], ◌∷◌, ap, sym, subst, ◌∙◌, arith}
+use Rattle.std.proofs.Common.{◌≡◌, ℕ, ◌∷◌, ap, sym, subst, ◌∙◌, arith}
 use Rattle.std.specs.Prelude.{All}
 use Rattle.std.proofs.lemmas.List.Elements.{All-cons, All-head, All-tail, All-take}
 use Rattle.undo_log.specs.declared.timeline.Undone.{Undone}
@@ -30,7 +30,8 @@ module _ {T : Type 0} (history : T → History) (w : ℕ) (compiled : CompiledPr
         lie = record {
           gang = lie.gang;
           compiled_is = lie.compiled_is;
-          layout = subst (λ l. IsLayoutOf w compiled.program [] machine_sizes (head_sizes w) l) (sym layout) lie.layout;
+          lengths = lie.lengths;
+          layout = subst (λ l. IsLayoutOf w compiled.program lie.lengths machine_sizes (head_sizes w 0) l) (sym layout) lie.layout;
           laid = first.laid;
           room = omega (arith, room, lie.room);
         };

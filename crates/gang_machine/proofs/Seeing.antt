@@ -17,13 +17,14 @@ use Rattle.mask_states.specs.Points.{closing_number, points_in}
 use Rattle.mask_states.specs.Masked.{Level, Masked, least, masked_spot, top_spot}
 use Rattle.codegen.specs.Programs.{IsRunnable}
 use Rattle.machine_states.specs.Declared.{AreDeclared}
-use Rattle.machine_states.specs.Plain.{IsPlainName}
-use Rattle.machine_states.specs.Regions.{Depth, NumbersOf, OfHead, Regions}
+use Rattle.machine_states.specs.Plain.{IsPlainName, IsPlainProgram}
+use Rattle.machine_states.specs.Regions.{Depth, NumbersOf, Regions, OfLevel}
 use Rattle.machine_states.specs.Shows.{AreSized, Shows, ShowsFrames}
 use Rattle.machine_states.specs.Steps.{IsNext as IsNextStep}
 use Rattle.machine_states.specs.Variables.{Variables, own_of}
 use Rattle.machine_states.proofs.AlwaysDeclared.{HasOwn, scope_has, top_declared}
 use Rattle.machine_states.proofs.DeclaredLists.{same_some}
+use Rattle.machine_states.proofs.PlainLevels.{plain_innermost}
 use Rattle.machine_states.proofs.TopFrame.{spot}
 use Rattle.machine_states.proofs.WrittenVariables.{HasVariable, variable_in}
 use Rattle.machine_words.specs.declared.words.MachineWords.{MachineWords}
@@ -44,16 +45,16 @@ use Rattle.gang_machine.proofs.Placing.{scope_ended}
 -- ---- the next step
 
 -- a step of the top frame comes next
-record HasNext (p : t.Program) (regions : Regions) : Type 0 where
+record HasNext (p : t.Program) (w : ℕ) (regions : Regions) : Type 0 where
   pub index : ℕ
   pub function : ℕ
   pub f : Function
   pub number : StepNumber
-  pub next : IsNextStep p regions index function f number (slice_get (points_in f) number)
+  pub next : IsNextStep p w regions index 0 function f number (slice_get (points_in f) number)
 
-module _ (p : t.Program) (variables : Variables) (w : ℕ) (regions : Regions) where
+module _ (p : t.Program) (variables : Variables) (most : ℕ) (plain : IsPlainProgram variables most p) (w : ℕ) (regions : Regions) where
   next_of : (frames : List Frame) (levels : List (List Level)) → regions Depth ≡ length frames ∷ [] → ShowsFrames p variables w regions frames levels
-      → (top_spot frames levels ≡ None) ⊎ HasNext p regions
+      → (top_spot frames levels ≡ None) ⊎ HasNext p w regions
   next_of [] levels deep shows = inl refl
   next_of (frame ∷ frames) [] deep shows = absurd shows
   next_of (frame ∷ frames) (levels ∷ rest) deep shows =
@@ -62,12 +63,19 @@ module _ (p : t.Program) (variables : Variables) (w : ℕ) (regions : Regions) w
         index = length frames;
         function = frame.function;
         f = f;
-        number = least (closing_number f) (regions (OfHead (length frames) NumbersOf));
-        next = record { depth = deep; function = shows.0.number; is_function = shows.0.is_function; least_number = refl; is_point = refl };
+        number = least (closing_number f) (regions (OfLevel (length frames) 0 NumbersOf));
+        next = record {
+          depth = deep;
+          function = shows.0.number;
+          is_function = shows.0.is_function;
+          innermost = plain_innermost variables frame.function f (plain.functions frame.function f shows.0.is_function).body w regions (length frames);
+          least_number = refl;
+          is_point = refl;
+        };
       })
 
   -- a program that has not ended has a next step
-  next_or_ended : (masked : Masked) → Shows p variables w regions masked → (masked_spot masked ≡ None) ⊎ HasNext p regions
+  next_or_ended : (masked : Masked) → Shows p variables w regions masked → (masked_spot masked ≡ None) ⊎ HasNext p w regions
   next_or_ended masked shows = next_of masked.state.frames masked.levels shows.depth shows.frames
 
 -- ---- variables that are seen
@@ -82,7 +90,7 @@ module _ (w : ℕ) (compiled : CompiledProgram) (runnable : IsRunnable compiled.
 
   module _ (regions : Regions) (shows : Shows (program_of compiled) (variables_of compiled) w regions masked) (declared : AreDeclared (variables_of compiled) (program_of compiled) masked)
       (sizes : AreSized (variables_of compiled) w regions) where
-    scope_long : (v : Variable) → v.is_array ≡ false → IsInScope compiled masked v → (masked_spot masked ≡ None) ⊎ HasNext (program_of compiled) regions → length (words_in masked.state v.id) ≡ words_for w v.rate
+    scope_long : (v : Variable) → v.is_array ≡ false → IsInScope compiled masked v → (masked_spot masked ≡ None) ⊎ HasNext (program_of compiled) w regions → length (words_in masked.state v.id) ≡ words_for w v.rate
     scope_long v scalar (function, number, f, standing, at_spot, stands, k, e) (inl ended) = absurd (none-some (spot_in function number) (sym ended ∙ at_spot))
     scope_long v scalar (function, number, f, standing, at_spot, stands, k, e) (inr has) =
         let p = program_of compiled in
@@ -109,7 +117,7 @@ module _ (w : ℕ) (compiled : CompiledProgram) (runnable : IsRunnable compiled.
 
     -- a scalar has as many words as its rate says
     pub seen_long : (v : Variable) → v.is_array ≡ false → IsSeen compiled masked v → length (words_in masked.state v.id) ≡ words_for w v.rate
-    seen_long v scalar (inl scope) = scope_long v scalar scope (next_or_ended (program_of compiled) (variables_of compiled) w regions masked shows)
+    seen_long v scalar (inl scope) = scope_long v scalar scope (next_or_ended (program_of compiled) (variables_of compiled) runnable.most runnable.plain w regions masked shows)
     seen_long v scalar (inr (k, is)) =
         ap (λ i. length (words_in masked.state i)) (runnable.plain.file k v is)
         ∙ ap length (shows.memory (File k)) ∙ sizes.file k v is scalar
@@ -145,7 +153,7 @@ module _ {T : Type 0} (history : T → History) (w entry : ℕ) (compiled : Comp
   scope_seen_at function number f at_spot is_function None none v k e = cc
   scope_seen_at function number f at_spot is_function (Some standing) is v k e = (function, number, f, standing, at_spot, record { is_function = is_function; stands = is }, k, e)
 
-  scope_seen : (masked_spot masked ≡ None) ⊎ HasNext (program_of compiled) (regions_in history w words) → (v : Variable) → IsOneOf (scope_now s.program (now s d)) v → IsInScope compiled masked v
+  scope_seen : (masked_spot masked ≡ None) ⊎ HasNext (program_of compiled) w (regions_in history w words) → (v : Variable) → IsOneOf (scope_now s.program (now s d)) v → IsInScope compiled masked v
   scope_seen (inl over) v (k, e) = absurd (none-some v (ap (λ vs. slice_get vs k) (sym (scope_none over)) ∙ e))
   scope_seen (inr has) v (k, e) =
       let at_spot = spot (program_of compiled) (variables_of compiled) w (regions_in history w words) masked shown_here.shows has.index has.function has.f has.number (slice_get (points_in has.f) has.number) has.next in
@@ -155,7 +163,7 @@ module _ {T : Type 0} (history : T → History) (w entry : ℕ) (compiled : Comp
 
   -- a variable in scope, or of the file, is seen
   pub is_seen : (v : Variable) → IsOneOf (scope_now s.program (now s d)) v ⊎ IsOneOf (variables_of_file s) v → IsSeen compiled masked v
-  is_seen v (inl there) = inl (scope_seen (next_or_ended (program_of compiled) (variables_of compiled) w (regions_in history w words) masked shown_here.shows) v there)
+  is_seen v (inl there) = inl (scope_seen (next_or_ended (program_of compiled) (variables_of compiled) runnable.most runnable.plain w (regions_in history w words) masked shown_here.shows) v there)
   is_seen v (inr (k, e)) = inr (k, ap (λ vs. slice_get vs k) (sym (file_here ∙ file_same compiled.program.globals.items)) ∙ e)
 
   -- what is shown of it is what is shown of the masked state

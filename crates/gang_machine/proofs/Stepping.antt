@@ -62,7 +62,7 @@ module _ {T : Type 0} (history : T → History) (w : ℕ) (compiled : CompiledPr
         let after = masked_next w entry p lines old.layout (history old.store.timeline) lowerable s d stands next goes in
         subst (λ l. Stands (view_of w entry p lines l h) s (moved Step d)) (sym records.layout)
         (stands_moved w entry p old.layout lines (history old.store.timeline) s d stands Step h
-        (subst (λ l. ShowsWords w p l h.words (masked_at w entry (program_view p) (Step ∷ d.events))) records.layout
+        (subst (λ l. ShowsWords w p l h.words (masked_at w entry (program_view p) stands.rows (Step ∷ d.events))) records.layout
         (subst (λ m. ShowsWords w p new.layout h.words m) (sym after) shows))
         (past_is history w compiled old new undone.Step records) (limit_is history w compiled old new undone.Step records))
 

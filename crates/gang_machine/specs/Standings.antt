@@ -3,7 +3,7 @@ use Rattle.std.specs.Prelude.{◌≡◌, ℕ, List, [], ◌∷◌, length}
 use Rattle.undo_log.specs.History.{History, Moment}
 use Rattle.debug_machine.specs.Machines.{kind_of}
 use Rattle.gang_model.specs.Types.Tree as t
-use Rattle.gang_model.specs.Debugger.Events.{Event, start}
+use Rattle.gang_model.specs.Debugger.Events.{Event, Row, start}
 use Rattle.gang_model.specs.Debugger.Debugger.{Debugger, Setting, step_lines}
 use Rattle.typed_tree.specs.declared.program.Program.{Program}
 use Rattle.typed_tree.specs.Views.{program_view}
@@ -36,24 +36,25 @@ pub record ShowsWords (width : ℕ) (program : Program) (layout : Layout) (words
   pub shows : Shows (program_view program) (variables_of program) width (regions_of width layout words) masked
   pub declared : AreDeclared (variables_of program) (program_view program) masked
 
--- the masked state after events, the newest first
-abbrev pub masked_at : (width entry : ℕ) → t.Program → List Event → Masked
-masked_at width entry p events = masked_after p (masked_start p entry [] width) events
+-- the masked state after events, the newest first, of a run that begins with these rows
+abbrev pub masked_at : (width entry : ℕ) → t.Program → List Row → List Event → Masked
+masked_at width entry p rows events = masked_after p (masked_start p entry rows width) events
 
 -- each kept list of words shows the state before its event
-abbrev pub AreKept : (width entry : ℕ) → Program → Layout → List Event → List Moment → Type 0
-AreKept width entry program layout events [] = Unit {0}
-AreKept width entry program layout [] (moment ∷ past) = ⊥
-AreKept width entry program layout (event ∷ events) (moment ∷ past) =
-    (moment.event ≡ kind_of event) × ShowsWords width program layout moment.before (masked_at width entry (program_view program) events)
-    × AreKept width entry program layout events past
+abbrev pub AreKept : (width entry : ℕ) → Program → Layout → List Row → List Event → List Moment → Type 0
+AreKept width entry program layout rows events [] = Unit {0}
+AreKept width entry program layout rows [] (moment ∷ past) = ⊥
+AreKept width entry program layout rows (event ∷ events) (moment ∷ past) =
+    (moment.event ≡ kind_of event) × ShowsWords width program layout moment.before (masked_at width entry (program_view program) rows events)
+    × AreKept width entry program layout rows events past
 
--- The machine stands where the debugger of the definitions stands.
+-- The machine stands where the debugger of the definitions stands, in a run that began with some rows.
 pub record Stands (m : View) (s : Setting) (d : Debugger) : Type 0 where
   pub program : s.program ≡ program_view m.program
-  pub first : s.first ≡ start (program_view m.program) m.entry [] m.width
+  pub rows : List Row
+  pub first : s.first ≡ start (program_view m.program) m.entry rows m.width
   pub lines : step_lines s.program ≡ m.lines
-  pub words : ShowsWords m.width m.program m.layout m.history.words (masked_at m.width m.entry (program_view m.program) d.events)
-  pub past : AreKept m.width m.entry m.program m.layout d.events m.history.past
+  pub words : ShowsWords m.width m.program m.layout m.history.words (masked_at m.width m.entry (program_view m.program) rows d.events)
+  pub past : AreKept m.width m.entry m.program m.layout rows d.events m.history.past
   pub kept : d.kept ≡ length m.history.past
   pub limit : d.history ≡ m.history.limit

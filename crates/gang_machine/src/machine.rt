@@ -6,7 +6,7 @@ ghost use Rattle.gang_model.specs.Types.Tree.{Variable};
 ghost use Rattle.gang_model.specs.Debugger.Debugger.{Debugger, Setting, depth, found, kept_steps, least_from, now, shown_words, step_lines};
 ghost use Rattle.gang_model.specs.Debugger.Positions.{line_now, scope_now};
 ghost use Rattle.gang_model.specs.Texts.Text.{where_text};
-ghost use Rattle.debug_machine.specs.Machines.{Finds, FindsInFile, IsOneOf, IsPart, IsShown, Pokes, PokesWords, ShowsNamed, ShowsNext, Steps, StepsWords, Undoes, UndoesWords, call_text, depth_of, file_variables, line_of_position, listed, position_line, position_text};
+ghost use Rattle.debug_machine.specs.Machines.{Finds, FindsInFile, IsOneOf, IsPart, IsShown, Limits, LimitsWords, Pokes, PokesWords, ShowsNamed, ShowsNext, Steps, StepsWords, Undoes, UndoesWords, call_text, depth_of, file_variables, line_of_position, listed, position_line, position_text};
 ghost use Rattle.machine_names.specs.Found.{IsNamed, IsSeen, SeesFound};
 ghost use Rattle.gang_machine.specs.Nexts.{HasEnded, IsNext, locals_left};
 ghost use Rattle.gang_machine.specs.Standings.{Stands, history_of};
@@ -18,6 +18,7 @@ use machine_names::{file_named, file_number, least_from, local_named, named, nex
 use machine_shown::{call, count, poke, position, word};
 use machine_steps::step;
 use machine_words::MachineWords;
+use std::alloc::AllocError;
 use std::marker::Model;
 use typed_tree::Function;
 use undo_log::{Back, NoHistory, Timeline, Undone};
@@ -137,6 +138,10 @@ impl<const W: usize, T: Timeline + Drop> RecordedMachine for Machine<W, T> {
         self.words.store.timeline.limit()
     }
 
+    fn set_limit(&mut self, limit: usize) -> Result<(), AllocError> {
+        limited(&mut self.words, limit)
+    }
+
     fn position(&self) -> Option<Position<'_>> {
         position::<W, T>(&self.compiled, &self.words)
     }
@@ -184,4 +189,13 @@ fn taken_back<T: Timeline + Drop>(words: &mut MachineWords<T>) -> Result<Back, N
     ensures layout { words.new.layout ≡ words.old.layout }
 {
     words.store.timeline.back()
+}
+
+/// Changes how many events of the words are kept at most.
+fn limited<T: Timeline + Drop>(words: &mut MachineWords<T>, limit: usize) -> Result<(), AllocError>
+    requires { (1 ≤ limit) × (limit ≤ 65536) }
+    ensures limited { LimitsWords (T.history words.old.store.timeline) limit result (T.history words.new.store.timeline) }
+    ensures layout { words.new.layout ≡ words.old.layout }
+{
+    words.store.timeline.set_limit(limit)
 }

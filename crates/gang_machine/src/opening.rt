@@ -1,16 +1,18 @@
 //! A machine before the first step of a program.
-ghost use Rattle.std.specs.Prelude.{◌≡◌, ℕ, ◌+◌, ◌*◌, ◌≤◌, [], Some, slice_get, sum, IfOk};
+ghost use Rattle.std.specs.Prelude.{◌≡◌, ℕ, ◌+◌, ◌*◌, ◌≤◌, List, sum, IfOk};
 ghost use Rattle.gang_types.specs.Masks.{IsGangWidth};
 ghost use Rattle.gang_model.specs.Types.Tree.{Function};
 ghost use Rattle.gang_model.specs.Debugger.Debugger.{fresh, step_lines};
+ghost use Rattle.gang_model.specs.Debugger.Events.{Row};
 ghost use Rattle.gang_model.specs.Texts.Transcript.{setting};
 ghost use Rattle.machine_states.specs.Cells.{cells_of};
-ghost use Rattle.machine_states.specs.Variables.{parameters_of};
-ghost use Rattle.codegen.specs.Programs.{IsRunnable, variables_of};
+ghost use Rattle.codegen.specs.Programs.{IsRunnable};
 ghost use Rattle.typed_tree.specs.Views.{program_view};
 ghost use Rattle.gang_memory.specs.Layouts.{layout_sizes};
+ghost use Rattle.gang_memory.specs.Ranges.{sizes_of};
 ghost use Rattle.machine_words.specs.Ranges.{head_sizes, machine_sizes};
-ghost use Rattle.gang_machine.specs.Openings.{IsNew, IsPrepared};
+ghost use Rattle.machine_steps.specs.Beginning.{MayBegin};
+ghost use Rattle.gang_machine.specs.Openings.{IsNew, IsPrepared, MayOpen};
 ghost use Rattle.gang_machine.specs.Standings.{Stands};
 
 use crate::machine::Machine;
@@ -18,9 +20,10 @@ use codegen::{cells, compile};
 use expression_machine::Stacks;
 use gang_memory::{Layout, Recorded};
 use gang_types::FuncId;
+use input_rows::InputRow;
 use machine_moves::CompiledProgram;
 use machine_names::step_lines;
-use machine_steps::start;
+use machine_steps::{entry_lengths, start};
 use machine_words::MachineWords;
 use std::alloc::{AllocError, Global};
 use typed_tree::Program;
@@ -39,20 +42,28 @@ pub struct PreparedProgram {
 }
 
 impl PreparedProgram {
-    /// Prepares a program for a gang of this width.
+    /// Prepares a program for a gang of this width, whose entry is given arrays as long as these rows of an input.
     ///
     /// # Errors
     ///
-    /// Out of memory.
-    pub fn new<const W: usize>(alloc: Global, program: Program) -> Result<Self, AllocError>
+    /// Out of memory, also where the words would be more than a `usize` counts.
+    pub fn new<const W: usize>(
+        alloc: Global,
+        program: Program,
+        entry: FuncId,
+        rows: &[InputRow],
+    ) -> Result<Self, AllocError>
         requires width { IsGangWidth W }
         requires runnable { IsRunnable program }
         ensures prepared { IfOk result (IsPrepared W) }
         ensures program { IfOk result (λ prepared. prepared.compiled.program ≡ program) }
+        ensures rows { (f : Function) (given : List Row) → MayBegin program entry.0 f given rows.now
+            → IfOk result (λ prepared. MayOpen prepared entry.0 f given rows.now) }
     {
         let lines = step_lines(alloc, &program.functions)?;
         let code = compile(alloc, &program)?;
-        let layout = Layout::plan::<W>(alloc, &program, &[], &OWN, &[1, 1, 1, W, W])?;
+        let lengths = entry_lengths(alloc, &program, entry.0, rows)?;
+        let layout = Layout::plan::<W>(alloc, &program, &lengths, &OWN, &[1, 1, 1, W, 1, W])?;
         let compiled = CompiledProgram { program, code };
         Ok(PreparedProgram {
             compiled,
@@ -64,7 +75,7 @@ impl PreparedProgram {
     /// How many words a machine has.
     pub fn words(&self) -> usize
         ensures layout { result ≡ self.now.layout.words }
-        ensures sizes { (width : ℕ) → IsPrepared width self.now → result ≡ sum (layout_sizes width self.now.compiled.program [] machine_sizes (head_sizes width)) }
+        ensures sizes { (width : ℕ) → IsPrepared width self.now → result ≡ sum (layout_sizes width self.now.compiled.program (sizes_of self.now.layout.entry.items) machine_sizes (head_sizes width 0)) }
     {
         self.layout.words
     }
@@ -80,7 +91,7 @@ impl PreparedProgram {
     }
 }
 
-/// A machine before the first step of a program's entry, over a new record of any kind that has room for what one event sets. All
+/// A machine before the first step of a program's entry, which these rows of an input are given to, over a new record of any kind that has room for what one event sets. All
 /// memory that it needs is taken by then.
 ///
 /// # Errors
@@ -90,39 +101,39 @@ pub fn open<const W: usize, T: Timeline + Drop>(
     alloc: Global,
     prepared: PreparedProgram,
     entry: FuncId,
+    rows: &[InputRow],
     timeline: T,
 ) -> Result<Machine<W, T>, AllocError>
     requires width { IsGangWidth W }
     requires prepared { IsPrepared W prepared }
-    requires entry { (f : Function) × (slice_get (program_view prepared.compiled.program).functions entry.0 ≡ Some f) }
-    requires none { parameters_of (variables_of prepared.compiled.program) entry.0 ≡ 0 }
+    requires rows { (f : Function) × (given : List Row) × MayOpen prepared entry.0 f given rows.now }
     requires fresh { IsNew prepared.layout.words (T.history timeline) }
     requires limit { 1 ≤ (T.history timeline).limit }
     requires room { cells_of W (program_view prepared.compiled.program) ≤ (T.history timeline).room }
-    ensures { IfOk result (λ machine. (steps : ℕ) → Stands machine
-        (setting (program_view prepared.compiled.program) entry.0 [] (record { width = W; history = (T.history timeline).limit; steps = steps }))
+    ensures { (f : Function) (given : List Row) → MayOpen prepared entry.0 f given rows.now → IfOk result (λ machine. (steps : ℕ) → Stands machine
+        (setting (program_view prepared.compiled.program) entry.0 given (record { width = W; history = (T.history timeline).limit; steps = steps }))
         (fresh (T.history timeline).limit)) }
 {
     let stacks = Box::new(alloc, Stacks::new())?;
-    Ok(started::<W, T>(prepared, entry, timeline, stacks))
+    Ok(started::<W, T>(prepared, entry, rows, timeline, stacks))
 }
 
 /// The machine before the first step of the entry.
 fn started<const W: usize, T: Timeline + Drop>(
     prepared: PreparedProgram,
     entry: FuncId,
+    rows: &[InputRow],
     timeline: T,
     stacks: Box<Stacks<W>>,
 ) -> Machine<W, T>
     requires width { IsGangWidth W }
     requires prepared { IsPrepared W prepared }
-    requires entry { (f : Function) × (slice_get (program_view prepared.compiled.program).functions entry.0 ≡ Some f) }
-    requires none { parameters_of (variables_of prepared.compiled.program) entry.0 ≡ 0 }
+    requires rows { (f : Function) × (given : List Row) × MayOpen prepared entry.0 f given rows.now }
     requires fresh { IsNew prepared.layout.words (T.history timeline) }
     requires limit { 1 ≤ (T.history timeline).limit }
     requires room { cells_of W (program_view prepared.compiled.program) ≤ (T.history timeline).room }
-    ensures { (steps : ℕ) → Stands result
-        (setting (program_view prepared.compiled.program) entry.0 [] (record { width = W; history = (T.history timeline).limit; steps = steps }))
+    ensures { (f : Function) (given : List Row) → MayOpen prepared entry.0 f given rows.now → (steps : ℕ) → Stands result
+        (setting (program_view prepared.compiled.program) entry.0 given (record { width = W; history = (T.history timeline).limit; steps = steps }))
         (fresh (T.history timeline).limit) }
 {
     let PreparedProgram {
@@ -132,7 +143,7 @@ fn started<const W: usize, T: Timeline + Drop>(
     } = prepared;
     let store = Recorded { timeline };
     let mut words = MachineWords { layout, store };
-    start::<W, T>(&compiled, entry.0, &mut words);
+    start::<W, T>(&compiled, entry.0, rows, &mut words);
     Machine {
         entry: entry.0,
         compiled,

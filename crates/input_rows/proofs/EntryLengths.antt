@@ -32,7 +32,7 @@ use Rattle.input_rows.proofs.RowsRead.{IsRowWith, receiver_of_is, rows_kept}
 abbrev is_array_row : ℕ → Row → Bool
 is_array_row n row = row.variable.is_array && is_own n row.variable.id
 
-own_is : (n : ℕ) (id : VarId) → is_own n id ≡ true → id ≡ Local n
+pub own_is : (n : ℕ) (id : VarId) → is_own n id ≡ true → id ≡ Local n
 own_is n (File k) e = absurd (true≢false (sym e))
 own_is n (Local k) e = ap Local (same k n e)
   where

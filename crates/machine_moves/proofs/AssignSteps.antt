@@ -17,7 +17,7 @@ use Rattle.mask_states.specs.Points.{Point, Put}
 use Rattle.mask_states.specs.Masked.{Masked}
 use Rattle.machine_states.specs.Variables.{IsOwn, IsScalar}
 use Rattle.machine_states.specs.Declared.{IsThere, declared_before}
-use Rattle.machine_states.specs.Regions.{NumbersOf, OfHead, Region, Regions}
+use Rattle.machine_states.specs.Regions.{NumbersOf, Region, Regions, OfLevel}
 use Rattle.machine_states.specs.Shows.{AreSized}
 use Rattle.machine_states.specs.Effects.{assigned_in, assigned_region, declared_in, declared_region, region_of, sent_on}
 use Rattle.machine_states.specs.Steps.{FailsWith, GoesTo, waiting_in}
@@ -71,7 +71,7 @@ module _ {T : Type 0} (history : T → History) (left : T → ℕ) (width : ℕ)
   regions = regions_in history width old
 
   abbrev lanes : Lanes
-  lanes = waiting_in regions active.frame active.step
+  lanes = waiting_in regions active.frame 0 active.step
 
   sizes : AreSized (variables_of compiled) width regions
   sizes = sized history width compiled old old sound.lie refl sound.lie.laid
@@ -110,17 +110,17 @@ module _ {T : Type 0} (history : T → History) (left : T → ℕ) (width : ℕ)
         )
 
     pub initial_is : (masked : Masked) (v : Expr) → declared_value ≡ Some v → (r : Result (List ℕ) ModelFault) → value v (lanes_of width active.lanes) masked.state ≡ r
-        → initial declared_value (waiting_in (regions_in history width old) active.frame active.step) masked.state ≡ r
+        → initial declared_value (waiting_in (regions_in history width old) active.frame 0 active.step) masked.state ≡ r
     initial_is masked v is r answer =
         ap (λ e. initial e lanes masked.state) is ∙ ap (λ l. value v l masked.state) (sym declares_here.lanes) ∙ answer
 
-    pub no_initial_is : (masked : Masked) → value' ≡ None → initial declared_value (waiting_in (regions_in history width old) active.frame active.step) masked.state ≡ Ok (replicate width 0)
+    pub no_initial_is : (masked : Masked) → value' ≡ None → initial declared_value (waiting_in (regions_in history width old) active.frame 0 active.step) masked.state ≡ Ok (replicate width 0)
     no_initial_is masked none =
         ap (λ e. initial e lanes masked.state) (no_value_there declared_value value' found_declaration.1.2 none)
         ∙ ap Ok (zeros width lanes (sym (ap length declares_here.lanes) ∙ lanes_long width active.lanes))
 
     pub declaration_faults : (masked : Masked) → IsShown history width compiled old masked → (fault : ModelFault)
-        → initial declared_value (waiting_in (regions_in history width old) active.frame active.step) masked.state ≡ Err fault → FailsWith (program_of compiled) masked fault
+        → initial declared_value (waiting_in (regions_in history width old) active.frame 0 active.step) masked.state ≡ Err fault → FailsWith (program_of compiled) masked fault
     declaration_faults masked shown fault is =
         declaration_fails (program_of compiled) (variables_of compiled) width regions masked shown.shows active.frame active.function declaring active.step
         found_declaration.1.0 (var_view variable) declared_value next declares_here.next fault is
@@ -137,12 +137,12 @@ module _ {T : Type 0} (history : T → History) (left : T → ℕ) (width : ℕ)
             (λ l ws. declared_region variable.rate l values ws) put made
 
         pub declared_ends : (new : MachineWords T) (numbers : List ℕ) → length numbers ≡ width → ((k : ℕ) → k < width → at numbers k ≡ next)
-            → Writes history left width (OfHead active.frame NumbersOf) (merged (lanes_of width active.lanes) numbers (regions_in history width put (OfHead active.frame NumbersOf))) width put new
-            → (masked : Masked) → IsShown history width compiled old masked → initial declared_value (waiting_in (regions_in history width old) active.frame active.step) masked.state ≡ Ok values
+            → Writes history left width (OfLevel active.frame 0 NumbersOf) (merged (lanes_of width active.lanes) numbers (regions_in history width put (OfLevel active.frame 0 NumbersOf))) width put new
+            → (masked : Masked) → IsShown history width compiled old masked → initial declared_value (waiting_in (regions_in history width old) active.frame 0 active.step) masked.state ≡ Ok values
             → EndsAs history width compiled masked old (Ok tt) new
         declared_ends new numbers long each_number wrote_numbers masked shown is =
             ends_well history left width compiled masked
-            (sent_on active.frame lanes (λ k. next) (declared_in active.frame variable.id variable.rate lanes values regions)) (0 + width + width) old new
+            (sent_on active.frame 0 lanes (λ k. next) (declared_in active.frame variable.id variable.rate lanes values regions)) (0 + width + width) old new
             (sent_then history left width compiled old sound active declaring declaration declares_here (var_view variable) own_here.1.scalar (omega arith) mid begins region region_is
             (λ l ws. declared_region variable.rate l values ws) put made new numbers next long each_number wrote_numbers)
             (declares (program_of compiled) (variables_of compiled) width regions masked shown.shows active.frame active.function declaring active.step
@@ -198,12 +198,12 @@ module _ {T : Type 0} (history : T → History) (left : T → ℕ) (width : ℕ)
             (λ l ws. assigned_region variable.rate l values ws) put made
 
         pub assigned_ends : (new : MachineWords T) (numbers : List ℕ) → length numbers ≡ width → ((k : ℕ) → k < width → at numbers k ≡ next)
-            → Writes history left width (OfHead active.frame NumbersOf) (merged (lanes_of width active.lanes) numbers (regions_in history width put (OfHead active.frame NumbersOf))) width put new
+            → Writes history left width (OfLevel active.frame 0 NumbersOf) (merged (lanes_of width active.lanes) numbers (regions_in history width put (OfLevel active.frame 0 NumbersOf))) width put new
             → (masked : Masked) → IsShown history width compiled old masked → value assigned_value (lanes_of width active.lanes) masked.state ≡ Ok values
             → EndsAs history width compiled masked old (Ok tt) new
         assigned_ends new numbers long each_number wrote_numbers masked shown is =
             ends_well history left width compiled masked
-            (sent_on active.frame lanes (λ k. next) (assigned_in active.frame variable.id variable.rate lanes values regions)) (0 + width + width) old new
+            (sent_on active.frame 0 lanes (λ k. next) (assigned_in active.frame variable.id variable.rate lanes values regions)) (0 + width + width) old new
             (sent_then history left width compiled old sound active assigning assignment assigns_here (var_view variable) scalar_here (omega arith) mid begins region region_is
             (λ l ws. assigned_region variable.rate l values ws) put made new numbers next long each_number wrote_numbers)
             (assigns (program_of compiled) (variables_of compiled) width regions masked shown.shows active.frame active.function assigning active.step
@@ -273,15 +273,15 @@ module _ {T : Type 0} (history : T → History) (left : T → ℕ) (width : ℕ)
       pub change_goes : (values : List ℕ) → changed change (lanes_of width active.lanes) words operands ≡ Ok values
           → (masked : Masked) → IsShown history width compiled old masked → value operand (lanes_of width active.lanes) masked.state ≡ Ok operands
           → GoesTo (program_of compiled) (variables_of compiled) width masked
-          (sent_on active.frame (waiting_in (regions_in history width old) active.frame active.step) (λ k. next)
-          (assigned_in active.frame variable.id variable.rate (waiting_in (regions_in history width old) active.frame active.step) values (regions_in history width old)))
+          (sent_on active.frame 0 (waiting_in (regions_in history width old) active.frame 0 active.step) (λ k. next)
+          (assigned_in active.frame variable.id variable.rate (waiting_in (regions_in history width old) active.frame 0 active.step) values (regions_in history width old)))
       change_goes values made masked shown is =
           let gives = changed_gives width change (lanes_of width active.lanes) (lanes_long width active.lanes) variable.rate own_words words operands read values made in
           let results = gives.0 in
           let same : values ≡ result_words lanes change.target_type change.value_type results =
           gives.2 ∙ ap (λ l. result_words l change.target_type change.value_type results) changes_here.lanes in
           subst (λ vs. GoesTo (program_of compiled) (variables_of compiled) width masked
-          (sent_on active.frame lanes (λ k. next) (assigned_in active.frame variable.id variable.rate lanes vs regions))) (sym same)
+          (sent_on active.frame 0 lanes (λ k. next) (assigned_in active.frame variable.id variable.rate lanes vs regions))) (sym same)
           (changes (program_of compiled) (variables_of compiled) width regions masked shown.shows active.frame active.function changing active.step
           number (var_view variable) change.target_type change.operator change.value_type operand next changes_here.next
           sizes changed_scalar shown.declared changed_there operands (operand_is masked (Ok operands) is) results
@@ -299,15 +299,15 @@ module _ {T : Type 0} (history : T → History) (left : T → ℕ) (width : ℕ)
             (λ l ws. assigned_region variable.rate l values ws) put made
 
         pub changed_ends : (new : MachineWords T) (numbers : List ℕ) → length numbers ≡ width → ((k : ℕ) → k < width → at numbers k ≡ next)
-            → Writes history left width (OfHead active.frame NumbersOf) (merged (lanes_of width active.lanes) numbers (regions_in history width put (OfHead active.frame NumbersOf))) width put new
+            → Writes history left width (OfLevel active.frame 0 NumbersOf) (merged (lanes_of width active.lanes) numbers (regions_in history width put (OfLevel active.frame 0 NumbersOf))) width put new
             → (masked : Masked)
             → GoesTo (program_of compiled) (variables_of compiled) width masked
-            (sent_on active.frame (waiting_in (regions_in history width old) active.frame active.step) (λ k. next)
-            (assigned_in active.frame variable.id variable.rate (waiting_in (regions_in history width old) active.frame active.step) values (regions_in history width old)))
+            (sent_on active.frame 0 (waiting_in (regions_in history width old) active.frame 0 active.step) (λ k. next)
+            (assigned_in active.frame variable.id variable.rate (waiting_in (regions_in history width old) active.frame 0 active.step) values (regions_in history width old)))
             → EndsAs history width compiled masked old (Ok tt) new
         changed_ends new numbers long each_number wrote_numbers masked goes =
             ends_well history left width compiled masked
-            (sent_on active.frame lanes (λ k. next) (assigned_in active.frame variable.id variable.rate lanes values regions)) (0 + width + width) old new
+            (sent_on active.frame 0 lanes (λ k. next) (assigned_in active.frame variable.id variable.rate lanes values regions)) (0 + width + width) old new
             (sent_then history left width compiled old sound active changing changing_point changes_here (var_view variable) changed_scalar (omega arith) mid begins region region_is
             (λ l ws. assigned_region variable.rate l values ws) put made new numbers next long each_number wrote_numbers)
             goes

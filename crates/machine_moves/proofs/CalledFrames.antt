@@ -16,17 +16,21 @@ use Rattle.gang_model.specs.Running.Lanes.{Fault, ◌>>=◌, at, each, try_each}
 use Rattle.gang_model.specs.Running.State.{Frame, State, Store, view_of, with_var, with_words_in}
 use Rattle.gang_model.specs.Running.Step.{Passed, ToElements, deliver, entered, initial, left, old_values, part, passed, returned_on, run, write}
 use Rattle.gang_model.specs.Running.Value.{value}
-use Rattle.gang_model.specs.Debugger.Events.{ElementAt, Given, LaneOf, Poked, WholeOf, initial_memory, poked, started}
+use Rattle.gang_model.specs.Debugger.Events.{ElementAt, LaneOf, Poked, Row, WholeOf, poked, started, with_rows}
 use Rattle.gang_model.proofs.LaneWords.{if_ok_after, if_ok_bind, if_or_ok}
 use Rattle.mask_states.specs.Points.{Begin, Branch, Choose, Enter, Go, Point, Put, Turn, closing_number, function_ways, points_in}
 use Rattle.mask_states.specs.Masked.{Level, Masked, next_in, next_waiting}
 use Rattle.mask_states.specs.MaskedStep.{Acted, Goes, act, acted, masked_start, masked_step, points_at, step_levels, step_point, untasked, untasked_frame}
 use Rattle.mask_states.proofs.PlacedPoints.{length-points_of}
 use Rattle.machine_states.specs.Plain.{IsPlainProgram}
-use Rattle.machine_states.specs.Regions.{NumbersOf, OfHead, Regions}
-use Rattle.machine_states.specs.Shows.{Shows, ShowsFrames, body_level}
+use Rattle.machine_states.specs.Regions.{NumbersOf, Regions, OfLevel}
+use Rattle.machine_states.specs.Shows.{Shows, ShowsFrames}
+use Rattle.machine_states.specs.Levels.{body_level}
+use Rattle.machine_states.proofs.NextPoints.{levels_are}
+use Rattle.machine_states.proofs.PlainLevels.{plain_innermost}
 use Rattle.machine_states.specs.Variables.{Variables}
-use Rattle.machine_states.proofs.DeclaredLevels.{Waits, waits_below}
+use Rattle.machine_states.proofs.Beginnings.{nothing_given}
+use Rattle.machine_states.proofs.AwaitedLevels.{Waits, waits_below}
 use Rattle.machine_states.proofs.DeclaredPoints.{IsPlainPoint, IsPlainPut, plain_point}
 use Rattle.machine_states.proofs.DeclaredSteps.{IfGoes, goes_at}
 use Rattle.machine_words.specs.declared.words.MachineWords.{MachineWords}
@@ -160,9 +164,10 @@ module _ (variables : Variables) (most : ℕ) (p : Program) (plain : IsPlainProg
   frames_called (frame ∷ frames) (levels ∷ rest) shown h =
       let s = shown.0 in
       let f : Function = s.function in
-      let numbers = regions (OfHead (length frames) NumbersOf) in
+      let numbers = regions (OfLevel (length frames) 0 NumbersOf) in
       let level : Level = body_level (closing_number f) numbers in
-      subst (λ ls. IfGoes (step_levels p memory (frame ∷ frames) (ls ∷ rest)) Kept) (sym s.waits)
+      let inner = plain_innermost variables frame.function f (plain.functions frame.function f s.is_function).body w regions (length frames) in
+      subst (λ ls. IfGoes (step_levels p memory (frame ∷ frames) (ls ∷ rest)) Kept) (sym (levels_are p variables w regions (length frames) frame levels f s s.is_function inner))
       (subst (λ o. IfGoes (step_point p memory frames frame (slice_get (points_at o) (next_in level)) level [] rest) Kept) (sym s.is_function)
       (point_called frame frames h rest f s.is_function numbers (slice_get (points_in f) (next_in level)) refl))
 
@@ -179,10 +184,8 @@ all_lanes zero h = absurd (omega (arith, h))
 all_lanes (suc w) h = refl
 
 -- a run begins for all lanes
-pub start_called : (p : Program) (entry w : ℕ) (f : Function) → slice_get p.functions entry ≡ Some f → 0 < w → HaveLanes (masked_start p entry [] w).state.frames
-start_called p entry w f is wide =
-    let given : Given = record { passed = record { views = []; vars = [] }; memory = initial_memory w p.globals } in
-    subst (λ o. HaveLanes (untasked (started o entry w given)).frames) (sym is) (all_lanes w wide, tt)
+pub start_called : (p : Program) (entry w : ℕ) (rows : List Row) (f : Function) → slice_get p.functions entry ≡ Some f → 0 < w → HaveLanes (masked_start p entry rows w).state.frames
+start_called p entry w rows f is wide = subst (λ o. HaveLanes (untasked (started o entry w (with_rows rows (nothing_given p w)))).frames) (sym is) (all_lanes w wide, tt)
 
 -- ---- words
 

@@ -15,7 +15,7 @@ use Rattle.debug_machine.specs.declared.machine.Fault.{Fault}
 use Rattle.debug_machine.specs.Machines.{fault_view}
 use Rattle.mask_states.specs.Points.{Point, Put}
 use Rattle.mask_states.specs.Masked.{Masked}
-use Rattle.machine_states.specs.Regions.{NumbersOf, OfHead, Regions}
+use Rattle.machine_states.specs.Regions.{NumbersOf, Regions, OfLevel}
 use Rattle.machine_states.specs.Effects.{sent_on}
 use Rattle.machine_states.specs.Steps.{FailsWith, waiting_in}
 use Rattle.machine_states.proofs.PutSteps.{asserted, check_fails, check_value_fails, checks}
@@ -107,7 +107,7 @@ module _ {T : Type 0} (history : T → History) (left : T → ℕ) (width : ℕ)
   check_may_send mid begins =
       may_send history left width compiled old sound active does.0 point_is found.3 regions 0 mid (begun history left width compiled undone.Step old mid sound.lie begins) (omega arith)
 
-  value_is : (masked : Masked) (r : Result (List ℕ) ModelFault) → value checked (lanes_of width active.lanes) masked.state ≡ r → value checked (waiting_in regions active.frame active.step) masked.state ≡ r
+  value_is : (masked : Masked) (r : Result (List ℕ) ModelFault) → value checked (lanes_of width active.lanes) masked.state ≡ r → value checked (waiting_in regions active.frame 0 active.step) masked.state ≡ r
   value_is masked r is = ap (λ l. value checked l masked.state) (sym found.3.lanes) ∙ is
 
   pub check_value_faults : (masked : Masked) → IsShown history width compiled old masked → (fault : ModelFault) → value checked (lanes_of width active.lanes) masked.state ≡ Err fault
@@ -125,10 +125,10 @@ module _ {T : Type 0} (history : T → History) (left : T → ℕ) (width : ℕ)
 
     pub check_ends : HoldsInEach (lanes_of width active.lanes) values (Ok tt) → (mid new : MachineWords T) → Begins history left width undone.Step old mid
         → (numbers : List ℕ) → length numbers ≡ width → ((k : ℕ) → k < width → at numbers k ≡ next)
-        → Writes history left width (OfHead active.frame NumbersOf) (merged (lanes_of width active.lanes) numbers (regions_in history width mid (OfHead active.frame NumbersOf))) width mid new
+        → Writes history left width (OfLevel active.frame 0 NumbersOf) (merged (lanes_of width active.lanes) numbers (regions_in history width mid (OfLevel active.frame 0 NumbersOf))) width mid new
         → EndsAs history width compiled masked old (Ok tt) new
     check_ends hold mid new begins numbers long each_number made =
-        ends_well history left width compiled masked (sent_on active.frame (waiting_in regions active.frame active.step) (λ k. next) regions) (0 + width) old new
+        ends_well history left width compiled masked (sent_on active.frame 0 (waiting_in regions active.frame 0 active.step) (λ k. next) regions) (0 + width) old new
         (sent_so history left width compiled old sound active does.0 point_is found.3 regions 0 mid (begun history left width compiled undone.Step old mid sound.lie begins) (omega arith)
         new numbers (λ k. next) long each_number made)
         (checks (program_of compiled) (variables_of compiled) width regions masked shown.shows active.frame active.function does.0 active.step found.0 checked next found.3.next

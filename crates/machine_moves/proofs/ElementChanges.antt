@@ -73,7 +73,7 @@ module _ {T : Type 0} (history : T → History) (width : ℕ) (compiled : Compil
   regions = regions_in history width old
 
   abbrev lanes : Lanes
-  lanes = waiting_in regions active.frame active.step
+  lanes = waiting_in regions active.frame 0 active.step
 
   abbrev found : (f : Function) × IsChanging width compiled (regions_in history width old) active array index change value' next f
   found = changes_at width compiled (regions_in history width old) active array index change value' next does
@@ -137,13 +137,13 @@ module _ {T : Type 0} (history : T → History) (width : ℕ) (compiled : Compil
 
       pub change_goes : (values : List ℕ) → changed change (lanes_of width active.lanes) elements y ≡ Ok values → (stored : View) → stored ≡ view_at (regions_in history width old) active.frame array
           → GoesTo (program_of compiled) (variables_of compiled) width masked
-          (sent_on active.frame (lanes_of width active.lanes) (λ k. next) (stored_in stored (lanes_of width active.lanes) x values (regions_in history width old)))
+          (sent_on active.frame 0 (lanes_of width active.lanes) (λ k. next) (stored_in stored (lanes_of width active.lanes) x values (regions_in history width old)))
       change_goes values made stored stored_is =
           let results = given (result_words lanes change.target_type change.value_type) (operated lanes change.target_type change.operator change.value_type elements y) values
           (subst (λ l. changed change l elements y ≡ Ok values) here.lanes made) in
-          subst (λ v. GoesTo (program_of compiled) (variables_of compiled) width masked (sent_on active.frame (lanes_of width active.lanes) (λ k. next) (stored_in v (lanes_of width active.lanes) x values regions)))
+          subst (λ v. GoesTo (program_of compiled) (variables_of compiled) width masked (sent_on active.frame 0 (lanes_of width active.lanes) (λ k. next) (stored_in v (lanes_of width active.lanes) x values regions)))
           (sym stored_is)
-          (subst (λ l. GoesTo (program_of compiled) (variables_of compiled) width masked (sent_on active.frame l (λ k. next) (stored_in view l x values regions))) (sym here.lanes)
-          (subst (λ vs. GoesTo (program_of compiled) (variables_of compiled) width masked (sent_on active.frame lanes (λ k. next) (stored_in view lanes x vs regions))) (sym results.2)
+          (subst (λ l. GoesTo (program_of compiled) (variables_of compiled) width masked (sent_on active.frame 0 l (λ k. next) (stored_in view l x values regions))) (sym here.lanes)
+          (subst (λ vs. GoesTo (program_of compiled) (variables_of compiled) width masked (sent_on active.frame 0 lanes (λ k. next) (stored_in view lanes x vs regions))) (sym results.2)
           (element_changes (program_of compiled) (variables_of compiled) width regions masked shown.shows active.frame active.function found.0 active.step found.1.number array found.1.rate index_expr
           change.target_type change.operator change.value_type operand next here.next array_here x all.index_is y all.value_is elements all.elements_are results.0 results.1)))

@@ -64,7 +64,7 @@ module _ {T : Type 0} (history : T → History) (width : ℕ) (compiled : Compil
   regions = regions_in history width old
 
   abbrev lanes : Lanes
-  lanes = waiting_in regions active.frame active.step
+  lanes = waiting_in regions active.frame 0 active.step
 
   abbrev found : (f : Function) × IsStoring width compiled (regions_in history width old) active array index value' next f
   found = stores_at width compiled (regions_in history width old) active array index value' next does
@@ -118,10 +118,10 @@ module _ {T : Type 0} (history : T → History) (width : ℕ) (compiled : Compil
         → reached_in (view_at (regions_in history width old) active.frame array) index_expr value_expr (lanes_of width active.lanes) masked.state ≡ Ok (x, y, elements)
         → (stored : View) → stored ≡ view_at (regions_in history width old) active.frame array
         → GoesTo (program_of compiled) (variables_of compiled) width masked
-        (sent_on active.frame (lanes_of width active.lanes) (λ k. next) (stored_in stored (lanes_of width active.lanes) x y (regions_in history width old)))
+        (sent_on active.frame 0 (lanes_of width active.lanes) (λ k. next) (stored_in stored (lanes_of width active.lanes) x y (regions_in history width old)))
     assign_goes x y elements is stored stored_is =
         let all = are_reached view index_expr value_expr lanes masked.state x y elements (subst (λ l. reached_in view index_expr value_expr l masked.state ≡ Ok (x, y, elements)) here.lanes is) in
-        subst (λ v. GoesTo (program_of compiled) (variables_of compiled) width masked (sent_on active.frame (lanes_of width active.lanes) (λ k. next) (stored_in v (lanes_of width active.lanes) x y regions))) (sym stored_is)
-        (subst (λ l. GoesTo (program_of compiled) (variables_of compiled) width masked (sent_on active.frame l (λ k. next) (stored_in view l x y regions))) (sym here.lanes)
+        subst (λ v. GoesTo (program_of compiled) (variables_of compiled) width masked (sent_on active.frame 0 (lanes_of width active.lanes) (λ k. next) (stored_in v (lanes_of width active.lanes) x y regions))) (sym stored_is)
+        (subst (λ l. GoesTo (program_of compiled) (variables_of compiled) width masked (sent_on active.frame 0 l (λ k. next) (stored_in view l x y regions))) (sym here.lanes)
         (stores (program_of compiled) (variables_of compiled) width regions masked shown.shows active.frame active.function found.0 active.step found.1.number array found.1.rate index_expr value_expr next
         here.next array_here x all.index_is y all.value_is elements all.elements_are))

@@ -17,7 +17,7 @@ use Rattle.mask_states.specs.Points.{Point}
 use Rattle.machine_states.specs.ArrayParts.{AreMemory, IsInside, ReadsElements, array_region, view_at}
 use Rattle.machine_states.specs.Cells.{words_set}
 use Rattle.machine_states.specs.Effects.{sent_on, stored_in, stored_region}
-use Rattle.machine_states.specs.Regions.{NumbersOf, OfHead, Region, Regions}
+use Rattle.machine_states.specs.Regions.{NumbersOf, Region, Regions, OfLevel}
 use Rattle.machine_states.specs.Steps.{waiting_in}
 use Rattle.machine_states.proofs.ArrayViews.{view_inside}
 use Rattle.machine_words.specs.declared.words.MachineWords.{MachineWords}
@@ -178,16 +178,16 @@ module _ {T : Type 0} (history : T → History) (width : ℕ) (compiled : Compil
       stored_may_send = may_send history left width compiled old sound active f point here (stored_in view lanes x y regions) (0 + width) put is_put (omega (arith, both))
 
       module _ (next : StepNumber) (new : MachineWords T) (numbers : List ℕ) (long : length numbers ≡ width) (each_number : (k : ℕ) → k < width → at numbers k ≡ next)
-          (wrote_numbers : Writes history left width (OfHead active.frame NumbersOf) (merged (lanes_of width active.lanes) numbers (regions_in history width put (OfHead active.frame NumbersOf))) width put new) where
-        sent : IsUnderWay history left width undone.Step (sent_on active.frame (waiting_in regions active.frame active.step) (λ k. next) (stored_in view lanes x y regions)) (0 + width + width) old new
+          (wrote_numbers : Writes history left width (OfLevel active.frame 0 NumbersOf) (merged (lanes_of width active.lanes) numbers (regions_in history width put (OfLevel active.frame 0 NumbersOf))) width put new) where
+        sent : IsUnderWay history left width undone.Step (sent_on active.frame 0 (waiting_in regions active.frame 0 active.step) (λ k. next) (stored_in view lanes x y regions)) (0 + width + width) old new
         sent =
             sent_so history left width compiled old sound active f point here (stored_in view lanes x y regions) (0 + width) put is_put (omega (arith, both)) new numbers (λ k. next) long each_number
             wrote_numbers
 
         pub stored_regions : (region : Region) → regions_in history width new region
-            ≡ sent_on active.frame (lanes_of width active.lanes) (λ k. next) (stored_in view (lanes_of width active.lanes) x y (regions_in history width old)) region
-        stored_regions region = sent.regions_are region ∙ ap (λ l. sent_on active.frame l (λ k. next) (stored_in view lanes x y regions) region) (sym here.lanes)
+            ≡ sent_on active.frame 0 (lanes_of width active.lanes) (λ k. next) (stored_in view (lanes_of width active.lanes) x y (regions_in history width old)) region
+        stored_regions region = sent.regions_are region ∙ ap (λ l. sent_on active.frame 0 l (λ k. next) (stored_in view lanes x y regions) region) (sym here.lanes)
 
         pub stored_records : Records history width undone.Step old new
         stored_records =
-            recorded_so_far history left width undone.Step (sent_on active.frame (waiting_in regions active.frame active.step) (λ k. next) (stored_in view lanes x y regions)) (0 + width + width) old new sent
+            recorded_so_far history left width undone.Step (sent_on active.frame 0 (waiting_in regions active.frame 0 active.step) (λ k. next) (stored_in view lanes x y regions)) (0 + width + width) old new sent

@@ -12,7 +12,7 @@ use Rattle.mask_states.specs.Masked.{sent}
 use Rattle.machine_states.specs.Regions.{Head, OfHead, Region, Regions, same_region, with_region}
 use Rattle.machine_states.specs.Steps.{KeepsBoth}
 use Rattle.machine_words.specs.declared.words.MachineWords.{MachineWords}
-use Rattle.machine_words.specs.Ranges.{head_part, head_sizes, regions_of}
+use Rattle.machine_words.specs.Ranges.{regions_of, head_size, levels_of}
 use Rattle.machine_words.specs.Words.{AreLaid, Writes, regions_in, words_of}
 use Rattle.machine_words.proofs.Sizes.{head_words}
 
@@ -44,7 +44,7 @@ module _ {T : Type 0} (history : T → History) (left : T → ℕ) (w : ℕ) whe
 
   -- how many words a part of a head has
   pub head_long : (words : MachineWords T) → AreLaid history w words → (i : ℕ) (part : Head) → i < 64
-      → length (regions_in history w words (OfHead i part)) ≡ slice_index (head_sizes w) (head_part part)
+      → length (regions_in history w words (OfHead i part)) ≡ head_size w (levels_of words.layout) part
   head_long words laid i part h = head_words w words.layout (words_of history words) laid i part (subst (λ n. i < n) (sym laid.planned.count) h)
 
 -- ---- lanes

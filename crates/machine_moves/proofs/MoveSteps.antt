@@ -9,7 +9,7 @@ use Rattle.undo_log.specs.History.{History}
 use Rattle.undo_log.specs.declared.timeline.Undone.TheVariants as undone
 use Rattle.mask_states.specs.Points.{Go, Branch}
 use Rattle.mask_states.specs.Masked.{Masked}
-use Rattle.machine_states.specs.Regions.{NumbersOf, OfHead, Regions}
+use Rattle.machine_states.specs.Regions.{NumbersOf, Regions, OfLevel}
 use Rattle.machine_states.specs.Effects.{sent_on}
 use Rattle.machine_states.specs.Steps.{FailsWith, waiting_in}
 use Rattle.machine_states.proofs.PutSteps.{branch_fails, branches, goes}
@@ -36,11 +36,11 @@ module _ {T : Type 0} (history : T → History) (left : T → ℕ) (width : ℕ)
 
   pub gone : (next : ℕ) → DoesNext width compiled (regions_in history width old) active (code.Go next) → (mid new : MachineWords T) → Begins history left width undone.Step old mid
       → (values : List ℕ) → length values ≡ width → ((k : ℕ) → k < width → at values k ≡ next)
-      → Writes history left width (OfHead active.frame NumbersOf) (merged (lanes_of width active.lanes) values (regions_in history width mid (OfHead active.frame NumbersOf))) width mid new
+      → Writes history left width (OfLevel active.frame 0 NumbersOf) (merged (lanes_of width active.lanes) values (regions_in history width mid (OfLevel active.frame 0 NumbersOf))) width mid new
       → (masked : Masked) → IsShown history width compiled old masked → EndsAs history width compiled masked old (Ok tt) new
   gone next does mid new begins values long targets made masked shown =
       let found = goes_at width compiled regions active next does in
-      ends_well history left width compiled masked (sent_on active.frame (waiting_in regions active.frame active.step) (λ k. next) regions) (0 + width) old new
+      ends_well history left width compiled masked (sent_on active.frame 0 (waiting_in regions active.frame 0 active.step) (λ k. next) regions) (0 + width) old new
       (sent_so history left width compiled old sound active found.0 (Go next) found.1 regions 0 mid (begun history left width compiled undone.Step old mid sound.lie begins) (omega arith)
       new values (λ k. next) long targets made)
       (goes (program_of compiled) (variables_of compiled) width regions masked shown.shows active.frame active.function found.0 active.step next found.1.next)
@@ -64,14 +64,14 @@ module _ {T : Type 0} (history : T → History) (left : T → ℕ) (width : ℕ)
 
     pub branched : (mid new : MachineWords T) → Begins history left width undone.Step old mid
         → (values targets : List ℕ) → length targets ≡ width → ((k : ℕ) → k < width → at targets k ≡ (if holds values k then yes' else no'))
-        → Writes history left width (OfHead active.frame NumbersOf) (merged (lanes_of width active.lanes) targets (regions_in history width mid (OfHead active.frame NumbersOf))) width mid new
+        → Writes history left width (OfLevel active.frame 0 NumbersOf) (merged (lanes_of width active.lanes) targets (regions_in history width mid (OfLevel active.frame 0 NumbersOf))) width mid new
         → (masked : Masked) → IsShown history width compiled old masked → value tested (lanes_of width active.lanes) masked.state ≡ Ok values
         → EndsAs history width compiled masked old (Ok tt) new
     branched mid new begins values targets long each_target made masked shown is =
         let found = branches_at width compiled regions active test yes' no' does in
         let e = found.1.0 in
         let at = found.1.2 in
-        ends_well history left width compiled masked (sent_on active.frame (waiting_in regions active.frame active.step) (λ k. if holds values k then yes' else no') regions) (0 + width) old new
+        ends_well history left width compiled masked (sent_on active.frame 0 (waiting_in regions active.frame 0 active.step) (λ k. if holds values k then yes' else no') regions) (0 + width) old new
         (sent_so history left width compiled old sound active found.0 (Branch e yes' no') at regions 0 mid (begun history left width compiled undone.Step old mid sound.lie begins) (omega arith)
         new targets (λ k. if holds values k then yes' else no') long each_target made)
         (branches (program_of compiled) (variables_of compiled) width regions masked shown.shows active.frame active.function found.0 active.step e yes' no' at.next values

@@ -14,7 +14,7 @@ use Rattle.machine_states.specs.Cells.{words_set}
 use Rattle.machine_states.specs.Declared.{ResultDeclared, declared_before}
 use Rattle.machine_states.specs.Effects.{assigned_region, declared_in, assigned_in, declared_region, region_of, returned_in, sent_on}
 use Rattle.machine_states.specs.Plain.{ResultPlain}
-use Rattle.machine_states.specs.Regions.{FunctionOf, NumbersOf, OfHead, Region, Regions, ResultOf, ReturnedOf, with_region}
+use Rattle.machine_states.specs.Regions.{FunctionOf, NumbersOf, OfHead, Region, Regions, ResultOf, ReturnedOf, with_region, OfLevel}
 use Rattle.machine_states.specs.Shows.{AreSized}
 use Rattle.machine_states.specs.Steps.{Delivers, KeepsBoth, converted_values, waiting_in}
 use Rattle.machine_states.proofs.LeaveSteps.{HasResult}
@@ -114,14 +114,14 @@ module _ {T : Type 0} (history : T → History) (left : T → ℕ) (width : ℕ)
     module _ (given : MachineWords T)
         (gives : (g : Function) → TakesResult compiled (regions_in history width put) active.frame for g
         → GivesResult history left width active.frame g for Int32 (lanes_of width active.lanes) (counts_of (lanes_of width active.lanes)) put given) where
-      pub gave : GivesResult history left width active.frame f for Int32 (waiting_in (regions_in history width old) active.frame active.step) (counts_of (waiting_in (regions_in history width old) active.frame active.step)) put given
+      pub gave : GivesResult history left width active.frame f for Int32 (waiting_in (regions_in history width old) active.frame 0 active.step) (counts_of (waiting_in (regions_in history width old) active.frame 0 active.step)) put given
       gave = subst (λ l. GivesResult history left width active.frame f for Int32 l (counts_of l) put given) is_active.lanes (gives f takes)
 
       -- it was given to these regions
-      pub counted : DeliversAlike width active.frame f Int32 (waiting_in (regions_in history width old) active.frame active.step) (counts_of (waiting_in (regions_in history width old) active.frame active.step))
+      pub counted : DeliversAlike width active.frame f Int32 (waiting_in (regions_in history width old) active.frame 0 active.step) (counts_of (waiting_in (regions_in history width old) active.frame 0 active.step))
           regions gave.delivered for
       counted =
-          delivers_alike width active.frame f Int32 (waiting_in (regions_in history width old) active.frame active.step) (counts_of (waiting_in (regions_in history width old) active.frame active.step))
+          delivers_alike width active.frame f Int32 (waiting_in (regions_in history width old) active.frame 0 active.step) (counts_of (waiting_in (regions_in history width old) active.frame 0 active.step))
           regions gave.delivered (regions_in history width put) is_put.regions_are for gave.delivers
 
       is_given : IsUnderWay history left width undone.Step counted.delivered (writes + (width + 1)) old given
@@ -138,7 +138,7 @@ module _ {T : Type 0} (history : T → History) (left : T → ℕ) (width : ℕ)
 
       -- then the lanes go on
       pub counted_sent : (new : MachineWords T) (numbers : List ℕ) (next : StepNumber) → length numbers ≡ width → ((k : ℕ) → k < width → at numbers k ≡ next)
-          → Writes history left width (OfHead active.frame NumbersOf) (merged (lanes_of width active.lanes) numbers (regions_in history width given (OfHead active.frame NumbersOf))) width given new
-          → IsUnderWay history left width undone.Step (sent_on active.frame (waiting_in (regions_in history width old) active.frame active.step) (λ k. next) counted.delivered) (writes + (width + 1) + width) old new
+          → Writes history left width (OfLevel active.frame 0 NumbersOf) (merged (lanes_of width active.lanes) numbers (regions_in history width given (OfLevel active.frame 0 NumbersOf))) width given new
+          → IsUnderWay history left width undone.Step (sent_on active.frame 0 (waiting_in (regions_in history width old) active.frame 0 active.step) (λ k. next) counted.delivered) (writes + (width + 1) + width) old new
       counted_sent new numbers next long each_number wrote_numbers =
           sent_so history left width compiled old sound active f point is_active counted.delivered (writes + (width + 1)) given is_given few new numbers (λ k. next) long each_number wrote_numbers

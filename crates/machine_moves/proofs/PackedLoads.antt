@@ -27,7 +27,7 @@ use Rattle.machine_states.specs.ArrayParts.{ReadsElements, view_at}
 use Rattle.machine_states.specs.Cells.{words_set}
 use Rattle.machine_states.specs.Effects.{assigned_in, assigned_region, region_of}
 use Rattle.machine_states.specs.Plain.{ResultPlain}
-use Rattle.machine_states.specs.Regions.{FunctionOf, NumbersOf, OfHead, Region, Regions, with_region}
+use Rattle.machine_states.specs.Regions.{FunctionOf, NumbersOf, OfHead, Region, Regions, with_region, OfLevel}
 use Rattle.machine_states.specs.Steps.{FailsWith, waiting_in}
 use Rattle.machine_states.specs.Variables.{IsArray, IsScalar}
 use Rattle.machine_states.proofs.PackedSteps.{load_part_fails, load_rank_fails, unpacks}
@@ -91,7 +91,7 @@ module _ {T : Type 0} (history : T → History) (left : T → ℕ) (width : ℕ)
   regions = regions_in history width old
 
   abbrev lanes : Lanes
-  lanes = waiting_in regions active.frame active.step
+  lanes = waiting_in regions active.frame 0 active.step
 
   abbrev for : ModelResultFor
   for = result_view result_for
@@ -128,7 +128,7 @@ module _ {T : Type 0} (history : T → History) (left : T → ℕ) (width : ℕ)
 
   module _ (masked : Masked) (shown : IsShown history width compiled old masked) where
     part_is : (r : Result View ModelFault) → part index_expr (view_at (regions_in history width old) active.frame array) (lanes_of width active.lanes) masked.state ≡ r
-        → part index_expr (view_at (regions_in history width old) active.frame array) (waiting_in (regions_in history width old) active.frame active.step) masked.state ≡ r
+        → part index_expr (view_at (regions_in history width old) active.frame array) (waiting_in (regions_in history width old) active.frame 0 active.step) masked.state ≡ r
     part_is r is = ap (λ l. part index_expr (view_at regions active.frame array) l masked.state) (sym here.lanes) ∙ is
 
     pub part_faults : (fault : ModelFault) → part index_expr (view_at (regions_in history width old) active.frame array) (lanes_of width active.lanes) masked.state ≡ Err fault → FailsWith (program_of compiled) masked fault
@@ -173,7 +173,7 @@ module _ {T : Type 0} (history : T → History) (left : T → ℕ) (width : ℕ)
         loaded_may_send = counted_may_send history left width compiled old sound active found.0 point here for result_plain with_values (0 + width) put is_put runs few_words given gives
 
         pub loaded_ends : (new : MachineWords T) (numbers : List ℕ) → length numbers ≡ width → ((k : ℕ) → k < width → at numbers k ≡ next)
-            → Writes history left width (OfHead active.frame NumbersOf) (merged (lanes_of width active.lanes) numbers (regions_in history width given (OfHead active.frame NumbersOf))) width given new
+            → Writes history left width (OfLevel active.frame 0 NumbersOf) (merged (lanes_of width active.lanes) numbers (regions_in history width given (OfLevel active.frame 0 NumbersOf))) width given new
             → (masked : Masked) → IsShown history width compiled old masked
             → (view : View) → part index_expr (view_at (regions_in history width old) active.frame array) (lanes_of width active.lanes) masked.state ≡ Ok view
             → ReadsElements (regions_in history width old) view (lanes_of width active.lanes) (rank (lanes_of width active.lanes)) (Ok values)

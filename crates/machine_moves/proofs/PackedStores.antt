@@ -24,7 +24,7 @@ use Rattle.machine_states.specs.ArrayParts.{IsInside, ReadsElements, array_regio
 use Rattle.machine_states.specs.Cells.{words_set}
 use Rattle.machine_states.specs.Effects.{stored_in, stored_region}
 use Rattle.machine_states.specs.Plain.{ResultPlain}
-use Rattle.machine_states.specs.Regions.{FunctionOf, NumbersOf, OfHead, Regions, with_region}
+use Rattle.machine_states.specs.Regions.{FunctionOf, NumbersOf, OfHead, Regions, with_region, OfLevel}
 use Rattle.machine_states.specs.Steps.{FailsWith, waiting_in}
 use Rattle.machine_states.specs.Variables.{IsArray}
 use Rattle.machine_states.proofs.PackedSteps.{pack_value_fails, packs, part_fails, rank_fails}
@@ -82,7 +82,7 @@ module _ {T : Type 0} (history : T → History) (left : T → ℕ) (width : ℕ)
   regions = regions_in history width old
 
   abbrev lanes : Lanes
-  lanes = waiting_in regions active.frame active.step
+  lanes = waiting_in regions active.frame 0 active.step
 
   abbrev for : ModelResultFor
   for = result_view result_for
@@ -127,7 +127,7 @@ module _ {T : Type 0} (history : T → History) (left : T → ℕ) (width : ℕ)
 
   module _ (masked : Masked) (shown : IsShown history width compiled old masked) where
     part_is : (r : Result View ModelFault) → part index_expr (view_at (regions_in history width old) active.frame array) (lanes_of width active.lanes) masked.state ≡ r
-        → part index_expr (view_at (regions_in history width old) active.frame array) (waiting_in (regions_in history width old) active.frame active.step) masked.state ≡ r
+        → part index_expr (view_at (regions_in history width old) active.frame array) (waiting_in (regions_in history width old) active.frame 0 active.step) masked.state ≡ r
     part_is r is = ap (λ l. part index_expr (view_at regions active.frame array) l masked.state) (sym here.lanes) ∙ is
 
     pub part_faults : (fault : ModelFault) → part index_expr (view_at (regions_in history width old) active.frame array) (lanes_of width active.lanes) masked.state ≡ Err fault → FailsWith (program_of compiled) masked fault
@@ -191,7 +191,7 @@ module _ {T : Type 0} (history : T → History) (left : T → ℕ) (width : ℕ)
         stored_may_send = counted_may_send history left width compiled old sound active found.0 point here for result_plain with_elements (0 + width) put is_put runs few_words given gives
 
         pub stored_ends : (new : MachineWords T) (numbers : List ℕ) → length numbers ≡ width → ((k : ℕ) → k < width → at numbers k ≡ next)
-            → Writes history left width (OfHead active.frame NumbersOf) (merged (lanes_of width active.lanes) numbers (regions_in history width given (OfHead active.frame NumbersOf))) width given new
+            → Writes history left width (OfLevel active.frame 0 NumbersOf) (merged (lanes_of width active.lanes) numbers (regions_in history width given (OfLevel active.frame 0 NumbersOf))) width given new
             → (masked : Masked) → IsShown history width compiled old masked
             → part index_expr (view_at (regions_in history width old) active.frame array) (lanes_of width active.lanes) masked.state ≡ Ok view
             → value value_expr (lanes_of width active.lanes) masked.state ≡ Ok x

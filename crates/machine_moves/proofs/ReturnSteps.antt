@@ -13,7 +13,7 @@ use Rattle.gang_model.specs.Running.Step.{initial}
 use Rattle.mask_states.specs.Points.{Point, Put}
 use Rattle.mask_states.specs.Masked.{Masked}
 use Rattle.machine_states.specs.Effects.{returned_in, sent_on}
-use Rattle.machine_states.specs.Regions.{NumbersOf, OfHead, Regions, ReturnedOf, lanes_in, with_region}
+use Rattle.machine_states.specs.Regions.{NumbersOf, OfHead, Regions, ReturnedOf, lanes_in, with_region, OfLevel}
 use Rattle.machine_states.specs.Steps.{KeepsBoth, waiting_in}
 use Rattle.machine_states.proofs.PutSteps.{returns}
 use Rattle.expression_instructions.specs.declared.code.Instruction.{Instruction}
@@ -88,25 +88,25 @@ module _ {T : Type 0} (history : T → History) (left : T → ℕ) (w : ℕ) (co
   }
 
   abbrev returned_on : Regions
-  returned_on = sent_on active.frame (waiting_in regions active.frame active.step) (λ k. target) (returned_in active.frame f.result (waiting_in regions active.frame active.step) values gave.word regions)
+  returned_on = sent_on active.frame 0 (waiting_in regions active.frame 0 active.step) (λ k. target) (returned_in active.frame f.result (waiting_in regions active.frame 0 active.step) values gave.word regions)
 
-  module _ (set : Writes history left w (OfHead active.frame NumbersOf) (merged lanes (replicate w target) (regions_in history w past (OfHead active.frame NumbersOf))) w past new) where
+  module _ (set : Writes history left w (OfLevel active.frame 0 NumbersOf) (merged lanes (replicate w target) (regions_in history w past (OfLevel active.frame 0 NumbersOf))) w past new) where
     done : IsUnderWay history left w undone.Step returned_on (w + 1 + w) old new
     done =
         let go : List ℕ → List ℕ = λ numbers. merged lanes (replicate w target) numbers in
-        let sent_words = sent_to w lanes target (result_given (OfHead active.frame NumbersOf)) (lanes_long w active.lanes) in
-        under_way_alike history left w undone.Step (with_region (OfHead active.frame NumbersOf) (go (result_given (OfHead active.frame NumbersOf))) result_given) (w + 1 + w) old new
-        (wrote history left w undone.Step result_given (w + 1) old past given new (OfHead active.frame NumbersOf) go w set)
+        let sent_words = sent_to w lanes target (result_given (OfLevel active.frame 0 NumbersOf)) (lanes_long w active.lanes) in
+        under_way_alike history left w undone.Step (with_region (OfLevel active.frame 0 NumbersOf) (go (result_given (OfLevel active.frame 0 NumbersOf))) result_given) (w + 1 + w) old new
+        (wrote history left w undone.Step result_given (w + 1) old past given new (OfLevel active.frame 0 NumbersOf) go w set)
         returned_on
-        (λ r. ap (λ numbers. with_region (OfHead active.frame NumbersOf) numbers result_given r) sent_words
-        ∙ ap (λ ls. sent_on active.frame ls (λ k. target) (returned_in active.frame rate ls values gave.word regions) r) is_active.lanes
-        ∙ ap (λ some. sent_on active.frame (waiting_in regions active.frame active.step) (λ k. target)
-        (returned_in active.frame some (waiting_in regions active.frame active.step) values gave.word regions) r) rate_is)
+        (λ r. ap (λ numbers. with_region (OfLevel active.frame 0 NumbersOf) numbers result_given r) sent_words
+        ∙ ap (λ ls. sent_on active.frame 0 ls (λ k. target) (returned_in active.frame rate ls values gave.word regions) r) is_active.lanes
+        ∙ ap (λ some. sent_on active.frame 0 (waiting_in regions active.frame 0 active.step) (λ k. target)
+        (returned_in active.frame some (waiting_in regions active.frame 0 active.step) values gave.word regions) r) rate_is)
 
     -- lanes have returned
     pub returns_well : (masked : Masked) → IsShown history w compiled old masked → initial e lanes masked.state ≡ Ok values → EndsAs history w compiled masked old (Ok tt) new
     returns_well masked shown is =
-        let keeps : KeepsBoth w (waiting_in regions active.frame active.step) (lanes_in w regions (OfHead active.frame ReturnedOf)) gave.word =
+        let keeps : KeepsBoth w (waiting_in regions active.frame 0 active.step) (lanes_in w regions (OfHead active.frame ReturnedOf)) gave.word =
         subst (λ ls. KeepsBoth w ls (lanes_in w regions (OfHead active.frame ReturnedOf)) gave.word) is_active.lanes
         (subst (λ (before : Regions). KeepsBoth w lanes (lanes_in w before (OfHead active.frame ReturnedOf)) gave.word) same_regions gave.keeps) in
         ends_well history left w compiled masked returned_on (w + 1 + w) old new done

@@ -21,7 +21,7 @@ use Rattle.mask_states.specs.Points.{Point}
 use Rattle.mask_states.specs.Masked.{Masked, sent}
 use Rattle.machine_states.specs.Cells.{words_set}
 use Rattle.machine_states.specs.Variables.{IsScalar, Variables, variable_of}
-use Rattle.machine_states.specs.Regions.{NumbersOf, OfHead, Region, Regions, with_region}
+use Rattle.machine_states.specs.Regions.{NumbersOf, Region, Regions, with_region, LevelOf, OfLevel}
 use Rattle.gang_model.specs.Running.State.{words_for}
 use Rattle.machine_states.specs.Shows.{AreSized}
 use Rattle.machine_states.specs.Effects.{region_of, sent_on}
@@ -88,7 +88,7 @@ module _ (variables : Variables) (width : ℕ) (gang : IsGangWidth width) (regio
 -- what is asked where lanes of a frame are sent on
 abbrev pub MaySend : {T : Type 0} → (history : T → History) → (left : T → ℕ) → (width frame : ℕ) → Mask → MachineWords T → Type 0
 MaySend history left width frame mask machine =
-    (width * 8 < 9223372036854775808) × (IsGangWidth width × (AreLaid history width machine × ((length (regions_in history width machine (OfHead frame NumbersOf)) ≡ width)
+    (width * 8 < 9223372036854775808) × (IsGangWidth width × (AreLaid history width machine × ((length (regions_in history width machine (OfLevel frame 0 NumbersOf)) ≡ width)
     × ((no_lane (lanes_of width mask) ≡ false) × (width ≤ left_of history left machine)))))
 
 -- what is asked where a scalar of a region is written
@@ -110,7 +110,7 @@ wrote_so history left width regions writes old mid new so_far region other same 
 module _ {T : Type 0} (history : T → History) (left : T → ℕ) (width : ℕ) (compiled : CompiledProgram) (old : MachineWords T) (sound : AreSound history width compiled old) (active : Active)
     (f : Function) (point : Point) (is_active : IsActive width compiled (regions_in history width old) active f (Some point)) where
   abbrev lanes : Lanes
-  lanes = waiting_in (regions_in history width old) active.frame active.step
+  lanes = waiting_in (regions_in history width old) active.frame 0 active.step
 
   module _ (regions : Regions) (writes : ℕ) (mid : MachineWords T) (so_far : IsUnderWay history left width undone.Step regions writes old mid) (few : writes + width ≤ words_set width point) where
     wide : width * 8 < 9223372036854775808
@@ -127,7 +127,7 @@ module _ {T : Type 0} (history : T → History) (left : T → ℕ) (width : ℕ)
         (
           so_far.laid,
           (
-            head_sized history width compiled old mid sound.lie so_far.layout so_far.laid active.frame NumbersOf (frame_below history width compiled old sound active f (Some point) is_active),
+            head_sized history width compiled old mid sound.lie so_far.layout so_far.laid active.frame (LevelOf 0 NumbersOf) (frame_below history width compiled old sound active f (Some point) is_active),
             (some_active history width compiled old sound active f point is_active, still),
           ),
         ),
@@ -145,10 +145,10 @@ module _ {T : Type 0} (history : T → History) (left : T → ℕ) (width : ℕ)
 
     -- the lanes are sent on
     pub sent_so : (new : MachineWords T) (values : List ℕ) (target : ℕ → StepNumber) → length values ≡ width → ((k : ℕ) → k < width → at values k ≡ target k)
-        → Writes history left width (OfHead active.frame NumbersOf) (merged (lanes_of width active.lanes) values (regions_in history width mid (OfHead active.frame NumbersOf))) width mid new
-        → IsUnderWay history left width undone.Step (sent_on active.frame (waiting_in (regions_in history width old) active.frame active.step) target regions) (writes + width) old new
+        → Writes history left width (OfLevel active.frame 0 NumbersOf) (merged (lanes_of width active.lanes) values (regions_in history width mid (OfLevel active.frame 0 NumbersOf))) width mid new
+        → IsUnderWay history left width undone.Step (sent_on active.frame 0 (waiting_in (regions_in history width old) active.frame 0 active.step) target regions) (writes + width) old new
     sent_so new values target long each_target made =
-        wrote_so history left width regions writes old mid new so_far (OfHead active.frame NumbersOf) (OfHead active.frame NumbersOf) refl
+        wrote_so history left width regions writes old mid new so_far (OfLevel active.frame 0 NumbersOf) (OfLevel active.frame 0 NumbersOf) refl
         (merged (lanes_of width active.lanes) values) (sent lanes target)
         (λ ws. sent_is width (lanes_of width active.lanes) values target ws (lanes_long width active.lanes) long each_target ∙ ap (λ l. sent l target ws) is_active.lanes)
         width made
@@ -157,7 +157,7 @@ module _ {T : Type 0} (history : T → History) (left : T → ℕ) (width : ℕ)
     pub put_so : (put : MachineWords T) (region : Region) (id : VarId) → region ≡ region_of active.frame id → (make : Lanes → List ℕ → List ℕ)
         → Writes history left width region (make (lanes_of width active.lanes) (regions_in history width mid region)) width mid put
         → IsUnderWay history left width undone.Step
-        (with_region (region_of active.frame id) (make (waiting_in (regions_in history width old) active.frame active.step) (regions (region_of active.frame id))) regions) (writes + width) old put
+        (with_region (region_of active.frame id) (make (waiting_in (regions_in history width old) active.frame 0 active.step) (regions (region_of active.frame id))) regions) (writes + width) old put
     put_so put region id is make made =
         wrote_so history left width regions writes old mid put so_far region (region_of active.frame id) is
         (make (lanes_of width active.lanes)) (make lanes) (λ ws. ap (λ l. make l ws) is_active.lanes) width made
@@ -182,10 +182,10 @@ module _ {T : Type 0} (history : T → History) (left : T → ℕ) (width : ℕ)
       may_send_then = may_send with_put (0 + width) put is_put (omega (arith, both))
 
       pub sent_then : (new : MachineWords T) (numbers : List ℕ) (next : StepNumber) → length numbers ≡ width → ((k : ℕ) → k < width → at numbers k ≡ next)
-          → Writes history left width (OfHead active.frame NumbersOf) (merged (lanes_of width active.lanes) numbers (regions_in history width put (OfHead active.frame NumbersOf))) width put new
+          → Writes history left width (OfLevel active.frame 0 NumbersOf) (merged (lanes_of width active.lanes) numbers (regions_in history width put (OfLevel active.frame 0 NumbersOf))) width put new
           → IsUnderWay history left width undone.Step
-          (sent_on active.frame (waiting_in (regions_in history width old) active.frame active.step) (λ k. next)
-          (with_region (region_of active.frame x.id) (make (waiting_in (regions_in history width old) active.frame active.step) (regions_in history width old (region_of active.frame x.id))) (regions_in history width old)))
+          (sent_on active.frame 0 (waiting_in (regions_in history width old) active.frame 0 active.step) (λ k. next)
+          (with_region (region_of active.frame x.id) (make (waiting_in (regions_in history width old) active.frame 0 active.step) (regions_in history width old (region_of active.frame x.id))) (regions_in history width old)))
           (0 + width + width) old new
       sent_then new numbers next long each_number wrote_numbers = sent_so with_put (0 + width) put is_put (omega (arith, both)) new numbers (λ k. next) long each_number wrote_numbers
 

@@ -1,5 +1,5 @@
 -- What follows for each step from how the words of a machine stand.
-use Rattle.std.proofs.Common.{ℕ, zero, suc, ◌+◌, ◌-◌, ◌^◌, ◌<◌, ◌≤◌, ◌⊎◌, false, cond, ◌≡◌, refl, sym, ◌∙◌, ap, ap₂, subst, arith, inl, inr, List, [], ◌∷◌, ◌++◌, length, map, slice_index, Option, Some, None, Vec, Global}
+use Rattle.std.proofs.Common.{ℕ, zero, suc, ◌+◌, ◌-◌, ◌^◌, ◌<◌, ◌≤◌, ◌⊎◌, false, cond, ◌≡◌, refl, sym, ◌∙◌, ap, ap₂, subst, arith, inl, inr, List, [], ◌∷◌, ◌++◌, length, map, Option, Some, None, Vec, Global}
 use Rattle.std.specs.Prelude.{All, Ok, min, option_map, slice_get, slice_index_or}
 use Rattle.std.proofs.lemmas.Bool.{cases_lt}
 use Rattle.std.proofs.lemmas.List.{length-map}
@@ -51,7 +51,7 @@ use Rattle.codegen.specs.declared.code.StepCode.TheVariants as code
 use Rattle.codegen.specs.Codes.{Does, Fit, IsArg, IsOptionValue, IsValue}
 use Rattle.codegen.specs.Programs.{own_variables}
 use Rattle.machine_words.specs.declared.words.MachineWords.{MachineWords}
-use Rattle.machine_words.specs.Ranges.{head_part, head_sizes, machine_sizes, regions_of}
+use Rattle.machine_words.specs.Ranges.{head_sizes, machine_sizes, regions_of, head_size, levels_of}
 use Rattle.machine_words.specs.Words.{AreLaid, Writes, left_of, regions_in, words_of}
 use Rattle.machine_words.specs.Ranges.{IsLaid}
 use Rattle.machine_words.proofs.Sizes.{depth_words, file_words, head_words, local_words}
@@ -178,7 +178,8 @@ module _ {T : Type 0} (history : T → History) (width : ℕ) (compiled : Compil
       record {
         gang = lie.gang;
         compiled_is = lie.compiled_is;
-        layout = subst (λ l. IsLayoutOf width compiled.program [] machine_sizes (head_sizes width) l) (sym records.layout) lie.layout;
+        lengths = lie.lengths;
+        layout = subst (λ l. IsLayoutOf width compiled.program lie.lengths machine_sizes (head_sizes width 0) l) (sym records.layout) lie.layout;
         laid = records.laid;
         room = omega (arith, room, lie.room);
       }
@@ -226,14 +227,14 @@ module _ (functions : List TypedFunction) (most : ℕ) (all : All (λ f. length 
 
 module _ {T : Type 0} (history : T → History) (width : ℕ) (compiled : CompiledProgram) (old new : MachineWords T)
     (lie : AreFor history width compiled old) (layout : new.layout ≡ old.layout) (laid : AreLaid history width new) where
-  is_layout : IsLayoutOf width compiled.program [] machine_sizes (head_sizes width) new.layout
-  is_layout = subst (λ l. IsLayoutOf width compiled.program [] machine_sizes (head_sizes width) l) (sym layout) lie.layout
+  is_layout : IsLayoutOf width compiled.program lie.lengths machine_sizes (head_sizes width 0) new.layout
+  is_layout = subst (λ l. IsLayoutOf width compiled.program lie.lengths machine_sizes (head_sizes width 0) l) (sym layout) lie.layout
 
   pub depth_sized : length (regions_in history width new Depth) ≡ 1
   depth_sized = depth_words width new.layout (words_of history new) laid
 
   -- 1 for the function, the lanes and the lanes that have returned; a word for each lane for the numbers and the result
-  pub head_sized : (i : ℕ) (part : Head) → i < 64 → length (regions_in history width new (OfHead i part)) ≡ slice_index (head_sizes width) (head_part part)
+  pub head_sized : (i : ℕ) (part : Head) → i < 64 → length (regions_in history width new (OfHead i part)) ≡ head_size width (levels_of new.layout) part
   head_sized i part h = head_words width new.layout (words_of history new) laid i part (omega (arith, is_layout.frames, h))
 
   pub file_sized : (k : ℕ) (v : Variable) → slice_get (variables_of compiled).file k ≡ Some v → v.is_array ≡ false → length (regions_in history width new (OfFile k)) ≡ words_for width v.rate

@@ -3,7 +3,7 @@ use Rattle.std.proofs.Common.{ℕ, suc, ◌-◌, ◌<◌, ◌≤◌, ◌≡◌, 
 use Rattle.std.specs.Prelude.{slice_get}
 use Rattle.gang_model.specs.Types.Tree.{Function}
 use Rattle.undo_log.specs.History.{History}
-use Rattle.machine_states.specs.Regions.{FunctionOf, NumbersOf, Depth, OfHead}
+use Rattle.machine_states.specs.Regions.{FunctionOf, NumbersOf, Depth, OfHead, LevelOf, OfLevel}
 use Rattle.machine_words.specs.declared.words.MachineWords.{MachineWords}
 use Rattle.machine_words.specs.Words.{regions_in}
 use Rattle.machine_moves.specs.declared.compiled.CompiledProgram.{CompiledProgram}
@@ -29,8 +29,8 @@ module _ {T : Type 0} (history : T → History) (width : ℕ) (compiled : Compil
   pub function_word : length (regions_in history width words (OfHead frame FunctionOf)) ≡ 1
   function_word = head_sized history width compiled words words sound.lie refl sound.lie.laid frame FunctionOf below
 
-  pub numbers_words : length (regions_in history width words (OfHead frame NumbersOf)) ≡ width
-  numbers_words = head_sized history width compiled words words sound.lie refl sound.lie.laid frame NumbersOf below
+  pub numbers_words : length (regions_in history width words (OfLevel frame 0 NumbersOf)) ≡ width
+  numbers_words = head_sized history width compiled words words sound.lie refl sound.lie.laid frame (LevelOf 0 NumbersOf) below
 
   -- the function that the first word of its head names
   pub top_runs : (n : ℕ) → n ≡ slice_index (regions_in history width words (OfHead frame FunctionOf)) 0

@@ -39,12 +39,13 @@ pub record IsShown {T : Type 0} (history : T → History) (width : ℕ) (compile
   pub shows : Shows (program_of compiled) (variables_of compiled) width (regions_in history width words) masked
   pub declared : AreDeclared (variables_of compiled) (program_of compiled) masked
 
--- the words lie as the program's layout says, and have room for what one event of it sets; the code is that of a program that a
--- machine runs
+-- the words lie as the program's layout says, where the entry's arrays have these lengths, and have room for what one event of it
+-- sets; the code is that of a program that a machine runs
 pub record AreFor {T : Type 0} (history : T → History) (width : ℕ) (compiled : CompiledProgram) (words : MachineWords T) : Type 0 where
   pub gang : IsGangWidth width
   pub compiled_is : IsCompiled compiled
-  pub layout : IsLayoutOf width compiled.program [] machine_sizes (head_sizes width) words.layout
+  pub lengths : List ℕ
+  pub layout : IsLayoutOf width compiled.program lengths machine_sizes (head_sizes width 0) words.layout
   pub laid : AreLaid history width words
   pub room : cells_of width (program_of compiled) ≤ (history words.store.timeline).room
 
@@ -64,8 +65,8 @@ pub record AreSound {T : Type 0} (history : T → History) (width : ℕ) (compil
 
 -- this is the next step, with its lanes; it has this point, or is the function's closing brace
 pub record IsActive (width : ℕ) (compiled : CompiledProgram) (regions : Regions) (active : Active) (f : Function) (point : Option Point) : Type 0 where
-  pub next : IsNext (program_of compiled) regions active.frame active.function f active.step point
-  pub lanes : lanes_of width active.lanes ≡ waiting_in regions active.frame active.step
+  pub next : IsNext (program_of compiled) width regions active.frame 0 active.function f active.step point
+  pub lanes : lanes_of width active.lanes ≡ waiting_in regions active.frame 0 active.step
 
 -- the next step, none where no frame is left
 abbrev pub IsNextOf : (width : ℕ) → CompiledProgram → Regions → Option Active → Type 0

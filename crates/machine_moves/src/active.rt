@@ -7,7 +7,7 @@ ghost use Rattle.machine_moves.specs.Standing.{AreSound, IsNextOf};
 
 use crate::compiled::CompiledProgram;
 use gang_types::Mask;
-use machine_words::{Head, MachineWords, Region};
+use machine_words::{Head, LevelPart, MachineWords, Region};
 use undo_log::Timeline;
 
 /// The step that comes next: the number of its frame, from 0 for the entry's, of its function and of the step, and the lanes that
@@ -31,7 +31,7 @@ pub fn next_step<const W: usize, T: Timeline + Drop>(
     let depth = words.word::<W>(Region::Depth, 0) as usize;
     let frame = depth.checked_sub(1)?;
     let function = words.word::<W>(Region::Head(frame, Head::Function), 0) as usize;
-    let numbers = words.lanes::<W>(Region::Head(frame, Head::Numbers));
+    let numbers = words.lanes::<W>(Region::Head(frame, Head::Level(0, LevelPart::Numbers)));
     let step = least(compiled.closing(function) as u64, &numbers);
     Some(Active {
         frame,

@@ -13,7 +13,7 @@ use debug_machine::Fault;
 use expression_instructions::Instruction;
 use expression_machine::Stacks;
 use gang_types::{FaultName, Mask};
-use machine_words::{Head, MachineWords, Region};
+use machine_words::{Head, LevelPart, MachineWords, Region};
 use masked_operations::where_false;
 use undo_log::{Timeline, Undone};
 
@@ -39,7 +39,7 @@ pub fn check<const W: usize, T: Timeline + Drop>(
     hold_in_each(active.lanes, values)?;
     begin::<W, T>(words, Undone::Step);
     words.set_lanes::<W>(
-        Region::Head(active.frame, Head::Numbers),
+        Region::Head(active.frame, Head::Level(0, LevelPart::Numbers)),
         active.lanes,
         [next as u64; W],
     );

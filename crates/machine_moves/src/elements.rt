@@ -27,7 +27,7 @@ use debug_machine::Fault;
 use expression_instructions::Instruction;
 use expression_machine::Stacks;
 use gang_types::VarId;
-use machine_words::{Head, MachineWords, Region, View};
+use machine_words::{Head, LevelPart, MachineWords, Region, View};
 use undo_log::{Timeline, Undone};
 
 /// Assigns to elements of an array: of lanes that name one element the highest lane's value stays.
@@ -166,14 +166,14 @@ fn store<const W: usize, T: Timeline + Drop>(
     requires view { (array : VarId) × (view_view view ≡ view_at (regions_in T.history W words.old) active.frame array) }
     requires there { AreWithin (lanes_of W active.lanes) indices view.len }
     ensures stored { (region : ModelRegion) → regions_in T.history W words.new region
-        ≡ sent_on active.frame (lanes_of W active.lanes) (λ k. next)
+        ≡ sent_on active.frame 0 (lanes_of W active.lanes) (λ k. next)
         (stored_in (view_view view) (lanes_of W active.lanes) indices.entry values.entry (regions_in T.history W words.old)) region }
     ensures recorded { Records T.history W undone.Step words.old words.new }
 {
     begin::<W, T>(words, Undone::Step);
     words.set_elements::<W>(view, active.lanes, indices, values);
     words.set_lanes::<W>(
-        Region::Head(active.frame, Head::Numbers),
+        Region::Head(active.frame, Head::Level(0, LevelPart::Numbers)),
         active.lanes,
         [next as u64; W],
     );

@@ -13,7 +13,7 @@ use crate::values::value_of;
 use debug_machine::Fault;
 use expression_instructions::Instruction;
 use expression_machine::Stacks;
-use machine_words::{Head, MachineWords, Region};
+use machine_words::{Head, LevelPart, MachineWords, Region};
 use undo_log::{Timeline, Undone};
 
 /// `break` or `continue`.
@@ -33,7 +33,7 @@ pub fn go<const W: usize, T: Timeline + Drop>(
 {
     begin::<W, T>(words, Undone::Step);
     words.set_lanes::<W>(
-        Region::Head(active.frame, Head::Numbers),
+        Region::Head(active.frame, Head::Level(0, LevelPart::Numbers)),
         active.lanes,
         [next as u64; W],
     );
@@ -61,7 +61,7 @@ pub fn branch<const W: usize, T: Timeline + Drop>(
     begin::<W, T>(words, Undone::Step);
     let targets = targets(&values, ways.0, ways.1);
     words.set_lanes::<W>(
-        Region::Head(active.frame, Head::Numbers),
+        Region::Head(active.frame, Head::Level(0, LevelPart::Numbers)),
         active.lanes,
         targets,
     );

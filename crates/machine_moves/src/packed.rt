@@ -24,7 +24,7 @@ use debug_machine::Fault;
 use expression_instructions::Instruction;
 use expression_machine::Stacks;
 use gang_types::{IntType, VarId};
-use machine_words::{Head, MachineWords, Region};
+use machine_words::{Head, LevelPart, MachineWords, Region};
 use typed_tree::{ResultFor, Var};
 use undo_log::{Timeline, Undone};
 
@@ -59,7 +59,7 @@ pub fn store_packed<const W: usize, T: Timeline + Drop>(
     words.set_packed::<W>(view, active.lanes, values);
     give_count::<W, T>(compiled, active, result_for, words);
     words.set_lanes::<W>(
-        Region::Head(active.frame, Head::Numbers),
+        Region::Head(active.frame, Head::Level(0, LevelPart::Numbers)),
         active.lanes,
         [next as u64; W],
     );
@@ -98,7 +98,7 @@ pub fn load_packed<const W: usize, T: Timeline + Drop>(
     words.assign::<W>(region, into.rate, active.lanes, values);
     give_count::<W, T>(compiled, active, result_for, words);
     words.set_lanes::<W>(
-        Region::Head(active.frame, Head::Numbers),
+        Region::Head(active.frame, Head::Level(0, LevelPart::Numbers)),
         active.lanes,
         [next as u64; W],
     );

@@ -15,8 +15,9 @@ use Rattle.mask_states.specs.Points.{closing_number}
 use Rattle.mask_states.specs.Masked.{Masked, least}
 use Rattle.mask_states.proofs.LaneNumbers.{least_at_most}
 use Rattle.machine_states.specs.Variables.{Variables}
-use Rattle.machine_states.specs.Regions.{FunctionOf, LanesOf, NumbersOf, Depth, OfHead, Regions, lanes_in}
+use Rattle.machine_states.specs.Regions.{FunctionOf, LanesOf, NumbersOf, Depth, OfHead, Regions, lanes_in, OfLevel}
 use Rattle.machine_states.specs.Shows.{Shows}
+use Rattle.machine_states.specs.Steps.{IsInnermost}
 use Rattle.machine_states.proofs.Calls.{made_at, none_made, none_made_at_0, calls}
 use Rattle.machine_moves.proofs.Standings.{function_in}
 use Rattle.machine_shown.specs.Seen.{IsStandingOf}
@@ -102,14 +103,14 @@ module _ (p : Program) (variables : Variables) (w : ℕ) (regions : Regions) (ma
 
   -- the position of the step that made a call has the line of the call
   pub call_shown : (deep j m number : ℕ) (g : Function) (lanes : Mask) (position : Option Position) → deep ≡ suc j → deep < length masked.state.frames
-      → regions (OfHead j FunctionOf) ≡ m ∷ [] → slice_get p.functions m ≡ Some g → number ≡ least (closing_number g) (regions (OfHead j NumbersOf))
+      → regions (OfHead j FunctionOf) ≡ m ∷ [] → slice_get p.functions m ≡ Some g → IsInnermost w regions j g 0 → number ≡ least (closing_number g) (regions (OfLevel j 0 NumbersOf))
       → lanes_of w lanes ≡ lanes_in w regions (OfHead deep LanesOf) → length g.standings ≡ closing_number g + 1 → IsStandingOf w g number deep lanes position
       → call_text p deep masked.state.frames ≡ position_line position
-  call_shown deep j m number g lanes position e below function is least_is lanes_are long stands =
-      let made = calls p variables w regions masked shows (length masked.state.frames) shows.depth j m g (omega (arith, e, below)) function is in
+  call_shown deep j m number g lanes position e below function is at_body least_is lanes_are long stands =
+      let made = calls p variables w regions masked shows (length masked.state.frames) shows.depth j m g (omega (arith, e, below)) function is at_body in
       let inner = made.0 in
       let frame = made.1 in
-      let at_most : number ≤ closing_number g = omega (arith, least_is, least_at_most (closing_number g) (regions (OfHead j NumbersOf))) in
+      let at_most : number ≤ closing_number g = omega (arith, least_is, least_at_most (closing_number g) (regions (OfLevel j 0 NumbersOf))) in
       call_text_made p deep masked.state.frames
       ∙ ap (λ d. line_made p deep (made_at d masked.state.frames)) e
       ∙ ap (line_made p deep) made.2

@@ -1,25 +1,24 @@
 -- Words of a variable that are set, whichever they are, keep what is declared.
 use Rattle.std.proofs.Common.{ℕ, List, [], ◌∷◌}
-use Rattle.std.specs.Prelude.{slice_index_or}
 use Rattle.gang_types.specs.declared.places.VarId.{VarId}
 use Rattle.gang_types.specs.declared.places.VarId.TheVariants.{File, Local}
-use Rattle.gang_model.specs.Types.Tree.{StepNumber, Program}
+use Rattle.gang_model.specs.Types.Tree.{Program}
 use Rattle.gang_model.specs.Running.State.{Store, Frame, with_words, with_var, with_words_in}
 use Rattle.mask_states.specs.Masked.{Level}
 use Rattle.machine_states.specs.Variables.{Variables}
-use Rattle.machine_states.specs.Declared.{LevelDeclared, FrameDeclared, FramesDeclared, declared_before}
-use Rattle.machine_states.proofs.StoreEntries.{Keeps, with_words_keeps, has_all_kept}
+use Rattle.machine_states.specs.Declared.{IsAwaited, FrameDeclared, FramesDeclared, declared_before}
+use Rattle.machine_states.proofs.AwaitedLevels.{levels_kept}
+use Rattle.machine_states.proofs.StoreEntries.{with_words_keeps, has_all_kept}
 
 module _ (variables : Variables) (p : Program) where
-  level_kept : (before : StepNumber → List ℕ) (vars more : Store) (level : Level) → Keeps vars more → LevelDeclared before vars level → LevelDeclared before more level
-  level_kept before vars more level keeps h = record {
-    waits = λ lane number e below. has_all_kept (before number) vars more keeps (h.waits lane number e below);
-    ends = λ e. has_all_kept (before level.end) vars more keeps (h.ends e);
-  }
-
   frame_kept : (frame : Frame) (v : VarId) (words : List ℕ) (levels : List Level) → FrameDeclared variables p frame levels → FrameDeclared variables p (with_var v words frame) levels
-  frame_kept frame v words levels h f is k d within =
-      level_kept (declared_before variables frame.function f) frame.vars (with_words frame.vars v words) (slice_index_or levels k d) (with_words_keeps frame.vars v words) (h f is k d within)
+  frame_kept frame v words levels h f is =
+      let more : Store = with_words frame.vars v words in
+      levels_kept (IsAwaited variables frame.function f frame.vars) (IsAwaited variables frame.function f more) f
+      (λ depth number awaited. record {
+        has_all = has_all_kept (declared_before variables frame.function f number) frame.vars more (with_words_keeps frame.vars v words) awaited.has_all;
+        nested = awaited.nested;
+      }) levels (h f is)
 
   pub words_declared : (memory : Store) (frames : List Frame) (levels : List (List Level)) (v : VarId) (words : List ℕ) → FramesDeclared variables p frames levels
       → FramesDeclared variables p (with_words_in (record { memory = memory; frames = frames }) v words).frames levels

@@ -9,7 +9,7 @@ use Rattle.debug_machine.specs.declared.machine.Position.{Position}
 use Rattle.mask_states.specs.Points.{closing_number, points_in}
 use Rattle.mask_states.specs.Masked.{Masked}
 use Rattle.mask_states.proofs.LaneNumbers.{least_at_most}
-use Rattle.machine_states.specs.Regions.{LanesOf, NumbersOf, Depth, OfHead, Regions, lanes_in}
+use Rattle.machine_states.specs.Regions.{LanesOf, NumbersOf, Depth, OfHead, Regions, lanes_in, OfLevel}
 use Rattle.machine_states.specs.Shows.{Shows}
 use Rattle.machine_states.specs.Steps.{waiting_in}
 use Rattle.machine_states.proofs.NextPoints.{same_word}
@@ -25,24 +25,24 @@ module _ (width : ℕ) (compiled : CompiledProgram) (regions : Regions) (active 
     (is : IsActive width compiled regions active f (slice_get (points_in f) active.step)) where
   -- the lanes that the step shows: those of the call at the closing brace
   pub lanes_at_brace : (lanes : Mask) → active.step ≡ closing_number f → lanes_of width lanes ≡ lanes_in width regions (OfHead active.frame LanesOf)
-      → lanes_of width lanes ≡ (if active.step == closing_number f then lanes_in width regions (OfHead active.frame LanesOf) else waiting_in regions active.frame active.step)
+      → lanes_of width lanes ≡ (if active.step == closing_number f then lanes_in width regions (OfHead active.frame LanesOf) else waiting_in regions active.frame 0 active.step)
   lanes_at_brace lanes same e =
-      e ∙ ap (λ b. if b then lanes_in width regions (OfHead active.frame LanesOf) else waiting_in regions active.frame active.step)
+      e ∙ ap (λ b. if b then lanes_in width regions (OfHead active.frame LanesOf) else waiting_in regions active.frame 0 active.step)
       (sym (eq-eqb active.step (closing_number f) same))
 
   pub lanes_at_step : (lanes : Mask) → active.step ≢ closing_number f → lanes ≡ active.lanes
-      → lanes_of width lanes ≡ (if active.step == closing_number f then lanes_in width regions (OfHead active.frame LanesOf) else waiting_in regions active.frame active.step)
+      → lanes_of width lanes ≡ (if active.step == closing_number f then lanes_in width regions (OfHead active.frame LanesOf) else waiting_in regions active.frame 0 active.step)
   lanes_at_step lanes other e =
       ap (lanes_of width) e ∙ is.lanes
-      ∙ ap (λ b. if b then lanes_in width regions (OfHead active.frame LanesOf) else waiting_in regions active.frame active.step)
+      ∙ ap (λ b. if b then lanes_in width regions (OfHead active.frame LanesOf) else waiting_in regions active.frame 0 active.step)
       (sym (ne_eqb active.step (closing_number f) other))
 
   pub position_shown : (masked : Masked) → Shows (program_of compiled) (variables_of compiled) width regions masked → length f.standings ≡ closing_number f + 1
-      → (lanes : Mask) → lanes_of width lanes ≡ (if active.step == closing_number f then lanes_in width regions (OfHead active.frame LanesOf) else waiting_in regions active.frame active.step)
+      → (lanes : Mask) → lanes_of width lanes ≡ (if active.step == closing_number f then lanes_in width regions (OfHead active.frame LanesOf) else waiting_in regions active.frame 0 active.step)
       → (position : Option Position) → IsStandingOf width f active.step (active.frame + 1) lanes position → IsPositionOf width compiled masked position
   position_shown masked shows long lanes lanes_are None none =
       let at_most : active.step ≤ closing_number f =
-      omega (arith, is.next.least_number, least_at_most (closing_number f) (regions (OfHead active.frame NumbersOf))) in
+      omega (arith, is.next.least_number, least_at_most (closing_number f) (regions (OfLevel active.frame 0 NumbersOf))) in
       absurd (has_standing f active.step long at_most none)
   position_shown masked shows long lanes lanes_are (Some p) stands =
       let point = slice_get (points_in f) active.step in

@@ -13,7 +13,7 @@ ghost use Rattle.machine_shown.specs.Seen.{IsPositionOf, IsStandingOf};
 use debug_machine::Position;
 use gang_types::Mask;
 use machine_moves::{CompiledProgram, least, next_step};
-use machine_words::{Head, MachineWords, Region};
+use machine_words::{Head, LevelPart, MachineWords, Region};
 use undo_log::Timeline;
 
 /// Where the program stands, unless it has ended. At a closing brace the lanes are those of the call.
@@ -56,7 +56,7 @@ pub fn call<'a, const W: usize, T: Timeline + Drop>(
     }
     let frame = depth - 1;
     let function = words.word::<W>(Region::Head(frame, Head::Function), 0) as usize;
-    let numbers = words.lanes::<W>(Region::Head(frame, Head::Numbers));
+    let numbers = words.lanes::<W>(Region::Head(frame, Head::Level(0, LevelPart::Numbers)));
     let step = least(compiled.closing(function) as u64, &numbers);
     let lanes = call_lanes::<W, T>(words, depth);
     stands_at::<W>(compiled, function, step as usize, depth, lanes)

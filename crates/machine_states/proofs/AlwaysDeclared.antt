@@ -11,24 +11,25 @@ use Rattle.gang_model.specs.Running.Lanes.{at}
 use Rattle.gang_model.specs.Running.State.{Store, Frame, words_of, words_in, with_words, with_var, with_words_in}
 use Rattle.gang_model.specs.Running.RunningOrder.{IsNumberedProgram}
 use Rattle.gang_model.specs.Running.Step.{new_frame}
-use Rattle.gang_model.specs.Debugger.Events.{Poked, WholeOf, LaneOf, ElementAt, Given, started, initial_memory, poked}
-use Rattle.mask_states.specs.Points.{Point, entry_of, closing_number}
+use Rattle.gang_model.specs.Debugger.Events.{Poked, WholeOf, LaneOf, ElementAt, Given, Row, started, poked, with_rows}
+use Rattle.mask_states.specs.Points.{Point, closing_number}
 use Rattle.mask_states.specs.Masked.{Level, Masked, least, next_in, entered_body}
 use Rattle.mask_states.specs.MaskedStep.{untasked, entered_levels, masked_start}
-use Rattle.machine_states.specs.Variables.{Variables, own_of, parameters_of, variable_of, rate_of, IsScalar}
+use Rattle.machine_states.specs.Variables.{Variables, own_of, variable_of, rate_of, IsScalar}
 use Rattle.machine_states.specs.Plain.{IsPlainProgram}
-use Rattle.machine_states.specs.Regions.{FunctionOf, NumbersOf, OfFile, OfHead, OfLocal, Regions}
-use Rattle.machine_states.specs.Declared.{IsThere, scalars_below, scalar_parameters, declared_before, AreDeclaredFirst, has_entry, HasAll, LevelDeclared, FrameDeclared, FramesDeclared, AreDeclared}
-use Rattle.machine_states.specs.Shows.{IsScalarIn, body_level, ShowsLocal, ShowsFrames, Shows}
+use Rattle.machine_states.specs.Regions.{FunctionOf, NumbersOf, OfFile, OfHead, OfLocal, Regions, OfLevel}
+use Rattle.machine_states.specs.Awaited.{LevelsHold}
+use Rattle.machine_states.specs.Declared.{IsThere, scalar_parameters, declared_before, AreDeclaredFirst, has_entry, HasAll, IsAwaited, FrameDeclared, FramesDeclared, AreDeclared}
+use Rattle.machine_states.specs.Shows.{IsScalarIn, ShowsLocal, ShowsFrames, Shows}
 use Rattle.machine_states.specs.Effects.{region_of}
-use Rattle.machine_states.specs.Steps.{IsNext}
+use Rattle.machine_states.specs.Steps.{IsInnermost, IsNext}
+use Rattle.machine_states.proofs.Beginnings.{nothing_given}
 use Rattle.machine_states.proofs.ReadValues.{AreReadAlike}
-use Rattle.machine_states.proofs.DeclaredLists.{same_some}
-use Rattle.machine_states.proofs.DeclaredPoints.{first_declared}
+use Rattle.machine_states.proofs.NextPoints.{body_of, levels_are}
 use Rattle.machine_states.proofs.DeclaredNames.{NamesBefore, point_names}
-use Rattle.machine_states.proofs.StoreEntries.{Keeps, with_words_keeps, has_all_kept, has_all_within}
-use Rattle.machine_states.proofs.DeclaredLevels.{next_declared, entered_declared}
-use Rattle.machine_states.proofs.DeclaredSteps.{one_level, first_level, frame_declared, ends_at}
+use Rattle.machine_states.proofs.StoreEntries.{with_words_keeps, has_all_kept}
+use Rattle.machine_states.proofs.AwaitedLevels.{next_holds, levels_kept}
+use Rattle.machine_states.proofs.DeclaredSteps.{frame_declared, entered_awaited}
 
 -- ---- the start
 
@@ -41,31 +42,26 @@ some_lanes zero h = absurd (omega (arith, h))
 some_lanes (suc width) h = omega arith
 
 module _ (variables : Variables) (most : ℕ) (p : Program) (plain : IsPlainProgram variables most p) (numbered : IsNumberedProgram p) where
-  -- an entry without parameters begins
-  pub start_declared : (entry width : ℕ) (f : Function) → slice_get p.functions entry ≡ Some f → parameters_of variables entry ≡ 0 → 0 < width → AreDeclared variables p (masked_start p entry [] width)
-  start_declared entry width f is none wide =
-      let given : Given = record { passed = record { views = []; vars = [] }; memory = initial_memory width p.globals } in
-      let before : StepNumber → List ℕ = declared_before variables entry f in
-      let no_parameter : HasAll (scalar_parameters variables entry) [] = subst (λ m. HasAll (scalars_below (own_of variables entry) m) []) (sym none) (λ k among. absurd among) in
-      let first : HasAll (before (entry_of f.body (closing_number f))) [] =
-      has_all_within (before (entry_of f.body (closing_number f))) (scalar_parameters variables entry) [] (first_declared variables entry f (numbered entry f is)) no_parameter in
-      let begun : LevelDeclared before [] (entered_body f (replicate width true)) =
-      entered_declared before f (replicate width true) [] (ends_at variables most p plain numbered entry f) 0 (all_lanes width wide) (some_lanes width wide) first in
+  -- an entry begins with its scalar parameters
+  pub start_declared : (entry width : ℕ) (rows : List Row) (f : Function) → slice_get p.functions entry ≡ Some f → 0 < width
+      → HasAll (scalar_parameters variables entry) (with_rows rows (nothing_given p width)).passed.vars → AreDeclared variables p (masked_start p entry rows width)
+  start_declared entry width rows f is wide given_all =
+      let given : Given = with_rows rows (nothing_given p width) in
+      let begun = entered_awaited variables most p plain numbered entry f is given.passed.vars given_all (replicate width true) 0 (all_lanes width wide) (some_lanes width wide) in
       subst (λ o. FramesDeclared variables p (untasked (started o entry width given)).frames (entered_levels o (replicate width true))) (sym is)
-      (frame_declared variables most p plain numbered (new_frame entry f (replicate width true) None Nothing given.passed) (entered_body f (replicate width true) ∷ []) entry f is refl (one_level before [] (entered_body f (replicate width true)) begun), tt)
+      (frame_declared variables most p plain numbered (new_frame entry f (replicate width true) None Nothing given.passed) (entered_body f (replicate width true) ∷ []) entry f is refl begun, tt)
 
 -- ---- pokes
 
 module _ (variables : Variables) (p : Program) where
-  level_kept : (before : StepNumber → List ℕ) (vars more : Store) (level : Level) → Keeps vars more → LevelDeclared before vars level → LevelDeclared before more level
-  level_kept before vars more level keeps h = record {
-    waits = λ lane number e below. has_all_kept (before number) vars more keeps (h.waits lane number e below);
-    ends = λ e. has_all_kept (before level.end) vars more keeps (h.ends e);
-  }
-
   frame_kept : (frame : Frame) (v : VarId) (words : List ℕ) (levels : List Level) → FrameDeclared variables p frame levels → FrameDeclared variables p (with_var v words frame) levels
-  frame_kept frame v words levels h f is k d within =
-      level_kept (declared_before variables frame.function f) frame.vars (with_words frame.vars v words) (slice_index_or levels k d) (with_words_keeps frame.vars v words) (h f is k d within)
+  frame_kept frame v words levels h f is =
+      let more : Store = with_words frame.vars v words in
+      levels_kept (IsAwaited variables frame.function f frame.vars) (IsAwaited variables frame.function f more) f
+      (λ depth number awaited. record {
+        has_all = has_all_kept (declared_before variables frame.function f number) frame.vars more (with_words_keeps frame.vars v words) awaited.has_all;
+        nested = awaited.nested;
+      }) levels (h f is)
 
   words_declared : (memory : Store) (frames : List Frame) (levels : List (List Level)) (v : VarId) (words : List ℕ) → FramesDeclared variables p frames levels
       → FramesDeclared variables p (with_words_in (record { memory = memory; frames = frames }) v words).frames levels
@@ -95,7 +91,7 @@ pub record TopDeclared (variables : Variables) (w : ℕ) (regions : Regions) (ma
 pub same_head : (m n : ℕ) → m ∷ [] ≡ n ∷ [] → m ≡ n
 same_head m n e = cc
 
-module _ (variables : Variables) (p : Program) (w : ℕ) (regions : Regions) (index n : ℕ) (f : Function) (number : StepNumber) (point : Option Point) (next : IsNext p regions index n f number point) where
+module _ (variables : Variables) (p : Program) (w : ℕ) (regions : Regions) (index n : ℕ) (f : Function) (number : StepNumber) (point : Option Point) (next : IsNext p w regions index 0 n f number point) where
   top_at : (memory : Store) (frames : List Frame) (levels : List (List Level)) → length frames ≡ suc index → ShowsFrames p variables w regions frames levels → FramesDeclared variables p frames levels
       → TopDeclared variables w regions (record { state = record { memory = memory; frames = frames }; levels = levels }) index n f number
   top_at memory [] levels e shown h = absurd (omega (arith, e))
@@ -105,14 +101,13 @@ module _ (variables : Variables) (p : Program) (w : ℕ) (regions : Regions) (in
       let height : length frames ≡ index = omega (arith, e) in
       let function : frame.function ≡ n = same_head frame.function n (sym s.number ∙ ap (λ i. regions (OfHead i FunctionOf)) height ∙ next.function) in
       let is : slice_get p.functions frame.function ≡ Some f = ap (λ m. slice_get p.functions m) function ∙ next.is_function in
-      let same : s.function ≡ f = same_some s.function f (sym s.is_function ∙ is) in
-      let level : Level = body_level (closing_number s.function) (regions (OfHead (length frames) NumbersOf)) in
-      let before : StepNumber → List ℕ = declared_before variables frame.function f in
-      let levels_declared : All (LevelDeclared before frame.vars) (level ∷ []) = subst (λ ls. All (LevelDeclared before frame.vars) ls) s.waits (h.0 f is) in
+      let level : Level = body_of regions (length frames) f in
+      let waits : levels ≡ level ∷ [] = levels_are p variables w regions (length frames) frame levels f s is (subst (λ i. IsInnermost w regions i f 0) (sym height) next.innermost) in
+      let Awaited : ℕ → StepNumber → Type 0 = IsAwaited variables frame.function f frame.vars in
+      let holds : LevelsHold Awaited f (level ∷ []) = subst (LevelsHold Awaited f) waits (h.0 f is) in
       let now : next_in level ≡ number =
-      ap (λ g. least (closing_number g) (regions (OfHead (length frames) NumbersOf))) same
-      ∙ ap (λ i. least (closing_number f) (regions (OfHead i NumbersOf))) height ∙ sym next.least_number in
-      let all : HasAll (before (next_in level)) frame.vars = next_declared before frame.vars level (first_level before frame.vars level [] levels_declared) in
+      ap (λ i. least (closing_number f) (regions (OfLevel i 0 NumbersOf))) height ∙ sym next.least_number in
+      let all = (next_holds (Awaited 0) level holds.0).has_all in
       record {
         frame = frame;
         frames = frames;
@@ -120,7 +115,7 @@ module _ (variables : Variables) (p : Program) (w : ℕ) (regions : Regions) (in
         height = height;
         function = function;
         locals = λ k. subst (λ i. ShowsLocal variables w regions i frame k) height (s.locals k);
-        has_all = subst (λ m. HasAll (declared_before variables m f number) frame.vars) function (subst (λ m. HasAll (before m) frame.vars) now all);
+        has_all = subst (λ m. HasAll (declared_before variables m f number) frame.vars) function (subst (λ m. HasAll (declared_before variables frame.function f m) frame.vars) now all);
       }
 
   pub top_declared : (masked : Masked) → Shows p variables w regions masked → AreDeclared variables p masked → TopDeclared variables w regions masked index n f number
@@ -129,7 +124,7 @@ module _ (variables : Variables) (p : Program) (w : ℕ) (regions : Regions) (in
 
 module _ (variables : Variables) (most : ℕ) (p : Program) (plain : IsPlainProgram variables most p) (numbered : IsNumberedProgram p) (first : AreDeclaredFirst variables p) (regions : Regions) (index n : ℕ) (f : Function) (number : StepNumber) where
   -- what the point of the next step names is declared before it
-  pub next_names : (point : Point) → IsNext p regions index n f number (Some point) → NamesBefore (declared_before variables n f) number point
+  pub next_names : {w : ℕ} → (point : Point) → IsNext p w regions index 0 n f number (Some point) → NamesBefore (declared_before variables n f) number point
   next_names point next =
       point_names variables n f (numbered n f next.is_function) (plain.functions n f next.is_function).body (first n f next.is_function) number point next.is_point
 

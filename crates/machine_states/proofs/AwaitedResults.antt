@@ -1,22 +1,19 @@
 -- The variable that a call's result is assigned to is there in the frame that made the call, where it is declared before the call.
-use Rattle.std.proofs.Common.{◌≡◌, refl, sym, ap, ◌∙◌, subst, ℕ, suc, ◌<◌, List, [], ◌∷◌, length, Some, None, arith}
-use Rattle.std.specs.Prelude.{slice_get, drop, All}
-use Rattle.std.proofs.lemmas.Option.{slice_get_within, slice_get-get_or}
-use Rattle.std.proofs.lemmas.List.Elements.{All-head}
+use Rattle.std.proofs.Common.{◌≡◌, refl, sym, ap, ◌∙◌, subst, ℕ, suc, List, [], ◌∷◌, length, Some, None, arith}
+use Rattle.std.specs.Prelude.{slice_get, drop}
 use Rattle.gang_types.specs.declared.places.VarId.{VarId}
 use Rattle.gang_types.specs.declared.places.VarId.TheVariants.{File, Local}
 use Rattle.gang_model.specs.Types.Tree.{StepNumber, Arg, ResultFor, Nothing, Declares, Assigns, Returns, Function, Program}
-use Rattle.gang_model.specs.Running.Lanes.{at as word_at}
 use Rattle.gang_model.specs.Running.State.{Frame}
-use Rattle.mask_states.specs.Points.{Enter, points_in, function_ways, closing_number}
+use Rattle.mask_states.specs.Points.{Enter, points_in, closing_number}
 use Rattle.mask_states.specs.Masked.{Level, Masked, least, next_in}
-use Rattle.mask_states.proofs.LaneNumbers.{least_met}
-use Rattle.mask_states.proofs.PlacedPoints.{length-points_of}
 use Rattle.machine_states.specs.Variables.{Variables}
-use Rattle.machine_states.specs.Declared.{IsThere, ResultDeclared, HasAll, LevelDeclared, FramesDeclared, AreDeclared, declared_before}
-use Rattle.machine_states.specs.Regions.{FunctionOf, NumbersOf, OfHead, Regions}
+use Rattle.machine_states.specs.Awaited.{LevelsHold}
+use Rattle.machine_states.specs.Declared.{IsThere, ResultDeclared, HasAll, IsAwaited, FramesDeclared, AreDeclared, declared_before}
+use Rattle.machine_states.specs.Regions.{FunctionOf, NumbersOf, OfHead, Regions, OfLevel}
 use Rattle.machine_states.specs.Shows.{ShowsFrames, Shows}
-use Rattle.machine_states.specs.Steps.{IsNext}
+use Rattle.machine_states.specs.Steps.{IsInnermost, IsNext}
+use Rattle.machine_states.proofs.AwaitedLevels.{next_holds}
 use Rattle.machine_states.proofs.NextPoints.{same_word, body_of, levels_are, on_top}
 use Rattle.machine_states.proofs.WrittenVariables.{HasVariable}
 use Rattle.machine_states.proofs.LeaveSteps.{HasResult}
@@ -32,25 +29,11 @@ result_there declared frame frames (Assigns x) among all = variable_there declar
 result_there declared frame frames Returns among all = tt
 
 module _ (p : Program) (variables : Variables) (w : ℕ) (regions : Regions) (masked : Masked) (shows : Shows p variables w regions masked)
-    (j n m called : ℕ) (f g : Function) (number : StepNumber) (args : List Arg) (for : ResultFor) (next : StepNumber) (is_next : IsNext p regions (suc j) n f number None)
+    (j n m called : ℕ) (f g : Function) (number : StepNumber) (args : List Arg) (for : ResultFor) (next : StepNumber) (is_next : IsNext p w regions (suc j) 0 n f number None)
     (below_runs : regions (OfHead j FunctionOf) ≡ m ∷ []) (is_below : slice_get p.functions m ≡ Some g)
-    (calls : slice_get (points_in g) (least (closing_number g) (regions (OfHead j NumbersOf))) ≡ Some (Enter called args for next)) where
-  abbrev numbers : List StepNumber
-  numbers = regions (OfHead j NumbersOf)
-
+    (inner : IsInnermost w regions j g 0) (calls : slice_get (points_in g) (least (closing_number g) (regions (OfLevel j 0 NumbersOf))) ≡ Some (Enter called args for next)) where
   abbrev call_number : StepNumber
-  call_number = least (closing_number g) numbers
-
-  below_closing : call_number < closing_number g
-  below_closing =
-      let within : call_number < length (points_in g) = slice_get_within (points_in g) call_number (Enter called args for next) calls in
-      omega (arith, within, length-points_of g.body (function_ways g))
-
-  -- a lane waits for the call
-  waiter : (k : ℕ) × (k < length numbers) × (word_at numbers k ≡ call_number)
-  waiter =
-      let within : call_number < length (points_in g) = slice_get_within (points_in g) call_number (Enter called args for next) calls in
-      least_met (closing_number g) numbers (omega (arith, within, length-points_of g.body (function_ways g)))
+  call_number = least (closing_number g) (regions (OfLevel j 0 NumbersOf))
 
   module _ (among : ResultDeclared (declared_before variables m g call_number) for) where
     abbrev HasBelow : List Frame → List (List Level) → (index : ℕ) → Type 0
@@ -66,13 +49,12 @@ module _ (p : Program) (variables : Variables) (w : ℕ) (regions : Regions) (ma
         let lower : length frames ≡ j = omega (arith, index) in
         let runs_m : below.function ≡ m = same_word (regions (OfHead j FunctionOf)) below.function m (ap (λ k. regions (OfHead k FunctionOf)) (sym lower) ∙ s.2.0.number) below_runs in
         let is : slice_get p.functions below.function ≡ Some g = ap (slice_get p.functions) runs_m ∙ is_below in
-        let waits : levels ≡ body_of regions j g ∷ [] = levels_are p variables w regions (length frames) below levels g s.2.0 is ∙ ap (λ k. body_of regions k g ∷ []) lower in
-        let body : LevelDeclared (declared_before variables below.function g) below.vars (body_of regions j g) =
-        All-head (LevelDeclared (declared_before variables below.function g) below.vars) (body_of regions j g) []
-        (subst (All (LevelDeclared (declared_before variables below.function g) below.vars)) waits (all.1.0 g is)) in
+        let waits : levels ≡ body_of regions j g ∷ [] = levels_are p variables w regions (length frames) below levels g s.2.0 is (subst (λ k. IsInnermost w regions k g 0) (sym lower) inner) ∙ ap (λ k. body_of regions k g ∷ []) lower in
+        let Awaited : ℕ → StepNumber → Type 0 = IsAwaited variables below.function g below.vars in
+        let holds : LevelsHold Awaited g (body_of regions j g ∷ []) = subst (LevelsHold Awaited g) waits (all.1.0 g is) in
         result_there (declared_before variables below.function g call_number) below frames for
         (subst (λ k. ResultDeclared (declared_before variables k g call_number) for) (sym runs_m) among)
-        (body.waits waiter.0 call_number (slice_get-get_or numbers waiter.0 0 waiter.1 ∙ ap (λ k. Some k) waiter.2) below_closing)
+        (next_holds (Awaited 0) (body_of regions j g) holds.0).has_all
 
     -- the frame that made the call has what the result is for
     pub has_result : AreDeclared variables p masked → HasResult (drop 1 masked.state.frames) for

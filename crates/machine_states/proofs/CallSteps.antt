@@ -1,5 +1,5 @@
 -- A call enters a frame, or has the fault of an argument, or that of a call too deep.
-use Rattle.std.proofs.Common.{◌≡◌, refl, sym, ap, ◌∙◌, ℕ, zero, suc, ◌<◌, Bool, true, false, List, [], ◌∷◌, ◌++◌, length, Option, Some, arith}
+use Rattle.std.proofs.Common.{◌≡◌, refl, sym, ap, ◌∙◌, ℕ, zero, suc, ◌<◌, Bool, true, false, List, [], ◌∷◌, ◌++◌, length, Option, Some, arith, subst}
 use Rattle.std.specs.Prelude.{Result, Ok, Err, map, replicate, slice_get, if◌then◌else◌, ◌==◌}
 use Rattle.std.proofs.lemmas.Bool.{eq-eqb, ne_eqb}
 use Rattle.std.proofs.lemmas.List.{length-map}
@@ -16,10 +16,12 @@ use Rattle.mask_states.specs.Points.{Enter, points_in, closing_number}
 use Rattle.mask_states.specs.Masked.{Level, Masked, next_in, entered_body}
 use Rattle.mask_states.specs.MaskedStep.{MaskedStepped, Goes, Fails, untasked_frame, untasked, entered_levels, acted, step_levels}
 use Rattle.mask_states.proofs.LaneNumbers.{length-sent, length-waiting_for}
+use Rattle.machine_states.proofs.InnermostLevels.{no_form_shown}
+use Rattle.machine_states.specs.Levels.{ShowsLevels, body_level}
 use Rattle.machine_states.specs.Variables.{Variables}
 use Rattle.machine_states.specs.ArrayParts.{AreMemory}
-use Rattle.machine_states.specs.Regions.{NumbersOf, ResultOf, OfHead, Regions}
-use Rattle.machine_states.specs.Shows.{result_of, body_level, ShowsFrame, ShowsFrames, Shows}
+use Rattle.machine_states.specs.Regions.{NumbersOf, ResultOf, OfHead, Regions, OfLevel, OpenOf}
+use Rattle.machine_states.specs.Shows.{result_of, ShowsFrame, ShowsFrames, Shows, level_words}
 use Rattle.machine_states.specs.Steps.{IsNext, waiting_in, GoesTo, FailsWith, IsBegun, AreSameBelow}
 use Rattle.machine_states.proofs.FramesBelow.{frames_below, same_frames}
 use Rattle.machine_states.proofs.NextPoints.{body_of, frames_untasked, point_is, step_is, on_top}
@@ -49,9 +51,10 @@ module _ (p : Program) (variables : Variables) (w : ℕ) (new : Regions) where
     is_function = is;
     number = begun.function;
     lanes = sym begun.lanes_are;
-    waits = ap (λ numbers. body_level (closing_number f) numbers ∷ []) (sym begun.numbers);
-    sized = ap length begun.numbers
-        ∙ length-sent lanes _ (map (λ b. closing_number f) lanes) (length-map lanes _) ∙ length-map lanes _ ∙ size;
+    waits = subst (ShowsLevels (points_in f) w (level_words new index) (new (OfHead index OpenOf)) (closing_number f))
+        (ap (λ numbers. body_level (closing_number f) numbers ∷ []) begun.numbers)
+        (no_form_shown (points_in f) w (level_words new index) (new (OfHead index OpenOf)) (closing_number f) begun.none_open
+        (ap length begun.numbers ∙ length-sent lanes _ (map (λ b. closing_number f) lanes) (length-map lanes _) ∙ length-map lanes _ ∙ size));
     untasked = refl;
     views = begun.views;
     locals = begun.declared;
@@ -76,13 +79,13 @@ module _ (p : Program) (variables : Variables) (w : ℕ) (regions : Regions) (n 
 
   call_is : (frame : Frame) (frames : List Frame) (rest : List (List Level)) (arguments : Result Passed Fault) → frame.function ≡ n
       → slice_get (points_in f) (next_in (body_of regions (length frames) f)) ≡ Some (Enter called args for next)
-      → passed args (waiting_in regions (length frames) (next_in (body_of regions (length frames) f))) (state_of (frame ∷ frames)) ≡ arguments
+      → passed args (waiting_in regions (length frames) 0 (next_in (body_of regions (length frames) f))) (state_of (frame ∷ frames)) ≡ arguments
       → step_levels p memory (frame ∷ frames) ((body_of regions (length frames) f ∷ []) ∷ rest)
-      ≡ outcome (slice_get p.functions called) (next_in (body_of regions (length frames) f)) (waiting_in regions (length frames) (next_in (body_of regions (length frames) f)))
+      ≡ outcome (slice_get p.functions called) (next_in (body_of regions (length frames) f)) (waiting_in regions (length frames) 0 (next_in (body_of regions (length frames) f)))
       (frame ∷ frames) (body_of regions (length frames) f) rest arguments
   call_is frame frames rest arguments runs at e =
       step_is p variables w regions memory frame frames rest f (Some (Enter called args for next)) (ap (slice_get p.functions) runs ∙ is_function) at
-      ∙ ap (outcome (slice_get p.functions called) (next_in (body_of regions (length frames) f)) (waiting_in regions (length frames) (next_in (body_of regions (length frames) f)))
+      ∙ ap (outcome (slice_get p.functions called) (next_in (body_of regions (length frames) f)) (waiting_in regions (length frames) 0 (next_in (body_of regions (length frames) f)))
       (frame ∷ frames) (body_of regions (length frames) f) rest) e
 
   -- a function is called
@@ -109,20 +112,20 @@ module _ (p : Program) (variables : Variables) (w : ℕ) (regions : Regions) (n 
         → AreMemory regions memory
         → ShowsFrames p variables w regions (frame ∷ frames) ((body_of regions (length frames) f ∷ []) ∷ rest)
         → suc (length frames) < 64
-        → IsBegun variables w new (suc (length frames)) called g (waiting_in regions (length frames) (next_in (body_of regions (length frames) f))) given
+        → IsBegun variables w new (suc (length frames)) called g (waiting_in regions (length frames) 0 (next_in (body_of regions (length frames) f))) given
         → AreSameBelow (suc (length frames)) regions new
-        → Shows p variables w new (after_call (next_in (body_of regions (length frames) f)) (waiting_in regions (length frames) (next_in (body_of regions (length frames) f)))
+        → Shows p variables w new (after_call (next_in (body_of regions (length frames) f)) (waiting_in regions (length frames) 0 (next_in (body_of regions (length frames) f)))
         frame frames (body_of regions (length frames) f) rest given)
     call_shown frame frames rest given new runs at memory_is s deep begun same =
         let number : StepNumber = next_in (body_of regions (length frames) f) in
-        let lanes : Lanes = waiting_in regions (length frames) number in
+        let lanes : Lanes = waiting_in regions (length frames) 0 number in
         record {
           memory = now_memory;
           depth = begun.depth;
           few = omega (arith, deep);
           frames = (
             begun_frame p variables w new (suc (length frames)) called g lanes (Some number) for given is_called
-                (length-waiting_for number (regions (OfHead (length frames) NumbersOf)) ∙ s.0.sized) begun,
+                (length-waiting_for number (regions (OfLevel (length frames) 0 NumbersOf)) ∙ s.0.waits.body_sized) begun,
             (next, args, refl, point_is p variables w regions (length frames) frame f (ap (slice_get p.functions) runs ∙ is_function) (Some (Enter called args for next)) at),
             frames_below p variables w regions new (suc (length frames)) (same_frames (suc (length frames)) regions new same) (frame ∷ frames)
                 ((body_of regions (length frames) f ∷ []) ∷ rest) (omega arith) s,
@@ -137,26 +140,26 @@ module _ (p : Program) (variables : Variables) (w : ℕ) (regions : Regions) (n 
 
 module _ (p : Program) (variables : Variables) (w : ℕ) (regions : Regions) (masked : Masked) (shows : Shows p variables w regions masked)
     (i n called : ℕ) (f : Function) (number : StepNumber) (args : List Arg) (for : ResultFor) (next : StepNumber)
-    (is_next : IsNext p regions i n f number (Some (Enter called args for next))) where
+    (is_next : IsNext p w regions i 0 n f number (Some (Enter called args for next))) where
   abbrev state_with : List Frame → State
   state_with frames = record { memory = masked.state.memory; frames = frames }
 
   -- a fault of an argument
-  pub fails : (fault : Fault) → passed args (waiting_in regions i number) masked.state ≡ Err fault → FailsWith p masked fault
+  pub fails : (fault : Fault) → passed args (waiting_in regions i 0 number) masked.state ≡ Err fault → FailsWith p masked fault
   fails fault =
       on_top p variables w regions i n f number (Some (Enter called args for next)) is_next
-      (λ frames levels index m. passed args (waiting_in regions index m) (state_with frames) ≡ Err fault → step_levels p masked.state.memory frames levels ≡ Fails fault)
+      (λ frames levels index m. passed args (waiting_in regions index 0 m) (state_with frames) ≡ Err fault → step_levels p masked.state.memory frames levels ≡ Fails fault)
       (λ frame frames rest runs at s e. call_is p variables w regions n called f is_next.is_function args for next masked.state.memory frame frames rest (Err fault) runs at e)
       masked shows
 
   module _ (g : Function) (is_called : slice_get p.functions called ≡ Some g) where
     -- 64 frames are there
-    pub too_deep : (given : Passed) → passed args (waiting_in regions i number) masked.state ≡ Ok given → suc i ≡ 64
-        → FailsWith p masked (record { name = CallDepth; lane = lowest (waiting_in regions i number) })
+    pub too_deep : (given : Passed) → passed args (waiting_in regions i 0 number) masked.state ≡ Ok given → suc i ≡ 64
+        → FailsWith p masked (record { name = CallDepth; lane = lowest (waiting_in regions i 0 number) })
     too_deep given =
         on_top p variables w regions i n f number (Some (Enter called args for next)) is_next
-        (λ frames levels index m. passed args (waiting_in regions index m) (state_with frames) ≡ Ok given → suc index ≡ 64
-        → step_levels p masked.state.memory frames levels ≡ Fails (record { name = CallDepth; lane = lowest (waiting_in regions index m) }))
+        (λ frames levels index m. passed args (waiting_in regions index 0 m) (state_with frames) ≡ Ok given → suc index ≡ 64
+        → step_levels p masked.state.memory frames levels ≡ Fails (record { name = CallDepth; lane = lowest (waiting_in regions index 0 m) }))
         (λ frame frames rest runs at s e full.
         call_is p variables w regions n called f is_next.is_function args for next masked.state.memory frame frames rest (Ok given) runs at e
         ∙ enter_is p variables w regions n called f is_next.is_function args for next masked.state.memory g is_called _ _ (frame ∷ frames) _ rest given true
@@ -164,16 +167,16 @@ module _ (p : Program) (variables : Variables) (w : ℕ) (regions : Regions) (ma
         masked shows
 
     -- a frame begins, and those below are as before
-    pub enters : (given : Passed) → passed args (waiting_in regions i number) masked.state ≡ Ok given → suc i < 64
-        → (new : Regions) → IsBegun variables w new (suc i) called g (waiting_in regions i number) given → AreSameBelow (suc i) regions new → GoesTo p variables w masked new
+    pub enters : (given : Passed) → passed args (waiting_in regions i 0 number) masked.state ≡ Ok given → suc i < 64
+        → (new : Regions) → IsBegun variables w new (suc i) called g (waiting_in regions i 0 number) given → AreSameBelow (suc i) regions new → GoesTo p variables w masked new
     enters given e deep new =
         on_top p variables w regions i n f number (Some (Enter called args for next)) is_next
-        (λ frames levels index m. passed args (waiting_in regions index m) (state_with frames) ≡ Ok given → suc index < 64
-        → IsBegun variables w new (suc index) called g (waiting_in regions index m) given → AreSameBelow (suc index) regions new
+        (λ frames levels index m. passed args (waiting_in regions index 0 m) (state_with frames) ≡ Ok given → suc index < 64
+        → IsBegun variables w new (suc index) called g (waiting_in regions index 0 m) given → AreSameBelow (suc index) regions new
         → (after : Masked) × (step_levels p masked.state.memory frames levels ≡ Goes after) × Shows p variables w new after)
         (λ frame frames rest runs at s e deep begun same.
         let number : StepNumber = next_in (body_of regions (length frames) f) in
-        let lanes : Lanes = waiting_in regions (length frames) number in (
+        let lanes : Lanes = waiting_in regions (length frames) 0 number in (
           after_call p variables w regions n called f is_next.is_function args for next masked.state.memory g is_called number lanes frame frames (body_of regions (length frames) f) rest given,
           call_is p variables w regions n called f is_next.is_function args for next masked.state.memory frame frames rest (Ok given) runs at e
               ∙ enter_is p variables w regions n called f is_next.is_function args for next masked.state.memory g is_called number lanes (frame ∷ frames)

@@ -39,10 +39,10 @@ none_row = refl
 no_parameters_row : (cells_of 4 (second_calls 0) ∷ cells_of 8 (second_calls 0) ∷ cells_of 16 (second_calls 0) ∷ []) ≡ 10 ∷ 18 ∷ 34 ∷ []
 no_parameters_row = refl
 
-one_parameter_row : (cells_of 4 (second_calls 1) ∷ cells_of 8 (second_calls 1) ∷ cells_of 16 (second_calls 1) ∷ []) ≡ 12 ∷ 20 ∷ 36 ∷ []
+one_parameter_row : (cells_of 4 (second_calls 1) ∷ cells_of 8 (second_calls 1) ∷ cells_of 16 (second_calls 1) ∷ []) ≡ 13 ∷ 21 ∷ 37 ∷ []
 one_parameter_row = refl
 
-eight_parameters_row : (cells_of 4 (second_calls 8) ∷ cells_of 8 (second_calls 8) ∷ cells_of 16 (second_calls 8) ∷ []) ≡ 40 ∷ 76 ∷ 148 ∷ []
+eight_parameters_row : (cells_of 4 (second_calls 8) ∷ cells_of 8 (second_calls 8) ∷ cells_of 16 (second_calls 8) ∷ []) ≡ 41 ∷ 77 ∷ 149 ∷ []
 eight_parameters_row = refl
 
 form_row : (cells_of 4 has_form ∷ cells_of 8 has_form ∷ cells_of 16 has_form ∷ []) ≡ 23 ∷ 35 ∷ 67 ∷ []

@@ -5,14 +5,21 @@ use Rattle.std.proofs.lemmas.Bool.{eq-eqb, eqb-true, ne_eqb, and_left, and_right
 use Rattle.gang_types.specs.declared.places.VarId.{VarId}
 use Rattle.gang_types.specs.declared.places.VarId.TheVariants.{File, Local}
 use Rattle.machine_states.specs.ArrayParts.{array_region}
-use Rattle.machine_states.specs.Regions.{FunctionOf, LanesOf, ReturnedOf, NumbersOf, ResultOf, Head, OfFile, OfEntry, Depth, OfHead, OfLocal, Region, Regions, same_head, same_region, with_region}
+use Rattle.machine_states.specs.Regions.{FunctionOf, LanesOf, ReturnedOf, ResultOf, OpenOf, LevelOf, Head, NumbersOf, EndOf, CountersOf, ValuesOf, LevelPart, OfFile, OfEntry, Depth, OfHead, OfLocal, Region, Regions, same_level_part, same_head, same_region, with_region}
+
+level_part_itself : (part : LevelPart) → same_level_part part part ≡ true
+level_part_itself NumbersOf = refl
+level_part_itself EndOf = refl
+level_part_itself CountersOf = refl
+level_part_itself ValuesOf = refl
 
 head_itself : (part : Head) → same_head part part ≡ true
 head_itself FunctionOf = refl
 head_itself LanesOf = refl
 head_itself ReturnedOf = refl
-head_itself NumbersOf = refl
 head_itself ResultOf = refl
+head_itself OpenOf = refl
+head_itself (LevelOf l a) = and_from (l == l) (same_level_part a a) (eq-eqb l l refl) (level_part_itself a)
 
 region_itself : (region : Region) → same_region region region ≡ true
 region_itself (OfFile k) = eq-eqb k k refl
@@ -42,6 +49,16 @@ module _ (words : List ℕ) (regions : Regions) where
 
 -- ---- how many words
 
+level_part_equal : (a b : LevelPart) → same_level_part a b ≡ true → a ≡ b
+level_part_equal NumbersOf NumbersOf e = refl
+level_part_equal NumbersOf b e = cc
+level_part_equal EndOf EndOf e = refl
+level_part_equal EndOf b e = cc
+level_part_equal CountersOf CountersOf e = refl
+level_part_equal CountersOf b e = cc
+level_part_equal ValuesOf ValuesOf e = refl
+level_part_equal ValuesOf b e = cc
+
 head_equal : (a b : Head) → same_head a b ≡ true → a ≡ b
 head_equal FunctionOf FunctionOf e = refl
 head_equal FunctionOf b e = cc
@@ -49,10 +66,13 @@ head_equal LanesOf LanesOf e = refl
 head_equal LanesOf b e = cc
 head_equal ReturnedOf ReturnedOf e = refl
 head_equal ReturnedOf b e = cc
-head_equal NumbersOf NumbersOf e = refl
-head_equal NumbersOf b e = cc
 head_equal ResultOf ResultOf e = refl
 head_equal ResultOf b e = cc
+head_equal OpenOf OpenOf e = refl
+head_equal OpenOf b e = cc
+head_equal (LevelOf k a) (LevelOf l b) e =
+    let both = and_parts (k == l) (same_level_part a b) e in ap (λ n. LevelOf n a) (eqb-true k l both.0) ∙ ap (LevelOf l) (level_part_equal a b both.1)
+head_equal (LevelOf k a) b e = cc
 
 pub region_equal : (r s : Region) → same_region r s ≡ true → r ≡ s
 region_equal (OfFile m) (OfFile n) e = ap OfFile (eqb-true m n e)

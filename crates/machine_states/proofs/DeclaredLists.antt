@@ -7,7 +7,7 @@ use Rattle.gang_model.specs.Types.Tree.{StepNumber, Stmt, Empty, Then, Declare, 
 use Rattle.gang_model.specs.Running.Step.{steps_of}
 use Rattle.mask_states.specs.Points.{closing_number}
 use Rattle.machine_states.specs.Variables.{Variables}
-use Rattle.machine_states.specs.Declared.{IsAmong, declared_by, may_return, declared_before_return, declared_at, scalar_parameters, declared_for, declared_at_end, declared_before}
+use Rattle.machine_states.specs.Declared.{IsAmong, declared_by_form, declared_by, may_return, declared_before_return, declared_at, scalar_parameters, declared_for, declared_at_end, declared_before}
 
 -- ---- small facts
 
@@ -60,8 +60,8 @@ within_grouped ws xs ys zs h = subst (IsWithin ws) (append_assoc xs ys zs) h
 
 -- ---- what is declared before each step
 
--- what is declared before steps, from a number on
-abbrev pub AreBefore : (before : StepNumber → List ℕ) → ℕ → List (List ℕ) → Type 0
+-- what stands before steps, from a number on
+abbrev pub AreBefore : {A : Type 0} → (before : StepNumber → A) → ℕ → List A → Type 0
 AreBefore before n [] = Unit {0}
 AreBefore before n (d ∷ ds) = (before n ≡ d) × AreBefore before (n + 1) ds
 
@@ -83,29 +83,31 @@ length-declared_at (Return number e) d = omega arith
 length-declared_at (Switch number e segments) d = omega (arith, length-declared_at segments d)
 length-declared_at (Segment label body rest) d =
     omega (arith, length-append (declared_at d body) (declared_at d rest), length-declared_at body d, length-declared_at rest d)
-length-declared_at (ForEach number form body) d = omega (arith, length-append (declared_at d body) (d ∷ []), length-declared_at body d)
+length-declared_at (ForEach number form body) d =
+    omega (arith, length-append (declared_at (declared_by_form form ++ d) body) (d ∷ []), length-declared_at body (declared_by_form form ++ d))
 length-declared_at (Call number function args result_for) d = omega arith
 length-declared_at (Check number e) d = omega arith
 length-declared_at (PackedStore number array from e result_for) d = omega arith
 length-declared_at (PackedLoad number array from v result_for) d = omega arith
 
-module _ (before : StepNumber → List ℕ) where
-  pub before_front : (n : ℕ) (xs ys : List (List ℕ)) → AreBefore before n (xs ++ ys) → AreBefore before n xs
+module _ {A : Type 0} (before : StepNumber → A) where
+  pub before_front : (n : ℕ) (xs ys : List A) → AreBefore before n (xs ++ ys) → AreBefore before n xs
   before_front n [] ys h = tt
   before_front n (d ∷ xs) ys h = (h.0, before_front (n + 1) xs ys h.1)
 
-  before_back : (n : ℕ) (xs ys : List (List ℕ)) → AreBefore before n (xs ++ ys) → AreBefore before (n + length xs) ys
+  pub before_back : (n : ℕ) (xs ys : List A) → AreBefore before n (xs ++ ys) → AreBefore before (n + length xs) ys
   before_back n [] ys h = let e : n ≡ n + 0 = omega arith in subst (λ m. AreBefore before m ys) e h
   before_back n (d ∷ xs) ys h =
       let e : n + 1 + length xs ≡ n + length (d ∷ xs) = omega arith in
       subst (λ m. AreBefore before m ys) e (before_back (n + 1) xs ys h.1)
 
+module _ (before : StepNumber → List ℕ) where
   -- behind those of a statement
   pub before_after : (n : ℕ) (s : Stmt) (d : List ℕ) (ys : List (List ℕ)) → AreBefore before n (declared_at d s ++ ys) → AreBefore before (n + steps_of s) ys
-  before_after n s d ys h = subst (λ m. AreBefore before (n + m) ys) (length-declared_at s d) (before_back n (declared_at d s) ys h)
+  before_after n s d ys h = subst (λ m. AreBefore before (n + m) ys) (length-declared_at s d) (before_back before n (declared_at d s) ys h)
 
 -- a list stands behind another
-before_behind : (ds front : List (List ℕ)) (end : List ℕ) → AreBefore (λ k. slice_index_or (front ++ ds) k end) (length front) ds
+pub before_behind : {A : Type 0} (ds front : List A) (end : A) → AreBefore (λ k. slice_index_or (front ++ ds) k end) (length front) ds
 before_behind [] front end = tt
 before_behind (d ∷ ds) front end =
     let n : length (front ++ d ∷ []) ≡ length front + 1 = omega (arith, length-append front (d ∷ [])) in

@@ -132,7 +132,7 @@ some_before true ws xs ys d h = within_then ws d (xs ++ (ys ++ d)) h (within_the
 some_before false ws xs ys d h = within_grouped ws xs ys d h
 
 -- what holds where a way leads
-of_way : (P : StepNumber → Type 0) (way : Option StepNumber) (next : StepNumber) → P next → ((n : StepNumber) → way ≡ Some n → P n) → P (unwrap_or way next)
+pub of_way : (P : StepNumber → Type 0) (way : Option StepNumber) (next : StepNumber) → P next → ((n : StepNumber) → way ≡ Some n → P n) → P (unwrap_or way next)
 of_way P None next a b = a
 of_way P (Some n) next a b = b n refl
 

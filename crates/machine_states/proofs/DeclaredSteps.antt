@@ -1,35 +1,37 @@
 -- A step keeps what is declared: each frame has all variables that are declared before the steps that its lanes wait for.
-use Rattle.std.proofs.Common.{◌≡◌, refl, sym, ap, ◌∙◌, subst, ℕ, zero, suc, ◌<◌, Bool, true, false, List, [], ◌∷◌, ◌++◌, length, slice_get, Option, Some, None, arith}
-use Rattle.std.specs.Prelude.{map, All, Result, Ok, Err, IfOk, ◌==◌, if◌then◌else◌}
+use Rattle.std.proofs.Common.{◌≡◌, refl, sym, ap, ◌∙◌, subst, ℕ, ◌<◌, Bool, true, false, List, [], ◌∷◌, ◌++◌, length, slice_get, Option, Some, None, arith}
+use Rattle.std.specs.Prelude.{map, Result, Ok, Err, IfOk, ◌==◌, if◌then◌else◌}
 use Rattle.gang_types.specs.declared.types.IntType.{IntType}
 use Rattle.gang_types.specs.declared.types.IntType.TheVariants.{Int32}
 use Rattle.gang_types.specs.Values.{binary_result, converted}
 use Rattle.gang_types.specs.declared.places.VarId.{VarId}
 use Rattle.gang_types.specs.declared.places.VarId.TheVariants.{File, Local}
 use Rattle.gang_types.specs.declared.faults.FaultName.TheVariants.{CallDepth}
-use Rattle.gang_types.specs.Lanes.{Lanes, lowest}
+use Rattle.gang_types.specs.Lanes.{Lanes, has, lowest}
 use Rattle.gang_model.specs.Running.Lanes.{Fault, ◌>>=◌, at, each, holds, try_each}
-use Rattle.gang_model.specs.Types.Tree.{StepNumber, Scalar, ElementOf, ResultFor, Nothing, Declares, Assigns, Returns, Stmt, Declare, Assign, Change, Return, Call, Check, PackedStore, PackedLoad, Function, Program}
+use Rattle.gang_model.specs.Types.Tree.{StepNumber, RoundsOf, Scalar, ElementOf, ResultFor, Nothing, Declares, Assigns, Returns, Stmt, Declare, Assign, Change, Return, Call, Check, PackedStore, PackedLoad, Function, Program}
 use Rattle.gang_model.specs.Running.State.{Store, Frame, State, view_of, with_words, with_var, with_words_in}
 use Rattle.gang_model.specs.Running.Value.{value}
 use Rattle.gang_model.specs.Running.RunningOrder.{IsNumberedProgram}
 use Rattle.gang_model.specs.Running.Step.{Passed, ToElements, old_values, part, passed, write, initial, new_frame, entered, returned_on, deliver, left, leave, run}
 use Rattle.gang_model.proofs.LaneWords.{if_ok_bind, if_ok_after, if_or_ok}
-use Rattle.mask_states.specs.Points.{Point, Put, Go, Branch, Choose, Begin, Turn, Enter, entry_of, closing_number, function_ways, points_in}
+use Rattle.mask_states.specs.Points.{Point, Put, Go, Branch, Choose, Begin, Turn, Enter, entry_of, closing_number, points_in}
 use Rattle.mask_states.specs.Placed.{HasPoint}
-use Rattle.mask_states.specs.Masked.{Level, Masked, next_in, next_waiting, sent_in, entered_body}
+use Rattle.mask_states.specs.Masked.{Level, Masked, next_in, next_waiting, sent_in, closed, entered_body}
 use Rattle.mask_states.specs.MaskedStep.{untasked_frame, untasked, points_at, points_for, Acted, entered_levels, act, past_point, past_call, past_calls, MaskedStepped, Goes, Fails, Over, acted, step_point, step_levels, masked_step}
 use Rattle.mask_states.proofs.LaneNumbers.{length-waiting_for}
-use Rattle.mask_states.proofs.PlacedPoints.{length-points_of}
 use Rattle.machine_states.specs.Variables.{Variables}
 use Rattle.machine_states.specs.Plain.{IsPlain, IsPlainProgram}
-use Rattle.machine_states.specs.Regions.{NumbersOf, OfHead, Regions}
-use Rattle.machine_states.specs.Declared.{own_number, declared_by_result, declared_by, scalar_parameters, declared_before, HasAll, LevelDeclared, FrameDeclared, FramesDeclared, AreDeclared}
-use Rattle.machine_states.specs.Shows.{body_level, ShowsCall, ShowsFrames, Shows}
+use Rattle.machine_states.specs.Regions.{Regions}
+use Rattle.machine_states.specs.Nesting.{forms_about}
+use Rattle.machine_states.specs.Awaited.{EndHolds, LevelsHold}
+use Rattle.machine_states.specs.Declared.{own_number, declared_by_result, declared_by, scalar_parameters, declared_before, HasAll, IsAwaited, FrameDeclared, FramesDeclared, AreDeclared}
+use Rattle.machine_states.specs.Shows.{ShowsCall, ShowsFrames, Shows}
 use Rattle.machine_states.proofs.DeclaredLists.{same_some, IsWithin, before_end}
 use Rattle.machine_states.proofs.DeclaredPoints.{IsPlainPut, IsPlainPoint, plain_point, LeadsDeclared, point_leads, first_declared}
 use Rattle.machine_states.proofs.StoreEntries.{Keeps, keeps_itself, with_words_keeps, with_words_has, has_all_kept, has_all_within, has_all_both, has_own, passed_has}
-use Rattle.machine_states.proofs.DeclaredLevels.{is_inside, Waits, waits_below, next_declared, EndsAt, sent_on_declared, entered_declared}
+use Rattle.machine_states.proofs.NestedPoints.{LeadsInside, closing_outside, first_outside, point_inside}
+use Rattle.machine_states.proofs.AwaitedLevels.{Waits, waits_below, next_holds, IsNoTurn, point_below, EndsAt, ends_at, entered_holds, sent_on_holds, end_kept, levels_kept, closed_holds}
 
 -- ---- a frame that gets variables
 
@@ -139,15 +141,6 @@ none_left : (p : Program) (memory : Store) (above : Frame) (f : Option Function)
 none_left p memory above None = refl
 none_left p memory above (Some f) = none_delivered p memory f.result_type above.result_for above.lanes _
 
--- ---- one level
-
-pub one_level : (before : StepNumber → List ℕ) (vars : Store) (level : Level) → LevelDeclared before vars level → All (LevelDeclared before vars) (level ∷ [])
-one_level before vars level h zero d within = h
-one_level before vars level h (suc k) d within = absurd (omega (arith, within))
-
-pub first_level : (before : StepNumber → List ℕ) (vars : Store) (level : Level) (levels : List Level) → All (LevelDeclared before vars) (level ∷ levels) → LevelDeclared before vars level
-first_level before vars level levels h = h 0 level (omega arith)
-
 -- ---- steps
 
 -- what holds of the state that a step leads to
@@ -162,15 +155,30 @@ goes_at P stepped next e h = subst (λ z. IfGoes z P) e h
 module _ (variables : Variables) (most : ℕ) (p : Program) (plain : IsPlainProgram variables most p) (numbered : IsNumberedProgram p) where
   -- a frame by its function
   pub frame_declared : (frame : Frame) (levels : List Level) (n : ℕ) (f : Function) → slice_get p.functions n ≡ Some f → frame.function ≡ n
-      → All (LevelDeclared (declared_before variables n f) frame.vars) levels → FrameDeclared variables p frame levels
+      → LevelsHold (IsAwaited variables n f frame.vars) f levels → FrameDeclared variables p frame levels
   frame_declared frame levels n f is same h g is_g =
       let g_is : slice_get p.functions n ≡ Some g = subst (λ m. slice_get p.functions m ≡ Some g) same is_g in
       let equal : f ≡ g = same_some f g (sym is ∙ g_is) in
-      subst (λ m. All (LevelDeclared (declared_before variables m g) frame.vars) levels) (sym same)
-      (subst (λ z. All (LevelDeclared (declared_before variables n z) frame.vars) levels) equal h)
+      subst (λ m. LevelsHold (IsAwaited variables m g frame.vars) g levels) (sym same)
+      (subst (λ z. LevelsHold (IsAwaited variables n z frame.vars) z levels) equal h)
 
-  pub ends_at : (n : ℕ) (f : Function) → EndsAt (declared_before variables n f) (closing_number f)
-  ends_at n f number past = before_end variables n f number past ∙ sym (before_end variables n f (closing_number f) (omega arith))
+  -- past the closing brace nothing more is declared than at it, and no form stands round either
+  pub closing_awaited : (n : ℕ) (f : Function) (vars : Store) → EndsAt (IsAwaited variables n f vars 0) (closing_number f)
+  closing_awaited n f vars number past awaited = record {
+    has_all = subst (λ d. HasAll d vars) (before_end variables n f number past ∙ sym (before_end variables n f (closing_number f) (omega arith))) awaited.has_all;
+    nested = ap length (closing_outside f (closing_number f) (omega arith));
+  }
+
+  -- a body begins for some lanes, of a frame with the parameters
+  pub entered_awaited : (n : ℕ) (f : Function) → slice_get p.functions n ≡ Some f → (vars : Store) → HasAll (scalar_parameters variables n) vars → (lanes : Lanes)
+      → (k : ℕ) → has lanes k ≡ true → k < length lanes → LevelsHold (IsAwaited variables n f vars) f (entered_body f lanes ∷ [])
+  entered_awaited n f is vars parameters lanes k in_lanes within =
+      let before : StepNumber → List ℕ = declared_before variables n f in
+      let first : IsAwaited variables n f vars 0 (entry_of f.body (closing_number f)) = record {
+        has_all = has_all_within (before (entry_of f.body (closing_number f))) (scalar_parameters variables n) vars (first_declared variables n f (numbered n f is)) parameters;
+        nested = ap length (first_outside f (numbered n f is));
+      } in
+      (entered_holds (IsAwaited variables n f vars 0) f lanes (closing_awaited n f vars) k in_lanes within first, refl, tt)
 
   -- frames without their tasks
   untasked_declared : (frames : List Frame) (rest : List (List Level)) → FramesDeclared variables p frames rest → FramesDeclared variables p (map untasked_frame frames) rest
@@ -179,84 +187,106 @@ module _ (variables : Variables) (most : ℕ) (p : Program) (plain : IsPlainProg
   untasked_declared (frame ∷ frames) (levels ∷ rest) h = (h.0, untasked_declared frames rest h.1)
 
   -- the lanes of a frame's next step go on
-  module _ (frame : Frame) (f : Function) (is : slice_get p.functions frame.function ≡ Some f) (numbers : List StepNumber) where
-    abbrev level : Level
-    level = body_level (closing_number f) numbers
-
+  module _ (frame : Frame) (f : Function) (is : slice_get p.functions frame.function ≡ Some f) (level : Level) (below : List Level) where
     abbrev before : StepNumber → List ℕ
     before = declared_before variables frame.function f
 
-    point_below : (point : Point) → HasPoint (points_in f) (next_in level) point → next_in level < closing_number f
-    point_below point h = omega (arith, is_inside (points_in f) (next_in level) point h, length-points_of f.body (function_ways f))
+    abbrev IsAwaitedWith : Store → (depth : ℕ) → StepNumber → Type 0
+    IsAwaitedWith = IsAwaited variables frame.function f
 
-    moves_on : (point : Point) → HasPoint (points_in f) (next_in level) point → LevelDeclared before frame.vars level
+    abbrev HoldsHere : Type 0
+    HoldsHere = LevelsHold (IsAwaitedWith frame.vars) f (level ∷ below)
+
+    more_awaited : (more : Store) → Keeps frame.vars more → (depth : ℕ) (number : StepNumber) → IsAwaitedWith frame.vars depth number → IsAwaitedWith more depth number
+    more_awaited more keeps depth number h = record { has_all = has_all_kept (before number) frame.vars more keeps h.has_all; nested = h.nested }
+
+    -- past a body's end
+    past_awaited : (more : Store) (lower : List Level) → lower ≡ [] → EndsAt (IsAwaitedWith more (length lower)) (closing_number f)
+    past_awaited more lower none = subst (λ ls. EndsAt (IsAwaitedWith more (length ls)) (closing_number f)) (sym none) (closing_awaited frame.function f more)
+
+    moves_on : (point : Point) → HasPoint (points_in f) (next_in level) point → IsNoTurn point → HoldsHere
         → (frames after : List Frame) (rest : List (List Level)) (d : List ℕ) (target : ℕ → StepNumber) → Grows frame frames d after
-        → ((j : ℕ) → IsWithin (before (target j)) (d ++ before (next_in level))) → FramesDeclared variables p frames rest
-        → FramesDeclared variables p after ((sent_in (next_waiting level) target level ∷ []) ∷ rest)
-    moves_on point h declared frames after rest d target g within lower =
-        let low : next_in level < closing_number f = point_below point h in
-        let had : HasAll (before (next_in level)) g.top.vars = has_all_kept (before (next_in level)) frame.vars g.top.vars g.keeps (next_declared before frame.vars level declared) in
-        let new : (j : ℕ) → HasAll (before (target j)) g.top.vars =
-        λ j. has_all_within (before (target j)) (d ++ before (next_in level)) g.top.vars (within j) (has_all_both d (before (next_in level)) g.top.vars g.has_all had) in
-        let sent : LevelDeclared before g.top.vars (sent_in (next_waiting level) target level) =
-        sent_on_declared before level target frame.vars g.top.vars (ends_at frame.function f) low declared g.keeps new in
-        subst (λ fs. FramesDeclared variables p fs ((sent_in (next_waiting level) target level ∷ []) ∷ rest)) (sym g.are)
-        (frame_declared g.top (sent_in (next_waiting level) target level ∷ []) frame.function f is g.function (one_level before g.top.vars (sent_in (next_waiting level) target level) sent), lower)
+        → ((j : ℕ) → IsWithin (before (target j)) (d ++ before (next_in level))) → ((j : ℕ) → forms_about f (target j) ≡ forms_about f (next_in level))
+        → FramesDeclared variables p frames rest → FramesDeclared variables p after (closed (sent_in (next_waiting level) target level ∷ below) ∷ rest)
+    moves_on point h unturned declared frames after rest d target g within inside lower =
+        let Old : ℕ → StepNumber → Type 0 = IsAwaitedWith frame.vars in
+        let New : ℕ → StepNumber → Type 0 = IsAwaitedWith g.top.vars in
+        let kept = more_awaited g.top.vars g.keeps in
+        let low : next_in level < level.end = point_below (Old (length below)) f level below point declared.1 unturned h in
+        let now : IsAwaitedWith g.top.vars (length below) (next_in level) = kept (length below) (next_in level) (next_holds (Old (length below)) level declared.0) in
+        let new : (j : ℕ) → IsAwaitedWith g.top.vars (length below) (target j) = λ j. record {
+          has_all = has_all_within (before (target j)) (d ++ before (next_in level)) g.top.vars (within j) (has_all_both d (before (next_in level)) g.top.vars g.has_all now.has_all);
+          nested = ap length (inside j) ∙ now.nested;
+        } in
+        let end = end_kept Old New f kept level below declared.1 in
+        let sent = sent_on_holds (Old (length below)) (New (length below)) level target
+        (ends_at (New (length below)) f level below end (past_awaited g.top.vars below)) low declared.0 (kept (length below)) new in
+        let levels : List Level = sent_in (next_waiting level) target level ∷ below in
+        let holds : LevelsHold New f levels = (sent, end_sent g.top.vars (next_waiting level) target below end, levels_kept Old New f kept below declared.2) in
+        subst (λ fs. FramesDeclared variables p fs (closed levels ∷ rest)) (sym g.are)
+        (frame_declared g.top (closed levels) frame.function f is g.function (closed_holds New f levels holds), lower)
+      where
+        end_sent : (more : Store) (lanes : Lanes) (target : ℕ → StepNumber) (lower : List Level) → EndHolds (IsAwaitedWith more (length lower)) f level lower
+            → EndHolds (IsAwaitedWith more (length lower)) f (sent_in lanes target level) lower
+        end_sent more lanes target [] end = end
+        end_sent more lanes target (next ∷ lower) end = end
 
     -- a frame begins for the lanes of a call
     enters : (number : StepNumber) (result_for : ResultFor) (n : ℕ) (o : Option Function) → slice_get p.functions n ≡ o → (a : Passed) → HasAll (scalar_parameters variables n) a.vars
-        → next_in level < closing_number f → LevelDeclared before frame.vars level
+        → next_in level < level.end → HoldsHere
         → (memory : Store) (frames : List Frame) (rest : List (List Level)) → FramesDeclared variables p frames rest
         → IfOk (entered o n number result_for a (next_waiting level) (record { memory = memory; frames = frame ∷ frames }))
-        (λ after. FramesDeclared variables p (untasked after).frames ((entered_levels o (next_waiting level) ++ (level ∷ []) ∷ []) ++ rest))
+        (λ after. FramesDeclared variables p (untasked after).frames ((entered_levels o (next_waiting level) ++ (level ∷ below) ∷ []) ++ rest))
     enters number result_for n None o_is a has_all low declared memory frames rest lower =
-        (frame_declared frame (level ∷ []) frame.function f is refl (one_level before frame.vars level declared), untasked_declared frames rest lower)
+        (frame_declared frame (level ∷ below) frame.function f is refl declared, untasked_declared frames rest lower)
     enters number result_for n (Some g) o_is a has_all low declared memory frames rest lower =
         let lanes : Lanes = next_waiting level in
         let w : Waits level = waits_below level low in
-        let parameters : HasAll (declared_before variables n g (entry_of g.body (closing_number g))) a.vars =
-        has_all_within (declared_before variables n g (entry_of g.body (closing_number g))) (scalar_parameters variables n) a.vars (first_declared variables n g (numbered n g o_is)) has_all in
-        let begun : LevelDeclared (declared_before variables n g) a.vars (entered_body g lanes) =
-        entered_declared (declared_before variables n g) g lanes a.vars (ends_at n g) w.lane w.waiting (omega (arith, w.within, length-waiting_for (next_in level) level.numbers)) parameters in
+        let long : w.lane < length lanes = omega (arith, w.within, length-waiting_for (next_in level) level.numbers) in
+        let begun = entered_awaited n g o_is a.vars has_all lanes w.lane w.waiting long in
         if_or_ok _ (length (frame ∷ frames) == 64) (record { name = CallDepth; lane = lowest lanes }) _ (
-          frame_declared (untasked_frame (new_frame n g lanes (Some number) result_for a)) (entered_body g lanes ∷ []) n g o_is refl
-              (one_level (declared_before variables n g) a.vars (entered_body g lanes) begun),
-          (frame_declared frame (level ∷ []) frame.function f is refl (one_level before frame.vars level declared), untasked_declared frames rest lower),
+          frame_declared (untasked_frame (new_frame n g lanes (Some number) result_for a)) (entered_body g lanes ∷ []) n g o_is refl begun,
+          (frame_declared frame (level ∷ below) frame.function f is refl declared, untasked_declared frames rest lower),
         )
 
     branch_within : (b : Bool) (yes' no' : StepNumber) (d : List ℕ) → IsWithin (before yes') d → IsWithin (before no') d → IsWithin (before (if b then yes' else no')) d
     branch_within true yes' no' d y n = y
     branch_within false yes' no' d y n = n
 
+    branch_inside : (b : Bool) (yes' no' : StepNumber) (forms : List RoundsOf) → forms_about f yes' ≡ forms → forms_about f no' ≡ forms → forms_about f (if b then yes' else no') ≡ forms
+    branch_inside true yes' no' forms y n = y
+    branch_inside false yes' no' forms y n = n
+
     -- what a point does
-    acts : (point : Point) → HasPoint (points_in f) (next_in level) point → LevelDeclared before frame.vars level
+    acts : (point : Point) → HasPoint (points_in f) (next_in level) point → HoldsHere
         → (memory : Store) (frames : List Frame) (rest : List (List Level)) → FramesDeclared variables p frames rest
-        → LeadsDeclared before (next_in level) point → IsPlainPoint variables frame.function (next_in level) point
-        → IfOk (act p (next_in level) point (next_waiting level) (record { memory = memory; frames = frame ∷ frames }) level [])
+        → LeadsDeclared before (next_in level) point → LeadsInside (forms_about f) (next_in level) point → IsPlainPoint variables frame.function (next_in level) point
+        → IfOk (act p (next_in level) point (next_waiting level) (record { memory = memory; frames = frame ∷ frames }) level below)
         (λ a. FramesDeclared variables p a.state.frames (a.levels ++ rest))
-    acts (Put s next) h declared memory frames rest lower leads plain_point =
+    acts (Put s next) h declared memory frames rest lower leads inside plain_point =
         if_ok_bind (λ after. Grows frame frames (declared_by s) after.frames) _ (run p s (next_waiting level) (state memory frame frames)) _
         (run_grows memory frame frames variables frame.function p s (next_waiting level) plain_point)
-        (λ after g. moves_on (Put s next) h declared frames after.frames rest (declared_by s) (λ k. next) g (λ k. leads) lower)
-    acts (Go next) h declared memory frames rest lower leads plain_point =
-        moves_on (Go next) h declared frames (frame ∷ frames) rest [] (λ k. next) (stays frame frames) (λ k. leads) lower
-    acts (Branch test yes' no') h declared memory frames rest lower leads plain_point =
+        (λ after g. moves_on (Put s next) h tt declared frames after.frames rest (declared_by s) (λ k. next) g (λ k. leads) (λ k. inside) lower)
+    acts (Go next) h declared memory frames rest lower leads inside plain_point =
+        moves_on (Go next) h tt declared frames (frame ∷ frames) rest [] (λ k. next) (stays frame frames) (λ k. leads) (λ k. inside) lower
+    acts (Branch test yes' no') h declared memory frames rest lower leads inside plain_point =
         if_ok_after _ (value test (next_waiting level) (state memory frame frames)) _
-        (λ c. moves_on (Branch test yes' no') h declared frames (frame ∷ frames) rest [] (λ k. if holds c k then yes' else no') (stays frame frames)
-        (λ k. branch_within (holds c k) yes' no' (before (next_in level)) leads.0 leads.1) lower)
-    acts (Choose e segments entries next) h declared memory frames rest lower leads plain_point = absurd plain_point
-    acts (Begin form rounds next) h declared memory frames rest lower leads plain_point = absurd plain_point
-    acts (Turn body) h declared memory frames rest lower leads plain_point = absurd plain_point
-    acts (Enter n args result_for next) h declared memory frames rest lower leads plain_point =
+        (λ c. moves_on (Branch test yes' no') h tt declared frames (frame ∷ frames) rest [] (λ k. if holds c k then yes' else no') (stays frame frames)
+        (λ k. branch_within (holds c k) yes' no' (before (next_in level)) leads.0 leads.1)
+        (λ k. branch_inside (holds c k) yes' no' (forms_about f (next_in level)) inside.0 inside.1) lower)
+    acts (Choose e segments entries next) h declared memory frames rest lower leads inside plain_point = absurd plain_point
+    acts (Begin form rounds next) h declared memory frames rest lower leads inside plain_point = absurd plain_point
+    acts (Turn body) h declared memory frames rest lower leads inside plain_point = absurd plain_point
+    acts (Enter n args result_for next) h declared memory frames rest lower leads inside plain_point =
         let s : State = state memory frame frames in
         let lanes : Lanes = next_waiting level in
-        let low : next_in level < closing_number f = point_below (Enter n args result_for next) h in
+        let low : next_in level < level.end = point_below (IsAwaitedWith frame.vars (length below)) f level below (Enter n args result_for next) declared.1 tt h in
         let run_enters : IfOk (run p (Call (next_in level) n args result_for) lanes s)
-        (λ after. FramesDeclared variables p (untasked after).frames ((entered_levels (slice_get p.functions n) lanes ++ (level ∷ []) ∷ []) ++ rest)) =
+        (λ after. FramesDeclared variables p (untasked after).frames ((entered_levels (slice_get p.functions n) lanes ++ (level ∷ below) ∷ []) ++ rest)) =
         if_ok_bind (λ a. HasAll (scalar_parameters variables n) a.vars) _ (passed args lanes s) _
         (passed_has variables frame.function n lanes s args plain_point.0)
         (λ a has_all. enters (next_in level) result_for n (slice_get p.functions n) refl a has_all low declared memory frames rest lower) in
-        if_ok_bind (λ after. FramesDeclared variables p (untasked after).frames ((entered_levels (slice_get p.functions n) lanes ++ (level ∷ []) ∷ []) ++ rest)) _
+        if_ok_bind (λ after. FramesDeclared variables p (untasked after).frames ((entered_levels (slice_get p.functions n) lanes ++ (level ∷ below) ∷ []) ++ rest)) _
         (run p (Call (next_in level) n args result_for) lanes s) _ run_enters (λ after d. d)
 
   if_acted : (r : Result Acted Fault) (rest : List (List Level)) → IfOk r (λ a. FramesDeclared variables p a.state.frames (a.levels ++ rest)) → IfGoes (acted r rest) (AreDeclared variables p)
@@ -264,71 +294,58 @@ module _ (variables : Variables) (most : ℕ) (p : Program) (plain : IsPlainProg
   if_acted (Err fault) rest h = tt
 
   -- a frame is left: the lanes of its call go on
-  module _ (regions : Regions) (w : ℕ) (above : Frame) (f : Function) (is : slice_get p.functions above.function ≡ Some f) (memory : Store) where
-    caller_declared : (caller : Frame) (others : List Frame) (g : Function) (numbers : List StepNumber) (more : List (List Level)) → slice_get p.functions caller.function ≡ Some g
-        → ShowsCall p above (caller ∷ others) ((body_level (closing_number g) numbers ∷ []) ∷ more)
-        → FramesDeclared variables p (caller ∷ others) ((body_level (closing_number g) numbers ∷ []) ∷ more)
+  module _ (above : Frame) (f : Function) (is : slice_get p.functions above.function ≡ Some f) (memory : Store) where
+    caller_declared : (caller : Frame) (others : List Frame) (g : Function) (level : Level) (below : List Level) (more : List (List Level)) → slice_get p.functions caller.function ≡ Some g
+        → ShowsCall p above (caller ∷ others) ((level ∷ below) ∷ more) → FramesDeclared variables p (caller ∷ others) ((level ∷ below) ∷ more)
         → FramesDeclared variables p (leave p above (record { memory = memory; frames = caller ∷ others })).frames
-        (past_call (points_for p caller.function) (body_level (closing_number g) numbers ∷ []) ∷ more)
-    caller_declared caller others g numbers more g_is call h =
-        let waiting : Level = body_level (closing_number g) numbers in
+        (past_call (points_for p caller.function) (level ∷ below) ∷ more)
+    caller_declared caller others g level below more g_is call h =
         let point : Point = Enter above.function call.1 above.result_for call.0 in
-        let has : HasPoint (points_in g) (next_in waiting) point = ap (λ o. slice_get (points_at o) (next_in waiting)) (sym g_is) ∙ call.3 in
-        let leads : LeadsDeclared (declared_before variables caller.function g) (next_in waiting) point =
-        point_leads variables caller.function g (numbered caller.function g g_is) (plain.functions caller.function g g_is).body (next_in waiting) point has in
-        let declared : LevelDeclared (declared_before variables caller.function g) caller.vars waiting =
-        first_level (declared_before variables caller.function g) caller.vars waiting [] (h.0 g g_is) in
-        let past : past_call (points_for p caller.function) (waiting ∷ []) ≡ sent_in (next_waiting waiting) (λ k. call.0) waiting ∷ [] =
-        ap (λ o. past_point o waiting []) call.3 in
+        let has : HasPoint (points_in g) (next_in level) point = ap (λ o. slice_get (points_at o) (next_in level)) (sym g_is) ∙ call.3 in
+        let leads : LeadsDeclared (declared_before variables caller.function g) (next_in level) point =
+        point_leads variables caller.function g (numbered caller.function g g_is) (plain.functions caller.function g g_is).body (next_in level) point has in
+        let inside : LeadsInside (forms_about g) (next_in level) point = point_inside g (numbered caller.function g g_is) (next_in level) point has in
+        let past : past_call (points_for p caller.function) (level ∷ below) ≡ closed (sent_in (next_waiting level) (λ k. call.0) level ∷ below) =
+        ap (λ o. past_point o level below) call.3 in
         subst (λ ls. FramesDeclared variables p (leave p above (state memory caller others)).frames (ls ∷ more)) (sym past)
-        (moves_on caller g g_is numbers point has declared others (leave p above (state memory caller others)).frames more (declared_by_result above.result_for) (λ k. call.0)
-        (left_grows memory caller others p above f is) (λ k. leads) h.1)
+        (moves_on caller g g_is level below point has tt (h.0 g g_is) others (leave p above (state memory caller others)).frames more (declared_by_result above.result_for) (λ k. call.0)
+        (left_grows memory caller others p above f is) (λ k. leads) (λ k. inside) h.1)
 
-    leaves : (frames : List Frame) (rest : List (List Level)) → ShowsCall p above frames rest → ShowsFrames p variables w regions frames rest → FramesDeclared variables p frames rest
-        → FramesDeclared variables p (leave p above (record { memory = memory; frames = frames })).frames (past_calls p frames rest)
-    leaves [] rest call shown h = subst (λ fs. FramesDeclared variables p fs rest) (sym (none_left p memory above (slice_get p.functions above.function))) tt
-    leaves (caller ∷ others) [] call shown h = absurd call
-    leaves (caller ∷ others) (levels ∷ more) call shown h =
-        let s = shown.0 in
-        let waits = s.waits in
-        subst (λ ls. FramesDeclared variables p (leave p above (state memory caller others)).frames (past_call (points_for p caller.function) ls ∷ more)) (sym waits)
-        (caller_declared caller others s.function (regions (OfHead (length others) NumbersOf)) more s.is_function
-        (subst (λ ls. ShowsCall p above (caller ∷ others) (ls ∷ more)) waits call)
-        (subst (λ ls. FramesDeclared variables p (caller ∷ others) (ls ∷ more)) waits h))
+    leaves : (regions : Regions) (w : ℕ) (frames : List Frame) (rest : List (List Level)) → ShowsCall p above frames rest → ShowsFrames p variables w regions frames rest
+        → FramesDeclared variables p frames rest → FramesDeclared variables p (leave p above (record { memory = memory; frames = frames })).frames (past_calls p frames rest)
+    leaves regions w [] rest call shown h = subst (λ fs. FramesDeclared variables p fs rest) (sym (none_left p memory above (slice_get p.functions above.function))) tt
+    leaves regions w (caller ∷ others) [] call shown h = absurd call
+    leaves regions w (caller ∷ others) ([] ∷ more) call shown h = absurd call
+    leaves regions w (caller ∷ others) ((level ∷ below) ∷ more) call shown h = caller_declared caller others shown.0.function level below more shown.0.is_function call h
 
   -- the step of a frame
   module _ (regions : Regions) (w : ℕ) (memory : Store) (frame : Frame) (frames : List Frame) (rest : List (List Level)) where
-    steps_at : (f : Function) → slice_get p.functions frame.function ≡ Some f → (numbers : List StepNumber) → LevelDeclared (declared_before variables frame.function f) frame.vars (body_level (closing_number f) numbers)
+    steps_at : (f : Function) → slice_get p.functions frame.function ≡ Some f → (level : Level) (below : List Level) → LevelsHold (IsAwaited variables frame.function f frame.vars) f (level ∷ below)
         → ShowsCall p frame frames rest → ShowsFrames p variables w regions frames rest → FramesDeclared variables p frames rest
-        → (o : Option Point) → slice_get (points_in f) (next_in (body_level (closing_number f) numbers)) ≡ o
-        → IfGoes (step_point p memory frames frame o (body_level (closing_number f) numbers) [] rest) (AreDeclared variables p)
-    steps_at f is numbers declared call shown lower None o_is = leaves regions w frame f is memory frames rest call shown lower
-    steps_at f is numbers declared call shown lower (Some point) o_is =
-        let level : Level = body_level (closing_number f) numbers in
+        → (o : Option Point) → slice_get (points_in f) (next_in level) ≡ o → IfGoes (step_point p memory frames frame o level below rest) (AreDeclared variables p)
+    steps_at f is level below declared call shown lower None o_is = leaves frame f is memory regions w frames rest call shown lower
+    steps_at f is level below declared call shown lower (Some point) o_is =
         let body : IsPlain variables frame.function f.body = (plain.functions frame.function f is).body in
-        if_acted (act p (next_in level) point (next_waiting level) (state memory frame frames) level []) rest
-        (acts frame f is numbers point o_is declared memory frames rest lower
+        if_acted (act p (next_in level) point (next_waiting level) (state memory frame frames) level below) rest
+        (acts frame f is level below point o_is declared memory frames rest lower
         (point_leads variables frame.function f (numbered frame.function f is) body (next_in level) point o_is)
+        (point_inside f (numbered frame.function f is) (next_in level) point o_is)
         (plain_point variables frame.function f body (next_in level) point o_is))
 
-    steps : (levels : List Level) → ShowsFrames p variables w regions (frame ∷ frames) (levels ∷ rest) → FramesDeclared variables p (frame ∷ frames) (levels ∷ rest)
-        → IfGoes (step_levels p memory (frame ∷ frames) (levels ∷ rest)) (AreDeclared variables p)
-    steps levels shown h =
-        let s = shown.0 in
-        let f : Function = s.function in
-        let level : Level = body_level (closing_number f) (regions (OfHead (length frames) NumbersOf)) in
-        let declared : All (LevelDeclared (declared_before variables frame.function f) frame.vars) (level ∷ []) =
-        subst (λ ls. All (LevelDeclared (declared_before variables frame.function f) frame.vars) ls) s.waits (h.0 f s.is_function) in
-        subst (λ ls. IfGoes (step_levels p memory (frame ∷ frames) (ls ∷ rest)) (AreDeclared variables p)) (sym s.waits)
-        (subst (λ o. IfGoes (step_point p memory frames frame (slice_get (points_at o) (next_in level)) level [] rest) (AreDeclared variables p)) (sym s.is_function)
-        (steps_at f s.is_function (regions (OfHead (length frames) NumbersOf)) (first_level (declared_before variables frame.function f) frame.vars level [] declared)
-        shown.1 shown.2 h.1 (slice_get (points_in f) (next_in level)) refl))
+    steps : (level : Level) (below : List Level) → ShowsFrames p variables w regions (frame ∷ frames) ((level ∷ below) ∷ rest)
+        → FramesDeclared variables p (frame ∷ frames) ((level ∷ below) ∷ rest) → IfGoes (step_levels p memory (frame ∷ frames) ((level ∷ below) ∷ rest)) (AreDeclared variables p)
+    steps level below shown h =
+        let f : Function = shown.0.function in
+        let is = shown.0.is_function in
+        subst (λ o. IfGoes (step_point p memory frames frame (slice_get (points_at o) (next_in level)) level below rest) (AreDeclared variables p)) (sym is)
+        (steps_at f is level below (h.0 f is) shown.1 shown.2 h.1 (slice_get (points_in f) (next_in level)) refl)
 
   steps_declared : (regions : Regions) (w : ℕ) (memory : Store) (frames : List Frame) (levels : List (List Level)) → ShowsFrames p variables w regions frames levels → FramesDeclared variables p frames levels
       → IfGoes (step_levels p memory frames levels) (AreDeclared variables p)
   steps_declared regions w memory [] levels shown h = tt
   steps_declared regions w memory (frame ∷ frames) [] shown h = tt
-  steps_declared regions w memory (frame ∷ frames) (levels ∷ rest) shown h = steps regions w memory frame frames rest levels shown h
+  steps_declared regions w memory (frame ∷ frames) ([] ∷ rest) shown h = tt
+  steps_declared regions w memory (frame ∷ frames) ((level ∷ below) ∷ rest) shown h = steps regions w memory frame frames rest level below shown h
 
   -- after a step each frame has what is declared where its lanes wait
   pub step_declared : (regions : Regions) (w : ℕ) (masked next : Masked) → Shows p variables w regions masked → AreDeclared variables p masked → masked_step p masked ≡ Goes next → AreDeclared variables p next

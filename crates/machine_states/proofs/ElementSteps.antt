@@ -31,10 +31,10 @@ depth_away (Local k) words regions = refl
 
 module _ (p : Program) (variables : Variables) (w : ℕ) (regions : Regions) (masked : Masked) (shows : Shows p variables w regions masked) (i n : ℕ) (f : Function) (number : StepNumber) where
   abbrev lanes : Lanes
-  lanes = waiting_in regions i number
+  lanes = waiting_in regions i 0 number
 
   -- ---- a name stands for the part of an array that the regions keep
-  module _ (point : Option Point) (next : IsNext p regions i n f number point) where
+  module _ (point : Option Point) (next : IsNext p w regions i 0 n f number point) where
     abbrev ViewIs : ℕ → List Frame → List (List Level) → ℕ → StepNumber → Type 0
     ViewIs k frames levels index least_number = local_view frames (Local k) ≡ view_at regions index (Local k)
 
@@ -48,7 +48,7 @@ module _ (p : Program) (variables : Variables) (w : ℕ) (regions : Regions) (ma
 
   -- ---- assignments
   module _ (number' : StepNumber) (array : VarId) (rate : Rate) (index e : Expr) (target : StepNumber)
-      (next : IsNext p regions i n f number (Some (Put (Assign number' (ElementOf array rate index) e) target))) (there : IsArray variables n array) where
+      (next : IsNext p w regions i 0 n f number (Some (Put (Assign number' (ElementOf array rate index) e) target))) (there : IsArray variables n array) where
     abbrev s : Stmt
     s = Assign number' (ElementOf array rate index) e
 
@@ -60,17 +60,17 @@ module _ (p : Program) (variables : Variables) (w : ℕ) (regions : Regions) (ma
         → run p s lanes masked.state ≡ ((x >>= λ x. Ok (ToElements (view_of masked.state array) x)) >>= λ written. value e lanes masked.state >>= λ y. old_values written lanes masked.state >>= λ old. Ok (write written lanes y masked.state))
     run_is x is = ap (λ r. (r >>= λ x. Ok (ToElements (view_of masked.state array) x)) >>= λ written. value e lanes masked.state >>= λ y. old_values written lanes masked.state >>= λ old. Ok (write written lanes y masked.state)) is
 
-    pub index_fails : (fault : Fault) → value index (waiting_in regions i number) masked.state ≡ Err fault → FailsWith p masked fault
+    pub index_fails : (fault : Fault) → value index (waiting_in regions i 0 number) masked.state ≡ Err fault → FailsWith p masked fault
     index_fails fault is = put_fails p variables w regions masked shows i n f number s target next fault (run_is (Err fault) is)
 
-    module _ (x : List ℕ) (index_is : value index (waiting_in regions i number) masked.state ≡ Ok x) where
-      pub element_value_fails : (fault : Fault) → value e (waiting_in regions i number) masked.state ≡ Err fault → FailsWith p masked fault
+    module _ (x : List ℕ) (index_is : value index (waiting_in regions i 0 number) masked.state ≡ Ok x) where
+      pub element_value_fails : (fault : Fault) → value e (waiting_in regions i 0 number) masked.state ≡ Err fault → FailsWith p masked fault
       element_value_fails fault is =
           put_fails p variables w regions masked shows i n f number s target next fault
           (run_is (Ok x) index_is ∙ ap (λ r. r >>= from_view (view_of masked.state array) x) is)
 
-      module _ (y : List ℕ) (value_is : value e (waiting_in regions i number) masked.state ≡ Ok y) where
-        run_to : (old : Result (List ℕ) Fault) → try_each (waiting_in regions i number) (λ k. element masked.state (view_at regions i array) (at x k)) ≡ old
+      module _ (y : List ℕ) (value_is : value e (waiting_in regions i 0 number) masked.state ≡ Ok y) where
+        run_to : (old : Result (List ℕ) Fault) → try_each (waiting_in regions i 0 number) (λ k. element masked.state (view_at regions i array) (at x k)) ≡ old
             → run p s lanes masked.state ≡ (old >>= λ old. Ok (write (ToElements (view_at regions i array) x) lanes y masked.state))
         run_to old is =
             run_is (Ok x) index_is
@@ -79,11 +79,11 @@ module _ (p : Program) (variables : Variables) (w : ℕ) (regions : Regions) (ma
             ∙ ap (λ r. r >>= λ old. Ok (write (ToElements (view_at regions i array) x) lanes y masked.state)) is
 
         -- an element is not there
-        pub missing_fails : (fault : Fault) → try_each (waiting_in regions i number) (λ k. element masked.state (view_at regions i array) (at x k)) ≡ Err fault → FailsWith p masked fault
+        pub missing_fails : (fault : Fault) → try_each (waiting_in regions i 0 number) (λ k. element masked.state (view_at regions i array) (at x k)) ≡ Err fault → FailsWith p masked fault
         missing_fails fault is = put_fails p variables w regions masked shows i n f number s target next fault (run_to (Err fault) is)
 
-        pub stores : (old : List ℕ) → try_each (waiting_in regions i number) (λ k. element masked.state (view_at regions i array) (at x k)) ≡ Ok old
-            → GoesTo p variables w masked (sent_on i (waiting_in regions i number) (λ k. target) (stored_in (view_at regions i array) (waiting_in regions i number) x y regions))
+        pub stores : (old : List ℕ) → try_each (waiting_in regions i 0 number) (λ k. element masked.state (view_at regions i array) (at x k)) ≡ Ok old
+            → GoesTo p variables w masked (sent_on i 0 (waiting_in regions i 0 number) (λ k. target) (stored_in (view_at regions i array) (waiting_in regions i 0 number) x y regions))
         stores old is =
             put_goes p variables w regions masked shows i n f number s target next (write (ToElements (view_at regions i array) x) lanes y masked.state)
             (stored_in (view_at regions i array) lanes x y regions) (run_to (Ok old) is)
@@ -92,7 +92,7 @@ module _ (p : Program) (variables : Variables) (w : ℕ) (regions : Regions) (ma
 
   -- ---- changes: the index, the operand, the old values, the operation
   module _ (number' : StepNumber) (array : VarId) (rate : Rate) (index : Expr) (type : IntType) (op : BinaryOp) (in_type : IntType) (e : Expr) (target : StepNumber)
-      (next : IsNext p regions i n f number (Some (Put (Change number' (ElementOf array rate index) type op in_type e) target))) (there : IsArray variables n array) where
+      (next : IsNext p w regions i 0 n f number (Some (Put (Change number' (ElementOf array rate index) type op in_type e) target))) (there : IsArray variables n array) where
     abbrev c : Stmt
     c = Change number' (ElementOf array rate index) type op in_type e
 
@@ -116,17 +116,17 @@ module _ (p : Program) (variables : Variables) (w : ℕ) (regions : Regions) (ma
         by_index (Ok x) = refl
         by_index (Err fault) = refl
 
-    pub change_index_fails : (fault : Fault) → value index (waiting_in regions i number) masked.state ≡ Err fault → FailsWith p masked fault
+    pub change_index_fails : (fault : Fault) → value index (waiting_in regions i 0 number) masked.state ≡ Err fault → FailsWith p masked fault
     change_index_fails fault is = put_fails p variables w regions masked shows i n f number c target next fault (change_is (Err fault) is)
 
-    module _ (x : List ℕ) (index_is : value index (waiting_in regions i number) masked.state ≡ Ok x) where
-      pub change_operand_fails : (fault : Fault) → value e (waiting_in regions i number) masked.state ≡ Err fault → FailsWith p masked fault
+    module _ (x : List ℕ) (index_is : value index (waiting_in regions i 0 number) masked.state ≡ Ok x) where
+      pub change_operand_fails : (fault : Fault) → value e (waiting_in regions i 0 number) masked.state ≡ Err fault → FailsWith p masked fault
       change_operand_fails fault is =
           put_fails p variables w regions masked shows i n f number c target next fault
           (change_is (Ok x) index_is ∙ ap (λ r. r >>= changed_from (view_of masked.state array) x) is)
 
-      module _ (y : List ℕ) (value_is : value e (waiting_in regions i number) masked.state ≡ Ok y) where
-        change_to : (old : Result (List ℕ) Fault) → try_each (waiting_in regions i number) (λ k. element masked.state (view_at regions i array) (at x k)) ≡ old
+      module _ (y : List ℕ) (value_is : value e (waiting_in regions i 0 number) masked.state ≡ Ok y) where
+        change_to : (old : Result (List ℕ) Fault) → try_each (waiting_in regions i 0 number) (λ k. element masked.state (view_at regions i array) (at x k)) ≡ old
             → run p c lanes masked.state ≡ (old >>= operated_from (view_at regions i array) x y)
         change_to old is =
             change_is (Ok x) index_is
@@ -134,18 +134,18 @@ module _ (p : Program) (variables : Variables) (w : ℕ) (regions : Regions) (ma
             ∙ ap (λ view. changed_from view x y) (array_shown (Some (Put c target)) next array there)
             ∙ ap (λ r. r >>= operated_from (view_at regions i array) x y) is
 
-        pub change_missing_fails : (fault : Fault) → try_each (waiting_in regions i number) (λ k. element masked.state (view_at regions i array) (at x k)) ≡ Err fault → FailsWith p masked fault
+        pub change_missing_fails : (fault : Fault) → try_each (waiting_in regions i 0 number) (λ k. element masked.state (view_at regions i array) (at x k)) ≡ Err fault → FailsWith p masked fault
         change_missing_fails fault is = put_fails p variables w regions masked shows i n f number c target next fault (change_to (Err fault) is)
 
-        module _ (old : List ℕ) (old_is : try_each (waiting_in regions i number) (λ k. element masked.state (view_at regions i array) (at x k)) ≡ Ok old) where
-          pub change_operation_fails : (fault : Fault) → operated (waiting_in regions i number) type op in_type old y ≡ Err fault → FailsWith p masked fault
+        module _ (old : List ℕ) (old_is : try_each (waiting_in regions i 0 number) (λ k. element masked.state (view_at regions i array) (at x k)) ≡ Ok old) where
+          pub change_operation_fails : (fault : Fault) → operated (waiting_in regions i 0 number) type op in_type old y ≡ Err fault → FailsWith p masked fault
           change_operation_fails fault is =
               put_fails p variables w regions masked shows i n f number c target next fault
               (change_to (Ok old) old_is ∙ ap (λ r. r >>= written_by (view_at regions i array) x) is)
 
-          pub element_changes : (r : List ℕ) → operated (waiting_in regions i number) type op in_type old y ≡ Ok r
-              → GoesTo p variables w masked (sent_on i (waiting_in regions i number) (λ k. target)
-              (stored_in (view_at regions i array) (waiting_in regions i number) x (result_words (waiting_in regions i number) type in_type r) regions))
+          pub element_changes : (r : List ℕ) → operated (waiting_in regions i 0 number) type op in_type old y ≡ Ok r
+              → GoesTo p variables w masked (sent_on i 0 (waiting_in regions i 0 number) (λ k. target)
+              (stored_in (view_at regions i array) (waiting_in regions i 0 number) x (result_words (waiting_in regions i 0 number) type in_type r) regions))
           element_changes r is =
               put_goes p variables w regions masked shows i n f number c target next (write (ToElements (view_at regions i array) x) lanes (result_words lanes type in_type r) masked.state)
               (stored_in (view_at regions i array) lanes x (result_words lanes type in_type r) regions)
@@ -154,21 +154,21 @@ module _ (p : Program) (variables : Variables) (w : ℕ) (regions : Regions) (ma
               (depth_away (view_at regions i array).array _ regions ∙ next.depth)
 
   -- ---- `assert`
-  module _ (number' : StepNumber) (e : Expr) (target : StepNumber) (next : IsNext p regions i n f number (Some (Put (Check number' e) target))) where
+  module _ (number' : StepNumber) (e : Expr) (target : StepNumber) (next : IsNext p w regions i 0 n f number (Some (Put (Check number' e) target))) where
     abbrev checking : List ℕ → Result State Fault
     checking c = try_each lanes (λ k. if holds c k then Ok 0 else Err Assert) >>= λ passes. Ok masked.state
 
-    pub check_value_fails : (fault : Fault) → value e (waiting_in regions i number) masked.state ≡ Err fault → FailsWith p masked fault
+    pub check_value_fails : (fault : Fault) → value e (waiting_in regions i 0 number) masked.state ≡ Err fault → FailsWith p masked fault
     check_value_fails fault is = put_fails p variables w regions masked shows i n f number (Check number' e) target next fault (ap (λ r. r >>= checking) is)
 
-    module _ (c : List ℕ) (value_is : value e (waiting_in regions i number) masked.state ≡ Ok c) where
-      pub check_fails : (fault : Fault) → try_each (waiting_in regions i number) (λ k. if holds c k then Ok 0 else Err Assert) ≡ Err fault → FailsWith p masked fault
+    module _ (c : List ℕ) (value_is : value e (waiting_in regions i 0 number) masked.state ≡ Ok c) where
+      pub check_fails : (fault : Fault) → try_each (waiting_in regions i 0 number) (λ k. if holds c k then Ok 0 else Err Assert) ≡ Err fault → FailsWith p masked fault
       check_fails fault is =
           put_fails p variables w regions masked shows i n f number (Check number' e) target next fault
           (ap (λ r. r >>= checking) value_is ∙ ap (λ r. r >>= λ passes. Ok masked.state) is)
 
-      pub checks : (passes : List ℕ) → try_each (waiting_in regions i number) (λ k. if holds c k then Ok 0 else Err Assert) ≡ Ok passes
-          → GoesTo p variables w masked (sent_on i (waiting_in regions i number) (λ k. target) regions)
+      pub checks : (passes : List ℕ) → try_each (waiting_in regions i 0 number) (λ k. if holds c k then Ok 0 else Err Assert) ≡ Ok passes
+          → GoesTo p variables w masked (sent_on i 0 (waiting_in regions i 0 number) (λ k. target) regions)
       checks passes is =
           put_goes p variables w regions masked shows i n f number (Check number' e) target next masked.state regions
           (ap (λ r. r >>= checking) value_is ∙ ap (λ r. r >>= λ passes. Ok masked.state) is) shows next.depth

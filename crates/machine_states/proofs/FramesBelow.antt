@@ -7,14 +7,29 @@ use Rattle.gang_model.specs.Running.Lanes.{at}
 use Rattle.gang_model.specs.Running.State.{Frame, words_of}
 use Rattle.gang_model.specs.Running.Step.{result_rate}
 use Rattle.gang_types.specs.declared.places.VarId.TheVariants.{File, Local}
-use Rattle.mask_states.specs.Points.{closing_number}
+use Rattle.mask_states.specs.Points.{closing_number, points_in}
 use Rattle.mask_states.specs.Masked.{Level}
+use Rattle.machine_states.proofs.InnermostLevels.{levels_shown_same}
+use Rattle.machine_states.specs.Levels.{LevelWords}
 use Rattle.machine_states.specs.Variables.{Variables, own_of, rate_of}
-use Rattle.machine_states.specs.Regions.{FunctionOf, LanesOf, ReturnedOf, NumbersOf, ResultOf, Head, OfHead, OfLocal, Regions, lanes_in}
-use Rattle.machine_states.specs.Shows.{IsScalarIn, ShowsLocal, ShowsView, result_of, body_level, ShowsFrame, ShowsFrames}
+use Rattle.machine_states.specs.Regions.{FunctionOf, LanesOf, ReturnedOf, NumbersOf, ResultOf, Head, OfHead, OfLocal, Regions, lanes_in, LevelOf, OfLevel, OpenOf, EndOf, CountersOf, ValuesOf, LevelPart}
+use Rattle.machine_states.specs.Shows.{IsScalarIn, ShowsLocal, ShowsView, result_of, ShowsFrame, ShowsFrames, level_words}
 use Rattle.machine_states.specs.Steps.{AreSameBelow}
 use Rattle.machine_states.proofs.ArrayViews.{view_same}
 use Rattle.machine_states.proofs.ChangedRegions.{AreFramesSame, HaveSameLengths}
+
+pub same_level_words : (a b : LevelWords) → a.end ≡ b.end → a.numbers ≡ b.numbers → a.counters ≡ b.counters → a.values ≡ b.values → a ≡ b
+same_level_words a b e n c v =
+    ap (λ words. record { end = words; numbers = a.numbers; counters = a.counters; values = a.values }) e
+    ∙ ap (λ words. record { end = b.end; numbers = words; counters = a.counters; values = a.values }) n
+    ∙ ap (λ words. record { end = b.end; numbers = b.numbers; counters = words; values = a.values }) c
+    ∙ ap (λ words. record { end = b.end; numbers = b.numbers; counters = b.counters; values = words }) v
+
+-- the words of each level of a frame are the same
+pub level_words_same : (old new : Regions) (i : ℕ) → ((level : ℕ) (part : LevelPart) → new (OfLevel i level part) ≡ old (OfLevel i level part))
+    → (level : ℕ) → level_words new i level ≡ level_words old i level
+level_words_same old new i same level =
+    same_level_words (level_words new i level) (level_words old i level) (same level EndOf) (same level NumbersOf) (same level CountersOf) (same level ValuesOf)
 
 module _ (p : Program) (variables : Variables) (w : ℕ) (old new : Regions) where
   -- a variable whose region is the same
@@ -38,8 +53,8 @@ module _ (p : Program) (variables : Variables) (w : ℕ) (old new : Regions) whe
     is_function = shown.is_function;
     number = heads FunctionOf ∙ shown.number;
     lanes = shown.lanes ∙ lanes_same i LanesOf (heads LanesOf);
-    waits = shown.waits ∙ ap (λ numbers. body_level (closing_number shown.function) numbers ∷ []) (sym (heads NumbersOf));
-    sized = ap length (heads NumbersOf) ∙ shown.sized;
+    waits = levels_shown_same (points_in shown.function) w (level_words old i) (level_words new i) (old (OfHead i OpenOf)) (new (OfHead i OpenOf)) (closing_number shown.function) levels
+        (level_words_same old new i (λ level part. heads (LevelOf level part))) (heads OpenOf) shown.waits;
     untasked = shown.untasked;
     views = λ k. view_shown lengths i frame k (locals k) (shown.views k);
     locals = λ k. local_same i frame k (locals k) (shown.locals k);

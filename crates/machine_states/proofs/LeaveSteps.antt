@@ -21,10 +21,10 @@ use Rattle.mask_states.proofs.LaneNumbers.{length-waiting_for}
 use Rattle.machine_states.specs.Variables.{Variables}
 use Rattle.machine_states.specs.Plain.{ResultPlain}
 use Rattle.machine_states.specs.ArrayParts.{AreMemory, array_region}
-use Rattle.machine_states.specs.Regions.{FunctionOf, LanesOf, ReturnedOf, NumbersOf, ResultOf, OfFile, OfEntry, Depth, OfHead, OfLocal, Region, Regions, lanes_in, with_region}
+use Rattle.machine_states.specs.Regions.{FunctionOf, LanesOf, ReturnedOf, NumbersOf, ResultOf, OfFile, OfEntry, Depth, OfHead, OfLocal, Region, Regions, lanes_in, with_region, OfLevel}
 use Rattle.machine_states.specs.Shows.{AreSized, result_of, ShowsFrame, ShowsFrames, Shows}
 use Rattle.machine_states.specs.Effects.{sent_on, region_of, declared_region, assigned_region, declared_in, assigned_in, returned_in}
-use Rattle.machine_states.specs.Steps.{IsNext, waiting_in, GoesTo, converted_values, Delivers}
+use Rattle.machine_states.specs.Steps.{IsInnermost, IsNext, waiting_in, GoesTo, converted_values, Delivers}
 use Rattle.machine_states.proofs.ArrayViews.{memory_kept}
 use Rattle.machine_states.proofs.ChangedRegions.{frames_kept}
 use Rattle.machine_states.proofs.FramesBelow.{frames_below}
@@ -56,7 +56,7 @@ entry_left : (p : Program) (type : IntType) (for : ResultFor) (lanes : Lanes) (v
 entry_left p type for lanes values state e = ap (λ r. deliver p type r lanes values state) e
 
 module _ (p : Program) (variables : Variables) (w : ℕ) (regions : Regions) (masked : Masked) (shows : Shows p variables w regions masked)
-    (n : ℕ) (f : Function) (number : StepNumber) (is_next : IsNext p regions 0 n f number None) where
+    (n : ℕ) (f : Function) (number : StepNumber) (is_next : IsNext p w regions 0 0 n f number None) where
   abbrev Ends : List Frame → List (List Level) → (index : ℕ) → Type 0
   Ends frames levels index = index ≡ 0 → length frames ≤ 64
       → (after : Masked) × (step_levels p masked.state.memory frames levels ≡ Goes after) × Shows p variables w (with_region Depth (index ∷ []) regions) after
@@ -104,7 +104,7 @@ HasResult frames Returns = Unit {0}
 -- the number of frames is changed first or last
 module _ (j : ℕ) (sent_lanes : Lanes) (target : ℕ → StepNumber) (depth : List ℕ) (regions : Regions) where
   abbrev DepthLast : (Regions → Regions) → Type 0
-  DepthLast change = (r : Region) → with_region Depth depth (sent_on j sent_lanes target (change regions)) r ≡ sent_on j sent_lanes target (change (with_region Depth depth regions)) r
+  DepthLast change = (r : Region) → with_region Depth depth (sent_on j 0 sent_lanes target (change regions)) r ≡ sent_on j 0 sent_lanes target (change (with_region Depth depth regions)) r
 
   last_kept : DepthLast (λ old. old)
   last_kept (OfFile k) = refl
@@ -150,13 +150,13 @@ module _ (p : Program) (variables : Variables) (w : ℕ) (regions : Regions) (j 
       (sent_lanes : Lanes) (sent_long : length sent_lanes ≡ w) (target : ℕ → StepNumber) where
     abbrev ends_as : (delivered : Regions) → State → Type 0
     ends_as delivered after =
-        Shows p variables w (with_region Depth (suc j ∷ []) (sent_on j sent_lanes target delivered)) (record { state = after; levels = (sent_in sent_lanes target level ∷ []) ∷ rest })
+        Shows p variables w (with_region Depth (suc j ∷ []) (sent_on j 0 sent_lanes target delivered)) (record { state = after; levels = (sent_in sent_lanes target level ∷ []) ∷ rest })
 
     -- the lanes go on after the result is given
     given_on : (change : Regions → Regions) (after : State) → DepthLast j sent_lanes target (suc j ∷ []) regions change → change lowered Depth ≡ suc j ∷ []
         → Shows p variables w (change lowered) (record { state = after; levels = (level ∷ []) ∷ rest }) → ends_as (change regions) after
     given_on change after last depth given =
-        shows_alike p variables w (sent_on j sent_lanes target (change lowered)) (with_region Depth (suc j ∷ []) (sent_on j sent_lanes target (change regions))) last
+        shows_alike p variables w (sent_on j 0 sent_lanes target (change lowered)) (with_region Depth (suc j ∷ []) (sent_on j 0 sent_lanes target (change regions))) last
         (record { state = after; levels = (sent_in sent_lanes target level ∷ []) ∷ rest })
         (sent_shows p variables w j sent_lanes target (change lowered) sent_long after level rest given depth)
 
@@ -197,12 +197,12 @@ same_result : (n n' : ℕ) (args args' : List Arg) (for for' : ResultFor) (next 
 same_result n n' args args' for for' next next' e = cc
 
 module _ (p : Program) (variables : Variables) (w : ℕ) (gang : IsGangWidth w) (regions : Regions) (masked : Masked) (shows : Shows p variables w regions masked) (sized : AreSized variables w regions)
-    (j n m called : ℕ) (f g : Function) (number : StepNumber) (args : List Arg) (for : ResultFor) (next : StepNumber) (is_next : IsNext p regions (suc j) n f number None)
+    (j n m called : ℕ) (f g : Function) (number : StepNumber) (args : List Arg) (for : ResultFor) (next : StepNumber) (is_next : IsNext p w regions (suc j) 0 n f number None)
     (below_runs : regions (OfHead j FunctionOf) ≡ m ∷ []) (is_below : slice_get p.functions m ≡ Some g)
-    (calls : slice_get (points_in g) (least (closing_number g) (regions (OfHead j NumbersOf))) ≡ Some (Enter called args for next)) where
+    (inner : IsInnermost w regions j g 0) (calls : slice_get (points_in g) (least (closing_number g) (regions (OfLevel j 0 NumbersOf))) ≡ Some (Enter called args for next)) where
   -- the step that made the call, the lanes of the call, and the result
   abbrev pub call_number : StepNumber
-  call_number = least (closing_number g) (regions (OfHead j NumbersOf))
+  call_number = least (closing_number g) (regions (OfLevel j 0 NumbersOf))
 
   abbrev pub call_lanes : Lanes
   call_lanes = lanes_in w regions (OfHead (suc j) LanesOf)
@@ -211,7 +211,7 @@ module _ (p : Program) (variables : Variables) (w : ℕ) (gang : IsGangWidth w) 
   result_words = result_of f.result (lanes_in w regions (OfHead (suc j) ReturnedOf)) (regions (OfHead (suc j) ResultOf))
 
   abbrev pub left_regions : Regions → Regions
-  left_regions delivered = with_region Depth (suc j ∷ []) (sent_on j (waiting_in regions j call_number) (λ k. next) delivered)
+  left_regions delivered = with_region Depth (suc j ∷ []) (sent_on j 0 (waiting_in regions j 0 call_number) (λ k. next) delivered)
 
   some_lanes : 0 < w
   some_lanes = ⊎_elim (λ e. omega (arith, e)) (λ h. ⊎_elim (λ e. omega (arith, e)) (λ e. omega (arith, e)) h) gang
@@ -252,8 +252,8 @@ module _ (p : Program) (variables : Variables) (w : ℕ) (gang : IsGangWidth w) 
     lowered_shows = subst (λ k. Shows p variables w (with_region Depth (suc k ∷ []) regions) (record { state = out; levels = (body_of regions j g ∷ []) ∷ rest })) index
         (without_top p variables w regions masked.state.memory frame (below ∷ frames) (body_of regions (suc (length frames)) f ∷ []) ((body_of regions j g ∷ []) ∷ rest) shows.memory few s)
 
-    waiting_long : length (waiting_in regions j call_number) ≡ w
-    waiting_long = length-waiting_for call_number (regions (OfHead j NumbersOf)) ∙ ap (λ k. length (regions (OfHead k NumbersOf))) (sym index) ∙ s.2.0.sized
+    waiting_long : length (waiting_in regions j 0 call_number) ≡ w
+    waiting_long = length-waiting_for call_number (regions (OfLevel j 0 NumbersOf)) ∙ ap (λ k. length (regions (OfLevel k 0 NumbersOf))) (sym index) ∙ s.2.0.waits.body_sized
 
     left_here : (delivered : Regions) → ResultPlain variables m for → HasResult (below ∷ frames) for
         → Delivers w j g for f.result_type call_lanes (seen f.result call_lanes result_words) regions delivered
@@ -263,7 +263,7 @@ module _ (p : Program) (variables : Variables) (w : ℕ) (gang : IsGangWidth w) 
     left_here delivered plain has is =
         let values : List ℕ = seen f.result call_lanes result_words in
         let runs_f : slice_get p.functions frame.function ≡ Some f = ap (slice_get p.functions) runs ∙ is_next.is_function in
-        let on : List Level = sent_in (waiting_in regions j call_number) (λ k. next) (body_of regions j g) ∷ [] in (
+        let on : List Level = sent_in (waiting_in regions j 0 call_number) (λ k. next) (body_of regions j g) ∷ [] in (
           record { state = deliver p f.result_type for call_lanes values out; levels = on ∷ rest },
           step_is p variables w regions masked.state.memory frame (below ∷ frames) ((body_of regions j g ∷ []) ∷ rest) f None runs_f at
               ∙ ap (λ state. Goes (record { state = state; levels = past_calls p (below ∷ frames) ((body_of regions j g ∷ []) ∷ rest) }))
@@ -271,7 +271,7 @@ module _ (p : Program) (variables : Variables) (w : ℕ) (gang : IsGangWidth w) 
               (subst (λ k. ShowsFrame p variables w regions (suc k) frame (body_of regions (suc (length frames)) f ∷ [])) index s.0) runs_f for_is)
               ∙ ap (λ o. Goes (record { state = deliver p f.result_type for call_lanes values out; levels = past_point o (body_of regions j g) [] ∷ rest })) point_below,
           given_shows p variables w regions j m g some_lanes below_runs is_below sized out (body_of regions j g) rest lowered_shows f.result_type call_lanes values
-              (length-lanes_of_word w (word_at (regions (OfHead (suc j) LanesOf)) 0)) (waiting_in regions j call_number) waiting_long (λ k. next) for delivered plain has is,
+              (length-lanes_of_word w (word_at (regions (OfHead (suc j) LanesOf)) 0)) (waiting_in regions j 0 call_number) waiting_long (λ k. next) for delivered plain has is,
         )
 
   leaves_at : (frame : Frame) (frames : List Frame) (rest : List (List Level)) → frame.function ≡ n
@@ -285,7 +285,7 @@ module _ (p : Program) (variables : Variables) (w : ℕ) (gang : IsGangWidth w) 
       let runs_g : slice_get p.functions below.function ≡ Some g =
       ap (slice_get p.functions) (same_word (regions (OfHead j FunctionOf)) below.function m (ap (λ k. regions (OfHead k FunctionOf)) (sym lower) ∙ s.2.0.number) below_runs) ∙ is_below in
       let waits : levels ≡ body_of regions j g ∷ [] =
-      levels_are p variables w regions (length frames) below levels g s.2.0 runs_g ∙ ap (λ k. body_of regions k g ∷ []) lower in
+      levels_are p variables w regions (length frames) below levels g s.2.0 runs_g (subst (λ k. IsInnermost w regions k g 0) (sym lower) inner) ∙ ap (λ k. body_of regions k g ∷ []) lower in
       subst (λ ls. (after : Masked)
       × (step_levels p masked.state.memory (frame ∷ below ∷ frames) ((body_of regions (suc (length frames)) f ∷ []) ∷ ls ∷ rest) ≡ Goes after)
       × Shows p variables w (left_regions delivered) after) (sym waits)

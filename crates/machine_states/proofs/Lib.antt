@@ -7,7 +7,7 @@ mod CellRows
 pub mod Cells
 pub mod ChangedRegions
 pub mod ArrayViews
-pub mod DeclaredLevels
+pub mod AwaitedLevels
 pub mod DeclaredLists
 pub mod DeclaredNames
 pub mod DeclaredPoints
@@ -15,8 +15,13 @@ pub mod DeclaredSteps
 pub mod EachLane
 pub mod Endings
 pub mod FramesBelow
+pub mod InnermostLevels
 pub mod LeaveSteps
+mod LevelRows
+pub mod NestedPoints
+mod NestedRows
 pub mod NextPoints
+pub mod PlainLevels
 pub mod PlainPoints
 pub mod Pokes
 pub mod PutSteps
@@ -32,3 +37,6 @@ pub mod StoredElements
 pub mod ElementSteps
 pub mod DeliveredResults
 pub mod PackedSteps
+pub mod KeptViews
+pub mod GivenRows
+pub mod DeclaredRows

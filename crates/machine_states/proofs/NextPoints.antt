@@ -6,10 +6,12 @@ use Rattle.gang_model.specs.Running.State.{Store, Frame}
 use Rattle.mask_states.specs.Points.{Point, points_in, closing_number}
 use Rattle.mask_states.specs.Masked.{Level, Masked, next_in}
 use Rattle.mask_states.specs.MaskedStep.{untasked_frame, points_at, points_for, step_point, step_levels}
+use Rattle.machine_states.proofs.InnermostLevels.{body_shown}
+use Rattle.machine_states.specs.Levels.{LevelsWords, ShowsLevels, body_level}
 use Rattle.machine_states.specs.Variables.{Variables}
-use Rattle.machine_states.specs.Regions.{FunctionOf, NumbersOf, Depth, OfHead, Regions}
-use Rattle.machine_states.specs.Shows.{body_level, ShowsFrame, ShowsFrames, Shows}
-use Rattle.machine_states.specs.Steps.{IsNext}
+use Rattle.machine_states.specs.Regions.{FunctionOf, OpenOf, NumbersOf, Depth, OfHead, OfLevel, Regions}
+use Rattle.machine_states.specs.Shows.{level_words, ShowsFrame, ShowsFrames, Shows}
+use Rattle.machine_states.specs.Steps.{IsNext, IsInnermost}
 
 -- the one word of a region
 pub same_word : (words : List ℕ) (m n : ℕ) → words ≡ m ∷ [] → words ≡ n ∷ [] → m ≡ n
@@ -26,7 +28,7 @@ same_function f g o e h = some_same f g (sym e ∙ h)
 
 -- what lanes of the body of a frame's function wait for
 abbrev pub body_of : Regions → (index : ℕ) → Function → Level
-body_of regions index f = body_level (closing_number f) (regions (OfHead index NumbersOf))
+body_of regions index f = body_level (closing_number f) (regions (OfLevel index 0 NumbersOf))
 
 module _ (p : Program) (variables : Variables) (w : ℕ) (regions : Regions) where
   -- frames that show have no task
@@ -37,11 +39,16 @@ module _ (p : Program) (variables : Variables) (w : ℕ) (regions : Regions) whe
       ap (λ tasks. record frame { tasks = tasks } ∷ map untasked_frame frames) (sym s.0.untasked)
       ∙ ap (λ others. frame ∷ others) (frames_untasked frames rest s.2)
 
-  -- a frame's lanes wait in the body of the function that it runs
+  -- a frame's lanes wait in the body of the function that it runs, where all forms are over
   pub levels_are : (index : ℕ) (frame : Frame) (levels : List Level) (f : Function) → ShowsFrame p variables w regions index frame levels
-      → slice_get p.functions frame.function ≡ Some f → levels ≡ body_of regions index f ∷ []
-  levels_are index frame levels f s is =
-      s.waits ∙ ap (λ g. body_of regions index g ∷ []) (same_function s.function f (slice_get p.functions frame.function) s.is_function is)
+      → slice_get p.functions frame.function ≡ Some f → IsInnermost w regions index f 0 → levels ≡ body_of regions index f ∷ []
+  levels_are index frame levels f s is inner =
+      let words : LevelsWords = level_words regions index in
+      let begun : List ℕ = regions (OfHead index OpenOf) in
+      let shown : ShowsLevels (points_in f) w words begun (closing_number f) levels =
+      subst (λ g. ShowsLevels (points_in g) w words begun (closing_number g) levels) (same_function s.function f (slice_get p.functions frame.function) s.is_function is) s.waits in
+      let at_body = inner shown.forms shown.are shown.counted in
+      body_shown (points_in f) w words begun (closing_number f) levels shown at_body.0 at_body.1
 
   -- the step at the least number that a lane waits for
   pub point_is : (index : ℕ) (frame : Frame) (f : Function) → slice_get p.functions frame.function ≡ Some f → (point : Option Point)
@@ -57,7 +64,7 @@ module _ (p : Program) (variables : Variables) (w : ℕ) (regions : Regions) whe
       ap (λ o. step_point p memory frames frame o (body_of regions (length frames) f) [] rest) (point_is (length frames) frame f is point e)
 
 -- What is proved of a top frame whose lanes wait in its function's body, for the least number there, holds of the next step.
-module _ (p : Program) (variables : Variables) (w : ℕ) (regions : Regions) (i n : ℕ) (f : Function) (number : StepNumber) (point : Option Point) (next : IsNext p regions i n f number point)
+module _ (p : Program) (variables : Variables) (w : ℕ) (regions : Regions) (i n : ℕ) (f : Function) (number : StepNumber) (point : Option Point) (next : IsNext p w regions i 0 n f number point)
     (Q : List Frame → List (List Level) → (index : ℕ) → StepNumber → Type 0) where
   abbrev pub HoldsOnTop : Type 0
   HoldsOnTop = (frame : Frame) (frames : List Frame) (rest : List (List Level)) → frame.function ≡ n
@@ -75,7 +82,7 @@ module _ (p : Program) (variables : Variables) (w : ℕ) (regions : Regions) (i 
       let body : Level = body_of regions (length frames) f in
       let runs : frame.function ≡ n = same_word (regions (OfHead i FunctionOf)) frame.function n (ap (λ k. regions (OfHead k FunctionOf)) (sym index) ∙ s.0.number) next.function in
       let is : slice_get p.functions frame.function ≡ Some f = ap (slice_get p.functions) runs ∙ next.is_function in
-      let waits : levels ≡ body ∷ [] = levels_are p variables w regions (length frames) frame levels f s.0 is in
+      let waits : levels ≡ body ∷ [] = levels_are p variables w regions (length frames) frame levels f s.0 is (subst (λ k. IsInnermost w regions k f 0) (sym index) next.innermost) in
       let least_is : number ≡ next_in body = next.least_number ∙ ap (λ k. next_in (body_of regions k f)) (sym index) in
       subst (λ k. Q (frame ∷ frames) (levels ∷ rest) k number) index
       (subst (λ m. Q (frame ∷ frames) (levels ∷ rest) (length frames) m) (sym least_is)

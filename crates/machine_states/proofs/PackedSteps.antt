@@ -67,17 +67,17 @@ depth_of_own j (Local k) words regions = refl
 
 module _ (p : Program) (variables : Variables) (w : ℕ) (regions : Regions) (masked : Masked) (shows : Shows p variables w regions masked) (i n : ℕ) (f : Function) (number : StepNumber) where
   abbrev lanes : Lanes
-  lanes = waiting_in regions i number
+  lanes = waiting_in regions i 0 number
 
   abbrev pub ranks : List ℕ
-  ranks = each (waiting_in regions i number) (rank (waiting_in regions i number))
+  ranks = each (waiting_in regions i 0 number) (rank (waiting_in regions i 0 number))
 
   abbrev pub counts : List ℕ
-  counts = each (waiting_in regions i number) (λ k. length (members (waiting_in regions i number)))
+  counts = each (waiting_in regions i 0 number) (λ k. length (members (waiting_in regions i 0 number)))
 
   -- ---- stores
   module _ (number' : StepNumber) (array : VarId) (from : Option Expr) (e : Expr) (for : ResultFor) (target : StepNumber)
-      (next : IsNext p regions i n f number (Some (Put (PackedStore number' array from e for) target))) (there : IsArray variables n array) where
+      (next : IsNext p w regions i 0 n f number (Some (Put (PackedStore number' array from e for) target))) (there : IsArray variables n array) where
     abbrev s : Stmt
     s = PackedStore number' array from e for
 
@@ -90,29 +90,29 @@ module _ (p : Program) (variables : Variables) (w : ℕ) (regions : Regions) (ma
     abbrev from_view : View → Result State Fault
     from_view view = value e lanes masked.state >>= packed_from view
 
-    run_is : (view : Result View Fault) → part from (view_at regions i array) (waiting_in regions i number) masked.state ≡ view → run p s lanes masked.state ≡ (view >>= from_view)
+    run_is : (view : Result View Fault) → part from (view_at regions i array) (waiting_in regions i 0 number) masked.state ≡ view → run p s lanes masked.state ≡ (view >>= from_view)
     run_is view is =
         ap (λ v. part from v lanes masked.state >>= from_view) (array_shown p variables w regions masked shows i n f number (Some (Put s target)) next array there)
         ∙ ap (λ r. r >>= from_view) is
 
-    pub part_fails : (fault : Fault) → part from (view_at regions i array) (waiting_in regions i number) masked.state ≡ Err fault → FailsWith p masked fault
+    pub part_fails : (fault : Fault) → part from (view_at regions i array) (waiting_in regions i 0 number) masked.state ≡ Err fault → FailsWith p masked fault
     part_fails fault is = put_fails p variables w regions masked shows i n f number s target next fault (run_is (Err fault) is)
 
-    module _ (view : View) (view_is : part from (view_at regions i array) (waiting_in regions i number) masked.state ≡ Ok view) where
-      pub pack_value_fails : (fault : Fault) → value e (waiting_in regions i number) masked.state ≡ Err fault → FailsWith p masked fault
+    module _ (view : View) (view_is : part from (view_at regions i array) (waiting_in regions i 0 number) masked.state ≡ Ok view) where
+      pub pack_value_fails : (fault : Fault) → value e (waiting_in regions i 0 number) masked.state ≡ Err fault → FailsWith p masked fault
       pack_value_fails fault is = put_fails p variables w regions masked shows i n f number s target next fault (run_is (Ok view) view_is ∙ ap (λ r. r >>= packed_from view) is)
 
-      module _ (x : List ℕ) (value_is : value e (waiting_in regions i number) masked.state ≡ Ok x) where
-        pub rank_fails : (fault : Fault) → try_each (waiting_in regions i number) (λ k. element masked.state view (rank (waiting_in regions i number) k)) ≡ Err fault → FailsWith p masked fault
+      module _ (x : List ℕ) (value_is : value e (waiting_in regions i 0 number) masked.state ≡ Ok x) where
+        pub rank_fails : (fault : Fault) → try_each (waiting_in regions i 0 number) (λ k. element masked.state view (rank (waiting_in regions i 0 number) k)) ≡ Err fault → FailsWith p masked fault
         rank_fails fault is =
             put_fails p variables w regions masked shows i n f number s target next fault
             (run_is (Ok view) view_is ∙ ap (λ r. r >>= packed_from view) value_is ∙ ap (λ r. r >>= stored_to view x) is)
 
         -- the elements are stored to, and then the count is given
-        pub packs : (found : List ℕ) → try_each (waiting_in regions i number) (λ k. element masked.state view (rank (waiting_in regions i number) k)) ≡ Ok found
+        pub packs : (found : List ℕ) → try_each (waiting_in regions i 0 number) (λ k. element masked.state view (rank (waiting_in regions i 0 number) k)) ≡ Ok found
             → AreSized variables w regions → ResultPlain variables n for → HasResult masked.state.frames for
-            → (delivered : Regions) → Delivers w i f for Int32 (waiting_in regions i number) counts (stored_in view (waiting_in regions i number) ranks x regions) delivered
-            → GoesTo p variables w masked (sent_on i (waiting_in regions i number) (λ k. target) delivered)
+            → (delivered : Regions) → Delivers w i f for Int32 (waiting_in regions i 0 number) counts (stored_in view (waiting_in regions i 0 number) ranks x regions) delivered
+            → GoesTo p variables w masked (sent_on i 0 (waiting_in regions i 0 number) (λ k. target) delivered)
         packs found is sized plain has delivered gives =
             let stored : Regions = stored_in view lanes ranks x regions in
             let after : List ℕ = stored_region view lanes ranks x (regions (array_region view.array)) in
@@ -127,7 +127,7 @@ module _ (p : Program) (variables : Variables) (w : ℕ) (regions : Regions) (ma
 
   -- ---- loads
   module _ (number' : StepNumber) (array : VarId) (from : Option Expr) (x : Var) (for : ResultFor) (target : StepNumber)
-      (next : IsNext p regions i n f number (Some (Put (PackedLoad number' array from x for) target))) (there : IsArray variables n array) where
+      (next : IsNext p w regions i 0 n f number (Some (Put (PackedLoad number' array from x for) target))) (there : IsArray variables n array) where
     abbrev l : Stmt
     l = PackedLoad number' array from x for
 
@@ -137,24 +137,24 @@ module _ (p : Program) (variables : Variables) (w : ℕ) (regions : Regions) (ma
     abbrev load_from : View → Result State Fault
     load_from view = try_each lanes (λ k. element masked.state view (rank lanes k)) >>= loaded_to
 
-    load_is : (view : Result View Fault) → part from (view_at regions i array) (waiting_in regions i number) masked.state ≡ view → run p l lanes masked.state ≡ (view >>= load_from)
+    load_is : (view : Result View Fault) → part from (view_at regions i array) (waiting_in regions i 0 number) masked.state ≡ view → run p l lanes masked.state ≡ (view >>= load_from)
     load_is view is =
         ap (λ v. part from v lanes masked.state >>= load_from) (array_shown p variables w regions masked shows i n f number (Some (Put l target)) next array there)
         ∙ ap (λ r. r >>= load_from) is
 
-    pub load_part_fails : (fault : Fault) → part from (view_at regions i array) (waiting_in regions i number) masked.state ≡ Err fault → FailsWith p masked fault
+    pub load_part_fails : (fault : Fault) → part from (view_at regions i array) (waiting_in regions i 0 number) masked.state ≡ Err fault → FailsWith p masked fault
     load_part_fails fault is = put_fails p variables w regions masked shows i n f number l target next fault (load_is (Err fault) is)
 
-    module _ (view : View) (view_is : part from (view_at regions i array) (waiting_in regions i number) masked.state ≡ Ok view) where
-      pub load_rank_fails : (fault : Fault) → try_each (waiting_in regions i number) (λ k. element masked.state view (rank (waiting_in regions i number) k)) ≡ Err fault → FailsWith p masked fault
+    module _ (view : View) (view_is : part from (view_at regions i array) (waiting_in regions i 0 number) masked.state ≡ Ok view) where
+      pub load_rank_fails : (fault : Fault) → try_each (waiting_in regions i 0 number) (λ k. element masked.state view (rank (waiting_in regions i 0 number) k)) ≡ Err fault → FailsWith p masked fault
       load_rank_fails fault is = put_fails p variables w regions masked shows i n f number l target next fault (load_is (Ok view) view_is ∙ ap (λ r. r >>= loaded_to) is)
 
       -- the variable has the elements, and then the count is given
-      pub unpacks : (found : List ℕ) → try_each (waiting_in regions i number) (λ k. element masked.state view (rank (waiting_in regions i number) k)) ≡ Ok found
+      pub unpacks : (found : List ℕ) → try_each (waiting_in regions i 0 number) (λ k. element masked.state view (rank (waiting_in regions i 0 number) k)) ≡ Ok found
           → AreSized variables w regions → IsScalar variables n x → HasVariable masked.state.frames x.id → ResultPlain variables n for → HasResult masked.state.frames for
-          → length (assigned_region x.rate (waiting_in regions i number) found (regions (region_of i x.id))) ≡ length (regions (region_of i x.id))
-          → (delivered : Regions) → Delivers w i f for Int32 (waiting_in regions i number) counts (assigned_in i x.id x.rate (waiting_in regions i number) found regions) delivered
-          → GoesTo p variables w masked (sent_on i (waiting_in regions i number) (λ k. target) delivered)
+          → length (assigned_region x.rate (waiting_in regions i 0 number) found (regions (region_of i x.id))) ≡ length (regions (region_of i x.id))
+          → (delivered : Regions) → Delivers w i f for Int32 (waiting_in regions i 0 number) counts (assigned_in i x.id x.rate (waiting_in regions i 0 number) found regions) delivered
+          → GoesTo p variables w masked (sent_on i 0 (waiting_in regions i 0 number) (λ k. target) delivered)
       unpacks found is sized scalar there plain has same delivered gives =
           let after : List ℕ = assigned_region x.rate lanes found (regions (region_of i x.id)) in
           let assigned : Regions = assigned_in i x.id x.rate lanes found regions in

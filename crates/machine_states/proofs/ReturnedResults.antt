@@ -14,20 +14,21 @@ use Rattle.gang_model.specs.Running.State.{Store, Frame, on_top, assigned_words}
 use Rattle.gang_model.specs.Running.Step.{leaves_task, returned, result_rate, rate_of}
 use Rattle.gang_model.proofs.LaneWords.{length-each}
 use Rattle.gang_model.proofs.UniformValues.{at-each}
-use Rattle.mask_states.specs.Points.{closing_number}
+use Rattle.mask_states.specs.Points.{closing_number, points_in}
 use Rattle.mask_states.specs.Masked.{Level, Masked}
 use Rattle.mask_states.proofs.OwnTasks.{by_bool, none_true}
 use Rattle.mask_states.proofs.LaneNumbers.{at-merged_in, at-merged_out}
 use Rattle.gang_model.proofs.LaneWords.{length-merged}
+use Rattle.machine_states.proofs.InnermostLevels.{levels_shown_same}
 use Rattle.machine_states.specs.Variables.{Variables}
-use Rattle.machine_states.specs.Regions.{FunctionOf, LanesOf, ReturnedOf, NumbersOf, ResultOf, Head, Depth, OfHead, Regions, same_head, lanes_in, with_region}
-use Rattle.machine_states.specs.Shows.{body_level, result_of, ShowsFrame, ShowsCall, Shows}
+use Rattle.machine_states.specs.Regions.{FunctionOf, LanesOf, ReturnedOf, ResultOf, Head, Depth, OfHead, Regions, same_head, lanes_in, with_region, LevelOf, OpenOf}
+use Rattle.machine_states.specs.Shows.{result_of, ShowsFrame, ShowsCall, Shows, level_words}
 use Rattle.machine_states.specs.Effects.{assigned_region, returned_in}
 use Rattle.machine_states.specs.Steps.{KeepsBoth}
 use Rattle.machine_states.proofs.EachLane.{at-each_out}
 use Rattle.machine_states.proofs.ArrayViews.{memory_kept}
 use Rattle.machine_states.proofs.ChangedRegions.{HaveSameLengths, region_here, part_away, frames_kept, lengths_kept}
-use Rattle.machine_states.proofs.FramesBelow.{lanes_same, frames_below, view_shown}
+use Rattle.machine_states.proofs.FramesBelow.{level_words_same, lanes_same, frames_below, view_shown}
 use Rattle.machine_states.proofs.NextPoints.{same_word}
 
 -- ---- the result
@@ -149,8 +150,8 @@ module _ (p : Program) (variables : Variables) (w i n : ℕ) (f : Function) (lan
           is_function = shown.is_function;
           number = part_kept FunctionOf refl refl ∙ shown.number;
           lanes = shown.lanes ∙ lanes_same p variables w old new i LanesOf (part_kept LanesOf refl refl);
-          waits = shown.waits ∙ ap (λ numbers. body_level (closing_number shown.function) numbers ∷ []) (sym (part_kept NumbersOf refl refl));
-          sized = ap length (part_kept NumbersOf refl refl) ∙ shown.sized;
+          waits = levels_shown_same (points_in shown.function) w (level_words old i) (level_words new i) (old (OfHead i OpenOf)) (new (OfHead i OpenOf)) (closing_number shown.function) levels
+              (level_words_same old new i (λ level part. part_kept (LevelOf level part) refl refl)) (part_kept OpenOf refl refl) shown.waits;
           untasked = ap (map (leaves_task lanes)) shown.untasked;
           views = λ k. view_shown p variables w old new lengths_same i frame k refl (shown.views k);
           locals = shown.locals;

@@ -108,7 +108,6 @@ module _ (p : Program) (variables : Variables) (w i n : ℕ) (old : Regions) whe
       number = shown.number;
       lanes = shown.lanes;
       waits = shown.waits;
-      sized = shown.sized;
       untasked = shown.untasked;
       views = views_written frame function shown.views;
       locals = local_written frame function shown.locals;

@@ -4,7 +4,8 @@ use Rattle.gang_model.specs.Types.Tree.{Return, Check, PackedStore, PackedLoad, 
 use Rattle.mask_states.specs.Points.{Point, Put, Go, Branch, Choose, Begin, Turn, Enter, points_in}
 
 -- A scalar, the numbers of the steps that lanes wait for, and each parameter of a call have at most a word for each lane. A `return`
--- also sets which lanes have returned, and a call the function, its lanes, those of them that have returned and the number of frames.
+-- also sets which lanes have returned, and a call the function, its lanes, those of them that have returned, that no form is under way,
+-- and the number of frames.
 -- The foreach forms, of at most three dimensions, also set their counters.
 abbrev pub words_set : (width : ℕ) → Point → ℕ
 words_set width (Put (Return number e) next) = 2 * width + 1
@@ -17,7 +18,7 @@ words_set width (Branch test yes' no') = width
 words_set width (Choose selector segments entries next) = width
 words_set width (Begin form rounds next) = 3 * width + 11
 words_set width (Turn body) = 4 * width + 3
-words_set width (Enter function args result_for next) = length args * width + width + 4
+words_set width (Enter function args result_for next) = length args * width + width + 5
 
 -- leaving a frame: its result in a variable or in the frame below, with which lanes have returned; the numbers of the lanes of the call;
 -- and the number of frames

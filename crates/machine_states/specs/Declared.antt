@@ -1,11 +1,13 @@
 -- Which of its variables a frame has declared where it stands: each lane that waits for a step has passed their declarations.
-use Rattle.std.specs.Prelude.{◌≡◌, ℕ, suc, zero, ◌<◌, Bool, true, false, ◌||◌, ◌⊎◌, List, [], ◌∷◌, ◌++◌, All, Option, Some, None, slice_get, slice_index_or, if◌then◌else◌}
+use Rattle.std.specs.Prelude.{◌≡◌, ℕ, suc, zero, Bool, true, false, ◌||◌, ◌⊎◌, List, [], ◌∷◌, ◌++◌, All, Option, Some, None, flat_map, slice_get, slice_index_or, if◌then◌else◌}
 use Rattle.gang_types.specs.declared.places.VarId.{VarId}
 use Rattle.gang_types.specs.declared.places.VarId.TheVariants.{File, Local}
 use Rattle.gang_model.specs.Running.State.{Frame, Store, same_id}
-use Rattle.gang_model.specs.Types.Tree.{StepNumber, Expr, Read, Element, Unary, Binary, Convert, And, Or, Choice, Reduce, Scan, OfOne, OfTwo, Extract, Insert, Rotate, Shift, Shuffle, ShuffleTwo, Select, Target, Scalar, ElementOf, Arg, Value, Array, ResultFor, Declares, Assigns, Returns, Stmt, Empty, Then, Declare, Assign, Change, If, Loop, BodyFirst, Return, Switch, Segment, ForEach, Call, Check, PackedStore, PackedLoad, Variable, Standing, Function, Program}
-use Rattle.mask_states.specs.Masked.{Level, Masked, next_in}
+use Rattle.gang_model.specs.Types.Tree.{StepNumber, Expr, Read, Element, Unary, Binary, Convert, And, Or, Choice, Reduce, Scan, OfOne, OfTwo, Extract, Insert, Rotate, Shift, Shuffle, ShuffleTwo, Select, Target, Scalar, ElementOf, Arg, Value, Array, ResultFor, Declares, Assigns, Returns, Dimension, RoundsOf, Rows, Tiles, EachLane, EachValue, Stmt, Empty, Then, Declare, Assign, Change, If, Loop, BodyFirst, Return, Switch, Segment, ForEach, Call, Check, PackedStore, PackedLoad, Variable, Standing, Function, Program}
+use Rattle.mask_states.specs.Masked.{Level, Masked}
 use Rattle.machine_states.specs.Variables.{Variables, is_array_of, own_of, parameters_of}
+use Rattle.machine_states.specs.Nesting.{nested_at}
+use Rattle.machine_states.specs.Awaited.{LevelsHold}
 
 -- ---- the tree
 
@@ -69,6 +71,24 @@ abbrev pub declared_by_result : ResultFor → List ℕ
 declared_by_result (Declares x) = own_number x.id
 declared_by_result result_for = []
 
+-- the bounds and the values that the head of a foreach form reads
+abbrev pub DimensionsDeclared : (declared : List ℕ) → List Dimension → Type 0
+DimensionsDeclared d [] = Unit {0}
+DimensionsDeclared d (dimension ∷ dimensions) = NamesDeclared d dimension.low × NamesDeclared d dimension.high × DimensionsDeclared d dimensions
+
+abbrev pub FormDeclared : (declared : List ℕ) → RoundsOf → Type 0
+FormDeclared d (Rows dimensions) = DimensionsDeclared d dimensions
+FormDeclared d (Tiles dimensions) = DimensionsDeclared d dimensions
+FormDeclared d (EachLane x) = Unit {0}
+FormDeclared d (EachValue x e) = NamesDeclared d e
+
+-- the index variables of a form, which each of its rounds declares
+abbrev pub declared_by_form : RoundsOf → List ℕ
+declared_by_form (Rows dimensions) = flat_map (λ dimension. own_number dimension.index.id) dimensions
+declared_by_form (Tiles dimensions) = flat_map (λ dimension. own_number dimension.index.id) dimensions
+declared_by_form (EachLane x) = own_number x.id
+declared_by_form (EachValue x e) = own_number x.id
+
 -- the variables that a statement has declared for each lane that goes on behind it
 abbrev pub declared_by : Stmt → List ℕ
 declared_by (Then first rest) = declared_by rest ++ declared_by first
@@ -114,13 +134,14 @@ DeclaresFirst d (If number test first other) = NamesDeclared d test × DeclaresF
 DeclaresFirst d (Loop number test update body) = NamesDeclared d test × DeclaresFirst d update × DeclaresFirst d body
 DeclaresFirst d (BodyFirst number test body) = NamesDeclared d test × DeclaresFirst d body
 DeclaresFirst d (Return number e) = OptionDeclared d e
+DeclaresFirst d (ForEach number form body) = FormDeclared d form × DeclaresFirst (declared_by_form form ++ d) body
 DeclaresFirst d (Call number called args result_for) = ArgsDeclared d args × ResultDeclared d result_for
 DeclaresFirst d (Check number e) = NamesDeclared d e
 DeclaresFirst d (PackedStore number array from e result_for) = OptionDeclared d from × NamesDeclared d e × ResultDeclared d result_for
 DeclaresFirst d (PackedLoad number array from x result_for) = OptionDeclared d from × IsThere d x.id × ResultDeclared d result_for
 DeclaresFirst d s = Unit {0}
 
--- for each step of a statement, in running order, what is declared before it
+-- for each step of a statement, in running order, what is declared before it; a form's index variables are declared in its body alone
 abbrev pub declared_at : (declared : List ℕ) → Stmt → List (List ℕ)
 declared_at d Empty = []
 declared_at d (Then first rest) = declared_at d first ++ declared_at (declared_by first ++ d) rest
@@ -129,7 +150,7 @@ declared_at d (Loop number test update body) = declared_at d body ++ (declared_a
 declared_at d (BodyFirst number test body) = declared_at d body ++ d ∷ []
 declared_at d (Switch number e segments) = d ∷ declared_at d segments
 declared_at d (Segment label body rest) = declared_at d body ++ declared_at d rest
-declared_at d (ForEach number form body) = d ∷ (declared_at d body ++ d ∷ [])
+declared_at d (ForEach number form body) = d ∷ (declared_at (declared_by_form form ++ d) body ++ d ∷ [])
 declared_at d s = d ∷ []
 
 -- ---- functions
@@ -178,17 +199,18 @@ has_entry (entry ∷ store) v = same_id entry.0 v || has_entry store v
 abbrev pub HasAll : List ℕ → Store → Type 0
 HasAll d store = (k : ℕ) → IsAmong k d → has_entry store (Local k) ≡ true
 
--- a frame's variables are all that is declared before the steps that lanes wait for in a level. The lanes that are not in the call wait at
--- its end from the beginning, so what is declared there is asked for once all lanes wait there.
-pub record LevelDeclared (declared : StepNumber → List ℕ) (vars : Store) (level : Level) : Type 0 where
-  pub waits : (lane : ℕ) (number : StepNumber) → slice_get level.numbers lane ≡ Some number → number < level.end → HasAll (declared number) vars
-  pub ends : next_in level ≡ level.end → HasAll (declared level.end) vars
+-- a step of the n-th function that a lane may wait for in a level with so many below it: a frame with these variables has all that is
+-- declared before the step, and the step stands in so many foreach forms
+pub record IsAwaited (variables : Variables) (n : ℕ) (f : Function) (vars : Store) (depth : ℕ) (number : StepNumber) : Type 0 where
+  pub has_all : HasAll (declared_before variables n f number) vars
+  pub nested : nested_at f number ≡ depth
 
+-- a frame's lanes wait for such steps alone
 abbrev pub FrameDeclared : Variables → Program → Frame → List Level → Type 0
 FrameDeclared variables p frame levels =
-    (f : Function) → slice_get p.functions frame.function ≡ Some f → All (LevelDeclared (declared_before variables frame.function f) frame.vars) levels
+    (f : Function) → slice_get p.functions frame.function ≡ Some f → LevelsHold (IsAwaited variables frame.function f frame.vars) f levels
 
--- so has each frame
+-- so do those of each frame
 abbrev pub FramesDeclared : Variables → Program → List Frame → List (List Level) → Type 0
 FramesDeclared variables p [] levels = Unit {0}
 FramesDeclared variables p (frame ∷ frames) [] = Unit {0}

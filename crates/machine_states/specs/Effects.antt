@@ -11,11 +11,11 @@ use Rattle.gang_model.specs.Running.Step.{scattered_from}
 use Rattle.gang_model.specs.Types.Tree.{StepNumber}
 use Rattle.mask_states.specs.Masked.{sent}
 use Rattle.machine_states.specs.ArrayParts.{array_region}
-use Rattle.machine_states.specs.Regions.{ReturnedOf, NumbersOf, ResultOf, OfFile, OfHead, OfLocal, Region, Regions, with_region}
+use Rattle.machine_states.specs.Regions.{ReturnedOf, NumbersOf, ResultOf, OfFile, OfHead, OfLevel, OfLocal, Region, Regions, with_region}
 
--- lanes of a frame wait for other steps
-abbrev pub sent_on : (frame : ℕ) → Lanes → (target : ℕ → StepNumber) → Regions → Regions
-sent_on frame lanes target regions = with_region (OfHead frame NumbersOf) (sent lanes target (regions (OfHead frame NumbersOf))) regions
+-- lanes of a level of a frame wait for other steps
+abbrev pub sent_on : (frame level : ℕ) → Lanes → (target : ℕ → StepNumber) → Regions → Regions
+sent_on frame level lanes target regions = with_region (OfLevel frame level NumbersOf) (sent lanes target (regions (OfLevel frame level NumbersOf))) regions
 
 -- where a variable stands, of the file's or of a frame's
 abbrev pub region_of : (frame : ℕ) → VarId → Region

@@ -1,9 +1,14 @@
 pub mod Regions
 pub mod ArrayParts
 pub mod Variables
+pub mod EntryParameters
 pub mod Plain
+pub mod Nesting
+pub mod Awaited
 pub mod Declared
+pub mod Levels
 pub mod Shows
 pub mod Effects
 pub mod Steps
 pub mod Cells
+pub mod GivenRows

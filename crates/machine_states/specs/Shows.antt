@@ -10,14 +10,15 @@ use Rattle.gang_model.specs.Running.Lanes.{at, each}
 use Rattle.gang_model.specs.Running.State.{Frame, View, view_in, words_of, words_for}
 use Rattle.gang_model.specs.Running.Step.{result_rate}
 use Rattle.gang_model.specs.Types.Tree.{StepNumber, Arg, Nothing, Variable, Function, Program}
-use Rattle.mask_states.specs.Points.{Enter, closing_number}
+use Rattle.mask_states.specs.Points.{Enter, closing_number, points_in}
 use Rattle.mask_states.specs.Placed.{HasPoint}
 use Rattle.mask_states.specs.Masked.{Level, Masked, next_in}
 use Rattle.mask_states.specs.MaskedStep.{points_for}
 use Rattle.machine_states.specs.Variables.{Variables, is_array_of, own_of, rate_of}
 use Rattle.machine_states.specs.Declared.{has_entry}
 use Rattle.machine_states.specs.ArrayParts.{AreMemory, view_at}
-use Rattle.machine_states.specs.Regions.{FunctionOf, LanesOf, ReturnedOf, NumbersOf, ResultOf, OfFile, Depth, OfHead, OfLocal, Regions, lanes_in}
+use Rattle.machine_states.specs.Regions.{FunctionOf, LanesOf, ReturnedOf, ResultOf, OpenOf, NumbersOf, EndOf, CountersOf, ValuesOf, OfFile, Depth, OfHead, OfLevel, OfLocal, Regions, lanes_in}
+use Rattle.machine_states.specs.Levels.{LevelsWords, ShowsLevels}
 
 -- a scalar's words are the first ones of its region
 pub record IsScalarIn (width : ℕ) (rate : Rate) (words region : List ℕ) : Type 0 where
@@ -44,18 +45,22 @@ abbrev pub result_of : Rate → (returned : Lanes) → List ℕ → List ℕ
 result_of Uniform returned region = (if no_lane returned then 0 else at region 0) ∷ []
 result_of Varying returned region = each returned (λ k. at region k)
 
--- a function's body that lanes wait in
-abbrev pub body_level : (end : StepNumber) → List StepNumber → Level
-body_level end numbers = record { end = end; turns = []; numbers = numbers }
+-- the words of each level of a frame
+abbrev pub level_words : Regions → (index : ℕ) → LevelsWords
+level_words regions index level = record {
+  end = regions (OfLevel index level EndOf);
+  numbers = regions (OfLevel index level NumbersOf);
+  counters = regions (OfLevel index level CountersOf);
+  values = regions (OfLevel index level ValuesOf);
+}
 
--- a frame stands in the regions of its number, and its lanes wait in its function's body alone
+-- a frame stands in the regions of its number
 pub record ShowsFrame (p : Program) (variables : Variables) (width : ℕ) (regions : Regions) (index : ℕ) (frame : Frame) (levels : List Level) : Type 0 where
   pub function : Function
   pub is_function : slice_get p.functions frame.function ≡ Some function
   pub number : regions (OfHead index FunctionOf) ≡ frame.function ∷ []
   pub lanes : frame.lanes ≡ lanes_in width regions (OfHead index LanesOf)
-  pub waits : levels ≡ body_level (closing_number function) (regions (OfHead index NumbersOf)) ∷ []
-  pub sized : length (regions (OfHead index NumbersOf)) ≡ width
+  pub waits : ShowsLevels (points_in function) width (level_words regions index) (regions (OfHead index OpenOf)) (closing_number function) levels
   pub untasked : frame.tasks ≡ []
   pub views : (k : ℕ) → ShowsView variables regions index frame.function frame.views k
   pub locals : (k : ℕ) → ShowsLocal variables width regions index frame k

@@ -1,5 +1,5 @@
 -- What the words of a machine become by a step, so that they show the masked state after it.
-use Rattle.std.specs.Prelude.{◌≡◌, ℕ, suc, ◌<◌, true, false, ◌||◌, List, [], ◌∷◌, length, replicate, Option, Some, None, slice_get, slice_set, map}
+use Rattle.std.specs.Prelude.{◌≡◌, ℕ, zero, suc, ◌<◌, true, false, ◌||◌, List, [], ◌∷◌, length, replicate, Option, Some, None, slice_get, slice_set, map}
 use Rattle.gang_types.specs.declared.types.IntType.{IntType}
 use Rattle.gang_types.specs.declared.types.Rate.{Rate}
 use Rattle.gang_types.specs.declared.types.Rate.TheVariants.{Uniform, Varying}
@@ -16,22 +16,35 @@ use Rattle.mask_states.specs.Masked.{Masked, least, waiting_for, entered_body}
 use Rattle.mask_states.specs.MaskedStep.{Goes, Fails, masked_step}
 use Rattle.machine_states.specs.Variables.{Variables, own_of, rate_of}
 use Rattle.machine_states.specs.Declared.{has_entry}
-use Rattle.machine_states.specs.Regions.{FunctionOf, LanesOf, ReturnedOf, NumbersOf, ResultOf, Head, OfFile, OfEntry, Depth, OfHead, OfLocal, Regions, lanes_in}
-use Rattle.machine_states.specs.Shows.{IsScalarIn, ShowsView, Shows}
+use Rattle.machine_states.specs.Regions.{FunctionOf, LanesOf, ReturnedOf, ResultOf, OpenOf, NumbersOf, EndOf, Head, OfFile, OfEntry, Depth, OfHead, OfLevel, OfLocal, Regions, lanes_in}
+use Rattle.machine_states.specs.Levels.{Forms, AreForms, Innermost}
+use Rattle.machine_states.specs.Shows.{IsScalarIn, ShowsView, Shows, level_words}
 use Rattle.machine_states.specs.Effects.{declared_in, assigned_in, returned_in}
 
--- the step that comes next is that of the top frame, of this index and function, with the least number that a lane of it waits for; it
--- has a point, or is the function's closing brace
-pub record IsNext (p : Program) (regions : Regions) (index n : ℕ) (f : Function) (number : StepNumber) (point : Option Point) : Type 0 where
+-- the innermost form of a frame that is not over has this level; where all are over, it is level 0, the function's body
+abbrev pub IsInnermost : (width : ℕ) → Regions → (index : ℕ) → Function → (level : ℕ) → Type 0
+IsInnermost width regions index f level =
+    (forms : Forms) → AreForms (points_in f) width (level_words regions index) forms → regions (OfHead index OpenOf) ≡ length forms ∷ []
+    → (i : Innermost width (level_words regions index) (closing_number f) forms) × (length i.live ≡ level)
+
+-- the number above all steps of a level
+abbrev pub end_in : Regions → (index : ℕ) → Function → (level : ℕ) → StepNumber
+end_in regions index f zero = closing_number f
+end_in regions index f (suc level) = at (regions (OfLevel index (suc level) EndOf)) 0
+
+-- the step that comes next is that of the top frame, of this index and function, with the least number that a lane of it waits for in this
+-- level, the innermost one; it has a point, or is the function's closing brace
+pub record IsNext (p : Program) (width : ℕ) (regions : Regions) (index level n : ℕ) (f : Function) (number : StepNumber) (point : Option Point) : Type 0 where
   pub depth : regions Depth ≡ suc index ∷ []
   pub function : regions (OfHead index FunctionOf) ≡ n ∷ []
   pub is_function : slice_get p.functions n ≡ Some f
-  pub least_number : number ≡ least (closing_number f) (regions (OfHead index NumbersOf))
+  pub innermost : IsInnermost width regions index f level
+  pub least_number : number ≡ least (end_in regions index f level) (regions (OfLevel index level NumbersOf))
   pub is_point : slice_get (points_in f) number ≡ point
 
--- the lanes of a frame that wait for a step
-abbrev pub waiting_in : Regions → (index : ℕ) → StepNumber → Lanes
-waiting_in regions index number = waiting_for number (regions (OfHead index NumbersOf))
+-- the lanes of a level of a frame that wait for a step
+abbrev pub waiting_in : Regions → (index level : ℕ) → StepNumber → Lanes
+waiting_in regions index level number = waiting_for number (regions (OfLevel index level NumbersOf))
 
 -- the step is done, and these regions show the masked state after it
 abbrev pub GoesTo : Program → Variables → (width : ℕ) → Masked → Regions → Type 0
@@ -47,13 +60,14 @@ KeepsBoth width some others word = (k : ℕ) → k < width → has (lanes_of_wor
 
 -- ---- calls
 
--- a frame has begun for these lanes, with these variables declared and these parts of arrays
+-- a frame has begun for these lanes, with no form under way, these variables declared and these parts of arrays
 pub record IsBegun (variables : Variables) (width : ℕ) (regions : Regions) (index n : ℕ) (f : Function) (lanes : Lanes) (given : Passed) : Type 0 where
   pub depth : regions Depth ≡ suc index ∷ []
   pub function : regions (OfHead index FunctionOf) ≡ n ∷ []
   pub lanes_are : lanes_in width regions (OfHead index LanesOf) ≡ lanes
   pub none_returned : lanes_in width regions (OfHead index ReturnedOf) ≡ replicate width false
-  pub numbers : regions (OfHead index NumbersOf) ≡ (entered_body f lanes).numbers
+  pub none_open : regions (OfHead index OpenOf) ≡ 0 ∷ []
+  pub numbers : regions (OfLevel index 0 NumbersOf) ≡ (entered_body f lanes).numbers
   pub result_sized : length (regions (OfHead index ResultOf)) ≡ width
   pub declared : (k : ℕ) → has_entry given.vars (Local k) ≡ true
       → IsScalarIn width (rate_of (slice_get (own_of variables n) k)) (words_of given.vars (Local k)) (regions (OfLocal index k))

@@ -1,6 +1,6 @@
 -- The call that made the top frame, and the lanes of that call.
 use Rattle.std.proofs.Common.{ℕ, ◌-◌, ◌<◌, ◌≡◌, refl, sym, ◌∙◌, ap, subst, false, arith, List, [], ◌∷◌, length}
-use Rattle.std.specs.Prelude.{Option, slice_get}
+use Rattle.std.specs.Prelude.{Option, Some, slice_get}
 use Rattle.std.proofs.lemmas.Bool.{eq-eqb}
 use Rattle.std.proofs.lemmas.Option.{slice_get_within}
 use Rattle.gang_types.specs.Lanes.{no_lane}
@@ -15,13 +15,14 @@ use Rattle.mask_states.specs.MaskedStep.{points_at}
 use Rattle.mask_states.proofs.LaneNumbers.{has-waiting_for, least_met}
 use Rattle.mask_states.proofs.PlacedPoints.{length-points_of}
 use Rattle.machine_states.specs.Declared.{AreDeclaredFirst, ResultDeclared, declared_before}
-use Rattle.machine_states.specs.Plain.{IsPlainProgram, ResultPlain}
-use Rattle.machine_states.specs.Regions.{LanesOf, NumbersOf, OfHead, Regions, lanes_in}
+use Rattle.machine_states.specs.Plain.{IsPlain, IsPlainProgram, ResultPlain}
+use Rattle.machine_states.specs.Regions.{LanesOf, NumbersOf, OfHead, Regions, lanes_in, OfLevel}
 use Rattle.machine_states.specs.Shows.{ShowsCall, ShowsFrames, Shows}
 use Rattle.machine_states.specs.Steps.{IsNext, waiting_in}
 use Rattle.machine_states.specs.Variables.{Variables}
 use Rattle.machine_states.proofs.DeclaredNames.{point_names}
-use Rattle.machine_states.proofs.NextPoints.{body_of, on_top}
+use Rattle.machine_states.proofs.NextPoints.{body_of, levels_are, on_top}
+use Rattle.machine_states.proofs.PlainLevels.{plain_innermost}
 use Rattle.machine_states.proofs.PlainPoints.{point_at, points_in-plain}
 use Rattle.typed_tree.specs.declared.statements.ResultFor.{ResultFor as TypedResultFor}
 use Rattle.codegen.specs.declared.code.StepCode.{StepCode}
@@ -36,8 +37,12 @@ use Rattle.machine_steps.specs.Leaving.{IsAtCall}
 abbrev pub IsCalling : Program → Regions → (frame : ℕ) → Type 0
 IsCalling p regions frame = (n : ℕ) × (g : Function) × (for : ResultFor) × (next : StepNumber) × IsAtCall p regions frame n g for next
 
+-- each function is plain
+abbrev pub ArePlain : Program → Variables → Type 0
+ArePlain p variables = (n : ℕ) (f : Function) → slice_get p.functions n ≡ Some f → IsPlain variables n f.body
+
 module _ (p : Program) (variables : Variables) (w : ℕ) (regions : Regions) (masked : Masked) (shows : Shows p variables w regions masked)
-    (i n : ℕ) (f : Function) (number : StepNumber) (point : Option Point) (is_next : IsNext p regions i n f number point) where
+    (i n : ℕ) (f : Function) (number : StepNumber) (point : Option Point) (is_next : IsNext p w regions i 0 n f number point) (plain : ArePlain p variables) where
   abbrev CallsBelow : List Frame → List (List Level) → (index : ℕ) → StepNumber → Type 0
   CallsBelow frames levels index least_number = 0 < index → IsCalling p regions (index - 1)
 
@@ -51,7 +56,9 @@ module _ (p : Program) (variables : Variables) (w : ℕ) (regions : Regions) (ma
       let shown = s.2.0 in
       let g : Function = shown.function in
       let body : Level = body_of regions (length frames) g in
-      let call : ShowsCall p frame (below ∷ frames) ((body ∷ []) ∷ rest) = subst (λ ls. ShowsCall p frame (below ∷ frames) (ls ∷ rest)) shown.waits s.1 in
+      let inner = plain_innermost variables below.function g (plain below.function g shown.is_function) w regions (length frames) in
+      let waits : levels ≡ body ∷ [] = levels_are p variables w regions (length frames) below levels g shown shown.is_function inner in
+      let call : ShowsCall p frame (below ∷ frames) ((body ∷ []) ∷ rest) = subst (λ ls. ShowsCall p frame (below ∷ frames) (ls ∷ rest)) waits s.1 in
       let here : length frames ≡ length (below ∷ frames) - 1 = omega arith in
       subst (λ k. IsCalling p regions k) here (
         below.function,
@@ -82,17 +89,17 @@ module _ (p : Program) (variables : Variables) (w : ℕ) (regions : Regions) (ma
 
 module _ (p : Program) (regions : Regions) (frame n : ℕ) (g : Function) (for : ResultFor) (next : StepNumber) (call : IsAtCall p regions frame n g for next) where
   abbrev pub call_number : StepNumber
-  call_number = least (closing_number g) (regions (OfHead frame NumbersOf))
+  call_number = least (closing_number g) (regions (OfLevel frame 0 NumbersOf))
 
   pub call_within : call_number < length (points_in g)
   call_within = slice_get_within (points_in g) call_number (Enter call.called call.args for next) call.calls
 
   -- a lane waits for it
-  pub some_calls : no_lane (waiting_in regions frame call_number) ≡ false
+  pub some_calls : no_lane (waiting_in regions frame 0 call_number) ≡ false
   some_calls =
-      let numbers = regions (OfHead frame NumbersOf) in
+      let numbers = regions (OfLevel frame 0 NumbersOf) in
       let met = least_met (closing_number g) numbers (omega (arith, call_within, length-points_of g.body (function_ways g))) in
-      some_lane (waiting_in regions frame call_number) met.0
+      some_lane (waiting_in regions frame 0 call_number) met.0
       (has-waiting_for call_number numbers met.0 met.1 ∙ eq-eqb (at numbers met.0) call_number met.2)
 
   -- the frame has the variable that its result is for

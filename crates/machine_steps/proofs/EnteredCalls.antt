@@ -44,7 +44,8 @@ use Rattle.machine_moves.proofs.FunctionCode.{fit_at}
 use Rattle.machine_moves.proofs.GangLanes.{gang_wide}
 use Rattle.machine_moves.proofs.Standings.{IsArgumentOf, active_plain, begun_laid, begun_regions, enters_at, frame_below, lanes_long, own_sized, some_active, step_within, value_at}
 use Rattle.machine_steps.specs.Calls.{AreArgumentWords, AreParametersDeclared, BeginsFrame, IsArgumentAt}
-use Rattle.machine_steps.proofs.OwnParameters.{argument_region, array_in, array_there, kept_whole, made_region, own_of_argument, parameter_in}
+use Rattle.machine_states.proofs.KeptViews.{kept_whole}
+use Rattle.machine_steps.proofs.OwnParameters.{argument_region, array_in, array_there, made_region, own_of_argument, parameter_in}
 use Rattle.machine_steps.proofs.PassedArguments.{all_passed, passed_with}
 
 -- ---- arguments
@@ -162,6 +163,7 @@ module _ {T : Type 0} (history : T → History) (left : T → ℕ) (width : ℕ)
       function = begins.begun.function;
       lanes_are = begins.begun.lanes_are;
       none_returned = begins.begun.none_returned;
+      none_open = begins.begun.none_open;
       numbers = begins.begun.numbers;
       result_sized = begins.begun.result_sized;
       declared = λ k h.
@@ -224,9 +226,9 @@ module _ {T : Type 0} (history : T → History) (left : T → ℕ) (width : ℕ)
   call_few = few_arguments width compiled sound.lie.compiled_is regions active call.f called call.meant call.for call.next call.at args call.fits
 
   -- its arguments and its frame have as many words as may be set
-  call_words : length args * width + width + 4 ≤ event_room history old
+  call_words : length args * width + width + 5 ≤ event_room history old
   call_words =
-      subst (λ n. n * width + width + 4 ≤ event_room history old) (sym (fit_long IsArg args call.meant call.fits))
+      subst (λ n. n * width + width + 5 ≤ event_room history old) (sym (fit_long IsArg args call.meant call.fits))
       (step_within history width compiled old sound.lie active call.f (Enter called call.meant call.for call.next) call.at)
 
   -- a fault of an argument
@@ -245,7 +247,7 @@ module _ {T : Type 0} (history : T → History) (left : T → ℕ) (width : ℕ)
   pub given_long : (masked : Masked) (given : List (List ℕ)) → HaveWords masked given → length given ≡ length args
   given_long masked given are = omega (arith, fit_long (AreArgumentWords width regions lanes masked.state) call.meant given are, fit_long IsArg args call.meant call.fits)
 
-  given_passed : (masked : Masked) (given : List (List ℕ)) → HaveWords masked given → passed call.meant (waiting_in regions active.frame active.step) masked.state ≡ Ok (passed_with lanes call.meant given)
+  given_passed : (masked : Masked) (given : List (List ℕ)) → HaveWords masked given → passed call.meant (waiting_in regions active.frame 0 active.step) masked.state ≡ Ok (passed_with lanes call.meant given)
   given_passed masked given are = ap (λ l. passed call.meant l masked.state) (sym call.at.lanes) ∙ all_passed width regions lanes masked.state call.meant given are
 
   -- 64 frames are there
@@ -271,7 +273,7 @@ module _ {T : Type 0} (history : T → History) (left : T → ℕ) (width : ℕ)
     parameters_left = omega (arith, call_words, opened.left_is)
 
     module _ (given : List (List ℕ)) (mid : MachineWords T) (declared : AreParametersDeclared history left width (active.frame + 1) (length args) args given lanes open' mid) where
-      pub frame_left : width + 4 ≤ left_of history left mid
+      pub frame_left : width + 5 ≤ left_of history left mid
       frame_left = omega (arith, call_words, opened.left_is, declared.few)
 
       -- a frame has begun

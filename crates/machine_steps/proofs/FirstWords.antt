@@ -1,11 +1,10 @@
--- The first words of a run: those of the file's variables, one after the other, and the entry's frame.
-use Rattle.std.proofs.Common.{◌≡◌, refl, sym, ap, ◌∙◌, subst, ℕ, zero, suc, ◌+◌, ◌<◌, ◌≤◌, true, cond, List, [], ◌∷◌, length, Option, Some, None, inl, inr, zero-add, arith}
-use Rattle.std.specs.Prelude.{map, option_map, replicate, slice_get}
+-- The first words of a run: those of the file's variables, one after the other.
+use Rattle.std.proofs.Common.{◌≡◌, refl, sym, ap, ◌∙◌, subst, ℕ, zero, suc, ◌+◌, ◌<◌, ◌≤◌, cond, List, [], ◌∷◌, length, Option, Some, None, inl, inr, zero-add, arith}
+use Rattle.std.specs.Prelude.{map, option_map, slice_get}
 use Rattle.std.proofs.lemmas.Bool.{cases_lt, ne_eqb}
 use Rattle.std.proofs.lemmas.List.{length-map}
 use Rattle.std.proofs.lemmas.Option.{none-some, same_Some, slice_get-map}
 use Rattle.gang_types.specs.declared.places.VarId.TheVariants.{File, Local}
-use Rattle.gang_types.specs.Lanes.{Lanes}
 use Rattle.gang_types.specs.MaskLaws.{gang_width-le}
 use Rattle.gang_model.specs.Types.Tree.{Function}
 use Rattle.gang_model.specs.Types.Tree as model
@@ -19,30 +18,20 @@ use Rattle.gang_memory.specs.declared.parts.Part.{Part}
 use Rattle.gang_memory.specs.Layouts.{IsLayoutOf, global_words as layout_words}
 use Rattle.gang_memory.specs.Ranges.{sizes_of}
 use Rattle.gang_memory.specs.Recorded.{without_words}
-use Rattle.mask_states.specs.Masked.{entered_body}
-use Rattle.mask_states.specs.MaskedStep.{masked_start}
-use Rattle.machine_states.specs.ArrayParts.{AreMemory}
-use Rattle.machine_states.specs.Regions.{OfEntry, OfFile}
-use Rattle.machine_states.specs.Steps.{IsBegun}
-use Rattle.machine_states.specs.Variables.{own_of, parameters_of}
-use Rattle.machine_states.proofs.AlwaysDeclared.{start_declared}
-use Rattle.machine_states.proofs.Beginnings.{begins}
+use Rattle.machine_states.specs.Regions.{OfFile}
 use Rattle.machine_states.proofs.StoreWords.{another, itself}
 use Rattle.machine_words.specs.declared.words.MachineWords.{MachineWords}
 use Rattle.machine_words.proofs.Sizes.{file_words}
 use Rattle.machine_words.specs.Ranges.{head_sizes, machine_sizes}
 use Rattle.machine_words.specs.Words.{AreLaid, left_of, regions_in, words_of as all_words}
 use Rattle.machine_moves.specs.declared.compiled.CompiledProgram.{CompiledProgram}
-use Rattle.machine_moves.specs.Compiled.{function_of, program_of, variables_of}
-use Rattle.machine_moves.specs.Standing.{AreFor, IsShown}
-use Rattle.machine_moves.proofs.GangLanes.{gang_wide}
-use Rattle.machine_moves.proofs.RegionStates.{no_entry_words, no_file_words}
-use Rattle.machine_steps.specs.Beginning.{FillsVariable}
-use Rattle.machine_steps.specs.Calls.{BeginsFrame}
+use Rattle.machine_moves.specs.Compiled.{program_of, variables_of}
+use Rattle.machine_moves.specs.Standing.{AreFor}
+use Rattle.machine_moves.proofs.RegionStates.{no_file_words}
+use Rattle.machine_steps.specs.Beginning.{FillsFile, FillsVariable}
 use Rattle.machine_steps.proofs.FilledVariables.{plenty_left}
-use Rattle.machine_steps.proofs.OwnParameters.{array_there}
 
-item_at : {A : Type 0} (xs : List A) (k : ℕ) → k < length xs → (x : A) × (slice_get xs k ≡ Some x)
+pub item_at : {A : Type 0} (xs : List A) (k : ℕ) → k < length xs → (x : A) × (slice_get xs k ≡ Some x)
 item_at [] k h = absurd (omega (arith, h))
 item_at (x ∷ xs) zero h = (x, refl)
 item_at (x ∷ xs) (suc k) h = item_at xs k (omega (arith, h))
@@ -51,7 +40,7 @@ same_variables : (o : Option Global) → option_map (λ (h : Global). variable_v
 same_variables None = refl
 same_variables (Some h) = refl
 
-mapped_back : {A B : Type 0} (g : A → B) (xs : List A) (k : ℕ) (y : B) → slice_get (map g xs) k ≡ Some y → (x : A) × (slice_get xs k ≡ Some x) × (g x ≡ y)
+pub mapped_back : {A B : Type 0} (g : A → B) (xs : List A) (k : ℕ) (y : B) → slice_get (map g xs) k ≡ Some y → (x : A) × (slice_get xs k ≡ Some x) × (g x ≡ y)
 mapped_back g [] k y e = absurd (none-some y e)
 mapped_back g (x ∷ xs) zero y e = (x, refl, same_Some (g x) y e)
 mapped_back g (x ∷ xs) (suc k) y e = mapped_back g xs k y e
@@ -107,9 +96,30 @@ pub record AreFilled {T : Type 0} (history : T → History) (width count : ℕ) 
   pub laid : AreLaid history width new
   pub rest : without_words (history new.store.timeline) ≡ without_words (history old.store.timeline)
 
+-- a variable of the file has as many words as the layout says
+pub file_long : {T : Type 0} (history : T → History) (width : ℕ) (compiled : CompiledProgram) (words : MachineWords T) → AreFor history width compiled words
+    → (k : ℕ) (g : Global) → slice_get compiled.program.globals.items k ≡ Some g → length (regions_in history width words (OfFile k)) ≡ layout_words width g
+file_long history width compiled words lie k g is =
+    let mine : slice_get (sizes_of words.layout.file.items) k ≡ Some (layout_words width g) =
+    ap (λ sizes. slice_get sizes k) lie.layout.file ∙ slice_get-map (layout_words width) compiled.program.globals.items k ∙ ap (option_map (layout_words width)) is in
+    let found = mapped_back (λ (p : Part). p.len) words.layout.file.items k (layout_words width g) mine in
+    file_words width words.layout (all_words history words) lie.laid k found.0 found.1 ∙ found.2
+
 module _ {T : Type 0} (history : T → History) (left : T → ℕ) (width : ℕ) (compiled : CompiledProgram) (old : MachineWords T) (lie : AreFor history width compiled old) where
   abbrev globals : List Global
   globals = compiled.program.globals.items
+
+  -- the words lie as before
+  pub lie_kept : (new : MachineWords T) → new.layout ≡ old.layout → AreLaid history width new → without_words (history new.store.timeline) ≡ without_words (history old.store.timeline)
+      → AreFor history width compiled new
+  lie_kept new layout laid rest = record {
+    gang = lie.gang;
+    compiled_is = lie.compiled_is;
+    lengths = lie.lengths;
+    layout = subst (λ l. IsLayoutOf width compiled.program lie.lengths machine_sizes (head_sizes width 0) l) (sym layout) lie.layout;
+    laid = laid;
+    room = omega (arith, lie.room, ap (λ h. h.room) rest);
+  }
 
   pub none_filled : AreFilled history width 0 globals old old
   none_filled = record {
@@ -119,23 +129,20 @@ module _ {T : Type 0} (history : T → History) (left : T → ℕ) (width : ℕ)
     rest = refl;
   }
 
-  module _ (fresh : (history old.store.timeline).past ≡ []) (count : ℕ) (mid : MachineWords T) (filled : AreFilled history width count globals old mid) where
+  -- any number of words may be set
+  module _ (fresh : (history old.store.timeline).past ≡ []) (mid : MachineWords T) (rest : without_words (history mid.store.timeline) ≡ without_words (history old.store.timeline)) where
     pub still_fresh : (history mid.store.timeline).past ≡ []
-    still_fresh = ap (λ h. h.past) filled.rest ∙ fresh
+    still_fresh = ap (λ h. h.past) rest ∙ fresh
 
-    pub width_left : width + 4 ≤ left_of history left mid
+    pub width_left : width + 5 ≤ left_of history left mid
     width_left =
-        let plenty = plenty_left history left old mid fresh filled.rest in
+        let plenty = plenty_left history left old mid fresh rest in
         omega (arith, gang_width-le width lie.gang, plenty)
 
+  module _ (count : ℕ) (mid : MachineWords T) (filled : AreFilled history width count globals old mid) where
     module _ (g : Global) (is : slice_get globals count ≡ Some g) where
       pub next_file : length (regions_in history width mid (OfFile count)) ≡ layout_words width g
-      next_file =
-          let files = lie.layout.file in
-          let mine : slice_get (sizes_of old.layout.file.items) count ≡ Some (layout_words width g) =
-          ap (λ sizes. slice_get sizes count) files ∙ slice_get-map (layout_words width) globals count ∙ ap (option_map (layout_words width)) is in
-          let found = mapped_back (λ (p : Part). p.len) old.layout.file.items count (layout_words width g) mine in
-          file_words width mid.layout (all_words history mid) filled.laid count found.0 (ap (λ (l : Layout). slice_get l.file.items count) filled.layout ∙ found.1) ∙ found.2
+      next_file = file_long history width compiled mid (lie_kept mid filled.layout filled.laid filled.rest) count g is
 
       pub one_filled : (new : MachineWords T) → FillsVariable history width count (global_words width (global_view g)) mid new → AreFilled history width (count + 1) globals old new
       one_filled new fills = record {
@@ -151,7 +158,7 @@ module _ {T : Type 0} (history : T → History) (left : T → ℕ) (width : ℕ)
         rest = fills.rest ∙ filled.rest;
       }
 
-  -- ---- the state
+  -- ---- all variables of the file
 
   -- a region of no variable of the file has no words
   no_file : (new : MachineWords T) → new.layout ≡ old.layout → (k : ℕ) → length globals ≤ k → regions_in history width new (OfFile k) ≡ []
@@ -160,39 +167,20 @@ module _ {T : Type 0} (history : T → History) (left : T → ℕ) (width : ℕ)
       sym (length-map old.layout.file.items (λ p. p.len)) ∙ ap length lie.layout.file ∙ length-map globals (layout_words width) in
       no_file_words history width new 0 k (omega (arith, above, files, ap (λ (l : Layout). length l.file.items) same))
 
-  -- the entry is given no arrays
-  no_entry : (new : MachineWords T) → new.layout ≡ old.layout → (k : ℕ) → regions_in history width new (OfEntry k) ≡ []
-  no_entry new same k =
-      let none : length old.layout.entry.items ≡ 0 = sym (length-map old.layout.entry.items (λ p. p.len)) ∙ ap length lie.layout.entry in
-      no_entry_words history width new 0 k (omega (arith, none, ap (λ (l : Layout). length l.entry.items) same))
+  -- the variables of the file have their numbers
+  file_ids : (k : ℕ) (g : model.Global) → slice_get (map global_view globals) k ≡ Some g → g.variable.id ≡ File (0 + k)
+  file_ids k g e =
+      let variable : slice_get (variables_of compiled).file k ≡ Some g.variable =
+      slice_get-map (λ (h : Global). variable_view h.variable) globals k ∙ same_variables (slice_get globals k)
+      ∙ ap (option_map (λ (u : model.Global). u.variable)) (sym (slice_get-map global_view globals k) ∙ e) in
+      lie.compiled_is.runnable.plain.file k g.variable variable ∙ ap File (sym (zero-add k))
 
-  module _ (entry : ℕ) (f : Function) (is : function_of compiled entry ≡ Some f) (none : parameters_of (variables_of compiled) entry ≡ 0) (mid new : MachineWords T) (lanes : Lanes) (all : lanes ≡ replicate width true)
-      (count : ℕ) (filled : AreFilled history width count globals old mid) (over : length globals ≤ count)
-      (begun : BeginsFrame history left width 0 entry f lanes mid new) where
-    first_layout : new.layout ≡ old.layout
-    first_layout = begun.layout ∙ filled.layout
+  -- no array of the entry is in the memory yet
+  pub first_entry : (n : ℕ) → words_of (initial_memory width (program_of compiled).globals) (Local n) ≡ []
+  first_entry = initial_entry width 0 (map global_view globals) file_ids
 
-    pub first_rest : without_words (history new.store.timeline) ≡ without_words (history old.store.timeline)
-    first_rest = begun.rest ∙ filled.rest
-
-    pub first_lie : AreFor history width compiled new
-    first_lie = record {
-      gang = lie.gang;
-      compiled_is = lie.compiled_is;
-      layout = subst (λ l. IsLayoutOf width compiled.program [] machine_sizes (head_sizes width) l) (sym first_layout) lie.layout;
-      laid = begun.laid;
-      room = omega (arith, lie.room, ap (λ h. h.room) first_rest);
-    }
-
-    -- the variables of the file have their numbers
-    file_ids : (k : ℕ) (g : model.Global) → slice_get (map global_view globals) k ≡ Some g → g.variable.id ≡ File (0 + k)
-    file_ids k g e =
-        let variable : slice_get (variables_of compiled).file k ≡ Some g.variable =
-        slice_get-map (λ (h : Global). variable_view h.variable) globals k ∙ same_variables (slice_get globals k)
-        ∙ ap (option_map (λ (u : model.Global). u.variable)) (sym (slice_get-map global_view globals k) ∙ e) in
-        lie.compiled_is.runnable.plain.file k g.variable variable ∙ ap File (sym (zero-add k))
-
-    first_file : (k : ℕ) → regions_in history width new (OfFile k) ≡ words_of (initial_memory width (program_of compiled).globals) (File k)
+  module _ (count : ℕ) (mid : MachineWords T) (filled : AreFilled history width count globals old mid) (over : length globals ≤ count) where
+    first_file : (k : ℕ) → regions_in history width mid (OfFile k) ≡ words_of (initial_memory width (program_of compiled).globals) (File k)
     first_file k =
         let views = map global_view globals in
         let names = ap (λ n. words_of (initial_memory width views) (File n)) (zero-add k) in
@@ -201,38 +189,16 @@ module _ {T : Type 0} (history : T → History) (left : T → ℕ) (width : ℕ)
               let there = item_at globals k below in
               let g = there.0 in
               let is_view : slice_get views k ≡ Some (global_view g) = slice_get-map global_view globals k ∙ ap (option_map global_view) there.1 in
-              begun.kept.file k ∙ filled.file k g (omega (arith, below, over)) there.1
-              ∙ sym (initial_at width 0 views file_ids k (global_view g) is_view) ∙ names
+              filled.file k g (omega (arith, below, over)) there.1 ∙ sym (initial_at width 0 views file_ids k (global_view g) is_view) ∙ names
           | inr past ↦
               let above : length views ≤ k = omega (arith, past, length-map globals global_view) in
-              begun.kept.file k ∙ no_file mid filled.layout k past ∙ sym (initial_past width 0 views file_ids k above) ∙ names
+              no_file mid filled.layout k past ∙ sym (initial_past width 0 views file_ids k above) ∙ names
         ]
 
-    first_memory : AreMemory (regions_in history width new) (initial_memory width (program_of compiled).globals)
-    first_memory (File k) = sym (first_file k)
-    first_memory (Local k) = initial_entry width 0 (map global_view globals) file_ids k ∙ sym (no_entry new first_layout k)
-
-    -- the frame has nothing declared, and no arrays
-    first_begun : IsBegun (variables_of compiled) width (regions_in history width new) 0 entry f (replicate width true) (record { views = []; vars = [] })
-    first_begun = record {
-      depth = begun.begun.depth;
-      function = begun.begun.function;
-      lanes_are = begun.begun.lanes_are ∙ all;
-      none_returned = begun.begun.none_returned;
-      numbers = begun.begun.numbers ∙ ap (λ l. (entered_body f l).numbers) all;
-      result_sized = begun.begun.result_sized;
-      declared = λ k h. cc;
-      views = λ k array.
-          let found = array_there (slice_get (own_of (variables_of compiled) entry) k) array in
-          let below = lie.compiled_is.runnable.plain.arrays entry k found.0 found.1 found.2 in
-          absurd (omega (arith, below, none));
+    pub file_filled : FillsFile history width compiled old mid
+    file_filled = record {
+      file = first_file;
+      lie = lie_kept mid filled.layout filled.laid filled.rest;
+      layout = filled.layout;
+      rest = filled.rest;
     }
-
-    pub first_shown : IsShown history width compiled new (masked_start (program_of compiled) entry [] width)
-    first_shown =
-        let runnable = lie.compiled_is.runnable in
-        record {
-          shows = begins (program_of compiled) (variables_of compiled) width (regions_in history width new) entry f is first_begun first_memory;
-          declared = start_declared (variables_of compiled) runnable.most (program_of compiled) runnable.plain runnable.lowerable.numbered entry width f is none
-              (let wide : 4 ≤ width = gang_wide width lie.gang in omega (arith, wide));
-        }

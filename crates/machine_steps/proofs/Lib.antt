@@ -3,6 +3,7 @@ pub mod Callers
 pub mod EnteredCalls
 pub mod EnteredNumbers
 pub mod FilledVariables
+pub mod FirstStates
 pub mod FirstWords
 pub mod FrameHeads
 pub mod LeftFrames
@@ -10,5 +11,8 @@ pub mod OwnParameters
 pub mod Parameters
 pub mod PassedArguments
 pub mod PassedCalls
+pub mod RowLengths
+pub mod RowWords
+pub mod RowsGiven
 pub mod StepEnds
 pub mod WrittenRegions

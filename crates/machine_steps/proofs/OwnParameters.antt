@@ -1,19 +1,17 @@
 -- The parameters that a frame begins with, as variables of its function.
 use Rattle.std.proofs.Common.{◌≡◌, refl, sym, ap, ◌∙◌, ℕ, zero, suc, ◌+◌, ◌<◌, ◌≤◌, true, false, true≢false, List, [], ◌∷◌, length, Some, add-zero, inl, inr, arith}
-use Rattle.std.specs.Prelude.{Option, None, ◌||◌, nat_le, slice_get, if◌then◌else◌}
+use Rattle.std.specs.Prelude.{Option, None, ◌||◌, slice_get, if◌then◌else◌}
 use Rattle.std.proofs.lemmas.Bool.{cases_eq}
-use Rattle.std.proofs.lemmas.Bool.Decides.{nat_tests}
 use Rattle.gang_types.specs.declared.places.VarId.{VarId}
 use Rattle.gang_types.specs.declared.places.VarId.TheVariants.{Local}
 use Rattle.gang_types.specs.Lanes.{Lanes}
 use Rattle.gang_model.specs.Types.Tree.{Arg, Expr, Value, Array, Var, Variable}
 use Rattle.gang_model.specs.Running.State.{declared_words, same_id, view_in, words_of}
 use Rattle.mask_states.proofs.OwnTasks.{by_bool}
-use Rattle.machine_states.specs.ArrayParts.{IsInside, no_view, array_region, view_kept, view_of_words}
+use Rattle.machine_states.specs.ArrayParts.{view_of_words}
 use Rattle.machine_states.specs.Declared.{has_entry}
 use Rattle.machine_states.specs.Effects.{declared_region}
 use Rattle.machine_states.specs.Plain.{ArgsPlain}
-use Rattle.machine_states.specs.Regions.{Regions}
 use Rattle.machine_states.specs.Variables.{Variables, is_array_of, own_of, rate_of, variable_of}
 use Rattle.machine_states.proofs.StoreWords.{another, itself, same_variable}
 use Rattle.codegen.specs.Codes.{IsArg}
@@ -39,16 +37,6 @@ made_region (arg.Value parameter code) (Value x e) lanes words old is = ap (λ (
 made_region (arg.Array array from) (Array parameter named index) lanes words old is = refl
 made_region (arg.Value parameter code) (Array own named index) lanes words old is = absurd is
 made_region (arg.Array array from) (Value x e) lanes words old is = absurd is
-
--- words that keep a part of an array that lies in it
-fits_there : (a b : ℕ) → a ≤ b → nat_le a b ≡ true
-fits_there a b h = grind (arith, nat_tests)
-
-pub kept_whole : (regions : Regions) (v : VarId) (words : List ℕ) → 0 < length words → IsInside regions (view_of_words words) → view_kept regions v words ≡ view_of_words words
-kept_whole regions v [] some inside = absurd (omega (arith, some))
-kept_whole regions v (word ∷ words) some inside =
-    let view = view_of_words (word ∷ words) in
-    ap (λ b. if b then view else no_view v) (fits_there (view.first + view.len) (length (regions (array_region view.array))) inside)
 
 -- ---- variables
 

@@ -10,7 +10,7 @@ use Rattle.typed_tree.specs.Views.{result_view}
 use Rattle.mask_states.specs.Points.{Enter, closing_number, function_ways, points_in}
 use Rattle.mask_states.specs.Masked.{least}
 use Rattle.mask_states.proofs.PlacedPoints.{length-points_of}
-use Rattle.machine_states.specs.Regions.{FunctionOf, NumbersOf, OfHead, Regions}
+use Rattle.machine_states.specs.Regions.{FunctionOf, NumbersOf, OfHead, Regions, LevelOf, OfLevel}
 use Rattle.machine_states.specs.Shows.{AreSized}
 use Rattle.codegen.specs.declared.code.ArgCode.{ArgCode}
 use Rattle.codegen.specs.declared.code.StepCode.{StepCode}
@@ -27,7 +27,7 @@ use Rattle.machine_moves.proofs.FunctionCode.{code_long, fit_at}
 use Rattle.machine_moves.proofs.Heads.{first_word, head_long}
 use Rattle.machine_moves.proofs.Standings.{frame_below, sized}
 use Rattle.machine_steps.specs.Leaving.{IsAtCall, lanes_called}
-use Rattle.machine_steps.proofs.Callers.{IsCalling, call_plain, call_within, calls_below, some_called}
+use Rattle.machine_steps.proofs.Callers.{ArePlain, IsCalling, call_plain, call_within, calls_below, some_called}
 
 -- ---- the frame at its closing brace
 
@@ -36,25 +36,28 @@ module _ {T : Type 0} (history : T → History) (left : T → ℕ) (w : ℕ) (co
   abbrev regions : Regions
   regions = regions_in history w words
 
+  plain : ArePlain (program_of compiled) (variables_of compiled)
+  plain n f is = (sound.lie.compiled_is.runnable.plain.functions n f is).body
+
   pub closing_there : active.frame < 64
   closing_there = frame_below history w compiled words sound active closing.0 None closing.1
 
   pub function_word : 0 < length (regions (OfHead (active.frame - 1) FunctionOf))
   function_word = omega (arith, head_long history left w words sound.lie.laid (active.frame - 1) FunctionOf (omega (arith, closing_there)))
 
-  pub numbers_long : length (regions (OfHead (active.frame - 1) NumbersOf)) ≡ w
-  numbers_long = head_long history left w words sound.lie.laid (active.frame - 1) NumbersOf (omega (arith, closing_there))
+  pub numbers_long : length (regions (OfLevel (active.frame - 1) 0 NumbersOf)) ≡ w
+  numbers_long = head_long history left w words sound.lie.laid (active.frame - 1) (LevelOf 0 NumbersOf) (omega (arith, closing_there))
 
   pub regions_sized : AreSized (variables_of compiled) w regions
   regions_sized = sized history w compiled words words sound.lie refl sound.lie.laid
 
   pub some_lanes_called : no_lane (lanes_called w regions active.frame) ≡ false
   some_lanes_called =
-      some_called (program_of compiled) (variables_of compiled) w regions sound.masked sound.shown.shows active.frame active.function closing.0 active.step None closing.1.next sound.called
+      some_called (program_of compiled) (variables_of compiled) w regions sound.masked sound.shown.shows active.frame active.function closing.0 active.step None closing.1.next plain sound.called
 
   -- the frame below is at the call
   pub caller : 0 < active.frame → IsCalling (program_of compiled) regions (active.frame - 1)
-  caller = calls_below (program_of compiled) (variables_of compiled) w regions sound.masked sound.shown.shows active.frame active.function closing.0 active.step None closing.1.next
+  caller = calls_below (program_of compiled) (variables_of compiled) w regions sound.masked sound.shown.shows active.frame active.function closing.0 active.step None closing.1.next plain
 
 -- ---- the frame below
 
@@ -70,13 +73,13 @@ pub record ReadsCall (compiled : CompiledProgram) (regions : Regions) (below : �
   pub for : ResultFor
   pub next : StepNumber
   pub call : IsAtCall (program_of compiled) regions below n g for next
-  pub number_is : number ≡ least (closing_number g) (regions (OfHead below NumbersOf))
+  pub number_is : number ≡ least (closing_number g) (regions (OfLevel below 0 NumbersOf))
   pub within : number < length steps
   pub does : (made : StepCode) → made ≡ get_or steps number made → Does made (Enter call.called call.args for next)
 
 pub reads_call : (compiled : CompiledProgram) (regions : Regions) (below : ℕ) → IsCalling (program_of compiled) regions below
     → (function : ℕ) → function ≡ slice_index (regions (OfHead below FunctionOf)) 0
-    → (numbers : List ℕ) → numbers ≡ regions (OfHead below NumbersOf)
+    → (numbers : List ℕ) → numbers ≡ regions (OfLevel below 0 NumbersOf)
     → (end : ℕ) → ((f : Function) → function_of compiled function ≡ Some f → end ≡ closing_number f)
     → (number : ℕ) → number ≡ least end numbers
     → (steps : List StepCode) → ((f : Function) → function_of compiled function ≡ Some f → DoAll steps (points_in f))
@@ -87,7 +90,7 @@ reads_call compiled regions below calling function read numbers waits end ends n
     let call = calling.4 in
     let found = caller_found compiled regions below calling function read in
     let all : DoAll steps (points_in g) = does g found in
-    let number_is : number ≡ least (closing_number g) (regions (OfHead below NumbersOf)) = is ∙ ap (λ m. least m numbers) (ends g found) ∙ ap (least (closing_number g)) waits in
+    let number_is : number ≡ least (closing_number g) (regions (OfLevel below 0 NumbersOf)) = is ∙ ap (λ m. least m numbers) (ends g found) ∙ ap (least (closing_number g)) waits in
     let within : number < length steps =
     omega (arith, number_is, call_within p regions below calling.0 g calling.2 calling.3 call, code_long g steps all, length-points_of g.body (function_ways g)) in
     record {

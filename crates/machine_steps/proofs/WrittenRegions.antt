@@ -1,13 +1,13 @@
 -- What a write leaves in each region, and how many words the regions have.
 use Rattle.std.proofs.Common.{◌≡◌, refl, ◌∙◌, ap, subst, ℕ, ◌<◌, true, false, List, [], ◌∷◌, length, arith}
-use Rattle.std.specs.Prelude.{replicate, slice_index, slice_set}
+use Rattle.std.specs.Prelude.{replicate, slice_set}
 use Rattle.gang_types.specs.Lanes.{Lanes}
 use Rattle.gang_model.specs.Running.Lanes.{merged}
 use Rattle.undo_log.specs.History.{History}
 use Rattle.machine_states.specs.Regions.{Head, Depth, OfHead, Region, same_head, same_region, with_region}
 use Rattle.machine_states.proofs.ChangedRegions.{part_away, region_away, region_here}
 use Rattle.machine_words.specs.declared.words.MachineWords.{MachineWords}
-use Rattle.machine_words.specs.Ranges.{head_part, head_sizes, regions_of}
+use Rattle.machine_words.specs.Ranges.{regions_of, head_size, levels_of}
 use Rattle.machine_words.specs.Words.{AreLaid, Writes, regions_in, words_of}
 use Rattle.machine_words.proofs.AllLanes.{merged_all}
 use Rattle.machine_words.proofs.Sizes.{depth_words, head_words}
@@ -57,7 +57,7 @@ module _ {T : Type 0} (history : T → History) (left : T → ℕ) (width : ℕ)
 -- ---- sizes
 
 module _ {T : Type 0} (history : T → History) (width : ℕ) (machine : MachineWords T) (laid : AreLaid history width machine) where
-  pub head_long : (i : ℕ) (part : Head) → i < 64 → length (regions_in history width machine (OfHead i part)) ≡ slice_index (head_sizes width) (head_part part)
+  pub head_long : (i : ℕ) (part : Head) → i < 64 → length (regions_in history width machine (OfHead i part)) ≡ head_size width (levels_of machine.layout) part
   head_long i part h = head_words width machine.layout (words_of history machine) laid i part (omega (arith, h, laid.planned.count))
 
   pub depth_long : length (regions_in history width machine Depth) ≡ 1

@@ -14,7 +14,7 @@ use Rattle.debug_machine.specs.Machines.{fault_view}
 use Rattle.gang_memory.specs.Recorded.{without_words}
 use Rattle.machine_states.specs.ArrayParts.{IsInside, view_of_words}
 use Rattle.machine_states.specs.Effects.{declared_region}
-use Rattle.machine_states.specs.Regions.{Head, FunctionOf, LanesOf, ReturnedOf, NumbersOf, ResultOf, Depth, OfEntry, OfFile, OfHead, OfLocal, Region, Regions, lanes_in}
+use Rattle.machine_states.specs.Regions.{OpenOf, Head, FunctionOf, LanesOf, ReturnedOf, NumbersOf, ResultOf, Depth, OfEntry, OfFile, OfHead, OfLocal, Region, Regions, lanes_in, OfLevel}
 use Rattle.mask_states.specs.Masked.{entered_body}
 use Rattle.machine_states.specs.Variables.{IsArray}
 use Rattle.codegen.specs.Codes.{Fit}
@@ -95,20 +95,21 @@ pub record IsKeptBesideHead (frame : ℕ) (old new : Regions) : Type 0 where
   pub result : new (OfHead frame ResultOf) ≡ old (OfHead frame ResultOf)
   pub locals : (i k : ℕ) → new (OfLocal i k) ≡ old (OfLocal i k)
 
--- the head of a frame that runs f, begun for these lanes: none has returned, and all wait for its first step or its closing brace
+-- the head of a frame that runs f, begun for these lanes: none has returned, no foreach form has begun, and all wait for its first step or its closing brace
 pub record IsHeadBegun (width : ℕ) (regions : Regions) (index n : ℕ) (f : Function) (lanes : Lanes) : Type 0 where
   pub depth : regions Depth ≡ suc index ∷ []
   pub function : regions (OfHead index FunctionOf) ≡ n ∷ []
   pub lanes_are : lanes_in width regions (OfHead index LanesOf) ≡ lanes
   pub none_returned : lanes_in width regions (OfHead index ReturnedOf) ≡ replicate width false
-  pub numbers : regions (OfHead index NumbersOf) ≡ (entered_body f lanes).numbers
+  pub none_open : regions (OfHead index OpenOf) ≡ 0 ∷ []
+  pub numbers : regions (OfLevel index 0 NumbersOf) ≡ (entered_body f lanes).numbers
   pub result_sized : length (regions (OfHead index ResultOf)) ≡ width
 
--- A frame has begun for these lanes, and nothing else is changed. At most w + 4 words were set.
+-- A frame has begun for these lanes, and nothing else is changed. At most w + 5 words were set.
 pub record BeginsFrame {T : Type 0} (history : T → History) (left : T → ℕ) (width frame n : ℕ) (f : Function) (lanes : Lanes) (old new : MachineWords T) : Type 0 where
   pub begun : IsHeadBegun width (regions_in history width new) frame n f lanes
   pub kept : IsKeptBesideHead frame (regions_in history width old) (regions_in history width new)
   pub layout : new.layout ≡ old.layout
   pub laid : AreLaid history width new
   pub rest : without_words (history new.store.timeline) ≡ without_words (history old.store.timeline)
-  pub few : left_of history left old ≤ left_of history left new + (width + 4)
+  pub few : left_of history left old ≤ left_of history left new + (width + 5)

@@ -10,7 +10,7 @@ use Rattle.gang_memory.specs.Recorded.{without_words}
 use Rattle.mask_states.specs.Points.{Enter, closing_number, points_in}
 use Rattle.mask_states.specs.Masked.{least}
 use Rattle.machine_states.specs.Effects.{sent_on}
-use Rattle.machine_states.specs.Regions.{FunctionOf, LanesOf, NumbersOf, OfHead, Region, Regions, ResultOf, ReturnedOf, lanes_in}
+use Rattle.machine_states.specs.Regions.{FunctionOf, LanesOf, NumbersOf, OfHead, Region, Regions, ResultOf, ReturnedOf, lanes_in, OfLevel}
 use Rattle.machine_states.specs.Shows.{result_of}
 use Rattle.machine_states.specs.Steps.{Delivers, converted_values, waiting_in}
 use Rattle.machine_words.specs.declared.words.MachineWords.{MachineWords}
@@ -41,7 +41,7 @@ pub record IsAtCall (p : Program) (regions : Regions) (frame n : ℕ) (g : Funct
   pub args : List Arg
   pub runs : regions (OfHead frame FunctionOf) ≡ n ∷ []
   pub is_function : slice_get p.functions n ≡ Some g
-  pub calls : slice_get (points_in g) (least (closing_number g) (regions (OfHead frame NumbersOf))) ≡ Some (Enter called args for next)
+  pub calls : slice_get (points_in g) (least (closing_number g) (regions (OfLevel frame 0 NumbersOf))) ≡ Some (Enter called args for next)
 
 -- The result of a frame of f is given to the frame below, which made its call, and the lanes that wait there go on behind the call.
 -- At most 2 * w + 1 words were set.
@@ -56,7 +56,7 @@ pub record GoesPastCall {T : Type 0} (history : T → History) (left : T → ℕ
       (result_seen width (regions_in history width old) frame f.result (lanes_called width (regions_in history width old) frame))
       (regions_in history width old) delivered
   pub regions : (r : Region) → regions_in history width new r
-      ≡ sent_on (frame - 1) (waiting_in (regions_in history width old) (frame - 1) (least (closing_number g) (regions_in history width old (OfHead (frame - 1) NumbersOf)))) (λ k. next) delivered r
+      ≡ sent_on (frame - 1) 0 (waiting_in (regions_in history width old) (frame - 1) 0 (least (closing_number g) (regions_in history width old (OfLevel (frame - 1) 0 NumbersOf)))) (λ k. next) delivered r
   pub layout : new.layout ≡ old.layout
   pub laid : AreLaid history width new
   pub rest : without_words (history new.store.timeline) ≡ without_words (history old.store.timeline)

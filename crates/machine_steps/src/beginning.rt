@@ -1,45 +1,62 @@
 //! The first words of a run.
-ghost use Rattle.std.specs.Prelude.{◌≡◌, ℕ, [], Some, length, replicate};
+ghost use Rattle.std.specs.Prelude.{◌≡◌, ℕ, [], List, Some, length, replicate};
 ghost use Rattle.gang_types.specs.Masks.{IsGangWidth};
 ghost use Rattle.gang_model.specs.Types.Tree.{Function as ModelFunction};
-ghost use Rattle.gang_model.specs.Debugger.Events.{global_words};
+ghost use Rattle.gang_model.specs.Debugger.Events.{Row, global_words};
 ghost use Rattle.typed_tree.specs.Views.{global_view};
 ghost use Rattle.gang_memory.specs.Layouts.{global_words as words_long};
 ghost use Rattle.gang_memory.specs.Recorded.{without_words};
 ghost use Rattle.mask_states.specs.MaskedStep.{masked_start};
 ghost use Rattle.machine_states.specs.Regions.{OfFile};
-ghost use Rattle.machine_states.specs.Variables.{parameters_of};
 ghost use Rattle.machine_words.specs.Words.{AreLaid, regions_in};
-ghost use Rattle.machine_moves.specs.Compiled.{function_of, program_of, variables_of};
+ghost use Rattle.machine_moves.specs.Compiled.{program_of};
 ghost use Rattle.machine_moves.specs.Standing.{AreFor, IsShown};
-ghost use Rattle.machine_steps.specs.Beginning.{FillsVariable};
+ghost use Rattle.machine_steps.specs.Beginning.{FillsFile, FillsVariable, HaveEntryLengths, MayBegin};
 
 use crate::calls::begin_frame;
+use crate::rows::give_rows;
 use gang_types::Mask;
+use input_rows::InputRow;
 use machine_moves::CompiledProgram;
 use machine_words::{MachineWords, Region};
 use typed_tree::Global;
 use undo_log::Timeline;
 
-/// Writes the first words of a run that begins with a function without parameters: those of the file, and the function's frame, begun
-/// for all lanes. Nothing is kept of the words before.
+/// Writes the first words of a run that begins with these rows of an input: those of the file, those of the rows, and the frame of the
+/// entry, begun for all lanes. Nothing is kept of the words before.
 pub fn start<const W: usize, T: Timeline + Drop>(
     compiled: &CompiledProgram,
     entry: usize,
+    rows: &[InputRow],
     words: &mut MachineWords<T>,
 )
     requires lie { AreFor T.history W compiled.now words.old }
     requires fresh { (T.history words.old.store.timeline).past ≡ [] }
-    requires entry { (f : ModelFunction) × (function_of compiled.now entry ≡ Some f) }
-    requires none { parameters_of (variables_of compiled.now) entry ≡ 0 }
+    requires rows { (f : ModelFunction) × (given : List Row) × MayBegin compiled.now.program entry f given rows.now
+        × HaveEntryLengths (regions_in T.history W words.old) given }
     ensures lie { AreFor T.history W compiled.now words.new }
-    ensures shown { IsShown T.history W compiled.now words.new (masked_start (program_of compiled.now) entry [] W) }
+    ensures shown { (f : ModelFunction) (given : List Row) → MayBegin compiled.now.program entry f given rows.now
+        → HaveEntryLengths (regions_in T.history W words.old) given
+        → IsShown T.history W compiled.now words.new (masked_start (program_of compiled.now) entry given W) }
     ensures kept { without_words (T.history words.new.store.timeline) ≡ without_words (T.history words.old.store.timeline) }
+{
+    fill_file::<W, T>(compiled, words);
+    give_rows::<W, T>(compiled, entry, rows, words);
+    begin_frame::<W, T>(compiled, 0, entry, Mask::all::<W>(), words);
+}
+
+/// Writes the first words of each variable of the file.
+fn fill_file<const W: usize, T: Timeline + Drop>(
+    compiled: &CompiledProgram,
+    words: &mut MachineWords<T>,
+)
+    requires lie { AreFor T.history W compiled.now words.old }
+    requires fresh { (T.history words.old.store.timeline).past ≡ [] }
+    ensures { FillsFile T.history W compiled.now words.old words.new }
 {
     for (number, global) in compiled.program.globals.iter().enumerate() {
         fill::<W, T>(number, global, words);
     }
-    begin_frame::<W, T>(compiled, 0, entry, Mask::all::<W>(), words);
 }
 
 /// Writes the first words of a variable of the file: those of its literal, or 0 for each element of an array.

@@ -21,7 +21,7 @@ use expression_machine::Stacks;
 use gang_memory::MOST_FRAMES;
 use gang_types::{FaultName, Mask};
 use machine_moves::{Active, CompiledProgram, begin, named_part, value_of};
-use machine_words::{Head, MachineWords, Region, view_words};
+use machine_words::{Head, LevelPart, MachineWords, Region, view_words};
 use undo_log::{Timeline, Undone};
 
 /// The most arguments of a call.
@@ -151,7 +151,8 @@ fn declare_parameter<const W: usize, T: Timeline + Drop>(
     }
 }
 
-/// Begins a frame of a function for lanes, which wait for its first step; the others wait for its closing brace.
+/// Begins a frame of a function for lanes, which wait for its first step; the others wait for its closing brace. No foreach form has
+/// begun in it.
 pub(crate) fn begin_frame<const W: usize, T: Timeline + Drop>(
     compiled: &CompiledProgram,
     frame: usize,
@@ -164,7 +165,7 @@ pub(crate) fn begin_frame<const W: usize, T: Timeline + Drop>(
     requires laid { AreLaid T.history W words.old }
     requires there { frame < 64 }
     requires runs { (f : ModelFunction) × (function_of compiled.now function ≡ Some f) }
-    requires left { W + 4 ≤ left_of T.history T.left words.old }
+    requires left { W + 5 ≤ left_of T.history T.left words.old }
     ensures { (f : ModelFunction) → function_of compiled.now function ≡ Some f
         → BeginsFrame T.history T.left W frame function f (lanes_of W lanes) words.old words.new }
 {
@@ -179,8 +180,9 @@ pub(crate) fn begin_frame<const W: usize, T: Timeline + Drop>(
     words.set::<W>(Region::Head(frame, Head::Function), 0, function as u64);
     words.set::<W>(Region::Head(frame, Head::Lanes), 0, lanes.word::<W>());
     words.set::<W>(Region::Head(frame, Head::Returned), 0, 0);
+    words.set::<W>(Region::Head(frame, Head::Open), 0, 0);
     words.set_lanes::<W>(
-        Region::Head(frame, Head::Numbers),
+        Region::Head(frame, Head::Level(0, LevelPart::Numbers)),
         Mask::all::<W>(),
         numbers,
     );

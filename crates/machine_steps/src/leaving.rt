@@ -14,7 +14,7 @@ ghost use Rattle.machine_steps.specs.Leaving.{AreSameIn, GoesPastCall, lanes_cal
 use codegen::StepCode;
 use gang_types::{Mask, Rate};
 use machine_moves::{Active, CompiledProgram, begin, deliver_values, least, waiting_for};
-use machine_words::{Head, MachineWords, Region};
+use machine_words::{Head, LevelPart, MachineWords, Region};
 use masked_operations::only;
 use typed_tree::ResultFor;
 use undo_log::{Timeline, Undone};
@@ -51,7 +51,7 @@ fn go_past_call<const W: usize, T: Timeline + Drop>(
 {
     let below = active.frame - 1;
     let caller = words.word::<W>(Region::Head(below, Head::Function), 0) as usize;
-    let numbers = words.lanes::<W>(Region::Head(below, Head::Numbers));
+    let numbers = words.lanes::<W>(Region::Head(below, Head::Level(0, LevelPart::Numbers)));
     let number = least(compiled.closing(caller) as u64, &numbers);
     let StepCode::Enter {
         result_for,
@@ -63,7 +63,7 @@ fn go_past_call<const W: usize, T: Timeline + Drop>(
     };
     deliver::<W, T>(compiled, active, *result_for, words);
     words.set_lanes::<W>(
-        Region::Head(below, Head::Numbers),
+        Region::Head(below, Head::Level(0, LevelPart::Numbers)),
         waiting_for(number, &numbers),
         [*next as u64; W],
     );

@@ -4,7 +4,9 @@
 mod beginning;
 mod calls;
 mod leaving;
+mod rows;
 mod stepping;
 
 pub use beginning::start;
+pub use rows::entry_lengths;
 pub use stepping::step;

@@ -16,3 +16,15 @@ pub covered_more : (words old : List ℕ) (i : ℕ) → i < length words → len
 covered_more words old i h l =
     let next : suc i ≡ i + 1 = omega arith in
     subst (λ n. slice_set (covered (take i words) old) i (slice_index words i) ≡ covered (take n words) old) next (one_more words old i h l)
+
+-- they are as many words as before
+pub length-covered : (words old : List ℕ) → length words ≤ length old → length (covered words old) ≡ length old
+length-covered [] old h = refl
+length-covered (x ∷ words) [] h = absurd (omega (arith, h))
+length-covered (x ∷ words) (y ∷ old) h = ap suc (length-covered words old (omega (arith, h)))
+
+pub length-taken : (words : List ℕ) (i n : ℕ) → length words ≤ n → length (take i words) ≤ n
+length-taken [] zero n h = omega arith
+length-taken [] (suc i) n h = omega arith
+length-taken (x ∷ words) zero n h = omega arith
+length-taken (x ∷ words) (suc i) n h = let rest = length-taken words i (length words) (omega arith) in omega (arith, rest, h)

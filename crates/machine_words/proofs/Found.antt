@@ -8,7 +8,7 @@ use Rattle.gang_memory.specs.declared.parts.Part.{Part}
 use Rattle.gang_memory.specs.declared.layout.Layout.{Layout}
 use Rattle.gang_memory.specs.Layouts.{IsRangeOfFrame, frame_parts, ranges, ranges_of_frames}
 use Rattle.machine_states.specs.Regions.{Head, OfFile, OfEntry, Depth, OfHead, OfLocal}
-use Rattle.machine_words.specs.Ranges.{frame_number, head_part, range_of}
+use Rattle.machine_words.specs.Ranges.{frame_number, has_part, head_part, levels_of, range_of}
 
 -- ---- which of two lists has the range
 among_first : (parts others : List Part) (i : ℕ) (p : Part) → slice_get parts i ≡ Some p → slice_get (parts ++ others) i ≡ Some p
@@ -59,8 +59,10 @@ module _ (width : ℕ) (layout : Layout) (p : Part) where
       among_others layout.file.items (layout.entry.items ++ (layout.machine.items ++ ranges_of_frames width layout.frames)) (length layout.entry.items + (length layout.machine.items + n)) p
       (among_others layout.entry.items (layout.machine.items ++ ranges_of_frames width layout.frames) (length layout.machine.items + n) p (among_others layout.machine.items (ranges_of_frames width layout.frames) n p e))
 
-  pub head_found : (i : ℕ) (part : Head) → i < layout.frames.count → IsRangeOfFrame width layout.frames i (head_part part) p → range_of width layout (OfHead i part) ≡ Some p
-  head_found i part h e = found (nat_lt i layout.frames.count) (slice_get (ranges width layout) (frame_number layout i (head_part part))) p (lt-ltb i layout.frames.count h) (frame_range i (head_part part) e)
+  pub head_found : (i : ℕ) (part : Head) → has_part (levels_of layout) part ≡ true → i < layout.frames.count → IsRangeOfFrame width layout.frames i (head_part part) p → range_of width layout (OfHead i part) ≡ Some p
+  head_found i part there h e =
+      found (has_part (levels_of layout) part && nat_lt i layout.frames.count) (slice_get (ranges width layout) (frame_number layout i (head_part part))) p
+      (and_from (has_part (levels_of layout) part) (nat_lt i layout.frames.count) there (lt-ltb i layout.frames.count h)) (frame_range i (head_part part) e)
 
   pub local_found : (i k : ℕ) → i < layout.frames.count → k < layout.frames.variables → IsRangeOfFrame width layout.frames i (length layout.frames.head.items + k) p → range_of width layout (OfLocal i k) ≡ Some p
   local_found i k h l e =

@@ -9,6 +9,6 @@ mod regions;
 mod views;
 mod words;
 
-pub use regions::{Head, Region};
+pub use regions::{Head, LevelPart, Region};
 pub use views::{View, part_from, view_words};
 pub use words::MachineWords;

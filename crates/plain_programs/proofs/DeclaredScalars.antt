@@ -4,7 +4,7 @@ use Rattle.std.proofs.lemmas.Bool.Decides.{nat_tests}
 use Rattle.std.specs.Prelude.{slice_get, slice_index_or, if◌then◌else◌}
 use Rattle.gang_model.specs.Types.Tree.{Stmt, Empty, Then, If, Loop, BodyFirst, Switch, Segment, ForEach, Variable}
 use Rattle.machine_states.specs.Variables.{is_array_of}
-use Rattle.machine_states.specs.Declared.{IsAmong, declared_by, declared_at, scalars_below}
+use Rattle.machine_states.specs.Declared.{IsAmong, declared_by_form, declared_by, declared_at, scalars_below}
 
 -- ---- parameters
 
@@ -84,7 +84,8 @@ module _ (own : List Variable) where
   at_near (Segment label body rest) d there h =
       near_join (declared_at d body) (declared_at d rest) (declared_at there body) (declared_at there rest) (at_near body d there h) (at_near rest d there h)
   at_near (ForEach number form body) d there h =
-      (h, near_join (declared_at d body) (d ∷ []) (declared_at there body) (there ∷ []) (at_near body d there h) (h, tt))
+      let inside = declared_by_form form in
+      (h, near_join (declared_at (inside ++ d) body) (d ∷ []) (declared_at (inside ++ there) body) (there ∷ []) (at_near body (inside ++ d) (inside ++ there) (near_more inside d there h)) (h, tt))
   at_near s d there h = (h, tt)
 
   -- before the step with a number, or at the end

@@ -98,7 +98,7 @@ functions_first : (source : ParsedSource) (functions : List ParsedFunction) → 
 functions_first source [] known quiet = tt
 functions_first source (f ∷ functions) known quiet =
     on_pair (judged_function source f) (judged_functions source functions) _ (IsFirstFunction source f (own_variables source f)) (AreFirst source functions) (AreFirst source (f ∷ functions))
-    (function_first source f known.0.body quiet.0) (functions_first source functions known.1 quiet.1) (λ g typed one others. (one, others))
+    (function_first source f known.0 quiet.0) (functions_first source functions known.1 quiet.1) (λ g typed one others. (one, others))
 
 -- a function of the typed tree has its own in the tree as written
 pub record IsOwnFunction (source : ParsedSource) (functions : List ParsedFunction) (n : ℕ) (g : Function) : Type 0 where

@@ -47,7 +47,7 @@ pub all_parameters_counted : (source : ParsedSource) (functions : List ParsedFun
     → map parameters_among (map (own_variables source) functions) ≡ map (λ f. length f.params) functions
 all_parameters_counted source [] known = refl
 all_parameters_counted source (f ∷ functions) known =
-    ap (λ count. count ∷ map parameters_among (map (own_variables source) functions)) (parameters_counted source f known.0.body)
+    ap (λ count. count ∷ map parameters_among (map (own_variables source) functions)) (parameters_counted source f known.0)
     ∙ ap (λ counts. length f.params ∷ counts) (all_parameters_counted source functions known.1)
 
 -- ---- arrays
@@ -71,6 +71,6 @@ arrays_at source known n k v e is = by (slice_get (map (own_variables source) (f
         let at = get_mapped (own_variables source) (functions_in source) n own there in
         let f = at.0 in
         let body = each_get IsKnownFunction (functions_in source) n f known at.1 in
-        let scalars = made_scalars (body_of source f) (statements_plain f.body (context_of source f) (scope_of source f) (length f.params) 0 body.body) in
+        let scalars = made_scalars (body_of source f) (statements_plain f.body (context_of source f) (scope_of source f) (length f.params) 0 body) in
         subst (λ m. k < m) (params_count 0 f.params ∙ sym (parameters_at source n f at.1))
         (arrays_first (param_variables 0 f.params) (variables_made (body_of source f)) scalars k v (subst (λ vs. slice_get vs k ≡ Some v) (sym at.2) e) is)

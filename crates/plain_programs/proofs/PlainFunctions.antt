@@ -90,6 +90,6 @@ module _ (source : ParsedSource) (known : Each IsKnownFunction (functions_in sou
       on_pair (unless (signature_faults f) f) (body_of source f) _ (λ g. Unit {0}) (λ m. IsPlainFunction variables n (function_made (file_scope source) f m)) (IsPlainFunction variables n)
       (on_any (unless (signature_faults f) f))
       (body_plain (body_of source f) (own_is source n f at) (body_faithful source f)
-      (statements_plain f.body (context_of source f) (scope_of source f) (length f.params) 0 body.body)
+      (statements_plain f.body (context_of source f) (scope_of source f) (length f.params) 0 body)
       (λ table calls. statements_scoped table f.body (context_of source f) (scope_of source f) (length f.params) 0 calls))
       (λ g m _ h. h)

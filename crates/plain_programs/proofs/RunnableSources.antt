@@ -1,24 +1,25 @@
 -- The typed program of an accepted text is one that a machine runs.
-use Rattle.std.proofs.Common.{ℕ, suc, true, List, [], ◌∷◌, length, ◌≡◌, refl, sym, ◌∙◌, ap, subst, arith}
+use Rattle.std.proofs.Common.{ℕ, suc, true, List, [], ◌∷◌, length, ◌≤◌, ◌≡◌, refl, sym, ◌∙◌, ap, subst, arith}
 use Rattle.std.proofs.lemmas.Simd.{map-map}
 use Rattle.std.specs.Prelude.{All, get_or, map, Option, Some, slice_get}
 use Rattle.gang_model.specs.Texts.Text.{Bytes}
 use Rattle.gang_model.specs.Types.Tree as t
 use Rattle.gang_model.specs.Types.Tree.{Variable, Standing, Function}
-use Rattle.gang_model.specs.Source.Parsed.{Name, ParsedGlobal, ParsedSource, functions_in, globals_in}
+use Rattle.gang_model.specs.Source.Parsed.{Name, ParsedFunction, ParsedGlobal, ParsedSource, functions_in, globals_in}
 use Rattle.gang_model.specs.Source.Known.{is_known}
 use Rattle.gang_model.specs.Source.Limits.{most_variables, limit_refusal}
 use Rattle.gang_model.specs.Source.Sources.{IsProgramOf}
+use Rattle.gang_model.specs.Source.SpellsSource.{max_params}
 use Rattle.gang_model.specs.Source.Judged.{unless}
 use Rattle.gang_model.specs.Types.TypeFaults.{global_faults}
-use Rattle.gang_model.specs.Types.Resolved.{global_of, judged_globals, program_of, file_variables}
+use Rattle.gang_model.specs.Types.Resolved.{global_of, judged_globals, program_of, file_variables, param_variables}
 use Rattle.gang_model.specs.Types.SourceRefusals.{refusal_of}
 use Rattle.gang_model.proofs.JudgedLaws.{OnSound, on_pair, on_unless}
 use Rattle.gang_model.proofs.StandingLaws.{Each}
 use Rattle.gang_model.proofs.VariableLaws.{program_of-right}
 use Rattle.mask_states.specs.Points.{closing_number}
 use Rattle.mask_states.proofs.AcceptedPrograms.{program_of-lowerable}
-use Rattle.machine_states.specs.Variables.{Variables, parameters_of}
+use Rattle.machine_states.specs.Variables.{Variables}
 use Rattle.machine_states.specs.Plain.{IsPlainProgram}
 use Rattle.machine_states.specs.Declared.{AreDeclaredFirst}
 use Rattle.expression_code.proofs.ProgramRoom.{program_of-have_room}
@@ -30,10 +31,11 @@ use Rattle.plain_programs.specs.Sources.{plain_forms, source_variables, HasVaria
 use Rattle.plain_programs.proofs.DeclaredSources.{declared_text}
 use Rattle.plain_programs.proofs.Elements.{each_get}
 use Rattle.plain_programs.proofs.EntryFunctions.{entry_exported, typed_function}
-use Rattle.plain_programs.proofs.KnownFunctions.{IsKnownFunction, known_functions}
+use Rattle.plain_programs.proofs.KnownFunctions.{IsKnownFunction, few_params, known_functions}
 use Rattle.plain_programs.proofs.OwnParameters.{parameters_among, all_parameters_counted}
-use Rattle.plain_programs.proofs.OwnVariables.{parameters_at}
+use Rattle.plain_programs.proofs.OwnVariables.{parameters_first}
 use Rattle.plain_programs.proofs.PlainSources.{no_refusal, plain_text}
+use Rattle.plain_programs.proofs.ScopedTrees.{AreParameters}
 use Rattle.plain_programs.proofs.ProgramParts.{program_globals}
 
 -- ---- variables
@@ -117,13 +119,13 @@ module _ (text : Bytes) (asked : Option Name) (entry : ℕ) (program : Program) 
           room = program_of-have_room is.source reads.tokens (program_view program) reads.tree is.program_is;
         }
 
-    -- its entry has no parameters
-    pub no_parameters : parameters_of (variables_of program) entry ≡ 0
-    no_parameters =
-        let exported = entry_exported is.source asked entry is.entry_is in
-        let known = each_get IsKnownFunction (functions_in is.source) entry exported.function (known_functions is.source is.accepted.known) exported.found in
-        ap (λ variables. parameters_of variables entry) alike
-        ∙ (parameters_at is.source entry exported.function exported.found ∙ ap length (known.exported exported.exported))
+    -- the parameters of each function are its first variables, by their numbers
+    pub parameters_text : (n : ℕ) (f : ParsedFunction) → slice_get (functions_in is.source) n ≡ Some f
+        → AreParameters (variables_of program) n (param_variables 0 f.params)
+    parameters_text n f at =
+        let reads = is.accepted.reads in
+        let few = each_get (λ g. length g.params ≤ max_params) (functions_in is.source) n f (few_params is.source reads.tokens reads.tree) at in
+        subst (λ variables. AreParameters variables n (param_variables 0 f.params)) (sym alike) (parameters_first is.source n f at few)
 
     pub standings_text : (n : ℕ) (f : Function) → slice_get (program_view program).functions n ≡ Some f → length f.standings ≡ suc (closing_number f)
     standings_text = standings_runnable program runnable_text

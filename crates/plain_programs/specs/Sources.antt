@@ -12,9 +12,10 @@ use Rattle.machine_states.specs.Variables.{Variables, own_of}
 use Rattle.codegen.specs.Programs as programs
 use Rattle.typed_tree.specs.declared.program.Program.{Program}
 
--- functions over scalars and arrays: control flow, and calls of the source's own functions and of the library
+-- functions over scalars and arrays: control flow, and calls of the source's own functions and of the library; exported functions may
+-- have parameters
 abbrev pub plain_forms : Forms
-plain_forms = record { arrays = true; inputs = false; rounds = false; switches = false }
+plain_forms = record { arrays = true; inputs = true; rounds = false; switches = false }
 
 -- the variables that a body declares
 abbrev pub variables_made : Judged Made → List Variable

@@ -1,6 +1,9 @@
 use Rattle.std.proofs.Common.{refl, ◌∙◌, ap, ap₂, arith}
 use Rattle.gang_types.specs.MaskLaws.{gang_width-le}
 use Rattle.mask_states.specs.Masked.{least, waiting_for}
+use Rattle.machine_states.proofs.PlainLevels.{plain_innermost}
+use Rattle.machine_words.specs.Words.{regions_in}
+use Rattle.machine_moves.specs.Compiled.{variables_of}
 use Rattle.machine_moves.proofs.TopFrames.{function_word, numbers_words, top_depth, top_runs}
 use Rattle.machine_moves.proofs.active.next_step.Goals as goal
 
@@ -34,6 +37,9 @@ returns g c =
           depth = top_depth g.T.Timeline.history g.row.W c.args.compiled.now c.args.words.now c.requires.sound c.word-depth.result c.in_ok-frame.frame c.word-depth.ensures read.0 read.1;
           function = runs.1;
           is_function = runs.2;
+          innermost = plain_innermost (variables_of c.args.compiled.now) c.word-function.result runs.0
+              (c.requires.sound.lie.compiled_is.runnable.plain.functions c.word-function.result runs.0 runs.2).body g.row.W
+              (regions_in g.T.Timeline.history g.row.W c.args.words.now) c.in_ok-frame.frame;
           least_number = c.least-step.ensures ∙ ap₂ (λ n ns. least n ns) (c.closing.ensures runs.0 runs.2) c.lanes-numbers.ensures;
           is_point = refl;
         };

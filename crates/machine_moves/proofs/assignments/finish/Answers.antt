@@ -9,7 +9,7 @@ use Rattle.gang_model.specs.Running.Step.{initial}
 use Rattle.gang_model.specs.Running.Value.{value}
 use Rattle.debug_machine.specs.Machines.{fault_view}
 use Rattle.mask_states.specs.Points.{Put}
-use Rattle.machine_states.specs.Regions.{NumbersOf}
+use Rattle.machine_states.specs.Regions.{NumbersOf, LevelOf}
 use Rattle.machine_states.specs.Steps.{waiting_in}
 use Rattle.machine_states.proofs.PutSteps.{return_fails}
 use Rattle.typed_tree.specs.Views.{function_view}
@@ -50,8 +50,8 @@ returns-in_err-values-in-Some g c = λ masked shown.
     c.in-Some.value c.in-Some.is c.deref.result.now c.deref.ensures.value in
     let fault = c.in_err-values-in-Some.field-0.0 in
     let failed : value there.0 (lanes_of w active.lanes) masked.state ≡ Err (fault_view fault) = c.in_err-values-in-Some.ensures masked there.0 shown there.2 in
-    let is : initial e (waiting_in regions active.frame active.step) masked.state ≡ Err (fault_view fault) =
-    ap (λ o. initial o (waiting_in regions active.frame active.step) masked.state) there.1 ∙ ap (λ ls. value there.0 ls masked.state) (sym at_step.lanes) ∙ failed in
+    let is : initial e (waiting_in regions active.frame 0 active.step) masked.state ≡ Err (fault_view fault) =
+    ap (λ o. initial o (waiting_in regions active.frame 0 active.step) masked.state) there.1 ∙ ap (λ ls. value there.0 ls masked.state) (sym at_step.lanes) ∙ failed in
     let p = err_from_is_err_and c.from_residual.result c.from_residual.ensures.1 in
     subst (λ r. EndsAs history w compiled masked old r old) (sym (p.1 ∙ ap Err p.2)) (
       return_fails (program_of compiled) (variables_of compiled) w regions masked shown.shows active.frame active.function returning.0 active.step returning.1.0 e c.args.next at_step.next
@@ -113,7 +113,7 @@ set_lanes-requires g c =
         (
           c.give_result.ensures.laid,
           (
-            head_long history left w c.give_result.new.words c.give_result.ensures.laid active.frame NumbersOf there,
+            head_long history left w c.give_result.new.words c.give_result.ensures.laid active.frame (LevelOf 0 NumbersOf) there,
             (some_active history w compiled old sound active returning.0 point returning.1.3, omega (arith, room, c.begin.ensures.left_is, c.give_result.ensures.few)),
           ),
         ),

@@ -1,9 +1,10 @@
 use Rattle.std.proofs.Common.{◌≡◌, ◌<◌, ◌∙◌, refl, ap, ap₂, suc, ◌-◌, length, arith}
 use Rattle.std.specs.Prelude.{slice_index}
 use Rattle.gang_types.specs.MaskLaws.{gang_width-le}
-use Rattle.machine_states.specs.Regions.{FunctionOf, NumbersOf, OfHead}
+use Rattle.machine_states.specs.Regions.{FunctionOf, NumbersOf, LevelOf, OfLevel}
 use Rattle.mask_states.specs.Masked.{least}
 use Rattle.mask_states.specs.Points.{closing_number}
+use Rattle.machine_states.proofs.PlainLevels.{plain_innermost}
 use Rattle.machine_words.specs.Words.{regions_in}
 use Rattle.machine_moves.specs.Compiled.{program_of, variables_of}
 use Rattle.machine_moves.proofs.Standings.{head_sized}
@@ -50,7 +51,7 @@ lanes-numbers-requires g c =
         lie.gang,
         (
           lie.laid,
-          head_sized g.T.Timeline.history g.row.W c.args.compiled.now machine machine lie refl lie.laid (c.args.depth - 1) NumbersOf below,
+          head_sized g.T.Timeline.history g.row.W c.args.compiled.now machine machine lie refl lie.laid (c.args.depth - 1) (LevelOf 0 NumbersOf) below,
         ),
       ),
     )
@@ -83,12 +84,13 @@ returns-clause-place g c masked shown =
     let one_more : deep ≡ suc (deep - 1) = omega (arith, c.if-depth-eq0.false) in
     let there = function_at (program_of compiled) (variables_of compiled) g.row.W regions masked shows deep c.word.result c.word-function.result c.word.ensures c.if-word-depth.false c.word-function.ensures in
     let f = there.0 in
-    let numbers = regions (OfHead (deep - 1) NumbersOf) in
+    let numbers = regions (OfLevel (deep - 1) 0 NumbersOf) in
     let closing : c.closing.result ≡ closing_number f = c.closing.ensures f there.1 in
     let least_is : c.least-step.result ≡ least (closing_number f) numbers =
     c.least-step.ensures ∙ ap₂ (λ end words. least end words) closing c.lanes-numbers.ensures in
     call_shown (program_of compiled) (variables_of compiled) g.row.W regions masked shows deep (deep - 1) c.word-function.result c.least-step.result f
     c.call_lanes-lanes.result c.stands_at.result one_more below there.2 there.1
+    (plain_innermost (variables_of compiled) c.word-function.result f (c.requires.sound.lie.compiled_is.runnable.plain.functions c.word-function.result f there.1).body g.row.W regions (deep - 1))
     least_is
     c.call_lanes-lanes.ensures
     (c.requires.sound.lie.compiled_is.runnable.lowerable.functions c.word-function.result f there.1).standings

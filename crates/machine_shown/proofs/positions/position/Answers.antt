@@ -20,7 +20,7 @@ returns-clause-place g c masked shown =
     let f = c.in_ok-active.ensures.0 in
     let is = c.in_ok-active.ensures.1 in
     let closing : c.closing.result ≡ closing_number f = c.closing.ensures f is.next.is_function in
-    let lanes_are : lanes_of width lanes ≡ (if active.step == closing_number f then lanes_in width regions (OfHead active.frame LanesOf) else waiting_in regions active.frame active.step) =
+    let lanes_are : lanes_of width lanes ≡ (if active.step == closing_number f then lanes_in width regions (OfHead active.frame LanesOf) else waiting_in regions active.frame 0 active.step) =
     elim c.if-active-closing.branch [
       | then-active-closing w ↦ lanes_at_brace width compiled regions active f is lanes (w.if-active-closing.true ∙ closing) (ap (lanes_of width) w.lanes-is ∙ w.call_lanes-lanes.ensures)
       | else-active-closing w ↦ lanes_at_step width compiled regions active f is lanes (λ e. w.if-active-closing.false (e ∙ sym closing)) w.lanes-is

@@ -1,57 +1,21 @@
-use Rattle.std.proofs.Common.{◌≤◌, ◌<◌, ◌∙◌, refl, ap, length, get_or, arith}
-use Rattle.std.proofs.lemmas.Option.{slice_get_read}
+use Rattle.std.proofs.Common.{◌∙◌, arith}
 use Rattle.gang_types.specs.Masks.{lanes_of}
-use Rattle.machine_steps.proofs.FirstWords.{first_lie, first_rest, first_shown, next_file, none_filled, one_filled, still_fresh, width_left}
+use Rattle.machine_steps.proofs.FirstStates.{start_lie, start_rest, start_shown}
+use Rattle.machine_steps.proofs.FirstWords.{width_left}
 use Rattle.machine_steps.proofs.beginning.start.Goals as goal
-
-pub loop-number-init : goal.loop-number-init
-loop-number-init g c = none_filled g.T.Timeline.history g.T.Timeline.left g.row.W c.args.compiled.now c.args.words.now c.requires.lie
-
-pub fill-requires : goal.fill-requires
-fill-requires g c =
-    let history = g.T.Timeline.history in
-    let left = g.T.Timeline.left in
-    let w = g.row.W in
-    let compiled = c.args.compiled.now in
-    let globals = compiled.program.globals.items in
-    let lie = c.requires.lie in
-    let i = c.loop-number.number in
-    let mid = c.loop-number.words in
-    let global = c.global-item.result in
-    let within : i < length globals = omega (arith, c.loop-number-test.true, ap length c.deref-global-items.ensures.value) in
-    let is = slice_get_read globals (length globals) i global refl within (c.global-item.is ∙ ap (λ gs. get_or gs i global) c.deref-global-items.ensures.value) in
-    record {
-      width = lie.gang;
-      laid = c.loop-number.invariant.laid;
-      fresh = still_fresh history left w compiled c.args.words.now lie c.requires.fresh i mid c.loop-number.invariant;
-      long = next_file history left w compiled c.args.words.now lie c.requires.fresh i mid c.loop-number.invariant global is;
-    }
-
-pub loop-number-preserved : goal.loop-number-preserved
-loop-number-preserved g c =
-    let history = g.T.Timeline.history in
-    let left = g.T.Timeline.left in
-    let w = g.row.W in
-    let compiled = c.args.compiled.now in
-    let globals = compiled.program.globals.items in
-    let i = c.loop-number.number in
-    let global = c.global-item.result in
-    let within : i < length globals = omega (arith, c.loop-number-test.true, ap length c.deref-global-items.ensures.value) in
-    let is = slice_get_read globals (length globals) i global refl within (c.global-item.is ∙ ap (λ gs. get_or gs i global) c.deref-global-items.ensures.value) in
-    one_filled history left w compiled c.args.words.now c.requires.lie c.requires.fresh i c.loop-number.words c.loop-number.invariant global is
-    c.fill.new.words c.fill.ensures
 
 pub begin_frame-requires : goal.begin_frame-requires
 begin_frame-requires g c =
-    let room =
-    width_left g.T.Timeline.history g.T.Timeline.left g.row.W c.args.compiled.now c.args.words.now c.requires.lie c.requires.fresh c.loop-number.number c.loop-number.words c.loop-number.invariant in
+    let files = c.fill_file.ensures in
+    let gives = c.give_rows.ensures in
+    let (f, given, may, lengths) = c.requires.rows in
     record {
       width = c.requires.lie.gang;
       compiled = c.requires.lie.compiled_is;
-      laid = c.loop-number.invariant.laid;
+      laid = gives.lie.laid;
       there = omega arith;
-      runs = c.requires.entry;
-      left = room;
+      runs = (f, may.is_function);
+      left = width_left g.T.Timeline.history g.T.Timeline.left g.row.W c.args.compiled.now c.args.words.now c.requires.lie c.requires.fresh c.give_rows.new.words (gives.rest ∙ files.rest);
     }
 
 pub returns : goal.returns
@@ -60,15 +24,17 @@ returns g c =
     let left = g.T.Timeline.left in
     let w = g.row.W in
     let compiled = c.args.compiled.now in
-    let f = c.requires.entry.0 in
-    let is = c.requires.entry.1 in
-    let begun = c.begin_frame.ensures f is in
-    let over : length compiled.program.globals.items ≤ c.loop-number.number = omega (arith, c.loop-number-test.false, ap length c.deref-global-items.ensures.value) in
+    let old = c.args.words.now in
+    let filled = c.fill_file.new.words in
+    let mid = c.give_rows.new.words in
+    let new = c.begin_frame.new.words in
+    let lanes = lanes_of w c.all.result in
+    let some = c.requires.rows.0 in
+    let begun = c.begin_frame.ensures some c.requires.rows.2.is_function in
     record {
-      lie = first_lie history left w compiled c.args.words.now c.requires.lie c.args.entry f is c.requires.none c.loop-number.words c.begin_frame.new.words (lanes_of w c.all.result) c.all.ensures
-          c.loop-number.number c.loop-number.invariant over begun;
-      shown = first_shown history left w compiled c.args.words.now c.requires.lie c.args.entry f is c.requires.none c.loop-number.words c.begin_frame.new.words (lanes_of w c.all.result) c.all.ensures
-          c.loop-number.number c.loop-number.invariant over begun;
-      kept = first_rest history left w compiled c.args.words.now c.requires.lie c.args.entry f is c.requires.none c.loop-number.words c.begin_frame.new.words (lanes_of w c.all.result) c.all.ensures
-          c.loop-number.number c.loop-number.invariant over begun;
+      lie = start_lie history left w compiled old filled mid new c.requires.lie c.args.entry c.args.rows.now c.fill_file.ensures c.give_rows.ensures some lanes begun;
+      shown = λ f given may lengths.
+          start_shown history left w compiled old filled mid new c.requires.lie c.args.entry c.args.rows.now c.fill_file.ensures c.give_rows.ensures f lanes
+          (c.begin_frame.ensures f may.is_function) c.all.ensures given may lengths;
+      kept = start_rest history left w compiled old filled mid new c.requires.lie c.args.entry c.args.rows.now c.fill_file.ensures c.give_rows.ensures some lanes begun;
     }

@@ -7,7 +7,7 @@ use Rattle.gang_model.specs.Running.Lanes.{merged}
 use Rattle.mask_states.specs.Points.{closing_number}
 use Rattle.mask_states.specs.Masked.{least, sent, waiting_for}
 use Rattle.mask_states.proofs.LaneNumbers.{length-waiting_for}
-use Rattle.machine_states.specs.Regions.{NumbersOf, OfHead}
+use Rattle.machine_states.specs.Regions.{NumbersOf, LevelOf, OfLevel}
 use Rattle.machine_states.specs.Steps.{waiting_in}
 use Rattle.typed_tree.specs.Views.{result_view}
 use Rattle.machine_words.specs.Words.{regions_in}
@@ -110,10 +110,10 @@ set_lanes-requires g c =
     let gave = c.deliver.ensures closing.0 reads.g closing.1.next.is_function (takes_result compiled sound.lie.compiled_is regions below reads.n reads.g for next call) in
     let there = closing_there history left w compiled c.args.words.now sound active closing in
     let waits : no_lane (lanes_of w c.waiting_for.result) ≡ false =
-    ap no_lane (c.waiting_for.ensures ∙ ap (λ m. waiting_for m c.lanes-numbers.result) reads.number_is ∙ ap (waiting_for (least (closing_number reads.g) (regions (OfHead below NumbersOf)))) c.lanes-numbers.ensures)
+    ap no_lane (c.waiting_for.ensures ∙ ap (λ m. waiting_for m c.lanes-numbers.result) reads.number_is ∙ ap (waiting_for (least (closing_number reads.g) (regions (OfLevel below 0 NumbersOf)))) c.lanes-numbers.ensures)
     ∙ some_calls (program_of compiled) regions below reads.n reads.g for next call in (
       omega (arith, gang_width-le w sound.lie.gang),
-      (sound.lie.gang, (gave.laid, (head_long history left w c.deliver.new.words gave.laid below NumbersOf (omega (arith, there)), (waits, omega (arith, c.requires.left, gave.few))))),
+      (sound.lie.gang, (gave.laid, (head_long history left w c.deliver.new.words gave.laid below (LevelOf 0 NumbersOf) (omega (arith, there)), (waits, omega (arith, c.requires.left, gave.few))))),
     )
 
 pub returns : goal.returns
@@ -137,12 +137,12 @@ returns g c = λ f is_active.
     let call = call_made compiled regions below c.steps.result.now c.least-number.result reads c.in-Enter.function c.in-Enter.args c.in-Enter.result_for next
     c.index-steps-number.result c.index-steps-number.is c.in-Enter.is in
     let gave = c.deliver.ensures f reads.g is_active.next.is_function (takes_result compiled sound.lie.compiled_is regions below reads.n reads.g for next call) in
-    let number = least (closing_number reads.g) (regions (OfHead below NumbersOf)) in
-    let lanes = waiting_in regions below number in
+    let number = least (closing_number reads.g) (regions (OfLevel below 0 NumbersOf)) in
+    let lanes = waiting_in regions below 0 number in
     let there : lanes_of w c.waiting_for.result ≡ lanes =
     c.waiting_for.ensures ∙ ap (λ m. waiting_for m c.lanes-numbers.result) reads.number_is ∙ ap (waiting_for number) c.lanes-numbers.ensures in
-    let wide : length lanes ≡ w = length-waiting_for number (regions (OfHead below NumbersOf)) ∙ numbers_long history left w compiled old sound active closing in
-    let numbers = regions_in history w mid (OfHead below NumbersOf) in
+    let wide : length lanes ≡ w = length-waiting_for number (regions (OfLevel below 0 NumbersOf)) ∙ numbers_long history left w compiled old sound active closing in
+    let numbers = regions_in history w mid (OfLevel below 0 NumbersOf) in
     let after = merged (lanes_of w c.waiting_for.result) (replicate w next) numbers in
     record {
       n = reads.n;
@@ -152,9 +152,9 @@ returns g c = λ f is_active.
       call = call;
       delivered = gave.delivered;
       delivers = gave.delivers;
-      regions = λ r. regions_after history left w mid c.set_lanes.new.self (OfHead below NumbersOf) after w c.set_lanes.ensures r
-          ∙ alike (OfHead below NumbersOf) after (sent lanes (λ k. next) (gave.delivered (OfHead below NumbersOf))) (regions_in history w mid) gave.delivered r
-          (ap (λ ls. merged ls (replicate w next) numbers) there ∙ sent_to w lanes next numbers wide ∙ ap (sent lanes (λ k. next)) (gave.regions (OfHead below NumbersOf)))
+      regions = λ r. regions_after history left w mid c.set_lanes.new.self (OfLevel below 0 NumbersOf) after w c.set_lanes.ensures r
+          ∙ alike (OfLevel below 0 NumbersOf) after (sent lanes (λ k. next) (gave.delivered (OfLevel below 0 NumbersOf))) (regions_in history w mid) gave.delivered r
+          (ap (λ ls. merged ls (replicate w next) numbers) there ∙ sent_to w lanes next numbers wide ∙ ap (sent lanes (λ k. next)) (gave.regions (OfLevel below 0 NumbersOf)))
           (gave.regions r);
       layout = c.set_lanes.ensures.layout ∙ gave.layout;
       laid = c.set_lanes.ensures.laid;

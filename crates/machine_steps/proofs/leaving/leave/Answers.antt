@@ -4,7 +4,7 @@ use Rattle.undo_log.specs.declared.timeline.Undone.TheVariants as undone
 use Rattle.mask_states.specs.Points.{closing_number}
 use Rattle.mask_states.specs.Masked.{least}
 use Rattle.machine_states.specs.Effects.{sent_on}
-use Rattle.machine_states.specs.Regions.{Depth, NumbersOf, OfHead, with_region}
+use Rattle.machine_states.specs.Regions.{Depth, NumbersOf, with_region, OfLevel}
 use Rattle.machine_states.specs.Steps.{waiting_in}
 use Rattle.machine_words.specs.Words.{AreLaid, Writes, regions_in, words_of}
 use Rattle.machine_words.proofs.Sizes.{depth_words}
@@ -57,7 +57,7 @@ returns g c = λ masked shown.
           subst (λ words. Writes history left w Depth (slice_set (regions_in history w words Depth) 0 active.frame) 1 words new) b.words-is c.set.ensures in
           let before = regions_in history w mid in
           let below = active.frame - 1 in
-          let regions = sent_on below (waiting_in before below (least (closing_number gone.g) (before (OfHead below NumbersOf)))) (λ k. gone.next) gone.delivered in
+          let regions = sent_on below 0 (waiting_in before below 0 (least (closing_number gone.g) (before (OfLevel below 0 NumbersOf)))) (λ k. gone.next) gone.delivered in
           let done = depth_set history left w regions (w + w + 1) old past (past_under_way history left w compiled old mid sound c.begin.ensures active.frame closing.0 past gone) new active.frame set in
           ends_well history left w compiled masked (with_region Depth (active.frame ∷ []) regions) (w + w + 1 + 1) old new done
           (goes_past history left w sound.lie.gang compiled sound.lie.compiled_is active closing.0 masked mid

@@ -1,9 +1,11 @@
-use Rattle.std.proofs.Common.{◌≡◌, ◌<◌, ◌∙◌, true, refl, sym, ap, subst, arith, length}
+use Rattle.std.proofs.Common.{ℕ, ◌≡◌, ◌<◌, ◌∙◌, true, refl, sym, ap, subst, arith, length}
 use Rattle.std.specs.Prelude.{◌&&◌, nat_lt}
 use Rattle.std.proofs.lemmas.Bool.{and_parts, ltb-true}
 use Rattle.std.proofs.lemmas.Option.{slice_get_read}
+use Rattle.gang_memory.specs.declared.layout.Layout.{Layout}
 use Rattle.gang_memory.specs.Layouts.{IsRangeOfFrame}
-use Rattle.machine_words.specs.Ranges.{is_there, range_of}
+use Rattle.machine_states.specs.Regions.{Head, OfHead}
+use Rattle.machine_words.specs.Ranges.{has_part, is_there, levels_of, range_of}
 use Rattle.machine_words.specs.Views.{head_view, region_view}
 use Rattle.machine_words.proofs.Apart.{part_below}
 use Rattle.machine_words.proofs.Found.{depth_found, entry_found, file_found, head_found, local_found}
@@ -16,10 +18,19 @@ index-requires-in-Depth g c =
     let plan = plan_of g.row.W layout c.requires.planned in
     omega (arith, plan.own_long, layout.machine.ok)
 
+part_there : (layout : Layout) (frame : ℕ) (part : Head) → is_there layout (OfHead frame part) ≡ true → (has_part (levels_of layout) part ≡ true) × (nat_lt frame layout.frames.count ≡ true)
+part_there layout frame part h = and_parts (has_part (levels_of layout) part) (nat_lt frame layout.frames.count) h
+
 pub head-requires-clause-part : goal.head-requires-clause-part
 head-requires-clause-part g c =
     let plan = plan_of g.row.W c.args.layout.now c.requires.planned in
-    omega (arith, c.part.ensures, plan.head_long, part_below (head_view c.in-Head.part) 5 (omega arith))
+    omega (
+      arith,
+      c.part.ensures,
+      plan.head_long,
+      part_below (levels_of c.args.layout.now) (head_view c.in-Head.part) (part_there c.args.layout.now c.in-Head.frame (head_view c.in-Head.part)
+          (sym (ap (λ r. is_there c.args.layout.now (region_view r)) c.in-Head.is) ∙ c.requires.there)).0,
+    )
 
 pub head-requires-clause-small : goal.head-requires-clause-small
 head-requires-clause-small g c =
@@ -64,9 +75,9 @@ pub returns-in-Head : goal.returns-in-Head
 returns-in-Head g c =
     let layout = c.args.layout.now in
     let frame = c.in-Head.frame in
-    let there : nat_lt frame layout.frames.count ≡ true = sym (ap (λ r. is_there layout (region_view r)) c.in-Head.is) ∙ c.requires.there in
+    let there = part_there layout frame (head_view c.in-Head.part) (sym (ap (λ r. is_there layout (region_view r)) c.in-Head.is) ∙ c.requires.there) in
     ap (λ r. range_of g.row.W layout (region_view r)) c.in-Head.is
-    ∙ head_found g.row.W layout c.head.result frame (head_view c.in-Head.part) (ltb-true frame layout.frames.count there)
+    ∙ head_found g.row.W layout c.head.result frame (head_view c.in-Head.part) there.0 (ltb-true frame layout.frames.count there.1)
     (subst (λ n. IsRangeOfFrame g.row.W layout.frames frame n c.head.result) c.part.ensures c.head.ensures)
 
 pub returns-in-Local : goal.returns-in-Local

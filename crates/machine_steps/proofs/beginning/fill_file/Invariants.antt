@@ -1,5 +1,5 @@
 use Rattle.machine_steps.proofs.FirstWords.{AreFilled}
-use Rattle.machine_steps.proofs.beginning.start.Given as goal
+use Rattle.machine_steps.proofs.beginning.fill_file.Given as goal
 
 -- the variables of the file so far have their words
 abbrev pub invariant-loop-number : goal.invariant-loop-number

@@ -1,0 +1,12 @@
+-- Which foreach forms stand round each step of a function.
+use Rattle.std.specs.Prelude.{ℕ, List, [], length, slice_index_or}
+use Rattle.gang_model.specs.Types.Tree.{StepNumber, RoundsOf, Function}
+use Rattle.foreach_lowering.specs.Forms.{forms_round}
+
+-- the forms round a step, the innermost first; none round the closing brace
+abbrev pub forms_about : Function → StepNumber → List RoundsOf
+forms_about f number = slice_index_or (forms_round [] f.body) number []
+
+-- how many there are
+abbrev pub nested_at : Function → StepNumber → ℕ
+nested_at f number = length (forms_about f number)
