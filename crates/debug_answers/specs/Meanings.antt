@@ -25,6 +25,7 @@ refusal_view refusal.OutOfRange = model.OutOfRange
 refusal_view refusal.Constant = model.Constant
 refusal_view refusal.NoSuchNumber = model.NoSuchNumber
 refusal_view refusal.TableFull = model.TableFull
+refusal_view refusal.Memory = model.Memory
 
 -- an index is less than a count, where there is an index
 abbrev pub IsInside : Option ℕ → (count : ℕ) → Type 0
@@ -49,6 +50,7 @@ Means s d (answer.Deleted number) meant = meant ≡ model.Deleted number
 Means s d answer.ListsStops meant = meant ≡ model.ListsStops
 Means s d answer.ListsLocals meant = meant ≡ model.ListsLocals
 Means s d answer.ListsFrames meant = meant ≡ model.ListsFrames
+Means s d (answer.KeepsHistory n) meant = meant ≡ model.KeepsHistory n
 Means s d answer.Silent meant = meant ≡ model.Silent
 Means s d (answer.Refused r) meant = meant ≡ model.Refused (refusal_view r)
 

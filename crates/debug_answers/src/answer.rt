@@ -17,7 +17,7 @@ pub enum Refusal {
     Outermost,
     /// No line from there on has a place.
     NoLine,
-    /// An index past the end, or a value outside the type.
+    /// An index past the end, a value outside the type, or more events than a history can keep.
     OutOfRange,
     /// A constant is not set.
     Constant,
@@ -25,6 +25,8 @@ pub enum Refusal {
     NoSuchNumber,
     /// As many breakpoints and watches are there as can be, or no number is left.
     TableFull,
+    /// A longer history found no memory.
+    Memory,
 }
 
 /// What a command is answered. The machine says where the program stands then.
@@ -60,6 +62,8 @@ pub enum Answer<'a> {
     ListsLocals,
     /// All frames.
     ListsFrames,
+    /// So many events can be taken back at most.
+    KeepsHistory(u32),
     /// Nothing is said.
     Silent,
     Refused(Refusal),

@@ -17,22 +17,23 @@ long_form (MaybeNumbered make) a b c d e f g ws = refl
 long_form (Targeted make) a b c d e f g ws = refl
 long_form Assigned a b c d e f g ws = refl
 
--- a command has at most two words
-is_short : List Word → Bool
-is_short [] = true
-is_short (x ∷ []) = true
-is_short (x ∷ y ∷ []) = true
-is_short (x ∷ y ∷ z ∷ more) = false
+-- a command has at most two words, or four before a number
+is_short : List Word → Form → Bool
+is_short [] form = true
+is_short (x ∷ []) form = true
+is_short (x ∷ y ∷ []) form = true
+is_short (x ∷ y ∷ z ∷ v ∷ []) (Numbered make) = true
+is_short words form = false
 
 are_short : List Entry → Bool
 are_short [] = true
-are_short (entry ∷ entries) = is_short entry.0 && are_short entries
+are_short (entry ∷ entries) = is_short entry.0 entry.1 && are_short entries
 
 both_true : (s t : Bool) → (s && t) ≡ true → (s ≡ true) × (t ≡ true)
 both_true true t e = (refl, e)
 both_true false t e = absurd cc
 
-long_entry : (command : List Word) (form : Form) (other : Option Command) (a b c d e f g h i : Word) (ws : List Word) → is_short command ≡ true → other ≡ None
+long_entry : (command : List Word) (form : Form) (other : Option Command) (a b c d e f g h i : Word) (ws : List Word) → is_short command form ≡ true → other ≡ None
     → command_or (words_behind command (a ∷ b ∷ c ∷ d ∷ e ∷ f ∷ g ∷ h ∷ i ∷ ws)) form other ≡ None
 unfolding is_short
 long_entry [] form other a b c d e f g h i ws short is = long_form form a b c d e f g (h ∷ i ∷ ws)
@@ -47,13 +48,28 @@ long_entry (x ∷ y ∷ []) form other a b c d e f g h i ws short is = go (same_
     go true true = long_form form c d e f g h i ws
     go true false = is
     go false u = is
-long_entry (x ∷ y ∷ z ∷ more) form other a b c d e f g h i ws short is = absurd (false≢true short)
+long_entry (x ∷ y ∷ z ∷ []) form other a b c d e f g h i ws short is = absurd (false≢true short)
+long_entry (x ∷ y ∷ z ∷ v ∷ []) (Numbered make) other a b c d e f g h i ws short is = go (same_text x a) (same_text y b) (same_text z c) (same_text v d)
+  where
+    go : (t u w r : Bool)
+        → command_or (if t then (if u then (if w then (if r then Some (e ∷ f ∷ g ∷ h ∷ i ∷ ws) else None) else None) else None) else None) (Numbered make) other ≡ None
+    go true true true true = refl
+    go true true true false = is
+    go true true false r = is
+    go true false w r = is
+    go false u w r = is
+long_entry (x ∷ y ∷ z ∷ v ∷ []) (Alone command) other a b c d e f g h i ws short is = absurd (false≢true short)
+long_entry (x ∷ y ∷ z ∷ v ∷ []) (Counted make) other a b c d e f g h i ws short is = absurd (false≢true short)
+long_entry (x ∷ y ∷ z ∷ v ∷ []) (MaybeNumbered make) other a b c d e f g h i ws short is = absurd (false≢true short)
+long_entry (x ∷ y ∷ z ∷ v ∷ []) (Targeted make) other a b c d e f g h i ws short is = absurd (false≢true short)
+long_entry (x ∷ y ∷ z ∷ v ∷ []) Assigned other a b c d e f g h i ws short is = absurd (false≢true short)
+long_entry (x ∷ y ∷ z ∷ v ∷ w ∷ more) form other a b c d e f g h i ws short is = absurd (false≢true short)
 
 long_by : (entries : List Entry) (a b c d e f g h i : Word) (ws : List Word) → are_short entries ≡ true → command_by entries (a ∷ b ∷ c ∷ d ∷ e ∷ f ∷ g ∷ h ∷ i ∷ ws) ≡ None
 unfolding are_short
 long_by [] a b c d e f g h i ws short = refl
 long_by (entry ∷ entries) a b c d e f g h i ws short =
-    let s = both_true (is_short entry.0) (are_short entries) short in
+    let s = both_true (is_short entry.0 entry.1) (are_short entries) short in
     long_entry entry.0 entry.1 (command_by entries (a ∷ b ∷ c ∷ d ∷ e ∷ f ∷ g ∷ h ∷ i ∷ ws)) a b c d e f g h i ws s.0 (long_by entries a b c d e f g h i ws s.1)
 
 all_short : are_short commands ≡ true

@@ -26,6 +26,7 @@ form_view form.Delete = text.MaybeNumbered d.DoDelete
 form_view form.Print = text.Targeted d.DoPrint
 form_view form.Watch = text.Targeted d.DoWatch
 form_view form.Set = text.Assigned
+form_view form.History = text.Numbered d.DoSetHistory
 
 -- a command's words, with the form of what follows
 abbrev pub entry_view : Entry → text.Entry

@@ -23,6 +23,7 @@ command_view (command.Set target value) = d.DoSet (target_view target) value
 command_view (command.Break line) = d.DoBreak line
 command_view (command.Watch target) = d.DoWatch (target_view target)
 command_view (command.Delete n) = d.DoDelete n
+command_view (command.SetHistory n) = d.DoSetHistory n
 command_view command.InfoBreakpoints = d.DoInfoBreakpoints
 command_view command.InfoLocals = d.DoInfoLocals
 command_view command.Backtrace = d.DoBacktrace

@@ -25,6 +25,8 @@ pub enum Command<'a> {
     Watch(Target<'a>),
     /// One breakpoint or watch by its number, or all.
     Delete(Option<u32>),
+    /// The most events that can be taken back from then on.
+    SetHistory(u32),
     InfoBreakpoints,
     InfoLocals,
     Backtrace,

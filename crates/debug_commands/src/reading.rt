@@ -1,6 +1,6 @@
 //! The command that a line spells.
 ghost use Rattle.std.specs.Prelude.{◌≡◌, map};
-ghost use Rattle.gang_model.specs.Debugger.Debugger.{DoBreak, DoDelete};
+ghost use Rattle.gang_model.specs.Debugger.Debugger.{DoBreak, DoDelete, DoSetHistory};
 ghost use Rattle.gang_model.specs.Texts.CommandText as text;
 ghost use Rattle.debug_commands.specs.LineWords.{texts, texts_option};
 ghost use Rattle.debug_commands.specs.CommandTable.{motion_view, form_view, entry_view};
@@ -84,6 +84,7 @@ fn command_in<'a>(form: Form, words: &[&'a [u8]]) -> Option<Command<'a>>
         Form::Print => target_of(words).map(Command::Print),
         Form::Watch => target_of(words).map(Command::Watch),
         Form::Set => set_of(words),
+        Form::History => limiting(words),
     }
 }
 
@@ -122,6 +123,15 @@ fn breaking<'a>(words: &[&'a [u8]]) -> Option<Command<'a>>
 {
     match words {
         [word] => Some(Command::Break(number(word)?)),
+        _ => None,
+    }
+}
+
+fn limiting<'a>(words: &[&'a [u8]]) -> Option<Command<'a>>
+    ensures { option_view result ≡ text.command_in (text.Numbered DoSetHistory) (texts words.now) }
+{
+    match words {
+        [word] => Some(Command::SetHistory(number(word)?)),
         _ => None,
     }
 }

@@ -28,6 +28,8 @@ pub(crate) enum Form {
     Watch,
     /// A target, `=` and a value.
     Set,
+    /// The most events that can be taken back.
+    History,
 }
 
 /// A command's words, and what follows them.
@@ -35,7 +37,7 @@ pub(crate) enum Form {
 pub(crate) struct Entry(pub(crate) &'static [&'static [u8]], pub(crate) Form);
 
 /// All commands, by their names in GDB; `undo` has its own.
-pub(crate) const COMMANDS: [Entry; 28] = [
+pub(crate) const COMMANDS: [Entry; 29] = [
     Entry(&[b"step"], Counted(Motion::Step)),
     Entry(&[b"s"], Counted(Motion::Step)),
     Entry(&[b"next"], Counted(Motion::Next)),
@@ -54,6 +56,10 @@ pub(crate) const COMMANDS: [Entry; 28] = [
     Entry(&[b"print"], Form::Print),
     Entry(&[b"p"], Form::Print),
     Entry(&[b"set", b"var"], Form::Set),
+    Entry(
+        &[b"set", b"record", b"full", b"insn-number-max"],
+        Form::History,
+    ),
     Entry(&[b"break"], Form::Break),
     Entry(&[b"b"], Form::Break),
     Entry(&[b"watch"], Form::Watch),

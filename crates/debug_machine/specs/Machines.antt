@@ -1,17 +1,17 @@
 -- What a machine's calls do, where it stands for a debugger's state.
-use Rattle.std.specs.Prelude.{◌≡◌, ℕ, ◌+◌, ◌==◌, ◌⊎◌, false, not, List, [], ◌∷◌, ◌++◌, filter, length, map, slice_get, Option, Some, None, Result, Ok, Err, codes, decimal, if◌then◌else◌}
+use Rattle.std.specs.Prelude.{◌≡◌, ℕ, ◌<◌, ◌+◌, ◌==◌, ◌⊎◌, false, not, List, [], ◌∷◌, ◌++◌, filter, length, map, slice_get, Option, Some, None, Result, Ok, Err, codes, decimal, if◌then◌else◌}
 use Rattle.gang_types.specs.Masks.{lanes_of}
 use Rattle.undo_log.specs.declared.timeline.Undone.{Undone}
 use Rattle.undo_log.specs.declared.timeline.Undone.TheVariants as undone
 use Rattle.undo_log.specs.declared.timeline.NoHistory.{NoHistory}
-use Rattle.undo_log.specs.History.{History, marked, moment}
+use Rattle.undo_log.specs.History.{History, limited as limited_words, marked, moment}
 use Rattle.gang_model.specs.Types.Tree.{Variable, Program}
 use Rattle.gang_model.specs.Running.Lanes.{Fault as ModelFault}
 use Rattle.gang_model.specs.Running.State.{Frame, State}
 use Rattle.gang_model.specs.Running.Step.{step, Goes, Fails, Over}
 use Rattle.gang_model.specs.Debugger.Events.{Event, Step, Poke}
 use Rattle.gang_model.specs.Debugger.Positions.{scope_now}
-use Rattle.gang_model.specs.Debugger.Debugger.{Debugger, Setting, bad_part, found, global_named, moved, now, poked_by, shown_words, taken_back}
+use Rattle.gang_model.specs.Debugger.Debugger.{Debugger, Setting, bad_part, found, global_named, limited, moved, now, poked_by, shown_words, taken_back}
 use Rattle.gang_model.specs.Texts.Text.{Bytes, bits, call_line, line, line_and_column}
 use Rattle.debug_machine.specs.declared.machine.Fault.{Fault}
 use Rattle.debug_machine.specs.declared.machine.NamedVariable.{NamedVariable}
@@ -98,6 +98,11 @@ abbrev pub Pokes : {M : Type 0} → (M → Setting → Debugger → Type 0) → 
 Pokes stands s d v shown at word new =
     stands new s (moved (Poke (poked_by v at) word) d) × IsShown s (moved (Poke (poked_by v at) word) d) v shown
 
+-- so many events can be taken back at most, and older ones no longer; or a larger limit found no memory, and nothing changed
+abbrev pub Limits : {M X E : Type 0} → (M → Setting → Debugger → Type 0) → Setting → Debugger → (limit : ℕ) → Result X E → M → Type 0
+Limits stands s d limit (Ok done) new = stands new s (limited limit d)
+Limits stands s d limit (Err memory) new = (d.history < limit) × stands new s d
+
 -- ---- all words
 
 -- an event is kept with all words before it, the oldest one going past the limit; there are as many words as before
@@ -118,6 +123,11 @@ PokesWords old new = RecordsWords undone.Poke old new
 abbrev pub UndoesWords : History → Result Undone NoHistory → History → Type 0
 UndoesWords old (Ok kind) new = (old.past ≡ moment kind new.words ∷ new.past) × (new.limit ≡ old.limit)
 UndoesWords old (Err none) new = (old.past ≡ []) × (new ≡ old)
+
+-- the words before the oldest events go past the limit, and no others; or a larger limit found no memory, and nothing changed
+abbrev pub LimitsWords : {X E : Type 0} → History → (limit : ℕ) → Result X E → History → Type 0
+LimitsWords old limit (Ok done) new = new ≡ limited_words limit old
+LimitsWords old limit (Err memory) new = (old.limit < limit) × (new ≡ old)
 
 -- ---- places
 

@@ -5,9 +5,10 @@ ghost use Rattle.gang_model.specs.Types.Tree.{Variable};
 ghost use Rattle.gang_model.specs.Debugger.Positions.{line_now};
 ghost use Rattle.gang_model.specs.Debugger.Debugger.{Debugger, Setting, bad_part, depth, found, has_ended, kept_steps, least_from, now, shown_words, step_lines};
 ghost use Rattle.gang_model.specs.Texts.Text.{where_text};
-ghost use Rattle.debug_machine.specs.Machines.{Finds, FindsInFile, IsPart, IsShown, Pokes, PokesWords, ShowsNamed, ShowsNext, Steps, StepsWords, Undoes, UndoesWords, call_text, depth_of, file_variables, line_of_position, listed, position_line, position_text};
+ghost use Rattle.debug_machine.specs.Machines.{Finds, FindsInFile, IsPart, IsShown, Limits, LimitsWords, Pokes, PokesWords, ShowsNamed, ShowsNext, Steps, StepsWords, Undoes, UndoesWords, call_text, depth_of, file_variables, line_of_position, listed, position_line, position_text};
 
 use gang_types::{FaultName, IntType, Mask, Place, Rate, VarId};
+use std::alloc::AllocError;
 use thiserror::Error;
 use undo_log::{NoHistory, Undone};
 
@@ -65,7 +66,7 @@ pub struct NextLocal<'a> {
     pub next: usize,
 }
 
-/// Runs a program step by step, takes values from outside, and takes both back. No call takes memory.
+/// Runs a program step by step, takes values from outside, and takes both back. No call takes memory but `set_limit` to a larger limit.
 ///
 /// What a call tells of a variable or of a place is said of each state of the debugger of the definitions that the machine
 /// stands for. A variable that is none of that state has no meaning, and any word may be answered for it.
@@ -111,6 +112,16 @@ pub trait RecordedMachine {
     /// The most events that can be taken back.
     fn limit(&self) -> usize
         ensures { (s : Setting) (d : Debugger) → stands self.now s d → result ≡ d.history };
+
+    /// Changes the most events that can be taken back. A smaller limit drops the oldest events and takes no memory.
+    ///
+    /// # Errors
+    ///
+    /// Out of memory, for a larger limit alone, and then nothing changes.
+    fn set_limit(&mut self, limit: usize) -> Result<(), AllocError>
+        requires { (1 ≤ limit) × (limit ≤ 65536) }
+        ensures limit { (s : Setting) (d : Debugger) → stands self.old s d → Limits stands s d limit result self.new }
+        ensures words { LimitsWords (history self.old) limit result (history self.new) };
 
     /// Where it stands, unless the program has ended.
     fn position(&self) -> Option<Position<'_>>

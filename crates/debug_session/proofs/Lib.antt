@@ -1,5 +1,6 @@
 pub mod Bare
 pub mod Ending
+pub mod Histories
 pub mod Listing
 pub mod Moves
 pub mod Replies

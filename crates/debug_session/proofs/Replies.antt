@@ -1,16 +1,21 @@
 -- From what the parts of a session do to what the session replies.
-use Rattle.std.proofs.Common.{◌≡◌, ◌<◌, refl, sym, subst, ap, ◌∙◌, ℕ, Bool, true, false, [], Some, None, arith}
+use Rattle.std.proofs.Common.{◌≡◌, inl, ◌<◌, refl, sym, subst, ap, ◌∙◌, ℕ, Bool, true, false, [], Some, None, arith}
 use Rattle.std.specs.Prelude.{◌==◌, if◌then◌else◌}
 use Rattle.std.proofs.lemmas.Bool.Decides.{nat_tests}
 use Rattle.gang_model.specs.Running.State.{State}
-use Rattle.gang_model.specs.Debugger.Debugger.{Debugger, Goal, NoHistory, Reply, Setting, Refusal, backward, backward_refusal, do_backward, do_forward, forward, forward_refusal, kept_steps, now, outermost_refusal, refused, unless_refused}
+use Rattle.gang_model.specs.Debugger.Debugger.{Command, Debugger, Goal, NoHistory, Reply, Setting, Refusal, backward, backward_refusal, do_backward, do_command, do_forward, forward, forward_refusal, kept_steps, now, outermost_refusal, refused, unless_refused}
 use Rattle.debug_answers.specs.declared.answer.Answer.{Answer}
 use Rattle.debug_answers.specs.Meanings.{AreStops}
 use Rattle.debug_session.specs.declared.session.Session.{Session}
 use Rattle.debug_session.specs.Moves.{Done}
-use Rattle.debug_session.specs.Sessions.{Replied, StandsFor, bare}
+use Rattle.debug_session.specs.Sessions.{Replied, RepliesTo, StandsFor, bare}
 use Rattle.debug_session.specs.Stops.{Table}
 use Rattle.debug_session.specs.Tables.{Listed}
+
+-- a command that was done
+pub done_replies : {M : Type 0} (stands : M → Setting → Debugger → Type 0) (s : Setting) (command : Command) (d : Debugger) (given : Answer) (new : Session M)
+    → Replied stands s (do_command s command d) given new → RepliesTo stands s command d given new
+done_replies stands s command d given new replied = record { reply = do_command s command d; is_reply = inl refl; replied = replied }
 
 -- a debugger with no breakpoint or watch is all that a machine knows of it
 pub bare_already : (d : Debugger) → d.stops ≡ [] → d.next ≡ 1 → d ≡ bare d

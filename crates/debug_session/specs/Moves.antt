@@ -3,7 +3,7 @@ use Rattle.std.specs.Prelude.{◌≡◌, ℕ, false, List, [], ◌∷◌, ◌++�
 use Rattle.arrayvec.specs.ArrayVec.{ArrayVec}
 use Rattle.gang_model.specs.Running.State.{State}
 use Rattle.gang_model.specs.Debugger.Debugger as model
-use Rattle.gang_model.specs.Debugger.Debugger.{Debugger, Reply, Setting, depth, has_ended, now, target_words}
+use Rattle.gang_model.specs.Debugger.Debugger.{Debugger, IsReply, Reply, Setting, depth, has_ended, now, target_words}
 use Rattle.gang_model.specs.Debugger.Positions.{line_now}
 use Rattle.debug_answers.specs.declared.answer.Answer.{Answer}
 use Rattle.debug_answers.specs.declared.answer.Refusal.{Refusal}
@@ -24,6 +24,10 @@ pub record Follows {M : Type 0} (stands : M → Setting → Debugger → Type 0)
 pub record Done {M : Type 0} (stands : M → Setting → Debugger → Type 0) (s : Setting) (d : Debugger) (reply : Reply) (given : Answer) (machine : M) : Type 0 where
   pub follows : Follows stands s d machine reply.next
   pub means : Means s reply.next given reply.answer
+
+-- a command that may want for memory was done, or was refused for memory
+abbrev pub MayBeDone : {M : Type 0} → (M → Setting → Debugger → Type 0) → Setting → (d : Debugger) → model.Command → Answer → M → Type 0
+MayBeDone stands s d command given machine = (reply : Reply) × IsReply s command d reply × Done stands s d reply given machine
 
 -- the line and the depth are those where the debugger stands
 pub record IsReached (s : Setting) (d : Debugger) (reached : Reached) : Type 0 where

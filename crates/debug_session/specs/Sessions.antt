@@ -1,7 +1,7 @@
 -- What a session stands for, and what its commands come to.
 use Rattle.std.specs.Prelude.{◌≡◌, [], Bool, true, false}
 use Rattle.undo_log.specs.History.{History}
-use Rattle.gang_model.specs.Debugger.Debugger.{Debugger, Reply, Setting}
+use Rattle.gang_model.specs.Debugger.Debugger.{Command, Debugger, IsReply, Reply, Setting}
 use Rattle.debug_answers.specs.declared.answer.Answer.{Answer}
 use Rattle.debug_answers.specs.declared.answer.Answer.TheVariants as answer
 use Rattle.debug_answers.specs.Meanings.{AreStops, Means}
@@ -23,6 +23,12 @@ pub record StandsFor {M : Type 0} (stands : M → Setting → Debugger → Type 
 pub record Replied {M : Type 0} (stands : M → Setting → Debugger → Type 0) (s : Setting) (reply : Reply) (given : Answer) (new : Session M) : Type 0 where
   pub there : StandsFor stands new s reply.next
   pub means : Means s reply.next given reply.answer
+
+-- a session stands as after a reply to a command, and the answer is the reply's
+pub record RepliesTo {M : Type 0} (stands : M → Setting → Debugger → Type 0) (s : Setting) (command : Command) (d : Debugger) (given : Answer) (new : Session M) : Type 0 where
+  pub reply : Reply
+  pub is_reply : IsReply s command d reply
+  pub replied : Replied stands s reply given new
 
 -- whether an answer refuses the command
 abbrev pub is_refused : Answer → Bool

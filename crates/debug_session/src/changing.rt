@@ -1,8 +1,8 @@
-//! Values that are set, and events that are taken back.
+//! Values that are set, events that are taken back, and how many can be.
 ghost use Rattle.std.specs.Prelude.{◌≡◌, true};
-ghost use Rattle.gang_model.specs.Debugger.Debugger.{Debugger, Setting, do_set, do_undo, is_value};
+ghost use Rattle.gang_model.specs.Debugger.Debugger.{Debugger, DoSetHistory, Setting, do_set, do_undo, is_value};
 ghost use Rattle.debug_commands.specs.Views.{target_view};
-ghost use Rattle.debug_session.specs.Moves.{Done};
+ghost use Rattle.debug_session.specs.Moves.{Done, MayBeDone};
 ghost use Rattle.debug_session.specs.Sessions.{bare, is_refused};
 
 use crate::refusing::part_refusal;
@@ -55,5 +55,23 @@ pub(crate) fn undo<'a, M: RecordedMachine>(machine: &mut M) -> Answer<'a>
         Err(_) => Answer::Refused(Refusal::NoHistory),
         Ok(Undone::Step) => Answer::UndoneStep,
         Ok(Undone::Poke) => Answer::UndonePoke,
+    }
+}
+
+/// The most events that a history can keep.
+const MOST_KEPT: u32 = 65_536;
+
+/// Changes how many events can be taken back. More than before may want for memory.
+pub(crate) fn set_history<'a, M: RecordedMachine>(machine: &mut M, limit: u32) -> Answer<'a>
+    ensures replied { (s : Setting) (d : Debugger) → M.stands machine.old s (bare d)
+        → MayBeDone M.stands s d (DoSetHistory limit) result machine.new }
+    ensures refused { is_refused result ≡ true → M.history machine.new ≡ M.history machine.old }
+{
+    if limit == 0 || limit > MOST_KEPT {
+        return Answer::Refused(Refusal::OutOfRange);
+    }
+    match machine.set_limit(limit as usize) {
+        Ok(()) => Answer::KeepsHistory(limit),
+        Err(_) => Answer::Refused(Refusal::Memory),
     }
 }

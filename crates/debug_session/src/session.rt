@@ -1,11 +1,11 @@
 //! A debugger over a recorded machine.
 ghost use Rattle.std.specs.Prelude.{◌≡◌, [], true};
-ghost use Rattle.gang_model.specs.Debugger.Debugger.{Debugger, Setting, do_backward, do_command, do_forward};
+ghost use Rattle.gang_model.specs.Debugger.Debugger.{Debugger, Setting, do_backward, do_forward};
 ghost use Rattle.debug_commands.specs.Views.{command_view};
 ghost use Rattle.debug_session.specs.Goals.{goal_view};
-ghost use Rattle.debug_session.specs.Sessions.{IsUnchanged, Replied, StandsFor, is_refused};
+ghost use Rattle.debug_session.specs.Sessions.{IsUnchanged, Replied, RepliesTo, StandsFor, is_refused};
 
-use crate::changing::{set, undo};
+use crate::changing::{set, set_history, undo};
 use crate::goal::Goal;
 use crate::moving::{move_backward, move_forward};
 use crate::refusing::{backward_refusal, depth, forward_refusal};
@@ -41,10 +41,11 @@ impl<M: RecordedMachine> Session<M> {
         }
     }
 
-    /// Does a command.
+    /// Does a command. That which raises the history limit may want for memory, and no other.
+    #[tactic(auto, using(crate::proofs::Replies::done_replies))]
     pub fn do_command<'a>(&mut self, command: Command<'a>) -> Answer<'a>
         ensures replied { (s : Setting) (d : Debugger) → StandsFor M.stands self.old s d
-            → Replied M.stands s (do_command s (command_view command.entry) d) result self.new }
+            → RepliesTo M.stands s (command_view command.entry) d result self.new }
         ensures refused { is_refused result ≡ true → IsUnchanged M.history self.old self.new }
     {
         match command {
@@ -74,6 +75,7 @@ impl<M: RecordedMachine> Session<M> {
             Command::Break(line) => set_breakpoint(&self.machine, &mut self.stops, line),
             Command::Watch(target) => set_watch(&self.machine, &mut self.stops, target),
             Command::Delete(number) => delete(&mut self.stops, number),
+            Command::SetHistory(limit) => set_history(&mut self.machine, limit),
             Command::InfoBreakpoints => Answer::ListsStops,
             Command::InfoLocals => Answer::ListsLocals,
             Command::Backtrace => Answer::ListsFrames,

@@ -7,7 +7,7 @@ ghost use Rattle.debug_machine.specs.Devices.{Writes};
 ghost use Rattle.debug_machine.specs.Machines.{fault_view};
 ghost use Rattle.debug_answers.specs.Meanings.{AreStops, Means};
 
-use crate::change_texts::{write_breaks_at, write_deleted, write_watches};
+use crate::change_texts::{write_breaks_at, write_deleted, write_history, write_watches};
 use crate::fixed_texts::{fault_words, refusal_line};
 use crate::frame_texts::write_frames;
 use crate::local_texts::write_locals;
@@ -51,6 +51,7 @@ pub fn write_answer<M: RecordedMachine, O: AnswerWriter>(
         Answer::ListsStops => write_stops(stops, machine, writer),
         Answer::ListsLocals => write_locals(machine, writer),
         Answer::ListsFrames => write_frames(machine, writer),
+        Answer::KeepsHistory(limit) => write_history(*limit, writer),
         Answer::Silent => Ok(()),
         Answer::Refused(refusal) => writer.write_all(refusal_line(*refusal)),
     }

@@ -1,4 +1,4 @@
-//! Breakpoints and watches that came or went.
+//! Breakpoints and watches that came or went, and a history limit that changed.
 ghost use Rattle.std.specs.Prelude.{◌≡◌, false, is_err};
 ghost use Rattle.gang_model.specs.Debugger.Debugger as model;
 ghost use Rattle.gang_model.specs.Debugger.Debugger.{Debugger, Setting};
@@ -69,4 +69,18 @@ pub(crate) fn write_deleted<O: AnswerWriter>(
             &[b"deleted ", digits.format(number).as_bytes(), b"\n"],
         ),
     }
+}
+
+/// Writes a line: how many events can be taken back at most.
+pub(crate) fn write_history<O: AnswerWriter>(limit: u32, writer: &mut O) -> Result<(), WriteFault>
+    requires works { O.has_failed writer.old ≡ false }
+    ensures said { (s : Setting) (d : Debugger) → Writes (text s (model.KeepsHistory limit) d)
+        (O.written writer.old) (O.written writer.new) (O.has_failed writer.new) result }
+    ensures failed { O.has_failed writer.new ≡ is_err result }
+{
+    let mut digits = Buffer::new();
+    write_pieces(
+        writer,
+        &[b"history ", digits.format(limit).as_bytes(), b"\n"],
+    )
 }

@@ -34,5 +34,6 @@ pub(crate) fn refusal_line(refusal: Refusal) -> &'static [u8]
         Refusal::Constant => b"C9 Constant\n",
         Refusal::NoSuchNumber => b"C10 NoSuchNumber\n",
         Refusal::TableFull => b"C11 TableFull\n",
+        Refusal::Memory => b"C12 Memory\n",
     }
 }

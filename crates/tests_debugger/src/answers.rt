@@ -27,7 +27,7 @@ const STOPS: [NumberedStop; 2] = [
 ];
 
 /// An answer of every kind.
-const ANSWERS: [Answer<'static>; 17] = [
+const ANSWERS: [Answer<'static>; 18] = [
     Answer::Here,
     Answer::AtBreakpoint(1),
     Answer::AtWatch(2),
@@ -52,6 +52,7 @@ const ANSWERS: [Answer<'static>; 17] = [
     Answer::ListsStops,
     Answer::ListsLocals,
     Answer::ListsFrames,
+    Answer::KeepsHistory(7),
     Answer::Silent,
     Answer::Refused(Refusal::NoSuchNumber),
 ];
@@ -75,6 +76,7 @@ deleted all\n\
 on = false true\n\
 at 2:5 f depth 2 lanes 0101\n\
 at 9:3 m depth 1 lanes 1000\n\
+history 7\n\
 C10 NoSuchNumber\n"
 }
 
@@ -115,10 +117,13 @@ fn tells_of_nothing(rt: HostRuntime) {
             },
             shown: ARRAY,
         },
+        Answer::KeepsHistory(1),
         Answer::Refused(Refusal::TableFull),
+        Answer::Refused(Refusal::Memory),
     ];
     let writer = told(&answers, Standing::Ended, &[], 1000);
-    let texts = b"ended\nnone\nnone\nended\ndeleted 7\na = 7 -1 0\nC11 TableFull\n";
+    let texts =
+        b"ended\nnone\nnone\nended\ndeleted 7\na = 7 -1 0\nhistory 1\nC11 TableFull\nC12 Memory\n";
     assert!(rt; writer.bytes() == texts.as_slice());
 }
 

@@ -23,6 +23,7 @@ fn is_command(command: &Command, wanted: &Command) -> bool {
             },
         ) => is_target(target, other) && value == new,
         (Command::Delete(number), Command::Delete(other)) => number == other,
+        (Command::SetHistory(limit), Command::SetHistory(other)) => limit == other,
         (Command::Finish, Command::Finish)
         | (Command::Continue, Command::Continue)
         | (Command::ReverseFinish, Command::ReverseFinish)
@@ -144,8 +145,21 @@ fn assignments(rt: HostRuntime) {
 }
 
 #[test]
+fn histories(rt: HostRuntime) {
+    let rows: [(&[u8], u32); 4] = [
+        (b"set record full insn-number-max 1", 1),
+        (b"set record full insn-number-max 65537", 65_537),
+        (b"set record full insn-number-max 10000000", 10_000_000),
+        (b"set  record\tfull insn-number-max 0042 \r", 42),
+    ];
+    for (line, limit) in rows {
+        assert!(rt; spells(line, &Command::SetHistory(limit)));
+    }
+}
+
+#[test]
 fn refused(rt: HostRuntime) {
-    let lines: [&[u8]; 24] = [
+    let lines: [&[u8]; 32] = [
         b" step",
         b"Step",
         b"steps",
@@ -170,6 +184,14 @@ fn refused(rt: HostRuntime) {
         b"set var x = - 1",
         b"set var x = 18446744073709551616",
         b"set var a [ 2 ] = 1 1",
+        b"set record full insn-number-max",
+        b"set record full insn-number-max 0",
+        b"set record full insn-number-max -1",
+        b"set record full insn-number-max 0x10",
+        b"set record full insn-number-max 12345678",
+        b"set record full insn-number-max 6 6",
+        b"set record insn-number-max 6",
+        b"set record full insn-number 6",
     ];
     for line in lines {
         assert!(rt; read_command(line).is_none());

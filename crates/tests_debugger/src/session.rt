@@ -23,6 +23,7 @@ enum Said {
     Watches(u32),
     Deleted,
     Lists,
+    Keeps(u32),
     Silent,
     Refused(Refusal),
 }
@@ -42,6 +43,7 @@ fn told_by(answer: Answer<'_>) -> Said {
         Answer::Watches { number, target: _ } => Said::Watches(number),
         Answer::Deleted(_) => Said::Deleted,
         Answer::ListsStops | Answer::ListsLocals | Answer::ListsFrames => Said::Lists,
+        Answer::KeepsHistory(limit) => Said::Keeps(limit),
         Answer::Silent => Said::Silent,
         Answer::Refused(refusal) => Said::Refused(refusal),
     }
@@ -278,6 +280,86 @@ fn holds_sixty_four(rt: HostRuntime) -> Result<(), Fail> {
         (Command::Delete(Some(1)), Said::Deleted, 10),
         (Command::Break(12), Said::BreaksAt(65, 12), 10),
         (Command::Continue, Said::Breakpoint(2), 12),
+    ];
+    does(&rt, &mut session, &rows);
+    Ok(())
+}
+
+#[test]
+fn changes_the_history(rt: HostRuntime) -> Result<(), Fail> {
+    let mut session = Session::open(TwoFrames::new(rt.alloc(), 4, None)?, 100);
+    let rows = [
+        (Command::Step(6), Said::Here, 13),
+        (Command::SetHistory(2), Said::Keeps(2), 13),
+        (Command::ReverseStep(3), Said::HistoryEnd, 5),
+        (Command::SetHistory(6), Said::Keeps(6), 5),
+        (Command::Step(2), Said::Here, 13),
+        (Command::ReverseStep(2), Said::Here, 5),
+        (
+            Command::ReverseStep(1),
+            Said::Refused(Refusal::NoHistory),
+            5,
+        ),
+        (
+            Command::SetHistory(65_537),
+            Said::Refused(Refusal::OutOfRange),
+            5,
+        ),
+        (
+            Command::SetHistory(0),
+            Said::Refused(Refusal::OutOfRange),
+            5,
+        ),
+        (Command::SetHistory(6), Said::Keeps(6), 5),
+    ];
+    does(&rt, &mut session, &rows);
+    Ok(())
+}
+
+#[test]
+fn keeps_more_events_from_the_limit_on(rt: HostRuntime) -> Result<(), Fail> {
+    let mut session = Session::open(TwoFrames::new(rt.alloc(), 4, None)?, 100);
+    let rows = [
+        (Command::Step(5), Said::Here, 12),
+        (set(whole(b"n"), 7), Said::Shows(1), 12),
+        (Command::SetHistory(6), Said::Keeps(6), 12),
+        (Command::Step(2), Said::Here, 14),
+        (Command::Undo, Said::Undone, 13),
+        (Command::Undo, Said::Undone, 12),
+        (Command::Undo, Said::UndonePoke, 12),
+        (Command::Undo, Said::Undone, 5),
+        (Command::Undo, Said::Undone, 4),
+        (Command::Undo, Said::Undone, 3),
+        (Command::Undo, Said::Refused(Refusal::NoHistory), 3),
+    ];
+    does(&rt, &mut session, &rows);
+    Ok(())
+}
+
+#[test]
+fn a_history_that_finds_no_memory_stays(rt: HostRuntime) -> Result<(), Fail> {
+    let machine = TwoFrames::new(rt.alloc(), 3, None)?.with_most(3);
+    let mut session = Session::open(machine, 100);
+    let rows = [
+        (Command::Step(4), Said::Here, 5),
+        (Command::SetHistory(4), Said::Refused(Refusal::Memory), 5),
+        (
+            Command::SetHistory(65_536),
+            Said::Refused(Refusal::Memory),
+            5,
+        ),
+        (
+            Command::SetHistory(65_537),
+            Said::Refused(Refusal::OutOfRange),
+            5,
+        ),
+        (Command::Step(1), Said::Here, 12),
+        (Command::ReverseStep(9), Said::HistoryEnd, 3),
+        (Command::SetHistory(3), Said::Keeps(3), 3),
+        (Command::SetHistory(1), Said::Keeps(1), 3),
+        (Command::SetHistory(2), Said::Keeps(2), 3),
+        (Command::Step(3), Said::Here, 12),
+        (Command::ReverseStep(3), Said::HistoryEnd, 4),
     ];
     does(&rt, &mut session, &rows);
     Ok(())

@@ -1,6 +1,7 @@
 //! A machine that stands still.
 use debug_machine::{NamedVariable, NextLocal, Position, RecordedMachine, Shown, StepEnd};
 use gang_types::{IntType, Mask, Place, Rate, VarId};
+use std::alloc::AllocError;
 use undo_log::{NoHistory, Undone};
 
 /// The array of the file.
@@ -79,6 +80,10 @@ impl RecordedMachine for StillMachine {
 
     fn limit(&self) -> usize {
         0
+    }
+
+    fn set_limit(&mut self, _limit: usize) -> Result<(), AllocError> {
+        Err(AllocError)
     }
 
     fn position(&self) -> Option<Position<'_>> {

@@ -13,6 +13,8 @@ use undo_log::{NoHistory, SnapshotRing, Timeline, Undone};
 pub struct TwoFrames {
     words: SnapshotRing,
     faulty: Option<u64>,
+    /// It finds no memory for more events than so many.
+    most: usize,
     ghost sized: { length words.words ≡ 14 },
     ghost roomy: { words.room ≡ 2 ^ 64 - 1 },
 }
@@ -24,7 +26,17 @@ impl TwoFrames {
         requires high { limit ≤ 65536 }
     {
         let words = SnapshotRing::new(alloc, 14, limit)?;
-        Ok(TwoFrames { words, faulty })
+        Ok(TwoFrames {
+            words,
+            faulty,
+            most: 65_536,
+        })
+    }
+
+    /// The same machine, which finds no memory for more events than so many.
+    pub fn with_most(mut self, most: usize) -> Self {
+        self.most = most;
+        self
     }
 
     /// The line of a place and its depth, none past the end.
@@ -158,6 +170,13 @@ impl RecordedMachine for TwoFrames {
 
     fn limit(&self) -> usize {
         self.words.limit()
+    }
+
+    fn set_limit(&mut self, limit: usize) -> Result<(), AllocError> {
+        if limit > self.words.limit() && limit > self.most {
+            return Err(AllocError);
+        }
+        self.words.set_limit(limit)
     }
 
     fn position(&self) -> Option<Position<'_>> {

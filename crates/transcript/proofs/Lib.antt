@@ -1,3 +1,4 @@
 mod CutLines
 mod LineAnswers
 mod PieceAnswers
+mod SessionLines

@@ -4,13 +4,9 @@ use Rattle.std.specs.Io.KnownBytes.{Appends}
 use Rattle.gang_model.specs.Texts.CommandText.{command_of}
 use Rattle.gang_model.specs.Debugger.Debugger.{Debugger, Reply, Setting}
 use Rattle.gang_model.specs.Texts.Text.{Bytes, text}
-use Rattle.gang_model.specs.Texts.Transcript.{is_quit, replied}
+use Rattle.gang_model.specs.Texts.Transcript.{IsReplyTo, is_quit}
 use Rattle.transcript.specs.declared.debugger.Turn.{Turn}
 use Rattle.transcript.specs.declared.debugger.Turn.TheVariants.{Goes, Quits, Fails}
-
--- the reply to a line
-abbrev pub reply_to : Setting → Debugger → Bytes → Reply
-reply_to s d line = replied s (command_of line) d
 
 -- the text of a reply
 abbrev pub reply_text : Setting → Reply → Bytes
@@ -20,12 +16,13 @@ reply_text s reply = text s reply.answer reply.next
 abbrev pub quits : Bytes → Bool
 quits line = is_quit (command_of line)
 
--- the answer was written, or the line quits and nothing was; or the writer failed before the answer was whole
+-- the text of a reply to the line was written, or the line quits and nothing was; or the writer failed before it was whole
 abbrev pub Says : {D : Type 0} → (D → Setting → Debugger → Type 0) → Setting → Debugger → (line : Bytes) → Turn → D → Option Bytes → Option Bytes → Type 0
-Says stands s d line Goes new w w' = (quits line ≡ false) × Appends w w' (reply_text s (reply_to s d line)) × stands new s (reply_to s d line).next
+Says stands s d line Goes new w w' = (quits line ≡ false)
+    × ((r : Reply) × IsReplyTo s (command_of line) d r × Appends w w' (reply_text s r) × stands new s r.next)
 Says stands s d line Quits new w w' = (quits line ≡ true) × Appends w w' []
 Says stands s d line Fails new w w' = (quits line ≡ false)
-    × ((k : ℕ) × (k < length (reply_text s (reply_to s d line))) × Appends w w' (take k (reply_text s (reply_to s d line))))
+    × ((r : Reply) × IsReplyTo s (command_of line) d r × ((k : ℕ) × (k < length (reply_text s r)) × Appends w w' (take k (reply_text s r))))
 
 -- a text was written whole, or the writer failed before that
 abbrev pub Tells : (text : Bytes) → (old new : Option Bytes) → Turn → Type 0

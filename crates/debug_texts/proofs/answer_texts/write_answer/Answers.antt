@@ -83,3 +83,7 @@ returns-in-Shows-clause-said g c s at d meant st same are means =
     let says = c.write_shown.ensures.said s at v st (shown_at s at d v c.in-Shows.shown same is) inside in
     subst (λ a. Writes (text s a d) (g.O.AnswerWriter.written c.args.writer.now) (g.O.AnswerWriter.written c.write_shown.new.writer) (g.O.AnswerWriter.has_failed c.write_shown.new.writer) c.write_shown.result) (sym only)
     (moved_text (λ events. shown_line (now s (with_events at events)) (target_view target) v) at.events d.events _ _ _ _ same says)
+
+pub returns-in-KeepsHistory-clause-said : goal.returns-in-KeepsHistory-clause-said
+returns-in-KeepsHistory-clause-said g c s at d meant st same are means =
+    meant_text s d _ (answer.KeepsHistory c.in-KeepsHistory.limit) meant (model.KeepsHistory c.in-KeepsHistory.limit) _ _ _ _ c.in-KeepsHistory.is means (λ m. m) (c.write_history.ensures.said s d)
