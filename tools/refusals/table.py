@@ -352,7 +352,7 @@ KNOWN = [
     (P + 'if (1) ; }', True), ('void go() { }', True), (P + '}\n' + P + '}', True), ('uniform int a;', True), (P + 'int x = any(1); }', True),
     ('uniform int a[3];', True), (P + 'int x = a[0]; }', True), (P + 'a[0] = 1; }', True), ('void f(int n) { }', True), (P + 'f(); }', True), (P + 'int x = -f(); }', True),
     (P + '{ while (true) ; } }', True), (P + 'break; }', True), (P + 'return; }', True), (P + 'foreach (i = 0 ... 4) ; }', False),
-    ('export void go(uniform int n) { }', False), ('void f(uniform int a[]) { }', True), (P + 'f(a[0]); }', True), (P + 'f(&a[0]); }', True), (P + 'assert(true); }', True),
+    ('export void go(uniform int n) { }', True), ('void f(uniform int a[]) { }', True), (P + 'f(a[0]); }', True), (P + 'f(&a[0]); }', True), (P + 'assert(true); }', True),
     (P + 'foreach_active (i) ; }', False), (P + 'foreach_unique (v in 1) ; }', False), (P + 'switch (1) { } }', False),
     (P + 'if (1) ; else { for (int i = 0; i < abs(1); i++) ; } }', True),
 ]

@@ -4,6 +4,7 @@
 ghost use Rattle.ispc_options.specs.Ranges.{AreInRange};
 
 use clap::error::{Error, ErrorKind};
+use debug_inputs::MOST_BYTES as MOST_INPUT;
 use debug_streams::{StreamReader, StreamWriter};
 use ispc_debugger::run;
 use ispc_options::{Options, Paths, read_options, wrong_arguments};
@@ -48,20 +49,22 @@ fn arguments(rt: &HostRuntime) -> io::Result<Vec<String>> {
 fn run_form(rt: &HostRuntime, options: &Options<'_>, paths: &Paths<'_>) -> ExitCode
     requires { AreInRange options.now }
 {
-    if paths.input.is_some() && !options.lane_pure {
-        return refuse_words(rt, "--input is not there yet");
-    }
+    let input = if options.lane_pure { None } else { paths.input };
     match paths.source {
-        None => run_script(rt, options),
-        Some(path) => run_file(rt, path, options),
+        None => run_script(rt, input, options),
+        Some(path) => run_file(rt, path, input, options),
     }
 }
 
-/// Standard input has the source, a line `%%` and the commands.
-fn run_script(rt: &HostRuntime, options: &Options<'_>) -> ExitCode
+/// Standard input has the source, a line `%%` and the commands. It is read after the input.
+fn run_script(rt: &HostRuntime, input: Option<&str>, options: &Options<'_>) -> ExitCode
     requires { AreInRange options.now }
 {
-    let text = match front(rt, rt.reader()) {
+    let input = match read_input(rt, input) {
+        Ok(input) => input,
+        Err(status) => return status,
+    };
+    let text = match front(rt, rt.reader(), MOST_BYTES) {
         Ok(text) => text,
         Err(fault) => {
             return match fault.kind() {
@@ -72,35 +75,57 @@ fn run_script(rt: &HostRuntime, options: &Options<'_>) -> ExitCode
     };
     match split_script(text.as_slice()) {
         None => refuse(rt, &Refusal::NoScript),
-        Some((source, commands)) => answer(rt, source, commands, options),
+        Some((source, commands)) => answer(rt, source, &input, commands, options),
     }
 }
 
-/// A file has the source, and standard input the commands.
-fn run_file(rt: &HostRuntime, path: &str, options: &Options<'_>) -> ExitCode
+/// A file has the source, and standard input the commands. The source is read before the input.
+fn run_file(rt: &HostRuntime, path: &str, input: Option<&str>, options: &Options<'_>) -> ExitCode
     requires { AreInRange options.now }
 {
-    match read_source(rt, path) {
-        Ok(source) => answer(rt, source.as_slice(), rt.reader(), options),
-        Err(fault) if fault.kind() == io::ErrorKind::OutOfMemory => refuse(rt, &Refusal::Memory),
+    let source = match read_file(rt, path, MOST_BYTES) {
+        Ok(source) => source,
+        Err(status) => return status,
+    };
+    match read_input(rt, input) {
+        Ok(input) => answer(rt, &source, &input, rt.reader(), options),
+        Err(status) => status,
+    }
+}
+
+/// The input that a file has, none where no file is named; or the status where it cannot be read.
+fn read_input(rt: &HostRuntime, path: Option<&str>) -> Result<Vec<u8>, ExitCode> {
+    match path {
+        Some(path) => read_file(rt, path, MOST_INPUT),
+        None => Ok(Vec::new(rt.alloc())),
+    }
+}
+
+/// The front of a file, or the status where it cannot be read, which standard error is told.
+fn read_file(rt: &HostRuntime, path: &str, most: usize) -> Result<Vec<u8>, ExitCode> {
+    match file_front(rt, path, most) {
+        Ok(text) => Ok(text),
+        Err(fault) if fault.kind() == io::ErrorKind::OutOfMemory => {
+            Err(refuse(rt, &Refusal::Memory))
+        }
         Err(_) => {
             let _ = eprintln!(rt; "cannot read {path}");
-            ExitCode::from(2)
+            Err(ExitCode::from(2))
         }
     }
 }
 
-/// The bytes of a file, as far as a source may be long.
-fn read_source(rt: &HostRuntime, path: &str) -> io::Result<Vec<u8>> {
+fn file_front(rt: &HostRuntime, path: &str, most: usize) -> io::Result<Vec<u8>> {
     let file = fs::File::open(rt, path)?;
-    front(rt, file)
+    front(rt, file, most)
 }
 
-/// What a reader gives, up to one byte more than a script may have. A source may have fewer: a longer text is refused for
-/// its length, whatever follows.
-fn front<R: Read + Drop>(rt: &HostRuntime, reader: R) -> io::Result<Vec<u8>> {
+/// What a reader gives, up to one byte more than there may be. A longer text is refused for its length, whatever follows; of
+/// a source too, which may have fewer bytes than a script.
+fn front<R: Read + Drop>(rt: &HostRuntime, reader: R, most: usize) -> io::Result<Vec<u8>> {
     let mut text = Vec::new(rt.alloc());
-    reader.take(MOST_BYTES as u64 + 1).read_to_end(&mut text)?;
+    let most = (most as u64).saturating_add(1);
+    reader.take(most).read_to_end(&mut text)?;
     Ok(text)
 }
 
@@ -108,6 +133,7 @@ fn front<R: Read + Drop>(rt: &HostRuntime, reader: R) -> io::Result<Vec<u8>> {
 fn answer<R: Read + Drop>(
     rt: &HostRuntime,
     source: &[u8],
+    input: &[u8],
     commands: R,
     options: &Options<'_>,
 ) -> ExitCode
@@ -121,7 +147,7 @@ fn answer<R: Read + Drop>(
         return finish(rt, report(rt.alloc(), source, &mut writer));
     }
     let mut reader = StreamReader::new(commands);
-    let end = run(rt.alloc(), source, b"", options, &mut reader, &mut writer);
+    let end = run(rt.alloc(), source, input, options, &mut reader, &mut writer);
     finish(rt, end)
 }
 

@@ -1,5 +1,6 @@
 -- What the phases give together.
 use Rattle.std.proofs.Common.{◌≡◌, ◌⊎◌, ℕ, ◌≤◌, List, length, Option, Some, None, refl, sym, ap, ◌∙◌, subst, inl, inr}
+use Rattle.std.specs.Prelude.{Result, Ok, Err, IfOk}
 use Rattle.gang_model.specs.declared.refusals.RefusalNumber.{RefusalNumber}
 use Rattle.gang_model.specs.declared.refusals.RefusalNumber.TheVariants.{S1, S2, S3, S4, S5, S6, S7, S8, S9, S10, S11, S12, S13}
 use Rattle.gang_model.specs.declared.refusals.SourceRefusal.{SourceRefusal}
@@ -19,7 +20,7 @@ use Rattle.ispc_lexer.specs.Refusal.{IsRefusal as IsLexerRefusal}
 use Rattle.ispc_parser_front.specs.Refusals.{IsRefusal as IsParserRefusal}
 use Rattle.ispc_parser_words.specs.Front.{IsParserNumber}
 use Rattle.plain_programs.specs.Sources.{HasVariablesOf, plain_forms}
-use Rattle.plain_programs.proofs.RunnableSources.{entry_text, no_parameters, runnable_text}
+use Rattle.plain_programs.proofs.RunnableSources.{entry_text, runnable_text}
 use Rattle.typed_tree.specs.Views.{program_view}
 use Rattle.ispc_compiler.specs.declared.front.Compiled.{Compiled}
 use Rattle.ispc_compiler.specs.Front.{Compiles, CompilesTree, GivesTree, IsFault, IsRefused, ReadsKnown}
@@ -34,7 +35,12 @@ pub compiled_right : (text : List ℕ) (source : ParsedSource) (asked : Option N
 compiled_right text source asked None known (sound, none) =
     record { source = source; accepted = record { reads = known.reads; known = known.known; sound = sound }; none = none }
 compiled_right text source asked (Some c) known g =
-    (record { source = source; accepted = record { reads = known.reads; known = known.known; sound = g.sound }; program_is = g.program; entry_is = g.entry }, g.ready)
+    (record { source = source; accepted = record { reads = known.reads; known = known.known; sound = g.sound }; program_is = g.program; entry_is = g.entry }, g.variables, g.ready)
+
+pub found_right : (text : List ℕ) (source : ParsedSource) (asked : Option Name) (result : Result (Option Compiled) SourceFault) → ReadsKnown text source
+    → IfOk result (GivesTree source asked) → IfOk result (Compiles text asked)
+found_right text source asked (Ok found) known h = compiled_right text source asked found known h
+found_right text source asked (Err fault) known h = tt
 
 -- the tokens' refusals
 pub lexer_right : (text : List ℕ) (fault : SourceFault) → IsLexerRefusal text fault → IsRefused text fault
@@ -102,9 +108,9 @@ tree_compiles text source asked compiled known n t l program own entry =
       sound = sound;
       program = program;
       entry = entry;
+      variables = own;
       ready = record {
         runnable = runnable_text text asked compiled.entry.0 compiled.program is own;
         entry = entry_text text asked compiled.entry.0 compiled.program is;
-        no_parameters = no_parameters text asked compiled.entry.0 compiled.program is own;
       };
     }

@@ -1,14 +1,12 @@
 -- Which forms of a source are let through: all expressions, and so each statement that holds no others.
-use Rattle.std.proofs.Common.{◌≡◌, true≢false, ◌&&◌, ◌||◌, ◌==◌, ℕ, suc, Bool, true, false, List, [], ◌∷◌, length, map, refl, sym, ap, ap₂, ◌∙◌, Vec, Global, arith}
-use Rattle.std.proofs.lemmas.Bool.Decides.{nat_tests}
+use Rattle.std.proofs.Common.{◌≡◌, ◌&&◌, ◌||◌, ◌==◌, Bool, true, false, List, [], ◌∷◌, length, refl, sym, ap, ap₂, ◌∙◌, Vec, Global}
 use Rattle.std.specs.List.{list_all}
 use Rattle.std.specs.Prelude.{not, Option, Some, None}
-use Rattle.gang_model.specs.Source.Known.{known_args, known_expr, known_params, known_some, known_stmt, known_stmts, known_target}
-use Rattle.gang_model.specs.Source.Parsed.{ParsedExpr, ParsedNumber, ParsedBool, ParsedName, ParsedIndex, ParsedCall, ParsedParen, ParsedUnary, ParsedCast, ParsedBinary, ParsedChoice, ParsedArgs, ParsedEnd, ParsedValue, ParsedPart, ParsedPartFrom, ParsedTarget}
+use Rattle.gang_model.specs.Source.Known.{known_args, known_expr, known_function, known_params, known_some, known_stmt, known_stmts, known_target}
+use Rattle.gang_model.specs.Source.Parsed.{ParsedExpr, ParsedNumber, ParsedBool, ParsedName, ParsedIndex, ParsedCall, ParsedParen, ParsedUnary, ParsedCast, ParsedBinary, ParsedChoice, ParsedArgs, ParsedEnd, ParsedValue, ParsedPart, ParsedPartFrom, ParsedTarget, ParsedParam, ParsedFunction}
 use Rattle.plain_programs.specs.Sources.{plain_forms}
-use Rattle.source_tree.specs.declared.tree.Param.{Param}
 use Rattle.source_tree.specs.declared.tree.Stmt.{Stmt, Block}
-use Rattle.source_tree.specs.Tree.{param_view, stmt_view, stmts_view}
+use Rattle.source_tree.specs.Tree.{stmt_view, stmts_view}
 use Rattle.source_tree.proofs.StatementRows.{view_block}
 
 -- ---- expressions
@@ -57,22 +55,21 @@ pub in_block : (s : Stmt) (stmts : Vec Stmt Global) (items : List Stmt) (known :
 in_block s stmts items known is same found =
     found ∙ (ap (λ xs. known_stmts (stmts_view xs) plain_forms) same ∙ sym (ap (λ x. known_stmt x plain_forms) (ap stmt_view is ∙ view_block stmts)))
 
--- ---- parameters
+-- ---- functions
 
-all_pass : (params : List Param) → list_all (λ p. true || not p.is_array) (map param_view params) ≡ true
+all_pass : (params : List ParsedParam) → list_all (λ p. true || not p.is_array) params ≡ true
 all_pass [] = refl
 all_pass (p ∷ params) = all_pass params
 
-not_none : (n : ℕ) → (suc n == 0) ≡ false
-not_none n = grind (arith, nat_tests)
+either_true : (b c : Bool) → c ≡ true → (b || c) ≡ true
+either_true true c e = refl
+either_true false c e = e
 
-and_true : (b : Bool) → (b && true) ≡ b
-and_true true = refl
-and_true false = refl
+-- all parameters are let through
+params_known : (params : List ParsedParam) (is_exported : Bool) → known_params params is_exported plain_forms ≡ true
+params_known params is_exported =
+    either_true (length params == 0) (list_all (λ p. true || not p.is_array) params) (all_pass params)
 
--- parameters, of which there are some: those of a function that is not exported
-pub params_known : (params : List Param) (is_exported is_empty : Bool) → is_empty ≡ (length params == 0) → is_empty ≡ false
-    → not is_exported ≡ known_params (map param_view params) is_exported plain_forms
-params_known [] is_exported is_empty is none = absurd (true≢false (sym is ∙ none))
-params_known (p ∷ params) is_exported is_empty is none =
-    sym (ap₂ (λ none all. none || (not is_exported && all)) (not_none (length (map param_view params))) (all_pass (p ∷ params)) ∙ and_true (not is_exported))
+-- a function has the forms of its body
+pub function_known : (f : ParsedFunction) → known_function f plain_forms ≡ known_stmts f.body plain_forms
+function_known f = ap (λ b. b && known_stmts f.body plain_forms) (params_known f.params f.spec.is_exported)

@@ -3,35 +3,34 @@ use Rattle.std.specs.Prelude.{◌≡◌, ℕ, true, List, Option, Some, None, sl
 use Rattle.gang_model.specs.declared.refusals.SourceRefusal.{SourceRefusal}
 use Rattle.gang_model.specs.Running.Entry.{entry_of}
 use Rattle.gang_model.specs.Source.Known.{is_known}
-use Rattle.plain_programs.specs.Sources.{plain_forms}
+use Rattle.plain_programs.specs.Sources.{HasVariablesOf, plain_forms}
 use Rattle.gang_model.specs.Source.Parsed.{Name, ParsedSource}
 use Rattle.gang_model.specs.Types.Resolved.{program_of}
 use Rattle.gang_model.specs.Types.Tree.{Function}
 use Rattle.gang_model.specs.Texts.Run.{source_refusal}
 use Rattle.gang_model.specs.Source.Sources.{HasNoEntry, IsProgramOf, IsRightRefusal, ReadsAs}
-use Rattle.machine_states.specs.Variables.{parameters_of}
-use Rattle.codegen.specs.Programs.{IsRunnable, variables_of}
+use Rattle.codegen.specs.Programs.{IsRunnable}
 use Rattle.typed_tree.specs.Views.{program_view}
 use Rattle.source_answers.specs.declared.fault.SourceFault.{SourceFault}
 use Rattle.source_answers.specs.declared.fault.SourceFault.TheVariants.{Memory, Refused}
 use Rattle.ispc_compiler.specs.declared.front.Compiled.{Compiled}
 
--- a program that a machine runs from its entry on, a function without parameters
+-- a program that a machine runs from its entry on
 pub record IsReady (compiled : Compiled) : Type 0 where
   pub runnable : IsRunnable compiled.program
   pub entry : (f : Function) × (slice_get (program_view compiled.program).functions compiled.entry.0 ≡ Some f)
-  pub no_parameters : parameters_of (variables_of compiled.program) compiled.entry.0 ≡ 0
 
 -- a text reads as a tree of which all forms are let through
 pub record ReadsKnown (text : List ℕ) (source : ParsedSource) : Type 0 where
   pub reads : ReadsAs text source
   pub known : is_known plain_forms source ≡ true
 
--- the program and the entry of a tree without a fault
+-- the program and the entry of a tree without a fault, with the variables that the tree declares
 pub record CompilesTree (source : ParsedSource) (asked : Option Name) (compiled : Compiled) : Type 0 where
   pub sound : source_refusal source ≡ None
   pub program : program_of source ≡ Some (program_view compiled.program)
   pub entry : entry_of source asked ≡ Some compiled.entry.0
+  pub variables : HasVariablesOf source compiled.program
   pub ready : IsReady compiled
 
 -- the same, or nothing where the tree has no fault and no function to begin with
@@ -39,10 +38,11 @@ abbrev pub GivesTree : ParsedSource → (asked : Option Name) → Option Compile
 GivesTree source asked None = (source_refusal source ≡ None) × (entry_of source asked ≡ None)
 GivesTree source asked (Some compiled) = CompilesTree source asked compiled
 
--- the program of a text and its entry, or nothing where it has no function to begin with
+-- the program of a text and its entry, with the variables that the text declares, or nothing where it has no function to begin with
 abbrev pub Compiles : List ℕ → (asked : Option Name) → Option Compiled → Type 0
 Compiles text asked None = HasNoEntry plain_forms text asked
-Compiles text asked (Some compiled) = IsProgramOf plain_forms text asked (program_view compiled.program) compiled.entry.0 × IsReady compiled
+Compiles text asked (Some compiled) =
+    (is : IsProgramOf plain_forms text asked (program_view compiled.program) compiled.entry.0) × HasVariablesOf is.source compiled.program × IsReady compiled
 
 -- out of memory, or the refusal that is found
 abbrev pub IsFault : Option SourceRefusal → SourceFault → Type 0

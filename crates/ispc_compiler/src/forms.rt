@@ -1,18 +1,17 @@
 //! Forms of the language that are let through, and those that are not there yet.
-ghost use Rattle.std.specs.Prelude.{◌≡◌, is_ok, map};
-ghost use Rattle.gang_model.specs.Source.Known.{is_known, known_function, known_item, known_params, known_stmt, known_stmts};
+ghost use Rattle.std.specs.Prelude.{◌≡◌, is_ok};
+ghost use Rattle.gang_model.specs.Source.Known.{is_known, known_function, known_item, known_stmt, known_stmts};
 ghost use Rattle.plain_programs.specs.Sources.{plain_forms};
-ghost use Rattle.source_tree.specs.Tree.{function_view, item_view, param_view, stmt_view, stmts_view, tree_view};
+ghost use Rattle.source_tree.specs.Tree.{function_view, item_view, stmt_view, stmts_view, tree_view};
 
 use gang_types::Place;
-use source_tree::{Function, Item, Param, Stmt, Tree};
+use source_tree::{Function, Item, Stmt, Tree};
 
 /// Whether all forms of a source are let through.
 ///
 /// # Errors
 ///
-/// Where the first form stands that is not: the first token of the outermost statement of such a form, or the name of an exported
-/// function with parameters.
+/// Where the first form stands that is not: the first token of the outermost statement of such a form.
 pub(crate) fn check_forms(tree: &Tree) -> Result<(), Place>
     ensures { is_ok result ≡ is_known plain_forms (tree_view tree.now) }
 {
@@ -34,17 +33,7 @@ fn check_item(item: &Item) -> Result<(), Place>
 fn check_function(function: &Function) -> Result<(), Place>
     ensures { is_ok result ≡ known_function (function_view function.now) plain_forms }
 {
-    if !are_known(&function.params, function.spec.is_exported) {
-        return Err(function.place);
-    }
     check_statements(&function.body)
-}
-
-/// No parameter of an exported function is let through.
-fn are_known(params: &[Param], is_exported: bool) -> bool
-    ensures { result ≡ known_params (map param_view params.now) is_exported plain_forms }
-{
-    params.is_empty() || !is_exported
 }
 
 #[cycle(statement)]
@@ -91,7 +80,8 @@ fn check_statement(statement: &Stmt) -> Result<(), Place>
             check_statement(update)?;
             check_statement(body)
         }
-        Stmt::ForEach { place, .. }
+        Stmt::Switch { place, .. }
+        | Stmt::ForEach { place, .. }
         | Stmt::ForEachActive { place, .. }
         | Stmt::ForEachUnique { place, .. } => Err(*place),
     }

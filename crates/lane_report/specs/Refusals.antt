@@ -32,3 +32,4 @@ IsRight text (refused.Source r) = IsSourceRefusal text r
 IsRight text refused.Memory = Unit {0}
 IsRight text refused.NoEntry = ⊥
 IsRight text refused.NoScript = ⊥
+IsRight text (refused.Input _) = ⊥

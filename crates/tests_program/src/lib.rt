@@ -2,6 +2,10 @@
 #![tactic(auto)]
 
 #[cfg(test)]
+mod input_refusals;
+#[cfg(test)]
+mod inputs;
+#[cfg(test)]
 mod options;
 #[cfg(test)]
 mod reports;

@@ -108,6 +108,80 @@ fn stops_at_a_failed_write_of_any_answer(rt: HostRuntime) {
     }
 }
 
+/// A source of six statements that count.
+const COUNTING: &[u8] =
+    b"uniform int t = 0;\nexport void go() {\nt += 1;\nt += 1;\nt += 1;\nt += 1;\nt += 1;\nt += 1;\n}\n";
+
+/// Commands that change how many events are kept.
+const CHANGING: &[u8] = b"step 6\n\
+    set record full insn-number-max 2\n\
+    reverse-step 3\n\
+    print t\n\
+    set record full insn-number-max 6\n\
+    step 2\n\
+    reverse-step 2\n\
+    reverse-step\n\
+    set record full insn-number-max 65537\n\
+    set record full insn-number-max 0\n\
+    set record full insn-number-max 12345678\n\
+    set record full insn-number-max 10000000\n";
+
+const CHANGED: &[u8] = b"at 9:1 go depth 1 lanes 1111\n\
+    history 2\n\
+    history end: at 7:1 go depth 1 lanes 1111\n\
+    t = 4\n\
+    history 6\n\
+    at 9:1 go depth 1 lanes 1111\n\
+    at 7:1 go depth 1 lanes 1111\n\
+    C3 NoHistory\n\
+    C8 OutOfRange\n\
+    C1 BadCommand\n\
+    C1 BadCommand\n\
+    C8 OutOfRange\n";
+
+/// Commands that keep more events from the limit on, and take them back one by one.
+const GROWING: &[u8] = b"step 4\n\
+    set record full insn-number-max 6\n\
+    set var t = 9\n\
+    step 2\n\
+    print t\n\
+    undo\nundo\nundo\nundo\nundo\nundo\nundo\n\
+    print t\n";
+
+const GROWN: &[u8] = b"at 7:1 go depth 1 lanes 1111\n\
+    history 6\n\
+    t = 9\n\
+    at 9:1 go depth 1 lanes 1111\n\
+    t = 11\n\
+    undone step: at 8:1 go depth 1 lanes 1111\n\
+    undone step: at 7:1 go depth 1 lanes 1111\n\
+    undone poke: at 7:1 go depth 1 lanes 1111\n\
+    undone step: at 6:1 go depth 1 lanes 1111\n\
+    undone step: at 5:1 go depth 1 lanes 1111\n\
+    undone step: at 4:1 go depth 1 lanes 1111\n\
+    C3 NoHistory\n\
+    t = 1\n";
+
+#[test]
+fn changes_the_history_limit(rt: HostRuntime) {
+    let rows: [(u32, &[u8], &[u8]); 2] = [(4, CHANGING, CHANGED), (3, GROWING, GROWN)];
+    for (history, commands, answers) in rows {
+        let options = Options { history, ..OPTIONS };
+        let mut reader = PieceReader::new(commands, 64, 1000);
+        let mut writer = PieceWriter::new(512, 1000);
+        let end = run(
+            rt.alloc(),
+            COUNTING,
+            b"",
+            &options,
+            &mut reader,
+            &mut writer,
+        );
+        assert_eq!(rt; end, Ok(Ending::EndOfCommands), "with {history}");
+        assert!(rt; writer.bytes() == answers, "with {history}");
+    }
+}
+
 #[test]
 fn stops_at_a_failed_read(rt: HostRuntime) {
     for given in 0..COMMANDS.len() {

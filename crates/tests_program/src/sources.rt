@@ -92,10 +92,20 @@ fn parameters_that_are_arrays_are_uniform(rt: HostRuntime) {
 }
 
 #[test]
-fn parameters_of_exported_functions_are_no_form_yet(rt: HostRuntime) {
-    assert!(rt; is_not_yet(rt.alloc(), b"export void f(int x) { }", 13));
-    assert!(rt; is_not_yet(rt.alloc(), b"export void f(uniform int x[]) { }", 13));
-    assert!(rt; is_not_yet(rt.alloc(), b"int a[4]; export void f(int x) { }", 23));
+fn exported_functions_have_uniform_parameters(rt: HostRuntime) {
+    let entry = Ok(Some((1, 0, FuncId(0))));
+    assert!(rt; compiled(rt.alloc(), b"export void f(uniform int x) { }", None) == entry);
+    assert!(rt; compiled(rt.alloc(), b"export void f(uniform int x[]) { }", None) == entry);
+    assert!(rt;
+        is_refused(
+            rt.alloc(),
+            b"export void f(int x) { }",
+            RefusalNumber::S7,
+            19
+        )
+    );
+    let called = b"export void f(uniform int x) { } export void g() { f(1); }";
+    assert!(rt; compiled(rt.alloc(), called, Some(b"g")) == Ok(Some((2, 0, FuncId(1)))));
 }
 
 #[test]

@@ -289,7 +289,7 @@ tree_27 =
     (function (at 1 13) (codes "go") (spec true false false false None None) (parameter (at 1 28) (codes "n") (spec false false false false (Some Uniform) (Some t.Int32)) false ∷ [])
     ParsedLast (at 1 33)) ∷ []
 
-row_27 : is_known forms_of_today tree_27 ≡ false
+row_27 : is_known forms_of_today tree_27 ≡ true
 row_27 = refl
 
 -- void f(uniform int a[]) { }

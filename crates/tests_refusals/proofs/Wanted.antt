@@ -14,7 +14,7 @@ use Rattle.tests_transcripts.proofs.Forms.{at}
 
 -- functions over scalars and arrays
 abbrev pub forms_of_today : Forms
-forms_of_today = record { arrays = true; inputs = false; rounds = false; switches = false }
+forms_of_today = record { arrays = true; inputs = true; rounds = false; switches = false }
 
 -- a refusal and its place
 abbrev pub refused : RefusalNumber → ℕ → ℕ → Option SourceRefusal
