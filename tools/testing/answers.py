@@ -1,7 +1,8 @@
 """The tables of commands with their answers in README.md and docs/: each is run on the source that is shown or named above it.
 
-A source is shown as a block of text that has a function, and named as `examples/NAME.ispc`; one that is both has to be the same. A place
-and lanes in brackets, as `[4:1 0101]`, stand for `at 4:1 go depth 1 lanes 0101`.
+A source is shown as a block of text that has a function, and named as `examples/NAME.ispc`; one that is both has to be the same. A block of
+lines `NAME = VALUE ..` behind it is the input of the tables under it. A place and lanes in brackets, as `[4:1 0101]`, stand for
+`at 4:1 go depth 1 lanes 0101`.
 """
 
 import pathlib
@@ -14,20 +15,20 @@ PAGES = ("README.md", "docs/LANGUAGE.md", "docs/COMMANDS.md")
 
 # The tables that cannot run yet, each by its page and heading, with the reason. Such a source is refused; once it is not, its table runs.
 NOT_YET = {
-    ("docs/LANGUAGE.md", "Gathers and scatters (not yet)"): "it takes an input",
     ("docs/LANGUAGE.md", "Tiles (not yet)"): "it has a foreach form",
 }
 
 FENCE = "```"
 NAMED = re.compile(r"`[^`]*\bexamples/(\w+)\.ispc\b[^`]*`")
+INPUT = re.compile(r"(\w+ =( -?\w+)*\n)+")
 PLACE = re.compile(r"\[(\d+:\d+) ([01]+)\]")
 
 
 class Table:
-    """A table of commands with answers: its page and heading, its source, the options, and both columns."""
+    """A table of commands with answers: its page and heading, its source, the options, the input if it has one, and both columns."""
 
-    def __init__(self, page, heading, number, source, options):
-        self.page, self.heading, self.source, self.options = page, heading, source, options
+    def __init__(self, page, heading, number, source, options, input_text):
+        self.page, self.heading, self.source, self.options, self.input_text = page, heading, source, options, input_text
         self.source_name = f"{pathlib.PurePath(page).stem}-{number:02}.ispc"
         self.commands, self.answers = [], []
 
@@ -41,7 +42,8 @@ class Table:
 
     def run(self):
         lines = ["".join(f"{it}\n" for it in them).encode() for them in (self.commands, self.answers)]
-        words, data = [self.source_name, *self.options], {self.source_name: self.source.encode()}
+        input_words, data = examples.with_input(pathlib.PurePath(self.source_name).stem, self.input_text)
+        words, data = [self.source_name, *self.options, *input_words], data | {self.source_name: self.source.encode()}
         if (self.page, self.heading) in NOT_YET:
             refused = lambda said: [] if said else ["it is not refused: the table is to be taken from NOT_YET"]
             return Run(self.name(), lines[0], words, b"", refused, 2, data)
@@ -64,6 +66,7 @@ class Reader:
     def __init__(self, root, page):
         self.root, self.page = root, page
         self.heading, self.source, self.options, self.named, self.block, self.table = "", None, [], None, None, None
+        self.input_text = None
         self.tables, self.faults = [], []
         for line in (root / page).read_text(encoding="utf-8").splitlines():
             self.read(line)
@@ -86,19 +89,21 @@ class Reader:
             text, self.block = "".join(f"{it}\n" for it in self.block), None
             if re.search(r"^(export )?void \w+\(", text, re.M) and "{" in text:
                 self.show(text)
+            elif INPUT.fullmatch(text):
+                self.input_text = text.encode()
 
     def show(self, text):
         """Takes a shown source: the one that was just named, or one of the page's own."""
         if self.named and self.source != text:
             self.faults.append(f"{self.heading}: examples/{self.named}.ispc is not what is shown")
         if not self.named:
-            self.source, self.options = text, []
+            self.source, self.options, self.input_text = text, [], None
         self.named = None
 
     def read_row(self, row):
         if self.table is None:
             is_of_answers = row[:2] == ["Command", "Answer"]
-            self.table = Table(self.page, self.heading, len(self.tables), self.source, self.options) if is_of_answers else ()
+            self.table = Table(self.page, self.heading, len(self.tables), self.source, self.options, self.input_text) if is_of_answers else ()
             self.tables += [self.table] if is_of_answers else []
         elif self.table and not re.fullmatch(r"-*", row[0]):
             self.table.add(row)
@@ -110,6 +115,7 @@ class Reader:
             file = self.root / f"examples/{self.named}.ispc"
             self.source = file.read_text(encoding="utf-8") if file.is_file() else None
             self.options = examples.arguments(self.root, self.named)
+            self.input_text = examples.input_of(self.root, self.named)
             self.faults += [] if self.source else [f"{self.heading}: examples/{self.named}.ispc is not there"]
         if line and not NAMED.search(line):
             self.named = None

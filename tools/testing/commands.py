@@ -48,7 +48,7 @@ def commands(root):
 def words_read(root):
     """The words of each command that the program reads."""
     text = (root / "crates/debug_commands/src/table.rt").read_text(encoding="utf-8")
-    return {" ".join(re.findall(r'b"([^"]+)"', it)) for it in re.findall(r"Entry\(&\[([^\]]*)\]", text)}
+    return {" ".join(re.findall(r'b"([^"]+)"', it)) for it in re.findall(r"Entry\(\s*&\[([^\]]*)\]", text)}
 
 
 def words_shown(root):

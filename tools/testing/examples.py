@@ -1,4 +1,7 @@
-"""The programs of examples/: NAME.ispc with the commands NAME.commands, and NAME.args if there, writes NAME.transcript. README.md lists them."""
+"""The programs of examples/: NAME.ispc with the commands NAME.commands, and NAME.args and NAME.input if there, writes NAME.transcript.
+
+README.md lists them.
+"""
 
 from .tried import Result, Run
 
@@ -12,6 +15,18 @@ def names(root):
 def arguments(root, name):
     file = root / f"examples/{name}.args"
     return file.read_text(encoding="utf-8").splitlines() if file.is_file() else []
+
+
+def input_of(root, name):
+    """The input of an example, if it has one."""
+    file = root / f"examples/{name}.input"
+    return file.read_bytes() if file.is_file() else None
+
+
+def with_input(name, text):
+    """The words and the data that give a run an input, if there is one."""
+    file = f"{name}.input"
+    return ([], {}) if text is None else (["--input", file], {file: text})
 
 
 def script(root, name, lines):
@@ -41,8 +56,9 @@ def runs(root):
         if not all(it.is_file() for it in files):
             continue
         commands, transcript = (it.read_bytes() for it in files)
-        words = arguments(root, name)
-        made.append(Run(f"example {name}", script(root, name, commands), words, transcript, b""))
+        input_words, data = with_input(name, input_of(root, name))
+        words = arguments(root, name) + input_words
+        made.append(Run(f"example {name}", script(root, name, commands), words, transcript, b"", data=data))
         source = {f"{name}.ispc": root / f"examples/{name}.ispc"}
-        made.append(Run(f"example {name}, from a file", commands, [f"{name}.ispc", *words], transcript, b"", data=source))
+        made.append(Run(f"example {name}, from a file", commands, [f"{name}.ispc", *words], transcript, b"", data=source | data))
     return made

@@ -70,6 +70,33 @@ def runs_of_files():
     ]
 
 
+def runs_of_inputs():
+    """A file has the input of the entry function."""
+    source = b"uniform int t[2];\nexport void go(uniform int n, uniform int a[]) {\nt[0] = n + a[1];\n}\n"
+    files = {"sum.ispc": source, "sum.input": b"n = 5\na = 1 2\n", "range.input": b"n = 5\na = 1 3000000000\n", "line.input": b"\nz = 1\n"}
+    files |= {"none.input": b"", "half.input": b"n = 5", "long.input": b"\n" * 4_194_305, "most.input": b"n = 5\na = 1 2".ljust(4_194_304, b"\n")}
+    commands, answers = [b"print a", b"step", b"print t"], b"a = 1 2\nat 4:1 go depth 1 lanes 1111\nt = 7 0\n"
+    given = ["sum.ispc", "--input", "sum.input"]
+    missing = b"cannot read missing.input\n"
+    return [
+        answered("--input", script(source, *commands), answers, ["--input", "sum.input"], data=files),
+        answered("--input, and a file", b"".join(it + b"\n" for it in commands), answers, given, data=files),
+        answered("an input of 4,194,304 bytes", script(source, *commands), answers, ["--input", "most.input"], data=files),
+        refused("an input of 4,194,305 bytes", script(source), b"input: I4 TooLarge\n", ["--input", "long.input"], data=files),
+        refused("no input", script(source, *commands), b"input: I2 Missing n\n"),
+        refused("an empty input", script(source), b"input: I2 Missing n\n", ["--input", "none.input"], data=files),
+        refused("half an input", script(source), b"input: I2 Missing a\n", ["--input", "half.input"], data=files),
+        refused("a value out of range", script(source), b"input 2: I3 Range\n", ["--input", "range.input"], data=files),
+        refused("a line that is no row", script(source), b"input 2: I1 BadLine\n", ["--input", "line.input"], data=files),
+        refused("an input that is not there", script(source), missing, ["--input", "missing.input"]),
+        refused("an input that is not there, and no line %%", source, missing, ["--input", "missing.input"]),
+        refused("neither source nor input is there", b"", b"cannot read missing.ispc\n", ["missing.ispc", "--input", "missing.input"]),
+        refused("a source with a fault and an input", script(RATE), b"2:21: S7 Rate\n", ["--input", "line.input"], data=files),
+        refused("no entry and an input", script(HIDDEN), b"entry: E1 NoEntry\n", ["--input", "line.input"], data=files),
+        answered("--lane-pure has no input", script(HIDDEN), b"lane-pure 1:6 go: yes\n", ["--lane-pure", "--input", "missing.input"]),
+    ]
+
+
 def runs_of_options():
     two, wide = [b"step 2", b"print x"], b"1" * 8
     ended = b"at 4:1 go depth 1 lanes " + wide + b"\nx = 1 4 7 10 13 16 19 22\n"
@@ -132,7 +159,7 @@ def runs_at_limits():
 
 
 def runs():
-    return runs_of_scripts() + runs_of_files() + runs_of_options() + runs_at_limits()
+    return runs_of_scripts() + runs_of_files() + runs_of_inputs() + runs_of_options() + runs_at_limits()
 
 
 def runs_of_bytes():

@@ -10,6 +10,7 @@ from .tried import Run
 from .worked_rows import FORM_TO_COME
 
 NO_ENTRY = b"entry: E1 NoEntry\n"
+NO_ROW = b"input: I2 Missing "
 
 
 def tables(root):
@@ -30,9 +31,12 @@ def run_of(name, source, refusal):
     if refusal is not None:
         number, line, column = refusal.split()
         return Run(name, b"step\n", [file], b"", begins_with(f"{line}:{column}: {number} ".encode()), 2, data)
-    if re.search(r"\bexport\b", source):
+    entry = re.search(r"\bexport [\w ]+\(([^)]*)\)", source)
+    if entry is None:
+        return Run(name, b"", [file], b"", NO_ENTRY, 2, data)
+    if entry[1].strip() in ("", "void"):
         return Run(name, b"", [file], b"", b"", 0, data)
-    return Run(name, b"", [file], b"", NO_ENTRY, 2, data)
+    return Run(name, b"", [file], b"", begins_with(NO_ROW), 2, data)
 
 
 def runs(root):

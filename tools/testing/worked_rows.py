@@ -5,8 +5,8 @@ import re
 
 from .tried import Run
 
-# What stands in a source with a form that is not there yet: a `switch` or a foreach form, or an exported function with parameters.
-FORM_TO_COME = re.compile(r"\b(foreach\w*|switch)\b|\bexport [\w ]+\([^)]+\)")
+# What stands in a source with a form that is not there yet: a `switch` or a foreach form.
+FORM_TO_COME = re.compile(r"\b(foreach\w*|switch)\b")
 
 
 def rows(root):
@@ -23,8 +23,11 @@ def options(run):
 
 
 def run_of(name, source, run):
-    file = f"{name.replace(' ', '-')}.ispc"
-    words, data = [file, *options(run)], {file: source.encode()}
+    stem = name.replace(" ", "-")
+    words, data = [f"{stem}.ispc", *options(run)], {f"{stem}.ispc": source.encode()}
+    if run.input:
+        words += ["--input", f"{stem}.input"]
+        data[f"{stem}.input"] = run.input.encode()
     if run.refusal:
         return Run(name, b"step\n", words, b"", f"{run.refusal}\n".encode(), 2, data)
     return Run(name, run.commands().encode(), words, run.transcript().encode(), b"", data=data)
@@ -33,6 +36,6 @@ def run_of(name, source, run):
 def runs(root):
     found = []
     for row in rows(root):
-        parts = [(source, run) for source, given in row.parts for run in given if not run.input and not FORM_TO_COME.search(source)]
+        parts = [(source, run) for source, given in row.parts for run in given if not FORM_TO_COME.search(source)]
         found += [run_of(f"row {row.name} {number}", source, run) for number, (source, run) in enumerate(parts, 1)]
     return found
