@@ -1,4 +1,5 @@
 pub mod Rows
-pub mod PlainStatements
-pub mod Functions
+pub mod Labels
+pub mod Statements
+pub mod Pointed
 pub mod StepWords

@@ -33,7 +33,7 @@ greatest_fit P f g same [] (y ∷ ys) h = absurd h
 greatest_fit P f g same (x ∷ xs) [] h = absurd h
 greatest_fit P f g same (x ∷ xs) (y ∷ ys) h = ap₂ max (same x y h.0) (greatest_fit P f g same xs ys h.1)
 
-greatest_mapped : {A B : Type 0} (g : B → ℕ) (f : A → B) (xs : List A) → greatest g (map f xs) ≡ greatest (λ x. g (f x)) xs
+pub greatest_mapped : {A B : Type 0} (g : B → ℕ) (f : A → B) (xs : List A) → greatest g (map f xs) ≡ greatest (λ x. g (f x)) xs
 greatest_mapped g f [] = refl
 greatest_mapped g f (x ∷ xs) = ap (max (g (f x))) (greatest_mapped g f xs)
 
@@ -52,6 +52,9 @@ module _ (width : ℕ) where
   step_sets (step.Check test next) (p.Put (t.Check number e) then) h = refl
   step_sets (step.Go next) (p.Go then) h = refl
   step_sets (step.Branch test yes' no') (p.Branch e on off) h = refl
+  step_sets (step.Choose selector segments next) (p.Choose e labelled entries then) h = refl
+  step_sets (step.Begin form rounds next) (p.Begin f turns then) h = refl
+  step_sets (step.Round form body) (p.Turn begin) h = refl
   step_sets (step.Enter function args result_for next) (p.Enter called given for then) h = ap (λ n. n * width + width + 5) (fit_long IsArg args.items given h.1)
   step_sets code point h = absurd h
 

@@ -17,6 +17,9 @@ words_set_by width (step.Return value next) = 2 * width + 1
 words_set_by width (step.Check test next) = width
 words_set_by width (step.Go next) = width
 words_set_by width (step.Branch test yes' no') = width
+words_set_by width (step.Choose selector segments next) = width
+words_set_by width (step.Begin form rounds next) = 3 * width + 11
+words_set_by width (step.Round form body) = 4 * width + 3
 words_set_by width (step.Enter function args result_for next) = length args.items * width + width + 5
 
 -- the most of a function, and of a program

@@ -1,6 +1,7 @@
 //! What the steps of a program do.
 
 use expression_instructions::Instruction;
+use foreach_lowering::Order;
 use gang_types::{BinaryOp, IntType, VarId};
 use typed_tree::{ResultFor, Var};
 
@@ -25,6 +26,67 @@ pub enum ArgCode {
         array: VarId,
         from: Option<Vec<Instruction>>,
     },
+}
+
+/// A segment of a `switch`: the word of its label, none for `default`, and the step where it begins.
+#[derive(Clone, Copy, Debug, PartialEq, Eq, Drop)]
+pub struct SegmentCode {
+    pub label: Option<u64>,
+    pub entry: usize,
+}
+
+/// The bounds of a dimension.
+#[derive(Drop)]
+pub struct DimensionCode {
+    pub low: Vec<Instruction>,
+    pub high: Vec<Instruction>,
+}
+
+/// The head of a foreach form.
+pub enum FormCode {
+    /// `foreach` and `foreach_tiled`.
+    Domain {
+        order: Order,
+        dimensions: Vec<DimensionCode>,
+    },
+    EachLane,
+    EachValue {
+        value: Vec<Instruction>,
+    },
+}
+
+impl Drop for FormCode {
+    fn drop(self) {
+        match self {
+            FormCode::Domain {
+                order: _,
+                dimensions: _,
+            }
+            | FormCode::EachLane
+            | FormCode::EachValue { value: _ } => {}
+        }
+    }
+}
+
+/// The index variables of a foreach form.
+pub enum IndexCode {
+    /// Those of the dimensions.
+    Domain { order: Order, indices: Vec<Var> },
+    EachLane { index: Var },
+    EachValue { index: Var },
+}
+
+impl Drop for IndexCode {
+    fn drop(self) {
+        match self {
+            IndexCode::Domain {
+                order: _,
+                indices: _,
+            }
+            | IndexCode::EachLane { index: _ }
+            | IndexCode::EachValue { index: _ } => {}
+        }
+    }
 }
 
 /// What a step does, and the numbers of the steps that its lanes wait for next.
@@ -93,6 +155,23 @@ pub enum StepCode {
         yes: usize,
         no: usize,
     },
+    /// A `switch`: its segments in the order of the source, and what follows them.
+    Choose {
+        selector: Vec<Instruction>,
+        segments: Vec<SegmentCode>,
+        next: usize,
+    },
+    /// A foreach form: the number of its rounds, and what follows it.
+    Begin {
+        form: FormCode,
+        rounds: usize,
+        next: usize,
+    },
+    /// The next round of a foreach form: its index variables, and where its body begins.
+    Round {
+        form: IndexCode,
+        body: usize,
+    },
     /// A call; its lanes go on when it is left.
     Enter {
         function: usize,
@@ -103,9 +182,10 @@ pub enum StepCode {
 }
 
 /// For each function of a program its steps in running order, but for its closing brace, and the step that lanes wait for that begin
-/// it.
+/// it; and how many foreach forms stand in one another at most.
 #[derive(Drop)]
 pub struct Code {
     pub functions: Vec<Vec<StepCode>>,
     pub entries: Vec<usize>,
+    pub levels: usize,
 }

@@ -39,15 +39,18 @@ fn most_set(steps: &[StepCode], width: usize) -> usize
     most
 }
 
-/// How many words a step sets: a scalar, the elements that lanes store to, the numbers that lanes wait for and each argument have at
-/// most one for each lane.
+/// How many words a step sets: a scalar, the elements that lanes store to, the numbers that lanes wait for, the values that a form saves
+/// and each argument have at most one for each lane; a form of at most three dimensions has its counters too.
 fn words_set(step: &StepCode, width: usize) -> usize
     requires width { IsGangWidth width }
     requires few { words_set_by width step.now ≤ 9 * width + 16 }
     ensures { result ≡ words_set_by width step.now }
 {
     match step {
-        StepCode::Check { .. } | StepCode::Go { .. } | StepCode::Branch { .. } => width,
+        StepCode::Check { .. }
+        | StepCode::Go { .. }
+        | StepCode::Branch { .. }
+        | StepCode::Choose { .. } => width,
         StepCode::Declare { .. }
         | StepCode::Assign { .. }
         | StepCode::Change { .. }
@@ -55,6 +58,8 @@ fn words_set(step: &StepCode, width: usize) -> usize
         | StepCode::ChangeElement { .. } => 2 * width,
         StepCode::Return { .. } => 2 * width + 1,
         StepCode::PackedStore { .. } | StepCode::PackedLoad { .. } => 3 * width + 1,
+        StepCode::Begin { .. } => 3 * width + 11,
+        StepCode::Round { .. } => 4 * width + 3,
         StepCode::Enter { args, .. } => args.len() * width + width + 5,
     }
 }

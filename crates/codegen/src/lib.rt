@@ -4,9 +4,10 @@
 mod code;
 mod compiling;
 mod counting;
+mod forms;
 mod steps;
 mod values;
 
-pub use code::{ArgCode, Change, Code, StepCode};
+pub use code::{ArgCode, Change, Code, DimensionCode, FormCode, IndexCode, SegmentCode, StepCode};
 pub use compiling::compile;
 pub use counting::cells;

@@ -1,21 +1,52 @@
 //! The code of points.
-ghost use Rattle.std.specs.Prelude.{ℕ, IfOk};
+ghost use Rattle.std.specs.Prelude.{ℕ, IfOk, None, Some};
 ghost use Rattle.gang_model.specs.Types.Tree.{Assign as ModelAssign, Change as ModelChange};
 ghost use Rattle.mask_states.specs.Points.{Put};
 ghost use Rattle.mask_lowering.specs.PointViews.{point_view};
-ghost use Rattle.typed_tree.specs.Views.{expr_view, stmt_view, target_view};
-ghost use Rattle.codegen.specs.Codes.{Does, IsSomePlainPoint};
+ghost use Rattle.foreach_lowering.specs.FormViews.{form_view};
+ghost use Rattle.typed_tree.specs.Views.{expr_view, rounds_view, stmt_view, target_view};
+ghost use Rattle.codegen.specs.Codes.{Does, HasCode, IsCodeOf, MovesNoLane};
 
 use crate::code::{Change, StepCode};
+use crate::forms::{head, indices, segments};
 use crate::values::{arguments, optional, value};
 use mask_lowering::Point;
 use std::alloc::{AllocError, Global};
-use typed_tree::{Expr, Stmt, Target};
+use typed_tree::{Expr, Rounds, Stmt, Target};
 
-/// The code of a point.
-pub(crate) fn step(alloc: Global, point: &Point<'_>) -> Result<StepCode, AllocError>
-    requires { IsSomePlainPoint (point_view point.now) }
-    ensures { IfOk result (λ code. Does code (point_view point.now)) }
+/// The code of a point, with the form whose rounds it is.
+pub(crate) fn step(
+    alloc: Global,
+    point: &Point<'_>,
+    form: Option<&Rounds>,
+) -> Result<StepCode, AllocError>
+    requires { HasCode (point_view point.now) (form_view form) }
+    ensures { IfOk result (λ code. IsCodeOf code (point_view point.now) (form_view form.entry)) }
+{
+    match form {
+        Some(form) => round(alloc, point, form),
+        None => other_step(alloc, point),
+    }
+}
+
+/// The code of the rounds of a form.
+fn round(alloc: Global, point: &Point<'_>, form: &Rounds) -> Result<StepCode, AllocError>
+    requires { HasCode (point_view point.now) (Some (rounds_view form.now)) }
+    ensures { IfOk result (λ code. IsCodeOf code (point_view point.now) (Some (rounds_view form.now))) }
+{
+    match point {
+        Point::Turn { body } => Ok(StepCode::Round {
+            form: indices(alloc, form)?,
+            body: *body,
+        }),
+        _ => unreachable!(),
+    }
+}
+
+/// The code of a point that is no rounds.
+fn other_step(alloc: Global, point: &Point<'_>) -> Result<StepCode, AllocError>
+    requires { HasCode (point_view point.now) None }
+    ensures { IfOk result (λ code. IsCodeOf code (point_view point.now) None) }
 {
     match point {
         Point::Put { statement, next } => put(alloc, statement, *next),
@@ -36,13 +67,28 @@ pub(crate) fn step(alloc: Global, point: &Point<'_>) -> Result<StepCode, AllocEr
             result_for: *result_for,
             next: *next,
         }),
-        Point::Choose { .. } | Point::Begin { .. } | Point::Turn { .. } => unreachable!(),
+        Point::Choose {
+            selector,
+            segments: labelled,
+            entries,
+            next,
+        } => Ok(StepCode::Choose {
+            selector: value(alloc, selector)?,
+            segments: segments(alloc, labelled, entries)?,
+            next: *next,
+        }),
+        Point::Begin { form, rounds, next } => Ok(StepCode::Begin {
+            form: head(alloc, form)?,
+            rounds: *rounds,
+            next: *next,
+        }),
+        Point::Turn { .. } => unreachable!(),
     }
 }
 
 /// The code of a statement that moves no lane.
 fn put(alloc: Global, statement: &Stmt, next: usize) -> Result<StepCode, AllocError>
-    requires { IsSomePlainPoint (Put (stmt_view statement.now) next) }
+    requires { MovesNoLane (stmt_view statement.now) }
     ensures { IfOk result (λ code. Does code (Put (stmt_view statement.now) next)) }
 {
     match statement {

@@ -42,12 +42,19 @@ index_store width form indices = []
 abbrev pub round_turn : (width : ℕ) → RoundsOf → Round width → Turn
 round_turn width form round = record { lanes = lanes_of width round.lanes; indices = index_store width form round.indices }
 
+-- what is left behind a round has the domain, or the values, of what was left before it
+abbrev pub GoesOn : (width : ℕ) → (before behind : RoundsLeft width) → Type 0
+GoesOn width (DomainLeft domain left) (DomainLeft other later) = other ≡ domain
+GoesOn width (LanesLeft lanes) (LanesLeft later) = Unit {0}
+GoesOn width (ValuesLeft lanes values) (ValuesLeft later others) = others ≡ values
+GoesOn width before behind = ⊥
+
 -- a round is the next of those that are left of a form, which goes on with what is left behind it; none where there is none
 abbrev pub IsNextRound : (width : ℕ) → RoundsLeft width → Option (Round width) → Type 0
 IsNextRound width left None = (form : RoundsOf) → IsFormOf width form left → turns_left form width (kept_view width left) ≡ []
 IsNextRound width left (Some round) =
     ((form : RoundsOf) → IsFormOf width form left → Takes form width (kept_view width left) (round_turn width form round) (kept_view width round.left) × IsFormOf width form round.left)
-    × AreLeft width round.left
+    × AreLeft width round.left × GoesOn width left round.left
 
 -- that a round is left is said exactly where the rounds that are left are not the empty list
 abbrev pub SaysAnyLeft : (width : ℕ) → RoundsLeft width → Bool → Type 0

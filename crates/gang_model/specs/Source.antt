@@ -9,5 +9,4 @@ pub mod SpellsSource
 pub mod Names
 pub mod Judged
 pub mod Limits
-pub mod Known
 pub mod Sources

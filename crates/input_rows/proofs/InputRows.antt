@@ -12,7 +12,6 @@ use Rattle.gang_types.specs.declared.places.VarId.TheVariants.{File, Local}
 use Rattle.gang_types.specs.Values.{value_of, wrapped}
 use Rattle.gang_model.specs.Source.Names.{same_text}
 use Rattle.gang_model.specs.Source.Parsed.{ParsedSource}
-use Rattle.gang_model.specs.Source.Known.{Forms}
 use Rattle.gang_model.specs.Source.Parsed.{Name}
 use Rattle.gang_model.specs.Source.Sources.{IsProgramOf}
 use Rattle.gang_model.specs.Source.Limits.{limit_refusal}
@@ -299,7 +298,7 @@ no_refusal None limit e = refl
 no_refusal (Some r) limit e = absurd (none-some r (sym e))
 
 -- the same of an accepted text's program
-pub inputs_of-text : (forms : Forms) (text : Bytes) (asked : Option Name) (p : Program) (entry : ℕ) → IsProgramOf forms text asked p entry
+pub inputs_of-text : (text : Bytes) (asked : Option Name) (p : Program) (entry : ℕ) → IsProgramOf text asked p entry
     → (f : Function) → slice_get p.functions entry ≡ Some f → (bytes : List ℕ) (rows : List Row) → rows_of p entry bytes ≡ Ok rows → AreInputs p f rows
-inputs_of-text forms text asked p entry is f =
+inputs_of-text text asked p entry is f =
     rows_of-inputs is.source p (no_refusal (refusal_of is.source) (limit_refusal is.source) is.accepted.sound) is.program_is entry f

@@ -12,24 +12,23 @@ use Rattle.gang_model.specs.Running.State.{Store, Frame, words_of, words_in, wit
 use Rattle.gang_model.specs.Running.RunningOrder.{IsNumberedProgram}
 use Rattle.gang_model.specs.Running.Step.{new_frame}
 use Rattle.gang_model.specs.Debugger.Events.{Poked, WholeOf, LaneOf, ElementAt, Given, Row, started, poked, with_rows}
-use Rattle.mask_states.specs.Points.{Point, closing_number}
-use Rattle.mask_states.specs.Masked.{Level, Masked, least, next_in, entered_body}
+use Rattle.mask_states.specs.Points.{Point}
+use Rattle.mask_states.specs.Masked.{Level, Masked, entered_body}
 use Rattle.mask_states.specs.MaskedStep.{untasked, entered_levels, masked_start}
 use Rattle.machine_states.specs.Variables.{Variables, own_of, variable_of, rate_of, IsScalar}
 use Rattle.machine_states.specs.Plain.{IsPlainProgram}
-use Rattle.machine_states.specs.Regions.{FunctionOf, NumbersOf, OfFile, OfHead, OfLocal, Regions, OfLevel}
-use Rattle.machine_states.specs.Awaited.{LevelsHold}
+use Rattle.machine_states.specs.Regions.{OfFile, OfLocal, Regions}
 use Rattle.machine_states.specs.Declared.{IsThere, scalar_parameters, declared_before, AreDeclaredFirst, has_entry, HasAll, IsAwaited, FrameDeclared, FramesDeclared, AreDeclared}
-use Rattle.machine_states.specs.Shows.{IsScalarIn, ShowsLocal, ShowsFrames, Shows}
+use Rattle.machine_states.specs.Shows.{IsScalarIn, ShowsLocal, Shows}
 use Rattle.machine_states.specs.Effects.{region_of}
-use Rattle.machine_states.specs.Steps.{IsInnermost, IsNext}
+use Rattle.machine_states.specs.Steps.{IsNext}
 use Rattle.machine_states.proofs.Beginnings.{nothing_given}
 use Rattle.machine_states.proofs.ReadValues.{AreReadAlike}
-use Rattle.machine_states.proofs.NextPoints.{body_of, levels_are}
 use Rattle.machine_states.proofs.DeclaredNames.{NamesBefore, point_names}
 use Rattle.machine_states.proofs.StoreEntries.{with_words_keeps, has_all_kept}
-use Rattle.machine_states.proofs.AwaitedLevels.{next_holds, levels_kept}
+use Rattle.machine_states.proofs.AwaitedLevels.{levels_kept}
 use Rattle.machine_states.proofs.DeclaredSteps.{frame_declared, entered_awaited}
+use Rattle.machine_states.proofs.TopFrame.{awaited, top_frame}
 
 -- ---- the start
 
@@ -88,45 +87,25 @@ pub record TopDeclared (variables : Variables) (w : ℕ) (regions : Regions) (ma
   pub locals : (k : ℕ) → ShowsLocal variables w regions index frame k
   pub has_all : HasAll (declared_before variables n f number) frame.vars
 
-pub same_head : (m n : ℕ) → m ∷ [] ≡ n ∷ [] → m ≡ n
-same_head m n e = cc
-
-module _ (variables : Variables) (p : Program) (w : ℕ) (regions : Regions) (index n : ℕ) (f : Function) (number : StepNumber) (point : Option Point) (next : IsNext p w regions index 0 n f number point) where
-  top_at : (memory : Store) (frames : List Frame) (levels : List (List Level)) → length frames ≡ suc index → ShowsFrames p variables w regions frames levels → FramesDeclared variables p frames levels
-      → TopDeclared variables w regions (record { state = record { memory = memory; frames = frames }; levels = levels }) index n f number
-  top_at memory [] levels e shown h = absurd (omega (arith, e))
-  top_at memory (frame ∷ frames) [] e shown h = absurd shown
-  top_at memory (frame ∷ frames) (levels ∷ rest) e shown h =
-      let s = shown.0 in
-      let height : length frames ≡ index = omega (arith, e) in
-      let function : frame.function ≡ n = same_head frame.function n (sym s.number ∙ ap (λ i. regions (OfHead i FunctionOf)) height ∙ next.function) in
-      let is : slice_get p.functions frame.function ≡ Some f = ap (λ m. slice_get p.functions m) function ∙ next.is_function in
-      let level : Level = body_of regions (length frames) f in
-      let waits : levels ≡ level ∷ [] = levels_are p variables w regions (length frames) frame levels f s is (subst (λ i. IsInnermost w regions i f 0) (sym height) next.innermost) in
-      let Awaited : ℕ → StepNumber → Type 0 = IsAwaited variables frame.function f frame.vars in
-      let holds : LevelsHold Awaited f (level ∷ []) = subst (LevelsHold Awaited f) waits (h.0 f is) in
-      let now : next_in level ≡ number =
-      ap (λ i. least (closing_number f) (regions (OfLevel i 0 NumbersOf))) height ∙ sym next.least_number in
-      let all = (next_holds (Awaited 0) level holds.0).has_all in
-      record {
-        frame = frame;
-        frames = frames;
-        are = refl;
-        height = height;
-        function = function;
-        locals = λ k. subst (λ i. ShowsLocal variables w regions i frame k) height (s.locals k);
-        has_all = subst (λ m. HasAll (declared_before variables m f number) frame.vars) function (subst (λ m. HasAll (declared_before variables frame.function f m) frame.vars) now all);
-      }
-
+module _ (variables : Variables) (p : Program) (w : ℕ) (regions : Regions) (index level n : ℕ) (f : Function) (number : StepNumber) (point : Option Point) (next : IsNext p w regions index level n f number point) where
   pub top_declared : (masked : Masked) → Shows p variables w regions masked → AreDeclared variables p masked → TopDeclared variables w regions masked index n f number
   top_declared masked shown h =
-      top_at masked.state.memory masked.state.frames masked.levels (sym (same_head (suc index) (length masked.state.frames) (sym next.depth ∙ shown.depth))) shown.frames h
+      let t = top_frame p variables w regions masked shown index level n f number point next in
+      record {
+        frame = t.frame;
+        frames = t.others;
+        are = t.frames_are;
+        height = t.height;
+        function = t.function;
+        locals = t.shown.locals;
+        has_all = (awaited p variables w regions masked shown index level n f number point next h).has_all;
+      }
 
-module _ (variables : Variables) (most : ℕ) (p : Program) (plain : IsPlainProgram variables most p) (numbered : IsNumberedProgram p) (first : AreDeclaredFirst variables p) (regions : Regions) (index n : ℕ) (f : Function) (number : StepNumber) where
+module _ (variables : Variables) (p : Program) (numbered : IsNumberedProgram p) (first : AreDeclaredFirst variables p) (regions : Regions) (index level n : ℕ) (f : Function) (number : StepNumber) where
   -- what the point of the next step names is declared before it
-  pub next_names : {w : ℕ} → (point : Point) → IsNext p w regions index 0 n f number (Some point) → NamesBefore (declared_before variables n f) number point
+  pub next_names : {w : ℕ} → (point : Point) → IsNext p w regions index level n f number (Some point) → NamesBefore (declared_before variables n f) number point
   next_names point next =
-      point_names variables n f (numbered n f next.is_function) (plain.functions n f next.is_function).body (first n f next.is_function) number point next.is_point
+      point_names variables n f (numbered n f next.is_function) (first n f next.is_function) number point next.is_point
 
 -- a frame has a variable, if it is one of its own
 abbrev pub HasOwn : Store → VarId → Type 0

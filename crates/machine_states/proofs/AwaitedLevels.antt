@@ -5,15 +5,16 @@ use Rattle.std.proofs.lemmas.Bool.{cases_lt, eq-eqb}
 use Rattle.std.proofs.lemmas.List.{length-map}
 use Rattle.std.proofs.lemmas.Option.{slice_get-get_or, slice_get_past, get_or_from_slice_get}
 use Rattle.gang_types.specs.Lanes.{Lanes, has}
-use Rattle.gang_model.specs.Running.Lanes.{at}
+use Rattle.gang_model.specs.Running.Lanes.{at, merged, words_from}
+use Rattle.gang_model.specs.Running.Rounds.{Turn as Round}
 use Rattle.gang_model.specs.Types.Tree.{StepNumber, Function}
 use Rattle.mask_states.specs.Points.{Point, Turn, entry_of, closing_number, function_ways, points_in}
 use Rattle.mask_states.specs.Placed.{HasPoint}
-use Rattle.mask_states.specs.Masked.{Level, next_in, next_waiting, sent_in, is_over, closed, entered_body}
-use Rattle.mask_states.proofs.OwnTasks.{by_bool}
-use Rattle.mask_states.proofs.LaneNumbers.{length-sent, at-sent_in, at-sent_out, length-waiting_for, has-waiting_for, least_at_most, least_below, least_met}
+use Rattle.mask_states.specs.Masked.{Level, next_in, next_waiting, sent, sent_in, is_over, closed, begun, entered_body}
+use Rattle.mask_states.proofs.LaneNumbers.{length-sent, at-sent_in, length-waiting_for, has-waiting_for, least_at_most, least_below, least_met}
 use Rattle.mask_states.proofs.PlacedPoints.{length-points_of}
-use Rattle.machine_states.specs.Awaited.{LevelHolds, EndHolds, LevelsHold}
+use Rattle.machine_states.specs.RoundNumbers.{rounds_about}
+use Rattle.machine_states.specs.Awaited.{LevelHolds, WaitsInside, EndHolds, LevelsHold}
 use Rattle.machine_states.proofs.DeclaredLists.{same_some}
 
 -- ---- numbers in lists
@@ -66,7 +67,7 @@ abbrev pub IsNoTurn : Point → Type 0
 IsNoTurn (Turn body) = ⊥
 IsNoTurn point = Unit {0}
 
-no_turn : (point : Point) (body : StepNumber) → IsNoTurn point → Some point ≡ Some (Turn body) → ⊥
+pub no_turn : (point : Point) (body : StepNumber) → IsNoTurn point → Some point ≡ Some (Turn body) → ⊥
 no_turn point body unturned e = subst IsNoTurn (same_some point (Turn body) e) unturned
 
 -- stands below the level's end
@@ -80,7 +81,27 @@ point_below P f level (next ∷ below) point ends unturned h = ⊎_elim
     absurd (no_turn point ends.1.0 unturned (sym h ∙ ap (slice_get (points_in f)) at_end ∙ ends.1.1)))
     (cases_lt (next_in level) level.end)
 
+-- a form's lanes wait inside it, so the next step, if it is not the rounds, stands inside
+pub next_inside : (f : Function) (level : Level) → WaitsInside f level → next_in level < level.end → rounds_about f (next_in level) ≡ Some level.end
+next_inside f level h below =
+    let w : Waits level = waits_below level below in h w.lane (next_in level) (number_at level.numbers w.lane w.within ∙ ap Some w.number) below
+
 -- ---- lanes are sent on
+
+-- each lane waits for what it did, or for where it was sent
+sent_waits : (P : StepNumber → Type 0) (i : ℕ) (lanes : Lanes) (target : ℕ → StepNumber) → ((j : ℕ) → P (target j)) → (numbers : List StepNumber) (k : ℕ) (number : StepNumber)
+    → slice_get (merged lanes (words_from i lanes target) numbers) k ≡ Some number → (slice_get numbers k ≡ Some number → P number) → P number
+sent_waits P i [] target new numbers k number e old = absurd cc
+sent_waits P i (b ∷ lanes) target new [] k number e old = absurd cc
+sent_waits P i (true ∷ lanes) target new (n ∷ numbers) zero number e old = subst P (same_some (target i) number e) (new i)
+sent_waits P i (false ∷ lanes) target new (n ∷ numbers) zero number e old = old e
+sent_waits P i (b ∷ lanes) target new (n ∷ numbers) (suc k) number e old = sent_waits P (suc i) lanes target new numbers k number e old
+
+-- so they wait inside the form that they did, if they are sent there
+pub sent_inside : (f : Function) (level : Level) (turns : List Round) (lanes : Lanes) (target : ℕ → StepNumber) → WaitsInside f level → ((j : ℕ) → rounds_about f (target j) ≡ Some level.end)
+    → WaitsInside f (record level { turns = turns; numbers = sent lanes target level.numbers })
+sent_inside f level turns lanes target h new lane number e below =
+    sent_waits (λ m. rounds_about f m ≡ Some level.end) 0 lanes target new level.numbers lane number e (λ is. h lane number is below)
 
 -- what holds past the end holds at it
 abbrev pub EndsAt : (P : StepNumber → Type 0) → StepNumber → Type 0
@@ -91,18 +112,21 @@ pub ends_at : (P : StepNumber → Type 0) (f : Function) (level : Level) (below 
 ends_at P f level [] h closing = subst (EndsAt P) (sym h) (closing refl)
 ends_at P f level (next ∷ below) h closing = λ number past holds. h.0
 
+all_closed : {A : Type 0} (end : StepNumber) (xs : List A) (k : ℕ) (number : StepNumber) → slice_get (map (λ x. end) xs) k ≡ Some number → end ≡ number
+all_closed end [] k number e = absurd cc
+all_closed end (x ∷ xs) zero number e = same_some end number e
+all_closed end (x ∷ xs) (suc k) number e = all_closed end xs k number e
+
+pub begun_inside : (f : Function) (rounds : StepNumber) (turns : List Round) (numbers : List StepNumber) → WaitsInside f (begun rounds turns numbers)
+begun_inside f rounds turns numbers lane number e below = absurd (omega (arith, below, all_closed rounds numbers lane number e))
+
 module _ (P : StepNumber → Type 0) where
   -- some lanes are sent to steps of which it holds
   pub sent_holds : (level : Level) (lanes : Lanes) (target : ℕ → StepNumber) → length level.numbers ≡ length lanes → EndsAt P level.end
       → ((lane : ℕ) (number : StepNumber) → slice_get level.numbers lane ≡ Some number → number < level.end → P number)
       → (k : ℕ) → has lanes k ≡ true → k < length level.numbers → ((j : ℕ) → P (target j)) → LevelHolds P (sent_in lanes target level)
   sent_holds level lanes target sized ends old k in_lanes within new = record {
-    waits = λ lane number e below.
-        let is : at (sent_in lanes target level).numbers lane ≡ number = at_number (sent_in lanes target level).numbers lane number e in
-        let inside : lane < length level.numbers = omega (arith, is_inside (sent_in lanes target level).numbers lane number e, length-sent lanes target level.numbers sized) in
-        by_bool (has lanes lane)
-        (λ moves. subst P (sym (at-sent_in lanes target level.numbers lane sized moves) ∙ is) (new lane))
-        (λ stays. old lane number (number_at level.numbers lane inside ∙ ap Some (sym (at-sent_out lanes target level.numbers lane sized stays) ∙ is)) below);
+    waits = λ lane number e below. sent_waits P 0 lanes target new level.numbers lane number e (λ is. old lane number is below);
     ends = λ e.
         let moved : at (sent_in lanes target level).numbers k ≡ target k = at-sent_in lanes target level.numbers k sized in_lanes in
         let past : level.end ≤ target k =
@@ -110,10 +134,20 @@ module _ (P : StepNumber → Type 0) where
         ends (target k) past (new k);
   }
 
-  all_closed : (end : StepNumber) (lanes : Lanes) (k : ℕ) (number : StepNumber) → slice_get (map (λ (b : Bool). end) lanes) k ≡ Some number → end ≡ number
-  all_closed end [] k number e = absurd cc
-  all_closed end (b ∷ lanes) zero number e = same_some end number e
-  all_closed end (b ∷ lanes) (suc k) number e = all_closed end lanes k number e
+  -- a round begins: its lanes go to the body
+  pub turned_holds : (level : Level) (turns : List Round) (lanes : Lanes) (body : StepNumber) → LevelHolds P level → P level.end → P body
+      → LevelHolds P (record level { turns = turns; numbers = sent lanes (λ k. body) level.numbers })
+  turned_holds level turns lanes body h end new = record {
+    waits = λ lane number e below. sent_waits P 0 lanes (λ k. body) (λ j. new) level.numbers lane number e (λ is. h.waits lane number is below);
+    ends = λ e. end;
+  }
+
+  -- a form begins: all lanes wait for its rounds
+  pub begun_holds : (rounds : StepNumber) (turns : List Round) (numbers : List StepNumber) → P rounds → LevelHolds P (begun rounds turns numbers)
+  begun_holds rounds turns numbers new = record {
+    waits = λ lane number e below. absurd (omega (arith, below, all_closed rounds numbers lane number e));
+    ends = λ e. new;
+  }
 
   -- a body begins for some lanes
   pub entered_holds : (f : Function) (lanes : Lanes) → EndsAt P (closing_number f) → (k : ℕ) → has lanes k ≡ true → k < length lanes
@@ -137,7 +171,7 @@ sent_on_holds P Q level target ends below h kept new =
 module _ (P Q : ℕ → StepNumber → Type 0) (f : Function) (kept : (depth : ℕ) (number : StepNumber) → P depth number → Q depth number) where
   pub end_kept : (level : Level) (below : List Level) → EndHolds (P (length below)) f level below → EndHolds (Q (length below)) f level below
   end_kept level [] h = h
-  end_kept level (next ∷ below) h = (kept (length (next ∷ below)) level.end h.0, h.1)
+  end_kept level (next ∷ below) h = (kept (length (next ∷ below)) level.end h.0, h.1, h.2)
 
   pub levels_kept : (levels : List Level) → LevelsHold P f levels → LevelsHold Q f levels
   levels_kept [] h = tt

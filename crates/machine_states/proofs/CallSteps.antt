@@ -11,6 +11,7 @@ use Rattle.gang_model.specs.Types.Tree.{StepNumber, Arg, ResultFor, Function, Pr
 use Rattle.gang_model.specs.Running.Lanes.{Fault, ◌>>=◌, at, each, words_from}
 use Rattle.gang_types.specs.declared.places.VarId.TheVariants.{File, Local}
 use Rattle.gang_model.specs.Running.State.{Store, Frame, State}
+use Rattle.gang_model.specs.Running.Rounds.{Turn}
 use Rattle.gang_model.specs.Running.Step.{Passed, passed, no_result, new_frame, entered, rate_of as result_rate_of}
 use Rattle.mask_states.specs.Points.{Enter, points_in, closing_number}
 use Rattle.mask_states.specs.Masked.{Level, Masked, next_in, entered_body}
@@ -24,7 +25,8 @@ use Rattle.machine_states.specs.Regions.{NumbersOf, ResultOf, OfHead, Regions, O
 use Rattle.machine_states.specs.Shows.{result_of, ShowsFrame, ShowsFrames, Shows, level_words}
 use Rattle.machine_states.specs.Steps.{IsNext, waiting_in, GoesTo, FailsWith, IsBegun, AreSameBelow}
 use Rattle.machine_states.proofs.FramesBelow.{frames_below, same_frames}
-use Rattle.machine_states.proofs.NextPoints.{body_of, frames_untasked, point_is, step_is, on_top}
+use Rattle.machine_states.proofs.NextPoints.{frames_untasked, point_is, step_is, on_top}
+use Rattle.machine_states.proofs.TopLevels.{IsTop, level_of, numbers_long}
 
 -- ---- a result that nothing was written to
 
@@ -66,69 +68,74 @@ module _ (p : Program) (variables : Variables) (w : ℕ) (new : Regions) where
 
 -- ---- the call
 
-module _ (p : Program) (variables : Variables) (w : ℕ) (regions : Regions) (n called : ℕ) (f : Function) (is_function : slice_get p.functions n ≡ Some f)
+module _ (p : Program) (variables : Variables) (w : ℕ) (regions : Regions) (level n called : ℕ) (f : Function) (is_function : slice_get p.functions n ≡ Some f)
     (args : List Arg) (for : ResultFor) (next : StepNumber) (memory : Store) where
   abbrev state_of : List Frame → State
   state_of frames = record { memory = memory; frames = frames }
 
-  -- what the step leads to, by what the arguments are
-  abbrev outcome : Option Function → StepNumber → Lanes → List Frame → Level → List (List Level) → Result Passed Fault → MaskedStepped
-  outcome o number lanes frames level rest arguments =
-      acted ((arguments >>= (λ given. entered o called number for given lanes (state_of frames)))
-      >>= (λ after. Ok (record { state = untasked after; levels = entered_levels o lanes ++ (level ∷ []) ∷ [] }))) rest
+  -- the innermost level of a frame above these
+  abbrev top : (frames : List Frame) → List Turn → Level
+  top frames turns = level_of regions (length frames) f level turns
 
-  call_is : (frame : Frame) (frames : List Frame) (rest : List (List Level)) (arguments : Result Passed Fault) → frame.function ≡ n
-      → slice_get (points_in f) (next_in (body_of regions (length frames) f)) ≡ Some (Enter called args for next)
-      → passed args (waiting_in regions (length frames) 0 (next_in (body_of regions (length frames) f))) (state_of (frame ∷ frames)) ≡ arguments
-      → step_levels p memory (frame ∷ frames) ((body_of regions (length frames) f ∷ []) ∷ rest)
-      ≡ outcome (slice_get p.functions called) (next_in (body_of regions (length frames) f)) (waiting_in regions (length frames) 0 (next_in (body_of regions (length frames) f)))
-      (frame ∷ frames) (body_of regions (length frames) f) rest arguments
-  call_is frame frames rest arguments runs at e =
-      step_is p variables w regions memory frame frames rest f (Some (Enter called args for next)) (ap (slice_get p.functions) runs ∙ is_function) at
-      ∙ ap (outcome (slice_get p.functions called) (next_in (body_of regions (length frames) f)) (waiting_in regions (length frames) 0 (next_in (body_of regions (length frames) f)))
-      (frame ∷ frames) (body_of regions (length frames) f) rest) e
+  -- what the step leads to, by what the arguments are
+  abbrev outcome : Option Function → StepNumber → Lanes → List Frame → List Level → List (List Level) → Result Passed Fault → MaskedStepped
+  outcome o number lanes frames levels rest arguments =
+      acted ((arguments >>= (λ given. entered o called number for given lanes (state_of frames)))
+      >>= (λ after. Ok (record { state = untasked after; levels = entered_levels o lanes ++ levels ∷ [] }))) rest
+
+  call_is : (frame : Frame) (frames : List Frame) (turns : List Turn) (below : List Level) (rest : List (List Level)) (arguments : Result Passed Fault) → frame.function ≡ n
+      → slice_get (points_in f) (next_in (top frames turns)) ≡ Some (Enter called args for next)
+      → passed args (waiting_in regions (length frames) level (next_in (top frames turns))) (state_of (frame ∷ frames)) ≡ arguments
+      → step_levels p memory (frame ∷ frames) ((top frames turns ∷ below) ∷ rest)
+      ≡ outcome (slice_get p.functions called) (next_in (top frames turns)) (waiting_in regions (length frames) level (next_in (top frames turns)))
+      (frame ∷ frames) (top frames turns ∷ below) rest arguments
+  call_is frame frames turns below rest arguments runs at e =
+      step_is p variables w regions memory frame frames (top frames turns) below rest f (Some (Enter called args for next)) (ap (slice_get p.functions) runs ∙ is_function) at
+      ∙ ap (outcome (slice_get p.functions called) (next_in (top frames turns)) (waiting_in regions (length frames) level (next_in (top frames turns)))
+      (frame ∷ frames) (top frames turns ∷ below) rest) e
 
   -- a function is called
   module _ (g : Function) (is_called : slice_get p.functions called ≡ Some g) where
-    abbrev entered_or_deep : Bool → StepNumber → Lanes → List Frame → Level → List (List Level) → Passed → MaskedStepped
-    entered_or_deep full number lanes frames level rest given =
+    abbrev entered_or_deep : Bool → StepNumber → Lanes → List Frame → List Level → List (List Level) → Passed → MaskedStepped
+    entered_or_deep full number lanes frames levels rest given =
         acted ((if full then Err (record { name = CallDepth; lane = lowest lanes }) else Ok (state_of (new_frame called g lanes (Some number) for given ∷ frames)))
-        >>= (λ after. Ok (record { state = untasked after; levels = (entered_body g lanes ∷ []) ∷ (level ∷ []) ∷ [] }))) rest
+        >>= (λ after. Ok (record { state = untasked after; levels = (entered_body g lanes ∷ []) ∷ levels ∷ [] }))) rest
 
-    enter_is : (number : StepNumber) (lanes : Lanes) (frames : List Frame) (level : Level) (rest : List (List Level)) (given : Passed) (full : Bool) → (length frames == 64) ≡ full
-        → outcome (slice_get p.functions called) number lanes frames level rest (Ok given) ≡ entered_or_deep full number lanes frames level rest given
-    enter_is number lanes frames level rest given full e =
-        ap (λ o. outcome o number lanes frames level rest (Ok given)) is_called
-        ∙ ap (λ b. entered_or_deep b number lanes frames level rest given) e
+    enter_is : (number : StepNumber) (lanes : Lanes) (frames : List Frame) (levels : List Level) (rest : List (List Level)) (given : Passed) (full : Bool) → (length frames == 64) ≡ full
+        → outcome (slice_get p.functions called) number lanes frames levels rest (Ok given) ≡ entered_or_deep full number lanes frames levels rest given
+    enter_is number lanes frames levels rest given full e =
+        ap (λ o. outcome o number lanes frames levels rest (Ok given)) is_called
+        ∙ ap (λ b. entered_or_deep b number lanes frames levels rest given) e
 
-    abbrev after_call : StepNumber → Lanes → Frame → List Frame → Level → List (List Level) → Passed → Masked
-    after_call number lanes frame frames level rest given = record {
+    abbrev after_call : StepNumber → Lanes → Frame → List Frame → List Level → List (List Level) → Passed → Masked
+    after_call number lanes frame frames levels rest given = record {
       state = state_of (untasked_frame (new_frame called g lanes (Some number) for given) ∷ frame ∷ frames);
-      levels = (entered_body g lanes ∷ []) ∷ (level ∷ []) ∷ rest;
+      levels = (entered_body g lanes ∷ []) ∷ levels ∷ rest;
     }
 
-    call_shown : (frame : Frame) (frames : List Frame) (rest : List (List Level)) (given : Passed) (new : Regions) → frame.function ≡ n
-        → slice_get (points_in f) (next_in (body_of regions (length frames) f)) ≡ Some (Enter called args for next)
+    call_shown : (frame : Frame) (frames : List Frame) (turns : List Turn) (below : List Level) (rest : List (List Level)) (given : Passed) (new : Regions) → frame.function ≡ n
+        → slice_get (points_in f) (next_in (top frames turns)) ≡ Some (Enter called args for next)
         → AreMemory regions memory
-        → ShowsFrames p variables w regions (frame ∷ frames) ((body_of regions (length frames) f ∷ []) ∷ rest)
+        → IsTop w regions (length frames) f level turns below
+        → ShowsFrames p variables w regions (frame ∷ frames) ((top frames turns ∷ below) ∷ rest)
         → suc (length frames) < 64
-        → IsBegun variables w new (suc (length frames)) called g (waiting_in regions (length frames) 0 (next_in (body_of regions (length frames) f))) given
+        → IsBegun variables w new (suc (length frames)) called g (waiting_in regions (length frames) level (next_in (top frames turns))) given
         → AreSameBelow (suc (length frames)) regions new
-        → Shows p variables w new (after_call (next_in (body_of regions (length frames) f)) (waiting_in regions (length frames) 0 (next_in (body_of regions (length frames) f)))
-        frame frames (body_of regions (length frames) f) rest given)
-    call_shown frame frames rest given new runs at memory_is s deep begun same =
-        let number : StepNumber = next_in (body_of regions (length frames) f) in
-        let lanes : Lanes = waiting_in regions (length frames) 0 number in
+        → Shows p variables w new (after_call (next_in (top frames turns)) (waiting_in regions (length frames) level (next_in (top frames turns)))
+        frame frames (top frames turns ∷ below) rest given)
+    call_shown frame frames turns below rest given new runs at memory_is is_top s deep begun same =
+        let number : StepNumber = next_in (top frames turns) in
+        let lanes : Lanes = waiting_in regions (length frames) level number in
         record {
           memory = now_memory;
           depth = begun.depth;
           few = omega (arith, deep);
           frames = (
             begun_frame p variables w new (suc (length frames)) called g lanes (Some number) for given is_called
-                (length-waiting_for number (regions (OfLevel (length frames) 0 NumbersOf)) ∙ s.0.waits.body_sized) begun,
-            (next, args, refl, point_is p variables w regions (length frames) frame f (ap (slice_get p.functions) runs ∙ is_function) (Some (Enter called args for next)) at),
+                (length-waiting_for number (regions (OfLevel (length frames) level NumbersOf)) ∙ numbers_long w regions (length frames) f level turns below is_top) begun,
+            (next, args, refl, point_is p variables w regions frame f (ap (slice_get p.functions) runs ∙ is_function) number (Some (Enter called args for next)) at),
             frames_below p variables w regions new (suc (length frames)) (same_frames (suc (length frames)) regions new same) (frame ∷ frames)
-                ((body_of regions (length frames) f ∷ []) ∷ rest) (omega arith) s,
+                ((top frames turns ∷ below) ∷ rest) (omega arith) s,
           );
         }
       where
@@ -139,50 +146,53 @@ module _ (p : Program) (variables : Variables) (w : ℕ) (regions : Regions) (n 
 -- ---- the laws
 
 module _ (p : Program) (variables : Variables) (w : ℕ) (regions : Regions) (masked : Masked) (shows : Shows p variables w regions masked)
-    (i n called : ℕ) (f : Function) (number : StepNumber) (args : List Arg) (for : ResultFor) (next : StepNumber)
-    (is_next : IsNext p w regions i 0 n f number (Some (Enter called args for next))) where
+    (i level n called : ℕ) (f : Function) (number : StepNumber) (args : List Arg) (for : ResultFor) (next : StepNumber)
+    (is_next : IsNext p w regions i level n f number (Some (Enter called args for next))) where
   abbrev state_with : List Frame → State
   state_with frames = record { memory = masked.state.memory; frames = frames }
 
   -- a fault of an argument
-  pub fails : (fault : Fault) → passed args (waiting_in regions i 0 number) masked.state ≡ Err fault → FailsWith p masked fault
+  pub fails : (fault : Fault) → passed args (waiting_in regions i level number) masked.state ≡ Err fault → FailsWith p masked fault
   fails fault =
-      on_top p variables w regions i n f number (Some (Enter called args for next)) is_next
-      (λ frames levels index m. passed args (waiting_in regions index 0 m) (state_with frames) ≡ Err fault → step_levels p masked.state.memory frames levels ≡ Fails fault)
-      (λ frame frames rest runs at s e. call_is p variables w regions n called f is_next.is_function args for next masked.state.memory frame frames rest (Err fault) runs at e)
+      on_top p variables w regions i level n f number (Some (Enter called args for next)) is_next
+      (λ frames levels index m. passed args (waiting_in regions index level m) (state_with frames) ≡ Err fault → step_levels p masked.state.memory frames levels ≡ Fails fault)
+      (λ frame frames turns below rest runs at is_top s e.
+      call_is p variables w regions level n called f is_next.is_function args for next masked.state.memory frame frames turns below rest (Err fault) runs at e)
       masked shows
 
   module _ (g : Function) (is_called : slice_get p.functions called ≡ Some g) where
     -- 64 frames are there
-    pub too_deep : (given : Passed) → passed args (waiting_in regions i 0 number) masked.state ≡ Ok given → suc i ≡ 64
-        → FailsWith p masked (record { name = CallDepth; lane = lowest (waiting_in regions i 0 number) })
+    pub too_deep : (given : Passed) → passed args (waiting_in regions i level number) masked.state ≡ Ok given → suc i ≡ 64
+        → FailsWith p masked (record { name = CallDepth; lane = lowest (waiting_in regions i level number) })
     too_deep given =
-        on_top p variables w regions i n f number (Some (Enter called args for next)) is_next
-        (λ frames levels index m. passed args (waiting_in regions index 0 m) (state_with frames) ≡ Ok given → suc index ≡ 64
-        → step_levels p masked.state.memory frames levels ≡ Fails (record { name = CallDepth; lane = lowest (waiting_in regions index 0 m) }))
-        (λ frame frames rest runs at s e full.
-        call_is p variables w regions n called f is_next.is_function args for next masked.state.memory frame frames rest (Ok given) runs at e
-        ∙ enter_is p variables w regions n called f is_next.is_function args for next masked.state.memory g is_called _ _ (frame ∷ frames) _ rest given true
+        on_top p variables w regions i level n f number (Some (Enter called args for next)) is_next
+        (λ frames levels index m. passed args (waiting_in regions index level m) (state_with frames) ≡ Ok given → suc index ≡ 64
+        → step_levels p masked.state.memory frames levels ≡ Fails (record { name = CallDepth; lane = lowest (waiting_in regions index level m) }))
+        (λ frame frames turns below rest runs at is_top s e full.
+        call_is p variables w regions level n called f is_next.is_function args for next masked.state.memory frame frames turns below rest (Ok given) runs at e
+        ∙ enter_is p variables w regions level n called f is_next.is_function args for next masked.state.memory g is_called _ _ (frame ∷ frames) _ rest given true
         (eq-eqb (suc (length frames)) 64 full))
         masked shows
 
     -- a frame begins, and those below are as before
-    pub enters : (given : Passed) → passed args (waiting_in regions i 0 number) masked.state ≡ Ok given → suc i < 64
-        → (new : Regions) → IsBegun variables w new (suc i) called g (waiting_in regions i 0 number) given → AreSameBelow (suc i) regions new → GoesTo p variables w masked new
+    pub enters : (given : Passed) → passed args (waiting_in regions i level number) masked.state ≡ Ok given → suc i < 64
+        → (new : Regions) → IsBegun variables w new (suc i) called g (waiting_in regions i level number) given → AreSameBelow (suc i) regions new → GoesTo p variables w masked new
     enters given e deep new =
-        on_top p variables w regions i n f number (Some (Enter called args for next)) is_next
-        (λ frames levels index m. passed args (waiting_in regions index 0 m) (state_with frames) ≡ Ok given → suc index < 64
-        → IsBegun variables w new (suc index) called g (waiting_in regions index 0 m) given → AreSameBelow (suc index) regions new
+        on_top p variables w regions i level n f number (Some (Enter called args for next)) is_next
+        (λ frames levels index m. passed args (waiting_in regions index level m) (state_with frames) ≡ Ok given → suc index < 64
+        → IsBegun variables w new (suc index) called g (waiting_in regions index level m) given → AreSameBelow (suc index) regions new
         → (after : Masked) × (step_levels p masked.state.memory frames levels ≡ Goes after) × Shows p variables w new after)
-        (λ frame frames rest runs at s e deep begun same.
-        let number : StepNumber = next_in (body_of regions (length frames) f) in
-        let lanes : Lanes = waiting_in regions (length frames) 0 number in (
-          after_call p variables w regions n called f is_next.is_function args for next masked.state.memory g is_called number lanes frame frames (body_of regions (length frames) f) rest given,
-          call_is p variables w regions n called f is_next.is_function args for next masked.state.memory frame frames rest (Ok given) runs at e
-              ∙ enter_is p variables w regions n called f is_next.is_function args for next masked.state.memory g is_called number lanes (frame ∷ frames)
-              (body_of regions (length frames) f) rest given false (ne_eqb (suc (length frames)) 64 (λ q. omega (arith, q, deep)))
-              ∙ ap (λ old. Goes (record { state = state_with (untasked_frame (new_frame called g lanes (Some number) for given) ∷ old); levels = (entered_body g lanes ∷ []) ∷ (body_of regions (length frames) f ∷ []) ∷ rest }))
-              (frames_untasked p variables w regions (frame ∷ frames) ((body_of regions (length frames) f ∷ []) ∷ rest) s),
-          call_shown p variables w regions n called f is_next.is_function args for next masked.state.memory g is_called frame frames rest given new runs at shows.memory s deep begun same,
+        (λ frame frames turns below rest runs at is_top s e deep begun same.
+        let levels : List Level = level_of regions (length frames) f level turns ∷ below in
+        let number : StepNumber = next_in (level_of regions (length frames) f level turns) in
+        let lanes : Lanes = waiting_in regions (length frames) level number in (
+          after_call p variables w regions level n called f is_next.is_function args for next masked.state.memory g is_called number lanes frame frames levels rest given,
+          call_is p variables w regions level n called f is_next.is_function args for next masked.state.memory frame frames turns below rest (Ok given) runs at e
+              ∙ enter_is p variables w regions level n called f is_next.is_function args for next masked.state.memory g is_called number lanes (frame ∷ frames)
+              levels rest given false (ne_eqb (suc (length frames)) 64 (λ q. omega (arith, q, deep)))
+              ∙ ap (λ old. Goes (record { state = state_with (untasked_frame (new_frame called g lanes (Some number) for given) ∷ old); levels = (entered_body g lanes ∷ []) ∷ levels ∷ rest }))
+              (frames_untasked p variables w regions (frame ∷ frames) (levels ∷ rest) s),
+          call_shown p variables w regions level n called f is_next.is_function args for next masked.state.memory g is_called frame frames turns below rest given new runs at shows.memory is_top s
+              deep begun same,
         ))
         masked shows e deep

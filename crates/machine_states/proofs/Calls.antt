@@ -1,19 +1,21 @@
 -- What the machine reads of the calls that made its frames: which step of which function made each, and for which lanes.
-use Rattle.std.proofs.Common.{◌≡◌, refl, sym, ap, ◌∙◌, ℕ, zero, suc, ◌<◌, ◌≤◌, ◌⊎◌, inl, inr, Bool, true, false, List, [], ◌∷◌, length, Option, Some, None, arith, subst}
+use Rattle.std.proofs.Common.{◌≡◌, refl, sym, ap, ◌∙◌, ℕ, zero, suc, ◌<◌, ◌≤◌, ◌⊎◌, inl, inr, Bool, true, false, List, [], ◌∷◌, length, Option, Some, None, arith}
 use Rattle.std.specs.Prelude.{slice_get, ◌==◌, if◌then◌else◌}
 use Rattle.std.proofs.lemmas.Bool.{eq-eqb, ne_eqb, eqb-true}
 use Rattle.gang_types.specs.declared.places.Spot.{Spot}
 use Rattle.gang_model.specs.Types.Tree.{StepNumber, Function, Program}
 use Rattle.gang_model.specs.Running.State.{Frame}
 use Rattle.gang_model.specs.Debugger.Positions.{spot_in, call_spot, call_at}
-use Rattle.mask_states.specs.Points.{closing_number}
-use Rattle.mask_states.specs.Masked.{Level, Masked, next_in, least}
+use Rattle.mask_states.specs.Masked.{Level, Masked, next_in}
 use Rattle.mask_states.proofs.OwnTasks.{by_bool}
 use Rattle.machine_states.specs.Variables.{Variables}
-use Rattle.machine_states.specs.Regions.{FunctionOf, LanesOf, NumbersOf, Depth, OfHead, Regions, lanes_in, OfLevel}
+use Rattle.machine_states.specs.Regions.{FunctionOf, LanesOf, Depth, OfHead, Regions, lanes_in}
 use Rattle.machine_states.specs.Shows.{ShowsFrames, Shows}
-use Rattle.machine_states.specs.Steps.{IsInnermost}
-use Rattle.machine_states.proofs.NextPoints.{same_word, body_of, levels_are}
+use Rattle.machine_states.specs.Steps.{IsInnermost, least_in}
+use Rattle.machine_states.proofs.CallerLevels.{caller_levels, caller_runs}
+use Rattle.machine_states.proofs.DeclaredLists.{same_first}
+use Rattle.machine_states.proofs.NextPoints.{same_word}
+use Rattle.machine_states.proofs.TopLevels.{level_of}
 
 -- the frame that a call of the frame at this depth made, and that frame, the entry's being at depth 1
 abbrev pub made_at : (depth : ℕ) → List Frame → Option (Frame × Frame)
@@ -78,26 +80,21 @@ pub record IsMade (w : ℕ) (regions : Regions) (j m : ℕ) (number : StepNumber
   pub function : frame.function ≡ m
   pub lanes : inner.lanes ≡ lanes_in w regions (OfHead (suc j) LanesOf)
 
-same_first : (a b : Level) (xs ys : List Level) → a ∷ xs ≡ b ∷ ys → a ≡ b
-same_first a b xs ys e = cc
-
-module _ (p : Program) (variables : Variables) (w : ℕ) (regions : Regions) (j m : ℕ) (g : Function)
-    (number : regions (OfHead j FunctionOf) ≡ m ∷ []) (is_function : slice_get p.functions m ≡ Some g) (at_body : IsInnermost w regions j g 0) where
+module _ (p : Program) (variables : Variables) (w : ℕ) (regions : Regions) (j level m : ℕ) (g : Function)
+    (number : regions (OfHead j FunctionOf) ≡ m ∷ []) (is_function : slice_get p.functions m ≡ Some g) (inner_is : IsInnermost w regions j g level) where
   -- the frame of this index made a call
   abbrev IsMadeIn : List Frame → Type 0
-  IsMadeIn frames = (inner : Frame) × (frame : Frame) × (made_at (suc j) frames ≡ Some (inner, frame)) × IsMade w regions j m (least (closing_number g) (regions (OfLevel j 0 NumbersOf))) inner frame
+  IsMadeIn frames = (inner : Frame) × (frame : Frame) × (made_at (suc j) frames ≡ Some (inner, frame)) × IsMade w regions j m (least_in regions j g level) inner frame
 
   made_here : (inner frame : Frame) (frames : List Frame) (levels below : List Level) (rest : List (List Level)) → length frames ≡ j
       → ShowsFrames p variables w regions (inner ∷ frame ∷ frames) (levels ∷ below ∷ rest)
-      → IsMade w regions j m (least (closing_number g) (regions (OfLevel j 0 NumbersOf))) inner frame
+      → IsMade w regions j m (least_in regions j g level) inner frame
   made_here inner frame frames levels [] rest e s = absurd s.1
-  made_here inner frame frames levels (level ∷ below) rest e s =
-      let runs : frame.function ≡ m = same_word (regions (OfHead j FunctionOf)) frame.function m (ap (λ k. regions (OfHead k FunctionOf)) (sym e) ∙ s.2.0.number) number in
-      let body : level ∷ below ≡ body_of regions (length frames) g ∷ [] = levels_are p variables w regions (length frames) frame (level ∷ below) g s.2.0 (ap (slice_get p.functions) runs ∙ is_function)
-      (subst (λ k. IsInnermost w regions k g 0) (sym e) at_body) in
+  made_here inner frame frames levels (first ∷ below) rest e s =
+      let caller = caller_levels p variables w regions j level m g number is_function inner_is (length frames) frame (first ∷ below) e s.2.0 in
       record {
-        call = s.1.2 ∙ ap (λ l. Some (next_in l)) (same_first level (body_of regions (length frames) g) below [] body) ∙ ap (λ k. Some (next_in (body_of regions k g))) e;
-        function = runs;
+        call = s.1.2 ∙ ap (λ l. Some (next_in l)) (same_first first (level_of regions j g level caller.turns) below caller.under caller.levels_are);
+        function = caller_runs p variables w regions j level m g number is_function inner_is (length frames) frame (first ∷ below) e s.2.0;
         lanes = s.0.lanes ∙ ap (λ k. lanes_in w regions (OfHead (suc k) LanesOf)) e;
       }
 
@@ -137,16 +134,16 @@ module _ (p : Program) (variables : Variables) (w : ℕ) (regions : Regions) (ma
   counted = same_word (regions Depth) count (length masked.state.frames) depth shows.depth
 
   -- the frame of index j made a call
-  pub calls : (j m : ℕ) (g : Function) → suc j < count → regions (OfHead j FunctionOf) ≡ m ∷ [] → slice_get p.functions m ≡ Some g → IsInnermost w regions j g 0
-      → (inner : Frame) × (frame : Frame) × (made_at (suc j) masked.state.frames ≡ Some (inner, frame)) × IsMade w regions j m (least (closing_number g) (regions (OfLevel j 0 NumbersOf))) inner frame
-  calls j m g deep number is at_body = made_in p variables w regions j m g number is at_body masked.state.frames masked.levels shows.frames (omega (arith, deep, counted))
+  pub calls : (j level m : ℕ) (g : Function) → suc j < count → regions (OfHead j FunctionOf) ≡ m ∷ [] → slice_get p.functions m ≡ Some g → IsInnermost w regions j g level
+      → (inner : Frame) × (frame : Frame) × (made_at (suc j) masked.state.frames ≡ Some (inner, frame)) × IsMade w regions j m (least_in regions j g level) inner frame
+  calls j level m g deep number is inner_is = made_in p variables w regions j level m g number is inner_is masked.state.frames masked.levels shows.frames (omega (arith, deep, counted))
 
-  pub call_spot_is : (j m : ℕ) (g : Function) → suc j < count → regions (OfHead j FunctionOf) ≡ m ∷ [] → slice_get p.functions m ≡ Some g → IsInnermost w regions j g 0
-      → call_at (suc (suc j)) masked.state.frames ≡ Some (spot_in m (least (closing_number g) (regions (OfLevel j 0 NumbersOf))))
-  call_spot_is j m g deep number is at_body =
-      let made = calls j m g deep number is at_body in
+  pub call_spot_is : (j level m : ℕ) (g : Function) → suc j < count → regions (OfHead j FunctionOf) ≡ m ∷ [] → slice_get p.functions m ≡ Some g → IsInnermost w regions j g level
+      → call_at (suc (suc j)) masked.state.frames ≡ Some (spot_in m (least_in regions j g level))
+  call_spot_is j level m g deep number is inner_is =
+      let made = calls j level m g deep number is inner_is in
       call_is_made (suc j) masked.state.frames ∙ ap spot_made made.2
-      ∙ ap (call_spot made.1.function) made.3.call ∙ ap (λ k. Some (spot_in k (least (closing_number g) (regions (OfLevel j 0 NumbersOf))))) made.3.function
+      ∙ ap (call_spot made.1.function) made.3.call ∙ ap (λ k. Some (spot_in k (least_in regions j g level))) made.3.function
 
   -- at other depths there is no call
   pub no_call_above : (deep : ℕ) → count ≤ deep → made_at deep masked.state.frames ≡ None

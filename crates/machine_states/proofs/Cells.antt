@@ -5,7 +5,7 @@ use Rattle.std.proofs.Math.Nat.{mul-le-mul_right}
 use Rattle.std.proofs.lemmas.List.Recursion.{max_bounds}
 use Rattle.std.proofs.lemmas.Option.{get_or_from_slice_get, slice_get_within}
 use Rattle.gang_model.specs.Types.Tree.{Scalar, ElementOf, Declare, Assign, Change, Return, Check, PackedStore, PackedLoad, Function, Program}
-use Rattle.mask_states.specs.Points.{Point, Put, Go, Branch, Enter, points_in}
+use Rattle.mask_states.specs.Points.{Point, Put, Go, Branch, Choose, Begin, Turn, Enter, points_in}
 use Rattle.mask_states.specs.Placed.{HasPoint}
 use Rattle.machine_states.specs.Cells.{cells_of, greatest, words_left, words_set}
 use Rattle.machine_states.specs.Plain.{IsPlainPoint, IsPlainProgram}
@@ -48,7 +48,10 @@ module _ (width : ℕ) (variables : Variables) where
   point_few n (Go next) plain = omega arith
   point_few n (Branch test yes' no') plain = omega arith
   point_few n (Enter called args result_for next) plain = let args_few = mul-le-mul_right width plain.0.few in omega (arith, args_few)
-  point_few n point plain = absurd plain
+  point_few n (Choose e segments entries next) plain = omega arith
+  point_few n (Begin form rounds next) plain = omega arith
+  point_few n (Turn body) plain = omega arith
+  point_few n (Put s next) plain = absurd plain
 
   -- a call has at most 8 parameters
   pub cells_few : (most : ℕ) (p : Program) → IsPlainProgram variables most p → cells_of width p ≤ 9 * width + 16

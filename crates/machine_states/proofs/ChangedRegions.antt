@@ -5,6 +5,7 @@ use Rattle.std.proofs.lemmas.Bool.{eq-eqb, eqb-true, ne_eqb, and_left, and_right
 use Rattle.gang_types.specs.declared.places.VarId.{VarId}
 use Rattle.gang_types.specs.declared.places.VarId.TheVariants.{File, Local}
 use Rattle.machine_states.specs.ArrayParts.{array_region}
+use Rattle.machine_states.specs.Effects.{region_of}
 use Rattle.machine_states.specs.Regions.{FunctionOf, LanesOf, ReturnedOf, ResultOf, OpenOf, LevelOf, Head, NumbersOf, EndOf, CountersOf, ValuesOf, LevelPart, OfFile, OfEntry, Depth, OfHead, OfLocal, Region, Regions, same_level_part, same_head, same_region, with_region}
 
 level_part_itself : (part : LevelPart) → same_level_part part part ≡ true
@@ -46,6 +47,24 @@ module _ (words : List ℕ) (regions : Regions) where
 
   pub file_away : (k j : ℕ) → k ≢ j → with_region (OfFile k) words regions (OfFile j) ≡ regions (OfFile j)
   file_away k j h = region_away (OfFile k) (OfFile j) (ne_eqb k j h)
+
+  -- a scalar has neither the number of frames nor a part of a head
+  pub scalar_depth : (i : ℕ) (v : VarId) → with_region (region_of i v) words regions Depth ≡ regions Depth
+  scalar_depth i (File k) = refl
+  scalar_depth i (Local k) = refl
+
+  pub scalar_head : (i : ℕ) (v : VarId) (j : ℕ) (part : Head) → with_region (region_of i v) words regions (OfHead j part) ≡ regions (OfHead j part)
+  scalar_head i (File k) j part = refl
+  scalar_head i (Local k) j part = refl
+
+  -- nor has an array
+  pub array_depth : (v : VarId) → with_region (array_region v) words regions Depth ≡ regions Depth
+  array_depth (File k) = refl
+  array_depth (Local k) = refl
+
+  pub array_head : (v : VarId) (j : ℕ) (part : Head) → with_region (array_region v) words regions (OfHead j part) ≡ regions (OfHead j part)
+  array_head (File k) j part = refl
+  array_head (Local k) j part = refl
 
 -- ---- how many words
 

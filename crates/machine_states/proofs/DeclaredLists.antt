@@ -1,18 +1,22 @@
--- Lists of numbers within one another, and what is declared before each step of a statement.
+-- Lists of numbers within one another, and what is declared before each step of a statement, and stands round it.
 use Rattle.std.proofs.Common.{◌≡◌, refl, subst, ℕ, ◌+◌, ◌≤◌, Bool, true, false, ◌||◌, List, [], ◌∷◌, ◌++◌, append_assoc, length, length-append, Some, inl, inr, arith}
 use Rattle.std.specs.Prelude.{slice_index_or, if◌then◌else◌}
 use Rattle.std.proofs.lemmas.List.{get_or_past}
 use Rattle.std.proofs.Math.Seq.{get_or-append_seam}
 use Rattle.gang_model.specs.Types.Tree.{StepNumber, Stmt, Empty, Then, Declare, Assign, Change, If, Loop, BodyFirst, Break, Continue, Return, Switch, Segment, ForEach, Call, Check, PackedStore, PackedLoad, Function}
-use Rattle.gang_model.specs.Running.Step.{steps_of}
+use Rattle.gang_model.specs.Running.Step.{steps_of, round_number}
 use Rattle.mask_states.specs.Points.{closing_number}
 use Rattle.machine_states.specs.Variables.{Variables}
+use Rattle.machine_states.specs.RoundNumbers.{NumberedForm, numbered_form, numbered_round}
 use Rattle.machine_states.specs.Declared.{IsAmong, declared_by_form, declared_by, may_return, declared_before_return, declared_at, scalar_parameters, declared_for, declared_at_end, declared_before}
 
 -- ---- small facts
 
 pub same_some : {A : Type 0} (x y : A) → Some x ≡ Some y → x ≡ y
 same_some x y e = cc
+
+pub same_first : {A : Type 0} (x y : A) (xs ys : List A) → x ∷ xs ≡ y ∷ ys → x ≡ y
+same_first x y xs ys e = cc
 
 pub or_front : (b c : Bool) → b ≡ true → (b || c) ≡ true
 or_front true c e = refl
@@ -105,6 +109,37 @@ module _ (before : StepNumber → List ℕ) where
   -- behind those of a statement
   pub before_after : (n : ℕ) (s : Stmt) (d : List ℕ) (ys : List (List ℕ)) → AreBefore before n (declared_at d s ++ ys) → AreBefore before (n + steps_of s) ys
   before_after n s d ys h = subst (λ m. AreBefore before (n + m) ys) (length-declared_at s d) (before_back before n (declared_at d s) ys h)
+
+pub length-numbered_round : (s : Stmt) (outer : List NumberedForm) → length (numbered_round outer s) ≡ steps_of s
+length-numbered_round Empty outer = refl
+length-numbered_round (Then first rest) outer =
+    omega (arith, length-append (numbered_round outer first) (numbered_round outer rest), length-numbered_round first outer, length-numbered_round rest outer)
+length-numbered_round (Declare number v e) outer = omega arith
+length-numbered_round (Assign number target e) outer = omega arith
+length-numbered_round (Change number target type op in_type e) outer = omega arith
+length-numbered_round (If number test first other) outer =
+    omega (arith, length-append (numbered_round outer first) (numbered_round outer other), length-numbered_round first outer, length-numbered_round other outer)
+length-numbered_round (Loop number test update body) outer =
+    omega (arith, length-append (numbered_round outer body) (numbered_round outer update ++ outer ∷ []), length-append (numbered_round outer update) (outer ∷ []), length-numbered_round body outer, length-numbered_round update outer)
+length-numbered_round (BodyFirst number test body) outer = omega (arith, length-append (numbered_round outer body) (outer ∷ []), length-numbered_round body outer)
+length-numbered_round (Break number) outer = omega arith
+length-numbered_round (Continue number) outer = omega arith
+length-numbered_round (Return number e) outer = omega arith
+length-numbered_round (Switch number e segments) outer = omega (arith, length-numbered_round segments outer)
+length-numbered_round (Segment label body rest) outer =
+    omega (arith, length-append (numbered_round outer body) (numbered_round outer rest), length-numbered_round body outer, length-numbered_round rest outer)
+length-numbered_round (ForEach number form body) outer =
+    let inner = numbered_form (round_number number body) form ∷ outer in
+    omega (arith, length-append (numbered_round inner body) (inner ∷ []), length-numbered_round body inner)
+length-numbered_round (Call number function args result_for) outer = omega arith
+length-numbered_round (Check number e) outer = omega arith
+length-numbered_round (PackedStore number array from e result_for) outer = omega arith
+length-numbered_round (PackedLoad number array from v result_for) outer = omega arith
+
+module _ (about : StepNumber → List NumberedForm) where
+  -- behind the forms round each step of a statement
+  pub about_after : (n : ℕ) (s : Stmt) (outer : List NumberedForm) (ys : List (List NumberedForm)) → AreBefore about n (numbered_round outer s ++ ys) → AreBefore about (n + steps_of s) ys
+  about_after n s outer ys h = subst (λ m. AreBefore about (n + m) ys) (length-numbered_round s outer) (before_back about n (numbered_round outer s) ys h)
 
 -- a list stands behind another
 pub before_behind : {A : Type 0} (ds front : List A) (end : A) → AreBefore (λ k. slice_index_or (front ++ ds) k end) (length front) ds

@@ -1,17 +1,17 @@
--- The points of a plain function lead to steps before which no more is declared than before them and by them, and name what is
--- declared before them.
+-- Points lead to steps before which no more is declared than before them and by them.
 use Rattle.std.proofs.Common.{◌≡◌, refl, sym, ap, ◌∙◌, subst, ℕ, zero, suc, ◌+◌, Bool, true, false, ◌||◌, List, [], ◌∷◌, ◌++◌, length, Option, Some, None, unwrap_or, arith}
 use Rattle.std.specs.Prelude.{if◌then◌else◌}
 use Rattle.gang_model.specs.Types.Tree.{StepNumber, Nothing, Declares, Assigns, Returns, Stmt, Empty, Then, Declare, Assign, Change, If, Loop, BodyFirst, Break, Continue, Return, Switch, Segment, ForEach, Call, Check, PackedStore, PackedLoad, Function}
-use Rattle.gang_model.specs.Running.Step.{steps_of}
+use Rattle.gang_model.specs.Running.Step.{steps_of, round_number}
 use Rattle.gang_model.specs.Running.RunningOrder.{IsNumbered}
-use Rattle.mask_states.specs.Points.{Point, Put, Go, Branch, Choose, Begin, Turn, Enter, Ways, before_step, entry_of, body_ways, update_ways, points_of, closing_number, function_ways, points_in}
+use Rattle.mask_states.specs.Points.{Point, Put, Go, Branch, Choose, Begin, Turn, Enter, Ways, before_step, entry_of, entries_of, body_ways, update_ways, round_ways, points_of, closing_number, function_ways, points_in}
 use Rattle.mask_states.specs.Placed.{HasPoint}
 use Rattle.mask_states.proofs.PlacedPoints.{length-points_of}
 use Rattle.machine_states.specs.Variables.{Variables}
-use Rattle.machine_states.specs.Plain.{IsPlainExpr, CallPlain, ResultPlain, IsPlain}
-use Rattle.machine_states.specs.Declared.{own_number, declared_by_result, declared_by, may_return, declared_before_return, declared_at, scalar_parameters, declared_at_end, declared_before}
-use Rattle.machine_states.proofs.DeclaredLists.{same_some, or_front, or_back, IsWithin, within_itself, within_front, within_back, within_both, within_then, within_grouped, AreBefore, before_front, before_after, before_steps, before_end, before_return_within}
+use Rattle.machine_states.specs.Plain.{IsPlainExpr, CallPlain, ResultPlain, FormPlain, IsPlain}
+use Rattle.machine_states.specs.RoundNumbers.{NumberedForm, numbered_form, numbered_round, numbered_about}
+use Rattle.machine_states.specs.Declared.{own_number, declared_by_result, declared_by_form, declared_by, may_return, declared_before_return, declared_at, scalar_parameters, declared_at_end, declared_before}
+use Rattle.machine_states.proofs.DeclaredLists.{same_some, or_front, or_back, IsWithin, within_itself, within_front, within_back, within_both, within_then, within_grouped, AreBefore, before_front, before_after, before_steps, before_behind, before_end, before_return_within, about_after}
 
 -- ---- what holds of each point
 
@@ -62,9 +62,9 @@ abbrev pub IsPlainPoint : Variables → (function : ℕ) → StepNumber → Poin
 IsPlainPoint variables m number (Put s next) = IsPlainPut variables m s
 IsPlainPoint variables m number (Go next) = Unit {0}
 IsPlainPoint variables m number (Branch test yes' no') = IsPlainExpr variables m test
-IsPlainPoint variables m number (Choose e segments entries next) = ⊥
-IsPlainPoint variables m number (Begin form rounds next) = ⊥
-IsPlainPoint variables m number (Turn body) = ⊥
+IsPlainPoint variables m number (Choose e segments entries next) = IsPlainExpr variables m e
+IsPlainPoint variables m number (Begin form rounds next) = FormPlain variables m form
+IsPlainPoint variables m number (Turn body) = Unit {0}
 IsPlainPoint variables m number (Enter n args result_for next) = CallPlain variables m n args × ResultPlain variables m result_for
 
 module _ (variables : Variables) (m : ℕ) where
@@ -90,9 +90,13 @@ module _ (variables : Variables) (m : ℕ) where
   plain_points (Break number) ways n p = (tt, tt)
   plain_points (Continue number) ways n p = (tt, tt)
   plain_points (Return number e) ways n p = (p, tt)
-  plain_points (Switch number e segments) ways n p = absurd p
-  plain_points (Segment label body rest) ways n p = absurd p
-  plain_points (ForEach number form body) ways n p = absurd p
+  plain_points (Switch number e segments) ways n p = (p.0, plain_points segments (record ways { on_break = Some ways.next }) (n + 1) p.1)
+  plain_points (Segment label body rest) ways n p =
+      let there = before_step (entry_of rest ways.next) ways in
+      all_behind (IsPlainPoint variables m) n body there (points_of rest ways) (plain_points body there n p.0) (plain_points rest ways (n + steps_of body) p.1)
+  plain_points (ForEach number form body) ways n p =
+      let rounds = round_number number body in
+      (p.0, all_behind (IsPlainPoint variables m) (n + 1) body (round_ways rounds) (Turn (entry_of body rounds) ∷ []) (plain_points body (round_ways rounds) (n + 1) p.1) (tt, tt))
   plain_points (Call number function args result_for) ways n p = ((p.0, p.1), tt)
   plain_points (Check number e) ways n p = (p, tt)
   plain_points (PackedStore number array from e result_for) ways n p = (p, tt)
@@ -105,15 +109,21 @@ module _ (variables : Variables) (m : ℕ) where
 
 -- ---- where points lead
 
--- no more is declared where a point leads than before it and by it
-abbrev pub LeadsDeclared : (before : StepNumber → List ℕ) → StepNumber → Point → Type 0
-LeadsDeclared before number (Put s next) = IsWithin (before next) (declared_by s ++ before number)
-LeadsDeclared before number (Go next) = IsWithin (before next) (before number)
-LeadsDeclared before number (Branch test yes' no') = IsWithin (before yes') (before number) × IsWithin (before no') (before number)
-LeadsDeclared before number (Choose e segments entries next) = Unit {0}
-LeadsDeclared before number (Begin form rounds next) = Unit {0}
-LeadsDeclared before number (Turn body) = Unit {0}
-LeadsDeclared before number (Enter n args result_for next) = IsWithin (before next) (declared_by_result result_for ++ before number)
+-- no more is declared before any of these steps
+abbrev pub AreLed : (before : StepNumber → List ℕ) → (d : List ℕ) → List StepNumber → Type 0
+AreLed before d [] = Unit {0}
+AreLed before d (number ∷ numbers) = IsWithin (before number) d × AreLed before d numbers
+
+-- No more is declared where a point leads than before it and by it. Rounds declare the index variables of the innermost form round them.
+abbrev pub LeadsDeclared : (before : StepNumber → List ℕ) → (about : StepNumber → List NumberedForm) → StepNumber → Point → Type 0
+LeadsDeclared before about number (Put s next) = IsWithin (before next) (declared_by s ++ before number)
+LeadsDeclared before about number (Go next) = IsWithin (before next) (before number)
+LeadsDeclared before about number (Branch test yes' no') = IsWithin (before yes') (before number) × IsWithin (before no') (before number)
+LeadsDeclared before about number (Choose e segments entries next) = AreLed before (before number) entries × IsWithin (before next) (before number)
+LeadsDeclared before about number (Begin form rounds next) = IsWithin (before rounds) (before number) × IsWithin (before next) (before number)
+LeadsDeclared before about number (Turn body) =
+    (innermost : NumberedForm) (outer : List NumberedForm) → about number ≡ innermost ∷ outer → IsWithin (before body) (declared_by_form innermost.form ++ before number)
+LeadsDeclared before about number (Enter n args result_for next) = IsWithin (before next) (declared_by_result result_for ++ before number)
 
 -- no more is declared where the ways of a statement lead than before it and, behind it, by it
 pub record AreGoodWays (before : StepNumber → List ℕ) (d : List ℕ) (s : Stmt) (ways : Ways) : Type 0 where
@@ -135,6 +145,9 @@ some_before false ws xs ys d h = within_grouped ws xs ys d h
 pub of_way : (P : StepNumber → Type 0) (way : Option StepNumber) (next : StepNumber) → P next → ((n : StepNumber) → way ≡ Some n → P n) → P (unwrap_or way next)
 of_way P None next a b = a
 of_way P (Some n) next a b = b n refl
+
+first_form : (first other : NumberedForm) (firsts others : List NumberedForm) → first ∷ firsts ≡ other ∷ others → first.form ≡ other.form
+first_form first other firsts others e = let same : first ≡ other = cc in ap (λ numbered. numbered.form) same
 
 module _ (before : StepNumber → List ℕ) where
   at_number : (number n : ℕ) (d : List ℕ) → number ≡ n → before n ≡ d → IsWithin (before number) d
@@ -176,6 +189,12 @@ module _ (before : StepNumber → List ℕ) where
   entry_declared (PackedStore number array from v result_for) n next d e h g = at_number number n d e h.0
   entry_declared (PackedLoad number array from v result_for) n next d e h g = at_number number n d e h.0
 
+  -- nor before the first step of any segment of a switch
+  entries_declared : (s : Stmt) (n next : ℕ) (d : List ℕ) → IsNumbered n s → AreBefore before n (declared_at d s) → IsWithin (before next) d → AreLed before d (entries_of s next)
+  entries_declared (Segment label body rest) n next d e h g =
+      (entry_declared (Segment label body rest) n next d e h g, entries_declared rest (n + steps_of body) next d e.1 (before_after before n body d (declared_at d rest) h) g)
+  entries_declared s n next d e h g = tt
+
   -- the ways of a part of a statement, before which the same is declared
   inside_good : (d : List ℕ) (s : Stmt) (ways : Ways) → IsWithin (before ways.next) d
       → ((way : StepNumber) → ways.on_break ≡ Some way → IsWithin (before way) d)
@@ -211,21 +230,22 @@ module _ (before : StepNumber → List ℕ) where
   here : (n : ℕ) (xs ys d : List ℕ) → before n ≡ d → IsWithin xs (ys ++ d) → IsWithin xs (ys ++ before n)
   here n xs ys d e h = subst (λ zs. IsWithin xs (ys ++ zs)) (sym e) h
 
-  leads_points : (variables : Variables) (m : ℕ) (s : Stmt) (ways : Ways) (n : ℕ) (d : List ℕ) → IsNumbered n s → IsPlain variables m s → AreBefore before n (declared_at d s) → AreGoodWays before d s ways
-      → AllPoints (LeadsDeclared before) n (points_of s ways)
-  leads_points variables m Empty ways n d e p h g = tt
-  leads_points variables m (Then first rest) ways n d e p h g =
+  leads_points : (about : StepNumber → List NumberedForm) (s : Stmt) (ways : Ways) (n : ℕ) (d : List ℕ) (outer : List NumberedForm) → IsNumbered n s
+      → AreBefore before n (declared_at d s) → AreBefore about n (numbered_round outer s) → AreGoodWays before d s ways → AllPoints (LeadsDeclared before about) n (points_of s ways)
+  leads_points about Empty ways n d outer e h a g = tt
+  leads_points about (Then first rest) ways n d outer e h a g =
       let behind = declared_by first ++ d in
       let after = before_after before n first d (declared_at behind rest) h in
       let good = rest_good d first rest ways g in
       let there = entry_declared rest (n + steps_of first) ways.next behind e.1 after good.next in
-      all_behind (LeadsDeclared before) n first (before_step (entry_of rest ways.next) ways) (points_of rest ways)
-      (leads_points variables m first (before_step (entry_of rest ways.next) ways) n d e.0 p.0 (before_front before n (declared_at d first) (declared_at behind rest) h) (first_good d first rest ways g there))
-      (leads_points variables m rest ways (n + steps_of first) behind e.1 p.1 after good)
-  leads_points variables m (Declare number x v) ways n d e p h g = (here n (before ways.next) (own_number x.id) d h.0 g.next, tt)
-  leads_points variables m (Assign number target v) ways n d e p h g = (here n (before ways.next) [] d h.0 g.next, tt)
-  leads_points variables m (Change number target type op in_type v) ways n d e p h g = (here n (before ways.next) [] d h.0 g.next, tt)
-  leads_points variables m (If number test first other) ways n d e p h g =
+      all_behind (LeadsDeclared before about) n first (before_step (entry_of rest ways.next) ways) (points_of rest ways)
+      (leads_points about first (before_step (entry_of rest ways.next) ways) n d outer e.0 (before_front before n (declared_at d first) (declared_at behind rest) h)
+      (before_front about n (numbered_round outer first) (numbered_round outer rest) a) (first_good d first rest ways g there))
+      (leads_points about rest ways (n + steps_of first) behind outer e.1 after (about_after about n first outer (numbered_round outer rest) a) good)
+  leads_points about (Declare number x v) ways n d outer e h a g = (here n (before ways.next) (own_number x.id) d h.0 g.next, tt)
+  leads_points about (Assign number target v) ways n d outer e h a g = (here n (before ways.next) [] d h.0 g.next, tt)
+  leads_points about (Change number target type op in_type v) ways n d outer e h a g = (here n (before ways.next) [] d h.0 g.next, tt)
+  leads_points about (If number test first other) ways n d outer e h a g =
       let returns = λ (way : StepNumber) (is : ways.on_return ≡ Some way) (may : (may_return first || may_return other) ≡ true).
       none_before (may_return first || may_return other) (before way) [] d may (g.on_return way is may) in
       let first_ways = inside_good d first ways g.next g.on_break g.on_continue (λ way is may. returns way is (or_front (may_return first) (may_return other) may)) in
@@ -236,11 +256,11 @@ module _ (before : StepNumber → List ℕ) where
           here n (before (entry_of first ways.next)) [] d h.0 (entry_declared first (n + 1) ways.next d e.1 first_before first_ways.next),
           here n (before (entry_of other ways.next)) [] d h.0 (entry_declared other (n + 1 + steps_of first) ways.next d e.2 other_before other_ways.next),
         ),
-        all_behind (LeadsDeclared before) (n + 1) first ways (points_of other ways)
-            (leads_points variables m first ways (n + 1) d e.1 p.1 first_before first_ways)
-            (leads_points variables m other ways (n + 1 + steps_of first) d e.2 p.2 other_before other_ways),
+        all_behind (LeadsDeclared before about) (n + 1) first ways (points_of other ways)
+            (leads_points about first ways (n + 1) d outer e.1 first_before (before_front about (n + 1) (numbered_round outer first) (numbered_round outer other) a.1) first_ways)
+            (leads_points about other ways (n + 1 + steps_of first) d outer e.2 other_before (about_after about (n + 1) first outer (numbered_round outer other) a.1) other_ways),
       )
-  leads_points variables m (Loop number test update body) ways n d e p h g =
+  leads_points about (Loop number test update body) ways n d outer e h a g =
       let inside = body_ways (entry_of update number) ways in
       let again = update_ways number ways in
       let last = Branch test (entry_of body (entry_of update number)) ways.next ∷ [] in
@@ -259,17 +279,18 @@ module _ (before : StepNumber → List ℕ) where
       (λ way is. subst (λ k. IsWithin (before k) d) (same_some (entry_of update number) way is) update_declared)
       (λ way is may. returns way is (or_back (may_return update) (may_return body) may)) in
       let body_declared = entry_declared body n (entry_of update number) d e.1 body_before body_good.next in
-      all_behind (LeadsDeclared before) n body inside (points_of update again ++ last)
-      (leads_points variables m body inside n d e.1 p.2 body_before body_good)
-      (all_behind (LeadsDeclared before) (n + steps_of body) update again last
-      (leads_points variables m update again (n + steps_of body) d e.2 p.1 update_before update_good) (
+      all_behind (LeadsDeclared before about) n body inside (points_of update again ++ last)
+      (leads_points about body inside n d outer e.1 body_before (before_front about n (numbered_round outer body) (numbered_round outer update ++ outer ∷ []) a) body_good)
+      (all_behind (LeadsDeclared before about) (n + steps_of body) update again last
+      (leads_points about update again (n + steps_of body) d outer e.2 update_before
+      (before_front about (n + steps_of body) (numbered_round outer update) (outer ∷ []) (about_after about n body outer (numbered_round outer update ++ outer ∷ []) a)) update_good) (
         (
           here test_number (before (entry_of body (entry_of update number))) [] d test_before body_declared,
           here test_number (before ways.next) [] d test_before g.next,
         ),
         tt,
       ))
-  leads_points variables m (BodyFirst number test body) ways n d e p h g =
+  leads_points about (BodyFirst number test body) ways n d outer e h a g =
       let inside = body_ways number ways in
       let test_number = n + steps_of body in
       let body_before = before_front before n (declared_at d body) (d ∷ []) h in
@@ -279,38 +300,85 @@ module _ (before : StepNumber → List ℕ) where
       (λ way is. subst (λ k. IsWithin (before k) d) (same_some ways.next way is) g.next)
       (λ way is. subst (λ k. IsWithin (before k) d) (same_some number way is) test_declared)
       (λ way is may. none_before (may_return body) (before way) [] d may (g.on_return way is may)) in
-      all_behind (LeadsDeclared before) n body inside (Branch test (entry_of body number) ways.next ∷ [])
-      (leads_points variables m body inside n d e.1 p.1 body_before body_good) (
+      all_behind (LeadsDeclared before about) n body inside (Branch test (entry_of body number) ways.next ∷ [])
+      (leads_points about body inside n d outer e.1 body_before (before_front about n (numbered_round outer body) (outer ∷ []) a) body_good) (
         (
           here test_number (before (entry_of body number)) [] d test_before (entry_declared body n number d e.1 body_before body_good.next),
           here test_number (before ways.next) [] d test_before g.next,
         ),
         tt,
       )
-  leads_points variables m (Break number) ways n d e p h g =
+  leads_points about (Break number) ways n d outer e h a g =
       (here n (before (unwrap_or ways.on_break ways.next)) [] d h.0 (of_way (λ k. IsWithin (before k) d) ways.on_break ways.next g.next g.on_break), tt)
-  leads_points variables m (Continue number) ways n d e p h g =
+  leads_points about (Continue number) ways n d outer e h a g =
       (here n (before (unwrap_or ways.on_continue ways.next)) [] d h.0 (of_way (λ k. IsWithin (before k) d) ways.on_continue ways.next g.next g.on_continue), tt)
-  leads_points variables m (Return number v) ways n d e p h g =
+  leads_points about (Return number v) ways n d outer e h a g =
       (here n (before (unwrap_or ways.on_return ways.next)) [] d h.0 (of_way (λ k. IsWithin (before k) d) ways.on_return ways.next g.next (λ way is. g.on_return way is refl)), tt)
-  leads_points variables m (Switch number v segments) ways n d e p h g = absurd p
-  leads_points variables m (Segment label body rest) ways n d e p h g = absurd p
-  leads_points variables m (ForEach number form body) ways n d e p h g = absurd p
-  leads_points variables m (Call number function args Nothing) ways n d e p h g = (here n (before ways.next) [] d h.0 g.next, tt)
-  leads_points variables m (Call number function args (Declares x)) ways n d e p h g = (here n (before ways.next) (own_number x.id) d h.0 g.next, tt)
-  leads_points variables m (Call number function args (Assigns x)) ways n d e p h g = (here n (before ways.next) [] d h.0 g.next, tt)
-  leads_points variables m (Call number function args Returns) ways n d e p h g =
+  leads_points about (Switch number v segments) ways n d outer e h a g =
+      let inside : Ways = record ways { on_break = Some ways.next } in
+      let good = inside_good d segments inside g.next
+      (λ way is. subst (λ k. IsWithin (before k) d) (same_some ways.next way is) g.next)
+      g.on_continue
+      (λ way is may. none_before (may_return segments) (before way) [] d may (g.on_return way is may)) in (
+        (
+          subst (λ xs. AreLed before xs (entries_of segments ways.next)) (sym h.0) (entries_declared segments (n + 1) ways.next d e.1 h.1 g.next),
+          here n (before ways.next) [] d h.0 g.next,
+        ),
+        leads_points about segments inside (n + 1) d outer e.1 h.1 a.1 good,
+      )
+  leads_points about (Segment label body rest) ways n d outer e h a g =
+      let there : Ways = before_step (entry_of rest ways.next) ways in
+      let returns = λ (way : StepNumber) (is : ways.on_return ≡ Some way) (may : (may_return body || may_return rest) ≡ true).
+      none_before (may_return body || may_return rest) (before way) [] d may (g.on_return way is may) in
+      let after = before_after before n body d (declared_at d rest) h in
+      let rest_good = inside_good d rest ways g.next g.on_break g.on_continue (λ way is may. returns way is (or_back (may_return body) (may_return rest) may)) in
+      let body_good = inside_good d body there (entry_declared rest (n + steps_of body) ways.next d e.1 after rest_good.next) g.on_break g.on_continue
+      (λ way is may. returns way is (or_front (may_return body) (may_return rest) may)) in
+      all_behind (LeadsDeclared before about) n body there (points_of rest ways)
+      (leads_points about body there n d outer e.0 (before_front before n (declared_at d body) (declared_at d rest) h)
+      (before_front about n (numbered_round outer body) (numbered_round outer rest) a) body_good)
+      (leads_points about rest ways (n + steps_of body) d outer e.1 after (about_after about n body outer (numbered_round outer rest) a) rest_good)
+  leads_points about (ForEach number form body) ways n d outer e h a g =
+      let rounds = round_number number body in
+      let turn_number = n + 1 + steps_of body in
+      let within = declared_by_form form ++ d in
+      let inner : List NumberedForm = numbered_form rounds form ∷ outer in
+      let body_before = before_front before (n + 1) (declared_at within body) (d ∷ []) h.1 in
+      let turn_before : before turn_number ≡ d = (before_after before (n + 1) body within (d ∷ []) h.1).0 in
+      let turn_about : about turn_number ≡ inner = (about_after about (n + 1) body inner (inner ∷ []) a.1).0 in
+      let rounds_declared : IsWithin (before rounds) d = at_number rounds turn_number d (ap (λ m. m + 1 + steps_of body) e.0) turn_before in
+      let rounds_within : IsWithin (before rounds) within = within_then (before rounds) d within rounds_declared (within_back (declared_by_form form) d) in
+      let good : AreGoodWays before within body (round_ways rounds) = record {
+        next = within_then (before rounds) within (declared_by body ++ within) rounds_within (within_back (declared_by body) within);
+        on_break = λ way is. absurd cc;
+        on_continue = λ way is. subst (λ k. IsWithin (before k) within) (same_some rounds way is) rounds_within;
+        on_return = λ way is may. absurd cc;
+      } in
+      let body_declared : IsWithin (before (entry_of body rounds)) within = entry_declared body (n + 1) rounds within e.1 body_before good.next in (
+        (here n (before rounds) [] d h.0 rounds_declared, here n (before ways.next) [] d h.0 g.next),
+        all_behind (LeadsDeclared before about) (n + 1) body (round_ways rounds) (Turn (entry_of body rounds) ∷ [])
+            (leads_points about body (round_ways rounds) (n + 1) within inner e.1 body_before (before_front about (n + 1) (numbered_round inner body) (inner ∷ []) a.1) good) (
+              λ innermost others is.
+                  subst (λ f. IsWithin (before (entry_of body rounds)) (declared_by_form f ++ before turn_number)) (first_form (numbered_form rounds form) innermost outer others (sym turn_about ∙ is))
+                  (here turn_number (before (entry_of body rounds)) (declared_by_form form) d turn_before body_declared),
+              tt,
+            ),
+      )
+  leads_points about (Call number function args Nothing) ways n d outer e h a g = (here n (before ways.next) [] d h.0 g.next, tt)
+  leads_points about (Call number function args (Declares x)) ways n d outer e h a g = (here n (before ways.next) (own_number x.id) d h.0 g.next, tt)
+  leads_points about (Call number function args (Assigns x)) ways n d outer e h a g = (here n (before ways.next) [] d h.0 g.next, tt)
+  leads_points about (Call number function args Returns) ways n d outer e h a g =
       (here n (before (unwrap_or ways.on_return ways.next)) [] d h.0 (of_way (λ k. IsWithin (before k) d) ways.on_return ways.next g.next (λ way is. g.on_return way is refl)), tt)
-  leads_points variables m (Check number v) ways n d e p h g = (here n (before ways.next) [] d h.0 g.next, tt)
-  leads_points variables m (PackedStore number array from v Nothing) ways n d e p h g = (here n (before ways.next) [] d h.0 g.next, tt)
-  leads_points variables m (PackedStore number array from v (Declares x)) ways n d e p h g = (here n (before ways.next) (own_number x.id) d h.0 g.next, tt)
-  leads_points variables m (PackedStore number array from v (Assigns x)) ways n d e p h g = (here n (before ways.next) [] d h.0 g.next, tt)
-  leads_points variables m (PackedStore number array from v Returns) ways n d e p h g =
+  leads_points about (Check number v) ways n d outer e h a g = (here n (before ways.next) [] d h.0 g.next, tt)
+  leads_points about (PackedStore number array from v Nothing) ways n d outer e h a g = (here n (before ways.next) [] d h.0 g.next, tt)
+  leads_points about (PackedStore number array from v (Declares x)) ways n d outer e h a g = (here n (before ways.next) (own_number x.id) d h.0 g.next, tt)
+  leads_points about (PackedStore number array from v (Assigns x)) ways n d outer e h a g = (here n (before ways.next) [] d h.0 g.next, tt)
+  leads_points about (PackedStore number array from v Returns) ways n d outer e h a g =
       (here n (before (unwrap_or ways.on_return ways.next)) [] d h.0 (of_way (λ k. IsWithin (before k) d) ways.on_return ways.next g.next (λ way is. g.on_return way is refl)), tt)
-  leads_points variables m (PackedLoad number array from v Nothing) ways n d e p h g = (here n (before ways.next) [] d h.0 g.next, tt)
-  leads_points variables m (PackedLoad number array from v (Declares x)) ways n d e p h g = (here n (before ways.next) (own_number x.id) d h.0 g.next, tt)
-  leads_points variables m (PackedLoad number array from v (Assigns x)) ways n d e p h g = (here n (before ways.next) [] d h.0 g.next, tt)
-  leads_points variables m (PackedLoad number array from v Returns) ways n d e p h g =
+  leads_points about (PackedLoad number array from v Nothing) ways n d outer e h a g = (here n (before ways.next) [] d h.0 g.next, tt)
+  leads_points about (PackedLoad number array from v (Declares x)) ways n d outer e h a g = (here n (before ways.next) (own_number x.id) d h.0 g.next, tt)
+  leads_points about (PackedLoad number array from v (Assigns x)) ways n d outer e h a g = (here n (before ways.next) [] d h.0 g.next, tt)
+  leads_points about (PackedLoad number array from v Returns) ways n d outer e h a g =
       (here n (before (unwrap_or ways.on_return ways.next)) [] d h.0 (of_way (λ k. IsWithin (before k) d) ways.on_return ways.next g.next (λ way is. g.on_return way is refl)), tt)
 
 -- ---- functions
@@ -341,7 +409,8 @@ module _ (variables : Variables) (m : ℕ) (f : Function) (numbered : IsNumbered
         subst (λ xs. IsWithin xs (declared_at_end variables m f)) (sym same) (within_itself (declared_at_end variables m f));
   }
 
-  pub point_leads : IsPlain variables m f.body → (number : StepNumber) (point : Point) → HasPoint (points_in f) number point → LeadsDeclared (declared_before variables m f) number point
-  point_leads plain number point h =
-      all_at (LeadsDeclared (declared_before variables m f)) (points_in f) number point
-      (leads_points (declared_before variables m f) variables m f.body (function_ways f) 0 (scalar_parameters variables m) numbered plain (before_steps variables m f) function_good) h
+  pub point_leads : (number : StepNumber) (point : Point) → HasPoint (points_in f) number point → LeadsDeclared (declared_before variables m f) (numbered_about f) number point
+  point_leads number point h =
+      all_at (LeadsDeclared (declared_before variables m f) (numbered_about f)) (points_in f) number point
+      (leads_points (declared_before variables m f) (numbered_about f) f.body (function_ways f) 0 (scalar_parameters variables m) [] numbered (before_steps variables m f)
+      (before_behind (numbered_round [] f.body) [] []) function_good) h

@@ -1,6 +1,6 @@
 -- A step keeps what is declared: each frame has all variables that are declared before the steps that its lanes wait for.
-use Rattle.std.proofs.Common.{◌≡◌, refl, sym, ap, ◌∙◌, subst, ℕ, ◌<◌, Bool, true, false, List, [], ◌∷◌, ◌++◌, length, slice_get, Option, Some, None, arith}
-use Rattle.std.specs.Prelude.{map, Result, Ok, Err, IfOk, ◌==◌, if◌then◌else◌}
+use Rattle.std.proofs.Common.{◌≡◌, refl, sym, ap, ◌∙◌, subst, ℕ, zero, suc, ◌<◌, Bool, true, false, List, [], ◌∷◌, ◌++◌, length, slice_get, Option, Some, None, arith}
+use Rattle.std.specs.Prelude.{map, slice_index_or, Result, Ok, Err, IfOk, ◌==◌, if◌then◌else◌}
 use Rattle.gang_types.specs.declared.types.IntType.{IntType}
 use Rattle.gang_types.specs.declared.types.IntType.TheVariants.{Int32}
 use Rattle.gang_types.specs.Values.{binary_result, converted}
@@ -11,27 +11,30 @@ use Rattle.gang_types.specs.Lanes.{Lanes, has, lowest}
 use Rattle.gang_model.specs.Running.Lanes.{Fault, ◌>>=◌, at, each, holds, try_each}
 use Rattle.gang_model.specs.Types.Tree.{StepNumber, RoundsOf, Scalar, ElementOf, ResultFor, Nothing, Declares, Assigns, Returns, Stmt, Declare, Assign, Change, Return, Call, Check, PackedStore, PackedLoad, Function, Program}
 use Rattle.gang_model.specs.Running.State.{Store, Frame, State, view_of, with_words, with_var, with_words_in}
+use Rattle.gang_model.specs.Running.Rounds.{Turn as Round, rounds as form_rounds}
 use Rattle.gang_model.specs.Running.Value.{value}
 use Rattle.gang_model.specs.Running.RunningOrder.{IsNumberedProgram}
-use Rattle.gang_model.specs.Running.Step.{Passed, ToElements, old_values, part, passed, write, initial, new_frame, entered, returned_on, deliver, left, leave, run}
+use Rattle.gang_model.specs.Running.Step.{Passed, ToElements, old_values, part, passed, write, initial, new_frame, entered, returned_on, deliver, left, leave, run, with_store}
 use Rattle.gang_model.proofs.LaneWords.{if_ok_bind, if_ok_after, if_or_ok}
 use Rattle.mask_states.specs.Points.{Point, Put, Go, Branch, Choose, Begin, Turn, Enter, entry_of, closing_number, points_in}
 use Rattle.mask_states.specs.Placed.{HasPoint}
-use Rattle.mask_states.specs.Masked.{Level, Masked, next_in, next_waiting, sent_in, closed, entered_body}
-use Rattle.mask_states.specs.MaskedStep.{untasked_frame, untasked, points_at, points_for, Acted, entered_levels, act, past_point, past_call, past_calls, MaskedStepped, Goes, Fails, Over, acted, step_point, step_levels, masked_step}
+use Rattle.mask_states.specs.Masked.{Level, Masked, next_in, next_waiting, sent, sent_in, closed, begun, entered_body}
+use Rattle.mask_states.specs.MaskedStep.{untasked_frame, untasked, points_at, points_for, Acted, segment_of, chosen, turn_taken, entered_levels, act, past_point, past_call, past_calls, MaskedStepped, Goes, Fails, Over, acted, step_point, step_levels, masked_step}
 use Rattle.mask_states.proofs.LaneNumbers.{length-waiting_for}
 use Rattle.machine_states.specs.Variables.{Variables}
 use Rattle.machine_states.specs.Plain.{IsPlain, IsPlainProgram}
-use Rattle.machine_states.specs.Regions.{Regions}
-use Rattle.machine_states.specs.Nesting.{forms_about}
-use Rattle.machine_states.specs.Awaited.{EndHolds, LevelsHold}
-use Rattle.machine_states.specs.Declared.{own_number, declared_by_result, declared_by, scalar_parameters, declared_before, HasAll, IsAwaited, FrameDeclared, FramesDeclared, AreDeclared}
-use Rattle.machine_states.specs.Shows.{ShowsCall, ShowsFrames, Shows}
+use Rattle.machine_states.specs.Regions.{OpenOf, OfHead, Regions}
+use Rattle.machine_states.specs.RoundNumbers.{NumberedForm, numbered_form, numbered_about, innermost_rounds, rounds_about}
+use Rattle.machine_states.specs.Awaited.{LevelHolds, EndHolds, LevelsHold}
+use Rattle.machine_states.specs.Declared.{own_number, declared_by_result, declared_by_form, declared_by, scalar_parameters, declared_before, HasAll, IsAwaited, FrameDeclared, FramesDeclared, AreDeclared}
+use Rattle.machine_states.specs.Levels.{ShowsLevels}
+use Rattle.machine_states.specs.Shows.{level_words, ShowsCall, ShowsFrames, Shows}
 use Rattle.machine_states.proofs.DeclaredLists.{same_some, IsWithin, before_end}
-use Rattle.machine_states.proofs.DeclaredPoints.{IsPlainPut, IsPlainPoint, plain_point, LeadsDeclared, point_leads, first_declared}
+use Rattle.machine_states.proofs.DeclaredPoints.{IsPlainPut, IsPlainPoint, plain_point, AreLed, LeadsDeclared, point_leads, first_declared}
 use Rattle.machine_states.proofs.StoreEntries.{Keeps, keeps_itself, with_words_keeps, with_words_has, has_all_kept, has_all_within, has_all_both, has_own, passed_has}
-use Rattle.machine_states.proofs.NestedPoints.{LeadsInside, closing_outside, first_outside, point_inside}
-use Rattle.machine_states.proofs.AwaitedLevels.{Waits, waits_below, next_holds, IsNoTurn, point_below, EndsAt, ends_at, entered_holds, sent_on_holds, end_kept, levels_kept, closed_holds}
+use Rattle.machine_states.proofs.NestedPoints.{StandIn, LeadsInside, nested_alike, closing_nested, first_nested, point_inside, begins_nested, begins_turn}
+use Rattle.machine_states.proofs.AwaitedLevels.{Waits, waits_below, next_holds, IsNoTurn, point_below, next_inside, sent_inside, begun_inside, EndsAt, ends_at, turned_holds, begun_holds, entered_holds, sent_on_holds, end_kept, levels_kept, closed_holds}
+use Rattle.machine_states.proofs.TurnLevels.{own_numbers, IsFormLevel, shown_form_level, IsAtEnd, turn_at_end}
 
 -- ---- a frame that gets variables
 
@@ -92,6 +95,23 @@ loaded_grows memory frame frames p (Local n) words result_for lanes values =
       function = later.function;
       keeps = λ v h. later.keeps v (with_words_keeps frame.vars (Local n) words v h);
       has_all = later.has_all;
+    }
+
+-- several variables have words
+store_grows : (store memory : Store) (frame : Frame) (frames : List Frame)
+    → Grows frame frames (own_numbers store) (with_store store (record { memory = memory; frames = frame ∷ frames })).frames
+store_grows [] memory frame frames = stays frame frames
+store_grows ((File n, words) ∷ store) memory frame frames = store_grows store (with_words memory (File n) words) frame frames
+store_grows ((Local n, words) ∷ store) memory frame frames =
+    let now : Store = with_words frame.vars (Local n) words in
+    let later = store_grows store memory (with_var (Local n) words frame) frames in
+    record {
+      top = later.top;
+      are = later.are;
+      function = later.function;
+      keeps = λ v h. later.keeps v (with_words_keeps frame.vars (Local n) words v h);
+      has_all = has_all_both (n ∷ []) (own_numbers store) later.top.vars
+          (has_all_kept (n ∷ []) now later.top.vars later.keeps (has_own (Local n) now (with_words_has frame.vars (Local n) words))) later.has_all;
     }
 
 module _ (memory : Store) (frame : Frame) (frames : List Frame) where
@@ -166,7 +186,7 @@ module _ (variables : Variables) (most : ℕ) (p : Program) (plain : IsPlainProg
   pub closing_awaited : (n : ℕ) (f : Function) (vars : Store) → EndsAt (IsAwaited variables n f vars 0) (closing_number f)
   closing_awaited n f vars number past awaited = record {
     has_all = subst (λ d. HasAll d vars) (before_end variables n f number past ∙ sym (before_end variables n f (closing_number f) (omega arith))) awaited.has_all;
-    nested = ap length (closing_outside f (closing_number f) (omega arith));
+    nested = closing_nested f (closing_number f) (omega arith);
   }
 
   -- a body begins for some lanes, of a frame with the parameters
@@ -176,7 +196,7 @@ module _ (variables : Variables) (most : ℕ) (p : Program) (plain : IsPlainProg
       let before : StepNumber → List ℕ = declared_before variables n f in
       let first : IsAwaited variables n f vars 0 (entry_of f.body (closing_number f)) = record {
         has_all = has_all_within (before (entry_of f.body (closing_number f))) (scalar_parameters variables n) vars (first_declared variables n f (numbered n f is)) parameters;
-        nested = ap length (first_outside f (numbered n f is));
+        nested = first_nested f (numbered n f is);
       } in
       (entered_holds (IsAwaited variables n f vars 0) f lanes (closing_awaited n f vars) k in_lanes within first, refl, tt)
 
@@ -204,32 +224,105 @@ module _ (variables : Variables) (most : ℕ) (p : Program) (plain : IsPlainProg
     past_awaited : (more : Store) (lower : List Level) → lower ≡ [] → EndsAt (IsAwaitedWith more (length lower)) (closing_number f)
     past_awaited more lower none = subst (λ ls. EndsAt (IsAwaitedWith more (length ls)) (closing_number f)) (sym none) (closing_awaited frame.function f more)
 
+    -- what holds of the levels of the frame that gets variables
+    frame_after : (frames after : List Frame) (rest : List (List Level)) (d : List ℕ) (g : Grows frame frames d after) (levels : List Level) → LevelsHold (IsAwaitedWith g.top.vars) f levels
+        → FramesDeclared variables p frames rest → FramesDeclared variables p after (closed levels ∷ rest)
+    frame_after frames after rest d g levels holds lower =
+        subst (λ fs. FramesDeclared variables p fs (closed levels ∷ rest)) (sym g.are)
+        (frame_declared g.top (closed levels) frame.function f is g.function (closed_holds (IsAwaitedWith g.top.vars) f levels holds), lower)
+
+    -- at a point that is no round the lanes are sent to steps in the same forms, before which no more is declared than there is
+    sent_levels : (point : Point) → HasPoint (points_in f) (next_in level) point → IsNoTurn point → HoldsHere → (more : Store) → Keeps frame.vars more → (target : ℕ → StepNumber)
+        → ((j : ℕ) → HasAll (before (target j)) more) → ((j : ℕ) → numbered_about f (target j) ≡ numbered_about f (next_in level))
+        → LevelsHold (IsAwaitedWith more) f (sent_in (next_waiting level) target level ∷ below)
+    sent_levels point h unturned declared more keeps target has inside =
+        let Old : ℕ → StepNumber → Type 0 = IsAwaitedWith frame.vars in
+        let New : ℕ → StepNumber → Type 0 = IsAwaitedWith more in
+        let kept = more_awaited more keeps in
+        let low : next_in level < level.end = point_below (Old (length below)) f level below point declared.1 unturned h in
+        let now : IsAwaitedWith frame.vars (length below) (next_in level) = next_holds (Old (length below)) level declared.0 in
+        let new : (j : ℕ) → IsAwaitedWith more (length below) (target j) =
+        λ j. record { has_all = has j; nested = nested_alike f (target j) (next_in level) (inside j) ∙ now.nested } in
+        let end = end_kept Old New f kept level below declared.1 in (
+          sent_on_holds (Old (length below)) (New (length below)) level target (ends_at (New (length below)) f level below end (past_awaited more below)) low declared.0 (kept (length below)) new,
+          end_sent (next_waiting level) target (λ j. ap innermost_rounds (inside j)) low below end,
+          levels_kept Old New f kept below declared.2,
+        )
+      where
+        end_sent : (lanes : Lanes) (target : ℕ → StepNumber) → ((j : ℕ) → rounds_about f (target j) ≡ rounds_about f (next_in level)) → next_in level < level.end
+            → (lower : List Level) → EndHolds (IsAwaitedWith more (length lower)) f level lower → EndHolds (IsAwaitedWith more (length lower)) f (sent_in lanes target level) lower
+        end_sent lanes target same low [] end = end
+        end_sent lanes target same low (next ∷ lower) end =
+            (end.0, end.1, sent_inside f level level.turns lanes target end.2 (λ j. same j ∙ next_inside f level end.2 low))
+
     moves_on : (point : Point) → HasPoint (points_in f) (next_in level) point → IsNoTurn point → HoldsHere
         → (frames after : List Frame) (rest : List (List Level)) (d : List ℕ) (target : ℕ → StepNumber) → Grows frame frames d after
-        → ((j : ℕ) → IsWithin (before (target j)) (d ++ before (next_in level))) → ((j : ℕ) → forms_about f (target j) ≡ forms_about f (next_in level))
+        → ((j : ℕ) → IsWithin (before (target j)) (d ++ before (next_in level))) → ((j : ℕ) → numbered_about f (target j) ≡ numbered_about f (next_in level))
         → FramesDeclared variables p frames rest → FramesDeclared variables p after (closed (sent_in (next_waiting level) target level ∷ below) ∷ rest)
     moves_on point h unturned declared frames after rest d target g within inside lower =
-        let Old : ℕ → StepNumber → Type 0 = IsAwaitedWith frame.vars in
-        let New : ℕ → StepNumber → Type 0 = IsAwaitedWith g.top.vars in
-        let kept = more_awaited g.top.vars g.keeps in
-        let low : next_in level < level.end = point_below (Old (length below)) f level below point declared.1 unturned h in
-        let now : IsAwaitedWith g.top.vars (length below) (next_in level) = kept (length below) (next_in level) (next_holds (Old (length below)) level declared.0) in
-        let new : (j : ℕ) → IsAwaitedWith g.top.vars (length below) (target j) = λ j. record {
-          has_all = has_all_within (before (target j)) (d ++ before (next_in level)) g.top.vars (within j) (has_all_both d (before (next_in level)) g.top.vars g.has_all now.has_all);
-          nested = ap length (inside j) ∙ now.nested;
+        let now = more_awaited g.top.vars g.keeps (length below) (next_in level) (next_holds (IsAwaitedWith frame.vars (length below)) level declared.0) in
+        frame_after frames after rest d g (sent_in (next_waiting level) target level ∷ below)
+        (sent_levels point h unturned declared g.top.vars g.keeps target
+        (λ j. has_all_within (before (target j)) (d ++ before (next_in level)) g.top.vars (within j) (has_all_both d (before (next_in level)) g.top.vars g.has_all now.has_all)) inside) lower
+
+    -- a form begins in a level of its own, in which all lanes wait for its rounds
+    begins : (form : RoundsOf) (rounds next : StepNumber) → HasPoint (points_in f) (next_in level) (Begin form rounds next) → HoldsHere
+        → (turns : List Round) (frames : List Frame) (rest : List (List Level))
+        → LeadsDeclared before (numbered_about f) (next_in level) (Begin form rounds next) → LeadsInside (numbered_about f) (next_in level) (Begin form rounds next)
+        → FramesDeclared variables p frames rest
+        → FramesDeclared variables p (frame ∷ frames) (closed (begun rounds turns level.numbers ∷ sent_in (next_waiting level) (λ k. next) level ∷ below) ∷ rest)
+    unfolding stays
+    begins form rounds next h declared turns frames rest leads inside lower =
+        let now : IsAwaitedWith frame.vars (length below) (next_in level) = next_holds (IsAwaitedWith frame.vars (length below)) level declared.0 in
+        let sent = sent_in (next_waiting level) (λ k. next) level in
+        let waits : IsAwaitedWith frame.vars (length (sent ∷ below)) rounds = record {
+          has_all = has_all_within (before rounds) (before (next_in level)) frame.vars leads.0 now.has_all;
+          nested = begins_nested f (numbered frame.function f is) (next_in level) form rounds next h ∙ ap suc now.nested;
         } in
-        let end = end_kept Old New f kept level below declared.1 in
-        let sent = sent_on_holds (Old (length below)) (New (length below)) level target
-        (ends_at (New (length below)) f level below end (past_awaited g.top.vars below)) low declared.0 (kept (length below)) new in
-        let levels : List Level = sent_in (next_waiting level) target level ∷ below in
-        let holds : LevelsHold New f levels = (sent, end_sent g.top.vars (next_waiting level) target below end, levels_kept Old New f kept below declared.2) in
-        subst (λ fs. FramesDeclared variables p fs (closed levels ∷ rest)) (sym g.are)
-        (frame_declared g.top (closed levels) frame.function f is g.function (closed_holds New f levels holds), lower)
+        frame_after frames (frame ∷ frames) rest [] (stays frame frames) (begun rounds turns level.numbers ∷ sent ∷ below) (
+          begun_holds (IsAwaitedWith frame.vars (length (sent ∷ below))) rounds turns level.numbers waits,
+          (waits, begins_turn f (numbered frame.function f is) (next_in level) form rounds next h, begun_inside f rounds turns level.numbers),
+          sent_levels (Begin form rounds next) h tt declared frame.vars (keeps_itself frame.vars) (λ k. next)
+              (λ j. has_all_within (before next) (before (next_in level)) frame.vars leads.1 now.has_all) (λ j. inside.1),
+        ) lower
+
+    -- the next round begins: its lanes go to the body with its index variables
+    turns_on : (body : StepNumber) → HasPoint (points_in f) (next_in level) (Turn body) → HoldsHere → ((next : Level) (under : List Level) → below ≡ next ∷ under → IsFormLevel (points_in f) level)
+        → (memory : Store) (frames : List Frame) (rest : List (List Level))
+        → LeadsDeclared before (numbered_about f) (next_in level) (Turn body) → LeadsInside (numbered_about f) (next_in level) (Turn body)
+        → FramesDeclared variables p frames rest → (turns : List Round) → level.turns ≡ turns
+        → FramesDeclared variables p (turn_taken body turns (state memory frame frames) level below).state.frames ((turn_taken body turns (state memory frame frames) level below).levels ++ rest)
+    turns_on body h declared in_form memory frames rest leads inside lower [] none = (frame_declared frame (level ∷ below) frame.function f is refl declared, lower)
+    turns_on body h declared in_form memory frames rest leads inside lower (first ∷ later) turns_are =
+        let numbers = numbered frame.function f is in
+        let here : IsAtEnd level below = turn_at_end variables frame.function f frame.vars numbers level below declared body h in
+        let form : IsFormLevel (points_in f) level = in_form here.next here.under here.below_are in
+        let about : numbered_about f (next_in level) ≡ numbered_form level.end form.form ∷ numbered_about f form.head =
+        ap (numbered_about f) here.at_end ∙ (point_inside f numbers form.head (Begin form.form level.end form.next) form.begins).0 in
+        let g : Grows frame frames (own_numbers first.indices) (with_store first.indices (state memory frame frames)).frames = store_grows first.indices memory frame frames in
+        let now : IsAwaitedWith g.top.vars (length below) (next_in level) =
+        more_awaited g.top.vars g.keeps (length below) (next_in level) (next_holds (IsAwaitedWith frame.vars (length below)) level declared.0) in
+        let new : IsAwaitedWith g.top.vars (length below) body = record {
+          has_all = has_all_within (before body) (declared_by_form form.form ++ before (next_in level)) g.top.vars
+              (leads (numbered_form level.end form.form) (numbered_about f form.head) about)
+              (has_all_both (declared_by_form form.form) (before (next_in level)) g.top.vars (subst (λ d. HasAll d g.top.vars) (form.declares first later turns_are) g.has_all) now.has_all);
+          nested = nested_alike f body (next_in level) inside.0 ∙ now.nested;
+        } in
+        let kept = more_awaited g.top.vars g.keeps in
+        let end = end_kept (IsAwaitedWith frame.vars) (IsAwaitedWith g.top.vars) f kept level below declared.1 in
+        let old : LevelHolds (IsAwaitedWith g.top.vars (length below)) level = (levels_kept (IsAwaitedWith frame.vars) (IsAwaitedWith g.top.vars) f kept (level ∷ below) declared).0 in
+        frame_after frames (with_store first.indices (state memory frame frames)).frames rest (own_numbers first.indices) g
+        (record level { turns = later; numbers = sent first.lanes (λ k. body) level.numbers } ∷ below) (
+          turned_holds (IsAwaitedWith g.top.vars (length below)) level later first.lanes body old (subst (IsAwaitedWith g.top.vars (length below)) here.at_end now) new,
+          end_turned g.top.vars below end here.below_are (ap innermost_rounds (inside.0 ∙ about)),
+          levels_kept (IsAwaitedWith frame.vars) (IsAwaitedWith g.top.vars) f kept below declared.2,
+        ) lower
       where
-        end_sent : (more : Store) (lanes : Lanes) (target : ℕ → StepNumber) (lower : List Level) → EndHolds (IsAwaitedWith more (length lower)) f level lower
-            → EndHolds (IsAwaitedWith more (length lower)) f (sent_in lanes target level) lower
-        end_sent more lanes target [] end = end
-        end_sent more lanes target (next ∷ lower) end = end
+        end_turned : (vars : Store) (under : List Level) → EndHolds (IsAwaitedWith vars (length under)) f level under → {next : Level} {others : List Level} → under ≡ next ∷ others
+            → rounds_about f body ≡ Some level.end
+            → EndHolds (IsAwaitedWith vars (length under)) f (record level { turns = later; numbers = sent first.lanes (λ k. body) level.numbers }) under
+        end_turned vars [] end e same = absurd cc
+        end_turned vars (next ∷ under) end e same = (end.0, end.1, sent_inside f level later first.lanes (λ k. body) end.2 (λ j. same))
 
     -- a frame begins for the lanes of a call
     enters : (number : StepNumber) (result_for : ResultFor) (n : ℕ) (o : Option Function) → slice_get p.functions n ≡ o → (a : Passed) → HasAll (scalar_parameters variables n) a.vars
@@ -253,31 +346,60 @@ module _ (variables : Variables) (most : ℕ) (p : Program) (plain : IsPlainProg
     branch_within true yes' no' d y n = y
     branch_within false yes' no' d y n = n
 
-    branch_inside : (b : Bool) (yes' no' : StepNumber) (forms : List RoundsOf) → forms_about f yes' ≡ forms → forms_about f no' ≡ forms → forms_about f (if b then yes' else no') ≡ forms
+    branch_inside : (b : Bool) (yes' no' : StepNumber) (forms : List NumberedForm) → numbered_about f yes' ≡ forms → numbered_about f no' ≡ forms → numbered_about f (if b then yes' else no') ≡ forms
     branch_inside true yes' no' forms y n = y
     branch_inside false yes' no' forms y n = n
+
+    -- a lane goes to the entry of a segment, or behind the switch
+    entry_within : (d : List ℕ) (entries : List StepNumber) (i : ℕ) (next : StepNumber) → AreLed before d entries → IsWithin (before next) d → IsWithin (before (slice_index_or entries i next)) d
+    entry_within d [] i next led past = past
+    entry_within d (entry ∷ entries) zero next led past = led.0
+    entry_within d (entry ∷ entries) (suc i) next led past = entry_within d entries i next led.1 past
+
+    chosen_within : (d : List ℕ) (entries : List StepNumber) (next : StepNumber) (segment : Option ℕ) → AreLed before d entries → IsWithin (before next) d
+        → IsWithin (before (chosen entries next segment)) d
+    chosen_within d entries next None led past = past
+    chosen_within d entries next (Some i) led past = entry_within d entries i next led past
+
+    entry_inside : (forms : List NumberedForm) (entries : List StepNumber) (i : ℕ) (next : StepNumber) → StandIn (numbered_about f) forms entries → numbered_about f next ≡ forms
+        → numbered_about f (slice_index_or entries i next) ≡ forms
+    entry_inside forms [] i next stand past = past
+    entry_inside forms (entry ∷ entries) zero next stand past = stand.0
+    entry_inside forms (entry ∷ entries) (suc i) next stand past = entry_inside forms entries i next stand.1 past
+
+    chosen_inside : (forms : List NumberedForm) (entries : List StepNumber) (next : StepNumber) (segment : Option ℕ) → StandIn (numbered_about f) forms entries → numbered_about f next ≡ forms
+        → numbered_about f (chosen entries next segment) ≡ forms
+    chosen_inside forms entries next None stand past = past
+    chosen_inside forms entries next (Some i) stand past = entry_inside forms entries i next stand past
 
     -- what a point does
     acts : (point : Point) → HasPoint (points_in f) (next_in level) point → HoldsHere
         → (memory : Store) (frames : List Frame) (rest : List (List Level)) → FramesDeclared variables p frames rest
-        → LeadsDeclared before (next_in level) point → LeadsInside (forms_about f) (next_in level) point → IsPlainPoint variables frame.function (next_in level) point
+        → LeadsDeclared before (numbered_about f) (next_in level) point → LeadsInside (numbered_about f) (next_in level) point → IsPlainPoint variables frame.function (next_in level) point
+        → ((next : Level) (under : List Level) → below ≡ next ∷ under → IsFormLevel (points_in f) level)
         → IfOk (act p (next_in level) point (next_waiting level) (record { memory = memory; frames = frame ∷ frames }) level below)
         (λ a. FramesDeclared variables p a.state.frames (a.levels ++ rest))
-    acts (Put s next) h declared memory frames rest lower leads inside plain_point =
+    acts (Put s next) h declared memory frames rest lower leads inside plain_point in_form =
         if_ok_bind (λ after. Grows frame frames (declared_by s) after.frames) _ (run p s (next_waiting level) (state memory frame frames)) _
         (run_grows memory frame frames variables frame.function p s (next_waiting level) plain_point)
         (λ after g. moves_on (Put s next) h tt declared frames after.frames rest (declared_by s) (λ k. next) g (λ k. leads) (λ k. inside) lower)
-    acts (Go next) h declared memory frames rest lower leads inside plain_point =
+    acts (Go next) h declared memory frames rest lower leads inside plain_point in_form =
         moves_on (Go next) h tt declared frames (frame ∷ frames) rest [] (λ k. next) (stays frame frames) (λ k. leads) (λ k. inside) lower
-    acts (Branch test yes' no') h declared memory frames rest lower leads inside plain_point =
+    acts (Branch test yes' no') h declared memory frames rest lower leads inside plain_point in_form =
         if_ok_after _ (value test (next_waiting level) (state memory frame frames)) _
         (λ c. moves_on (Branch test yes' no') h tt declared frames (frame ∷ frames) rest [] (λ k. if holds c k then yes' else no') (stays frame frames)
         (λ k. branch_within (holds c k) yes' no' (before (next_in level)) leads.0 leads.1)
-        (λ k. branch_inside (holds c k) yes' no' (forms_about f (next_in level)) inside.0 inside.1) lower)
-    acts (Choose e segments entries next) h declared memory frames rest lower leads inside plain_point = absurd plain_point
-    acts (Begin form rounds next) h declared memory frames rest lower leads inside plain_point = absurd plain_point
-    acts (Turn body) h declared memory frames rest lower leads inside plain_point = absurd plain_point
-    acts (Enter n args result_for next) h declared memory frames rest lower leads inside plain_point =
+        (λ k. branch_inside (holds c k) yes' no' (numbered_about f (next_in level)) inside.0 inside.1) lower)
+    acts (Choose e segments entries next) h declared memory frames rest lower leads inside plain_point in_form =
+        if_ok_after _ (value e (next_waiting level) (state memory frame frames)) _
+        (λ x. moves_on (Choose e segments entries next) h tt declared frames (frame ∷ frames) rest [] (λ k. chosen entries next (segment_of segments (at x k))) (stays frame frames)
+        (λ k. chosen_within (before (next_in level)) entries next (segment_of segments (at x k)) leads.0 leads.1)
+        (λ k. chosen_inside (numbered_about f (next_in level)) entries next (segment_of segments (at x k)) inside.0 inside.1) lower)
+    acts (Begin form rounds next) h declared memory frames rest lower leads inside plain_point in_form =
+        if_ok_after _ (form_rounds form (next_waiting level) (state memory frame frames)) _ (λ turns. begins form rounds next h declared turns frames rest leads inside lower)
+    acts (Turn body) h declared memory frames rest lower leads inside plain_point in_form =
+        turns_on body h declared in_form memory frames rest leads inside lower level.turns refl
+    acts (Enter n args result_for next) h declared memory frames rest lower leads inside plain_point in_form =
         let s : State = state memory frame frames in
         let lanes : Lanes = next_waiting level in
         let low : next_in level < level.end = point_below (IsAwaitedWith frame.vars (length below)) f level below (Enter n args result_for next) declared.1 tt h in
@@ -302,9 +424,9 @@ module _ (variables : Variables) (most : ℕ) (p : Program) (plain : IsPlainProg
     caller_declared caller others g level below more g_is call h =
         let point : Point = Enter above.function call.1 above.result_for call.0 in
         let has : HasPoint (points_in g) (next_in level) point = ap (λ o. slice_get (points_at o) (next_in level)) (sym g_is) ∙ call.3 in
-        let leads : LeadsDeclared (declared_before variables caller.function g) (next_in level) point =
-        point_leads variables caller.function g (numbered caller.function g g_is) (plain.functions caller.function g g_is).body (next_in level) point has in
-        let inside : LeadsInside (forms_about g) (next_in level) point = point_inside g (numbered caller.function g g_is) (next_in level) point has in
+        let leads : LeadsDeclared (declared_before variables caller.function g) (numbered_about g) (next_in level) point =
+        point_leads variables caller.function g (numbered caller.function g g_is) (next_in level) point has in
+        let inside : LeadsInside (numbered_about g) (next_in level) point = point_inside g (numbered caller.function g g_is) (next_in level) point has in
         let past : past_call (points_for p caller.function) (level ∷ below) ≡ closed (sent_in (next_waiting level) (λ k. call.0) level ∷ below) =
         ap (λ o. past_point o level below) call.3 in
         subst (λ ls. FramesDeclared variables p (leave p above (state memory caller others)).frames (ls ∷ more)) (sym past)
@@ -321,16 +443,17 @@ module _ (variables : Variables) (most : ℕ) (p : Program) (plain : IsPlainProg
   -- the step of a frame
   module _ (regions : Regions) (w : ℕ) (memory : Store) (frame : Frame) (frames : List Frame) (rest : List (List Level)) where
     steps_at : (f : Function) → slice_get p.functions frame.function ≡ Some f → (level : Level) (below : List Level) → LevelsHold (IsAwaited variables frame.function f frame.vars) f (level ∷ below)
+        → ((next : Level) (under : List Level) → below ≡ next ∷ under → IsFormLevel (points_in f) level)
         → ShowsCall p frame frames rest → ShowsFrames p variables w regions frames rest → FramesDeclared variables p frames rest
         → (o : Option Point) → slice_get (points_in f) (next_in level) ≡ o → IfGoes (step_point p memory frames frame o level below rest) (AreDeclared variables p)
-    steps_at f is level below declared call shown lower None o_is = leaves frame f is memory regions w frames rest call shown lower
-    steps_at f is level below declared call shown lower (Some point) o_is =
+    steps_at f is level below declared in_form call shown lower None o_is = leaves frame f is memory regions w frames rest call shown lower
+    steps_at f is level below declared in_form call shown lower (Some point) o_is =
         let body : IsPlain variables frame.function f.body = (plain.functions frame.function f is).body in
         if_acted (act p (next_in level) point (next_waiting level) (state memory frame frames) level below) rest
         (acts frame f is level below point o_is declared memory frames rest lower
-        (point_leads variables frame.function f (numbered frame.function f is) body (next_in level) point o_is)
+        (point_leads variables frame.function f (numbered frame.function f is) (next_in level) point o_is)
         (point_inside f (numbered frame.function f is) (next_in level) point o_is)
-        (plain_point variables frame.function f body (next_in level) point o_is))
+        (plain_point variables frame.function f body (next_in level) point o_is) in_form)
 
     steps : (level : Level) (below : List Level) → ShowsFrames p variables w regions (frame ∷ frames) ((level ∷ below) ∷ rest)
         → FramesDeclared variables p (frame ∷ frames) ((level ∷ below) ∷ rest) → IfGoes (step_levels p memory (frame ∷ frames) ((level ∷ below) ∷ rest)) (AreDeclared variables p)
@@ -338,7 +461,13 @@ module _ (variables : Variables) (most : ℕ) (p : Program) (plain : IsPlainProg
         let f : Function = shown.0.function in
         let is = shown.0.is_function in
         subst (λ o. IfGoes (step_point p memory frames frame (slice_get (points_at o) (next_in level)) level below rest) (AreDeclared variables p)) (sym is)
-        (steps_at f is level below (h.0 f is) shown.1 shown.2 h.1 (slice_get (points_in f) (next_in level)) refl)
+        (steps_at f is level below (h.0 f is) (in_form f shown.0.waits) shown.1 shown.2 h.1 (slice_get (points_in f) (next_in level)) refl)
+      where
+        in_form : (f : Function) → ShowsLevels (points_in f) w (level_words regions (length frames)) (regions (OfHead (length frames) OpenOf)) (closing_number f) (level ∷ below)
+            → (next : Level) (under : List Level) → below ≡ next ∷ under → IsFormLevel (points_in f) level
+        in_form f waits next under e =
+            shown_form_level (points_in f) w (level_words regions (length frames)) (closing_number f) (regions (OfHead (length frames) OpenOf)) level next under
+            (subst (λ ls. ShowsLevels (points_in f) w (level_words regions (length frames)) (regions (OfHead (length frames) OpenOf)) (closing_number f) (level ∷ ls)) e waits)
 
   steps_declared : (regions : Regions) (w : ℕ) (memory : Store) (frames : List Frame) (levels : List (List Level)) → ShowsFrames p variables w regions frames levels → FramesDeclared variables p frames levels
       → IfGoes (step_levels p memory frames levels) (AreDeclared variables p)

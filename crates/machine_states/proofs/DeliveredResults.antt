@@ -1,9 +1,7 @@
 -- A value is given to what it is for by a step of the frame itself: the regions show the state after it.
-use Rattle.std.proofs.Common.{◌≡◌, refl, sym, ap, ◌∙◌, subst, ℕ, suc, ◌<◌, List, [], ◌∷◌, length, Some}
+use Rattle.std.proofs.Common.{◌≡◌, sym, ap, ◌∙◌, subst, ℕ, suc, ◌<◌, List, [], ◌∷◌, length, Some}
 use Rattle.std.specs.Prelude.{slice_get}
 use Rattle.gang_types.specs.declared.types.IntType.{IntType}
-use Rattle.gang_types.specs.declared.places.VarId.{VarId}
-use Rattle.gang_types.specs.declared.places.VarId.TheVariants.{File, Local}
 use Rattle.gang_types.specs.Lanes.{Lanes}
 use Rattle.gang_types.specs.Values.{converted}
 use Rattle.gang_model.specs.Running.Lanes.{at}
@@ -13,23 +11,19 @@ use Rattle.gang_model.proofs.LaneWords.{length-each}
 use Rattle.mask_states.specs.Masked.{Masked}
 use Rattle.machine_states.specs.Variables.{Variables}
 use Rattle.machine_states.specs.Plain.{ResultPlain}
-use Rattle.machine_states.specs.Effects.{region_of}
-use Rattle.machine_states.specs.Regions.{FunctionOf, Depth, OfHead, Regions, with_region}
+use Rattle.machine_states.specs.Regions.{FunctionOf, Depth, OfHead, Regions}
 use Rattle.machine_states.specs.Shows.{AreSized, Shows}
 use Rattle.machine_states.specs.Steps.{Delivers, converted_values}
+use Rattle.machine_states.proofs.ChangedRegions.{scalar_depth}
 use Rattle.machine_states.proofs.LeaveSteps.{HasResult}
 use Rattle.machine_states.proofs.ReturnedResults.{returned_shows}
 use Rattle.machine_states.proofs.WrittenVariables.{assigned_shows, declared_shows}
 
 -- no frame comes or goes
-own_depth : (j : ℕ) (v : VarId) (words : List ℕ) (regions : Regions) → with_region (region_of j v) words regions Depth ≡ regions Depth
-own_depth j (File k) words regions = refl
-own_depth j (Local k) words regions = refl
-
 pub delivered_depth : (w i : ℕ) (f : Function) (for : ResultFor) (type : IntType) (lanes : Lanes) (values : List ℕ) (old new : Regions) → Delivers w i f for type lanes values old new → new Depth ≡ old Depth
 delivered_depth w i f Nothing type lanes values old new is = ap (λ r. r Depth) is
-delivered_depth w i f (Declares x) type lanes values old new is = ap (λ r. r Depth) is ∙ own_depth i x.id _ old
-delivered_depth w i f (Assigns x) type lanes values old new is = ap (λ r. r Depth) is ∙ own_depth i x.id _ old
+delivered_depth w i f (Declares x) type lanes values old new is = ap (λ r. r Depth) is ∙ scalar_depth _ old i x.id
+delivered_depth w i f (Assigns x) type lanes values old new is = ap (λ r. r Depth) is ∙ scalar_depth _ old i x.id
 delivered_depth w i f Returns type lanes values old new is = ap (λ r. r Depth) is.2
 
 module _ (p : Program) (variables : Variables) (w : ℕ) (regions : Regions) (masked : Masked) (shows : Shows p variables w regions masked) (some : 0 < w) (i n : ℕ) (f : Function)

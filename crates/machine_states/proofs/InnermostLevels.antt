@@ -1,9 +1,8 @@
 -- The innermost form that is not over, and what a change of its level leaves.
-use Rattle.std.proofs.Common.{◌≡◌, refl, ap, ◌∙◌, subst, ℕ, zero, suc, ◌<◌, ◌≤◌, Bool, true, false, List, [], ◌∷◌, ◌++◌, length, length-append, arith, sym}
+use Rattle.std.proofs.Common.{◌≡◌, refl, ap, ◌∙◌, subst, ℕ, suc, ◌<◌, ◌≤◌, Bool, true, false, List, [], ◌∷◌, ◌++◌, length, length-append, arith, sym}
 use Rattle.std.specs.Prelude.{if◌then◌else◌}
 use Rattle.gang_model.specs.Types.Tree.{StepNumber, RoundsOf}
-use Rattle.mask_states.specs.Points.{Point, Begin}
-use Rattle.mask_states.specs.Placed.{HasPoint}
+use Rattle.mask_states.specs.Points.{Point}
 use Rattle.mask_states.specs.Masked.{Level, closed, is_over}
 use Rattle.machine_states.specs.Levels.{LevelsWords, Forms, body_level, form_level, levels_in, IsForm, AreForms, ShowsLevels, AreOver, Innermost}
 
@@ -46,13 +45,9 @@ module _ (w : ℕ) (words : LevelsWords) (end : StepNumber) where
   levels_long [] = refl
   levels_long (form ∷ forms) = ap suc (levels_long forms)
 
-  -- where there is one level alone, all forms are over
-  pub none_live : (level : Level) (forms : Forms) → level ∷ [] ≡ closed (levels_in w words end forms) → (i : Innermost w words end forms) → length i.live ≡ 0
-  none_live level forms e i = omega (arith, levels_long i.live, ap length (e ∙ live_levels forms i))
-
-no_form : (forms : Forms) → length forms ≡ 0 → forms ≡ []
-no_form [] e = refl
-no_form (form ∷ forms) e = absurd (omega (arith, e))
+  -- one level for each form that is not over, and one for the body
+  pub live_long : (levels : List Level) (forms : Forms) → levels ≡ closed (levels_in w words end forms) → (i : Innermost w words end forms) → length levels ≡ suc (length i.live)
+  live_long levels forms e i = ap length (e ∙ live_levels forms i) ∙ levels_long i.live
 
 -- a change that leaves the levels of the forms that are over: the levels are those of the others after it
 module _ (w : ℕ) (old new : LevelsWords) (end : StepNumber) (live : Forms) (same : (level : ℕ) → length live < level → new level ≡ old level) where
@@ -91,50 +86,33 @@ module _ (points : List Point) (w : ℕ) where
     levels_are = shown.levels_are ∙ ap closed (sym (same_levels w old new end shown.forms (λ level within. same level)));
   }
 
-  -- where all forms are over, the level is that of the body
-  pub body_shown : (words : LevelsWords) (begun : List ℕ) (end : StepNumber) (levels : List Level) → (shown : ShowsLevels points w words begun end levels)
-      → (i : Innermost w words end shown.forms) → length i.live ≡ 0 → levels ≡ body_level end (words 0).numbers ∷ []
-  body_shown words begun end levels shown i none = shown.levels_are ∙ live_levels w words end shown.forms i ∙ ap (levels_in w words end) (no_form i.live none)
+  -- the innermost of forms has a number for each lane
+  pub live_sized : (words : LevelsWords) (live : Forms) → AreForms points w words live → length (words 0).numbers ≡ w → length (words (length live)).numbers ≡ w
+  live_sized words [] are sized = sized
+  live_sized words (form ∷ forms) are sized = are.0.sized
 
-  pub one_shown : (words : LevelsWords) (begun : List ℕ) (end : StepNumber) (level : Level) → ShowsLevels points w words begun end (level ∷ [])
-      → level ∷ [] ≡ body_level end (words 0).numbers ∷ []
-  one_shown words begun end level shown =
-      let i = innermost w words end shown.forms in body_shown words begun end (level ∷ []) shown i (none_live w words end level shown.forms shown.levels_are i)
+  forms_over : (old new : LevelsWords) (live : Forms) → ((level : ℕ) → length live < level → new level ≡ old level) → (over : Forms) → AreForms points w old (over ++ live)
+      → AreForms points w new live → AreForms points w new (over ++ live)
+  forms_over old new live same [] old_are are = are
+  forms_over old new live same (form ∷ over) old_are are =
+      let above : length live < suc (length (over ++ live)) = omega (arith, length-append over live) in (
+        subst (λ words. IsForm points w words form) (sym (same (suc (length (over ++ live))) above)) old_are.0,
+        forms_over old new live same over old_are.1 are,
+      )
 
-  -- and it may change then
-  pub body_changed : (old new : LevelsWords) (begun now : List ℕ) (end : StepNumber) (level : Level) → ((level : ℕ) → new (suc level) ≡ old (suc level)) → now ≡ begun
-      → length (new 0).numbers ≡ w → ShowsLevels points w old begun end (level ∷ []) → ShowsLevels points w new now end (body_level end (new 0).numbers ∷ [])
-  body_changed old new begun now end level same count sized shown =
-      let i = innermost w old end shown.forms in
-      let none : i.live ≡ [] = no_form i.live (none_live w old end level shown.forms shown.levels_are i) in
-      record {
-        forms = shown.forms;
-        are = forms_same old new same shown.forms shown.are;
-        counted = count ∙ shown.counted;
-        body_sized = sized;
-        levels_are = sym (ap (λ forms. closed (levels_in w new end forms)) i.parts
-            ∙ changed_levels w old new end i.live (above same (length i.live)) i.over i.are_over
-            ∙ ap (λ forms. closed (levels_in w new end forms)) none);
-      }
-    where
-      above : ((level : ℕ) → new (suc level) ≡ old (suc level)) → (least : ℕ) (level : ℕ) → least < level → new level ≡ old level
-      above same least zero h = absurd (omega (arith, h))
-      above same least (suc level) h = same level
+  -- what is not over may change, while forms that are over have the words that they had
+  pub innermost_changed : (old new : LevelsWords) (begun now : List ℕ) (end : StepNumber) (levels : List Level) (shown : ShowsLevels points w old begun end levels)
+      (i : Innermost w old end shown.forms) → ((level : ℕ) → length i.live < level → new level ≡ old level) → AreForms points w new i.live → length (new 0).numbers ≡ w → now ≡ begun
+      → ShowsLevels points w new now end (closed (levels_in w new end i.live))
+  innermost_changed old new begun now end levels shown i same are sized count = record {
+    forms = shown.forms;
+    are = subst (AreForms points w new) (sym i.parts) (forms_over old new i.live same i.over (subst (AreForms points w old) i.parts shown.are) are);
+    counted = count ∙ shown.counted;
+    body_sized = sized;
+    levels_are = sym (ap (λ forms. closed (levels_in w new end forms)) i.parts ∙ changed_levels w old new end i.live same i.over i.are_over);
+  }
 
 -- where no form has begun, there is the body alone
 pub no_form_shown : (points : List Point) (w : ℕ) (words : LevelsWords) (begun : List ℕ) (end : StepNumber) → begun ≡ 0 ∷ [] → length (words 0).numbers ≡ w
     → ShowsLevels points w words begun end (body_level end (words 0).numbers ∷ [])
 no_form_shown points w words begun end count sized = record { forms = []; are = tt; counted = count; body_sized = sized; levels_are = refl }
-
--- where no form begins, the body is the one level
-module _ (points : List Point) (none : (head : StepNumber) (form : RoundsOf) (rounds next : StepNumber) → HasPoint points head (Begin form rounds next) → ⊥) where
-  pub no_forms : (w : ℕ) (words : LevelsWords) (forms : Forms) → AreForms points w words forms → forms ≡ []
-  no_forms w words [] are = refl
-  no_forms w words (form ∷ forms) are = absurd (none are.0.head form _ are.0.next are.0.begins)
-
-  pub body_alone : (w : ℕ) (words : LevelsWords) (begun : List ℕ) (end : StepNumber) (levels : List Level) → ShowsLevels points w words begun end levels
-      → levels ≡ body_level end (words 0).numbers ∷ []
-  body_alone w words begun end levels shown = shown.levels_are ∙ ap (λ forms. closed (levels_in w words end forms)) (no_forms w words shown.forms shown.are)
-
-  pub none_open : (w : ℕ) (words : LevelsWords) (begun : List ℕ) (end : StepNumber) (levels : List Level) → ShowsLevels points w words begun end levels → begun ≡ 0 ∷ []
-  none_open w words begun end levels shown = shown.counted ∙ ap (λ forms. length forms ∷ []) (no_forms w words shown.forms shown.are)

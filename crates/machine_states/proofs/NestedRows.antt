@@ -1,6 +1,6 @@
 -- What stands round each step of a function, and what is declared before it, computed.
 use Rattle.std.proofs.Common.{ℕ, ◌≡◌, refl, [], ◌∷◌}
-use Rattle.std.specs.Prelude.{map}
+use Rattle.std.specs.Prelude.{map, Some, None}
 use Rattle.gang_types.specs.declared.places.VarId.TheVariants.{Local}
 use Rattle.gang_types.specs.declared.types.IntType.TheVariants.{Int32}
 use Rattle.gang_types.specs.declared.types.Rate.TheVariants.{Varying}
@@ -9,6 +9,7 @@ use Rattle.gang_model.specs.Types.Tree as t
 use Rattle.foreach_lowering.specs.Forms.{most_nested}
 use Rattle.machine_states.specs.Declared.{declared_at}
 use Rattle.machine_states.specs.Nesting.{forms_about, nested_at}
+use Rattle.machine_states.specs.RoundNumbers.{rounds_about}
 
 abbrev variable : ℕ → Var
 variable n = record { id = Local n; type = Int32; rate = Varying }
@@ -35,6 +36,10 @@ closing_row = refl
 
 innermost_row : forms_about two_forms 5 ≡ EachValue (variable 2) (Read (variable 1)) ∷ EachLane (variable 1) ∷ []
 innermost_row = refl
+
+-- by the numbers of the rounds; rounds are those of the innermost form round them
+rounds_row : map (rounds_about two_forms) (0 ∷ 1 ∷ 3 ∷ 5 ∷ 6 ∷ 7 ∷ []) ≡ None ∷ Some 6 ∷ Some 5 ∷ Some 5 ∷ Some 6 ∷ None ∷ []
+rounds_row = refl
 
 most_row : most_nested two_forms ≡ 2
 most_row = refl

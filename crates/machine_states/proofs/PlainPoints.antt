@@ -1,11 +1,13 @@
 -- The points of plain statements are plain.
-use Rattle.std.proofs.Common.{ℕ, zero, suc, List, [], ◌∷◌, ◌≡◌, true≢false, sym, ap, subst}
-use Rattle.std.specs.Prelude.{is_some, Some, slice_get}
+use Rattle.std.proofs.Common.{ℕ, List, [], ◌∷◌, ◌≡◌}
+use Rattle.std.specs.Prelude.{Some, slice_get}
 use Rattle.gang_model.proofs.StandingLaws.{Each, each_join}
-use Rattle.gang_model.specs.Types.Tree.{Scalar, ElementOf, Stmt, Empty, Then, Declare, Assign, Change, If, Loop, BodyFirst, Break, Continue, Return, Call, Check, PackedStore, PackedLoad, Function}
-use Rattle.mask_states.specs.Points.{Point, Ways, before_step, body_ways, update_ways, entry_of, points_of, points_in, function_ways}
+use Rattle.gang_model.specs.Types.Tree.{Scalar, ElementOf, Stmt, Empty, Then, Declare, Assign, Change, If, Loop, BodyFirst, Break, Continue, Return, Switch, Segment, ForEach, Call, Check, PackedStore, PackedLoad, Function}
+use Rattle.gang_model.specs.Running.Step.{round_number}
+use Rattle.mask_states.specs.Points.{Point, Turn, Ways, before_step, body_ways, update_ways, round_ways, entry_of, points_of, points_in, function_ways}
 use Rattle.machine_states.specs.Variables.{Variables}
 use Rattle.machine_states.specs.Plain.{IsPlain, IsPlainPoint, IsPlainFunction}
+use Rattle.machine_states.proofs.Elements.{each_get}
 
 module _ (variables : Variables) (n : ℕ) where
   -- all points of a list are plain
@@ -37,15 +39,16 @@ module _ (variables : Variables) (n : ℕ) where
   points_plain (Check number e) ways h = (h, tt)
   points_plain (PackedStore number array from e result_for) ways h = (h, tt)
   points_plain (PackedLoad number array from x result_for) ways h = (h, tt)
-  points_plain s ways h = absurd h
+  points_plain (Switch number e segments) ways h = (h.0, points_plain segments (record ways { on_break = Some ways.next }) h.1)
+  points_plain (Segment label body rest) ways h =
+      let there = before_step (entry_of rest ways.next) ways in
+      each_join (IsPlainPoint variables n) (points_of body there) (points_of rest ways) (points_plain body there h.0) (points_plain rest ways h.1)
+  points_plain (ForEach number form body) ways h =
+      let rounds = round_number number body in
+      (h.0, each_join (IsPlainPoint variables n) (points_of body (round_ways rounds)) (Turn (entry_of body rounds) ∷ []) (points_plain body (round_ways rounds) h.1) (tt, tt))
 
   pub points_in-plain : (f : Function) → IsPlainFunction variables n f → ArePlain (points_in f)
   points_in-plain f h = points_plain f.body (function_ways f) h.body
 
   pub point_at : (points : List Point) (number : ℕ) (point : Point) → ArePlain points → slice_get points number ≡ Some point → IsPlainPoint variables n point
-  point_at [] number point h e = absurd (true≢false (sym (ap is_some e)))
-  point_at (first ∷ points) zero point h e = subst (IsPlainPoint variables n) (same first point e) h.0
-    where
-      same : (x y : Point) → Some x ≡ Some y → x ≡ y
-      same x y d = cc
-  point_at (first ∷ points) (suc number) point h e = point_at points number point h.1 e
+  point_at points number point h e = each_get (IsPlainPoint variables n) points number point h e

@@ -1,6 +1,7 @@
 -- Which variables a store has after words were set.
 use Rattle.std.proofs.Common.{◌≡◌, refl, sym, ap, ◌∙◌, subst, ℕ, zero, suc, ◌+◌, ◌<◌, ◌≤◌, Bool, true, false, true≢false, ◌||◌, List, [], ◌∷◌, ◌++◌, length, inl, inr, nat_eq, arith}
 use Rattle.std.proofs.lemmas.Bool.Decides.{nat_tests}
+use Rattle.std.proofs.lemmas.Bool.{eqb-true}
 use Rattle.std.specs.Prelude.{IfOk, slice_get, if◌then◌else◌}
 use Rattle.std.proofs.lemmas.Result.{IfOk-weaker}
 use Rattle.gang_types.specs.declared.places.VarId.{VarId}
@@ -16,25 +17,7 @@ use Rattle.machine_states.specs.Variables.{Variables, is_array_of, own_of, param
 use Rattle.machine_states.specs.Plain.{ArgsPlain, CallPlain}
 use Rattle.machine_states.specs.Declared.{IsAmong, own_number, scalars_below, scalar_parameters, has_entry, HasAll}
 use Rattle.machine_states.proofs.DeclaredLists.{or_front, or_back, IsWithin}
-
--- ---- variables
-
-same_number : (k : ℕ) → nat_eq k k ≡ true
-same_number k = grind (arith, nat_tests)
-
-equal_number : (m k : ℕ) → nat_eq m k ≡ true → m ≡ k
-equal_number m k e = grind (arith, nat_tests)
-
--- a variable is the same as itself, and as no other
-pub itself : (v : VarId) → same_id v v ≡ true
-itself (File k) = same_number k
-itself (Local k) = same_number k
-
-pub same_variable : (u v : VarId) → same_id u v ≡ true → u ≡ v
-same_variable (File m) (File k) e = ap File (equal_number m k e)
-same_variable (File m) (Local k) e = absurd cc
-same_variable (Local m) (File k) e = absurd cc
-same_variable (Local m) (Local k) e = ap Local (equal_number m k e)
+use Rattle.machine_states.proofs.StoreWords.{itself, same_variable}
 
 -- ---- stores
 
@@ -120,7 +103,7 @@ module _ (variables : Variables) (n called : ℕ) (lanes : Lanes) (state : State
   array_passed : (k : ℕ) (args : List Arg) (store : Store) → is_array_of (slice_get (own_of variables called) k) ≡ true → HasFrom (suc k) args store
       → (j : ℕ) → k ≤ j → j < suc k + length args → is_array_of (slice_get (own_of variables called) j) ≡ false → has_entry store (Local j) ≡ true
   array_passed k args store array more j low high scalar = by_bool (nat_eq k j)
-      (λ same. absurd (true≢false (sym array ∙ ap (λ m. is_array_of (slice_get (own_of variables called) m)) (equal_number k j same) ∙ scalar)))
+      (λ same. absurd (true≢false (sym array ∙ ap (λ m. is_array_of (slice_get (own_of variables called) m)) (eqb-true k j same) ∙ scalar)))
       (λ other. more j (let apart : suc k ≤ j = grind (arith, nat_tests) in apart) high scalar)
 
   -- each argument that is no array is there

@@ -10,10 +10,10 @@ use Rattle.gang_model.specs.Running.Step.{scattered_from, ToElements, write}
 use Rattle.mask_states.specs.Masked.{Masked}
 use Rattle.machine_states.specs.Variables.{Variables}
 use Rattle.machine_states.specs.ArrayParts.{AreMemory, array_region}
-use Rattle.machine_states.specs.Regions.{Depth, Regions, same_region, with_region}
+use Rattle.machine_states.specs.Regions.{Regions, same_region, with_region}
 use Rattle.machine_states.specs.Shows.{Shows}
 use Rattle.machine_states.specs.Effects.{stored_in, stored_region}
-use Rattle.machine_states.proofs.ChangedRegions.{MayHave, frames_kept}
+use Rattle.machine_states.proofs.ChangedRegions.{MayHave, array_depth, frames_kept}
 use Rattle.machine_states.proofs.FramesBelow.{frames_below}
 use Rattle.machine_states.proofs.StoreWords.{itself, same_variable, words_kept, words_set}
 
@@ -50,16 +50,12 @@ module _ (array : VarId) (words : List ℕ) (regions : Regions) where
   array_written memory all v =
       by_test memory all v (same_id array v) refl ∙ ap (λ b. if b then words else regions (array_region v)) (sym (same_array array v))
 
-  away : (v : VarId) → with_region (array_region v) words regions Depth ≡ regions Depth
-  away (File k) = refl
-  away (Local k) = refl
-
   -- as many as before: the regions show the state in which it has them
   pub array_shows : (p : Program) (variables : Variables) (w : ℕ) (masked : Masked) → Shows p variables w regions masked → length words ≡ length (regions (array_region array))
       → Shows p variables w (with_region (array_region array) words regions) (record masked { state = record masked.state { memory = with_words masked.state.memory array words } })
   array_shows p variables w masked shows long = record {
     memory = array_written masked.state.memory shows.memory;
-    depth = away array ∙ shows.depth;
+    depth = array_depth words regions array ∙ shows.depth;
     few = shows.few;
     frames = frames_below p variables w regions new (length masked.state.frames)
         (frames_kept words regions (length masked.state.frames) (array_region array) (may_have (length masked.state.frames) array words regions long)) masked.state.frames masked.levels (omega arith) shows.frames;

@@ -124,7 +124,7 @@ abbrev pub declared_before_return : Stmt → List ℕ
 declared_before_return (Then first rest) = if may_return first then [] else declared_before_return rest ++ declared_by first
 declared_before_return s = if may_return s then [] else declared_by s
 
--- each variable that a statement names is declared before it
+-- each variable that a statement names is declared before it; lanes that enter a switch at a segment have passed none before it
 abbrev pub DeclaresFirst : (declared : List ℕ) → Stmt → Type 0
 DeclaresFirst d (Then first rest) = DeclaresFirst d first × DeclaresFirst (declared_by first ++ d) rest
 DeclaresFirst d (Declare number x e) = OptionDeclared d e
@@ -134,6 +134,8 @@ DeclaresFirst d (If number test first other) = NamesDeclared d test × DeclaresF
 DeclaresFirst d (Loop number test update body) = NamesDeclared d test × DeclaresFirst d update × DeclaresFirst d body
 DeclaresFirst d (BodyFirst number test body) = NamesDeclared d test × DeclaresFirst d body
 DeclaresFirst d (Return number e) = OptionDeclared d e
+DeclaresFirst d (Switch number e segments) = NamesDeclared d e × DeclaresFirst d segments
+DeclaresFirst d (Segment label body rest) = DeclaresFirst d body × DeclaresFirst d rest
 DeclaresFirst d (ForEach number form body) = FormDeclared d form × DeclaresFirst (declared_by_form form ++ d) body
 DeclaresFirst d (Call number called args result_for) = ArgsDeclared d args × ResultDeclared d result_for
 DeclaresFirst d (Check number e) = NamesDeclared d e

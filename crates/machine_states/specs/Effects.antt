@@ -1,5 +1,5 @@
 -- What the machine writes to its regions.
-use Rattle.std.specs.Prelude.{ℕ, ◌+◌, List, [], ◌∷◌, slice_set}
+use Rattle.std.specs.Prelude.{ℕ, suc, ◌+◌, List, [], ◌∷◌, slice_set}
 use Rattle.gang_types.specs.declared.types.Rate.{Rate}
 use Rattle.gang_types.specs.declared.types.Rate.TheVariants.{Uniform, Varying}
 use Rattle.gang_types.specs.declared.places.VarId.{VarId}
@@ -8,14 +8,23 @@ use Rattle.gang_types.specs.Lanes.{Lanes, lowest}
 use Rattle.gang_model.specs.Running.Lanes.{at, each, merged}
 use Rattle.gang_model.specs.Running.State.{View}
 use Rattle.gang_model.specs.Running.Step.{scattered_from}
-use Rattle.gang_model.specs.Types.Tree.{StepNumber}
+use Rattle.gang_model.specs.Types.Tree.{StepNumber, Var}
 use Rattle.mask_states.specs.Masked.{sent}
 use Rattle.machine_states.specs.ArrayParts.{array_region}
-use Rattle.machine_states.specs.Regions.{ReturnedOf, NumbersOf, ResultOf, OfFile, OfHead, OfLevel, OfLocal, Region, Regions, with_region}
+use Rattle.machine_states.specs.Regions.{ReturnedOf, OpenOf, NumbersOf, EndOf, CountersOf, ValuesOf, ResultOf, OfFile, OfHead, OfLevel, OfLocal, Region, Regions, with_region}
 
 -- lanes of a level of a frame wait for other steps
 abbrev pub sent_on : (frame level : ℕ) → Lanes → (target : ℕ → StepNumber) → Regions → Regions
 sent_on frame level lanes target regions = with_region (OfLevel frame level NumbersOf) (sent lanes target (regions (OfLevel frame level NumbersOf))) regions
+
+-- a foreach form begins above a level of a frame: how many forms have begun, and all words of its own level
+abbrev pub begun_in : (frame level : ℕ) → (rounds : StepNumber) → (numbers counters values : List ℕ) → Regions → Regions
+begun_in frame level rounds numbers counters values regions =
+    with_region (OfHead frame OpenOf) (suc level ∷ [])
+    (with_region (OfLevel frame (suc level) ValuesOf) values
+    (with_region (OfLevel frame (suc level) CountersOf) counters
+    (with_region (OfLevel frame (suc level) NumbersOf) numbers
+    (with_region (OfLevel frame (suc level) EndOf) (rounds ∷ []) regions))))
 
 -- where a variable stands, of the file's or of a frame's
 abbrev pub region_of : (frame : ℕ) → VarId → Region
@@ -51,3 +60,15 @@ stored_region view lanes indices values old = scattered_from 0 lanes (each lanes
 abbrev pub stored_in : View → Lanes → (indices values : List ℕ) → Regions → Regions
 stored_in view lanes indices values regions =
     with_region (array_region view.array) (stored_region view lanes indices values (regions (array_region view.array))) regions
+
+-- ---- a round of a foreach form
+
+-- variables are declared by these lanes, one after another
+abbrev pub all_declared_in : (frame : ℕ) → Lanes → (given : List (Var × List ℕ)) → Regions → Regions
+all_declared_in frame lanes [] regions = regions
+all_declared_in frame lanes (x ∷ given) regions = all_declared_in frame lanes given (declared_in frame x.0.id x.0.rate lanes x.1 regions)
+
+-- what is left behind the round is counted, its lanes go on to the body, and they declare the index variables
+abbrev pub round_in : (frame level : ℕ) → Lanes → (body : StepNumber) → (counters : List ℕ) → (indices : List (Var × List ℕ)) → Regions → Regions
+round_in frame level lanes body counters indices regions =
+    all_declared_in frame lanes indices (sent_on frame level lanes (λ k. body) (with_region (OfLevel frame level CountersOf) counters regions))

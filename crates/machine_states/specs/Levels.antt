@@ -5,7 +5,7 @@ use Rattle.gang_types.specs.Masks.{lanes_of_word}
 use Rattle.gang_types.specs.Values.{value_of}
 use Rattle.gang_model.specs.Running.Lanes.{at}
 use Rattle.gang_model.specs.Types.Tree.{StepNumber, Dimension, RoundsOf, Rows, Tiles, EachLane, EachValue}
-use Rattle.mask_states.specs.Points.{Point, Begin}
+use Rattle.mask_states.specs.Points.{Point, Begin, Turn}
 use Rattle.mask_states.specs.Placed.{HasPoint}
 use Rattle.mask_states.specs.Masked.{Level, closed, is_over}
 use Rattle.foreach_lowering.specs.Grids.{Grid, grid}
@@ -64,12 +64,14 @@ abbrev pub levels_in : (width : ℕ) → LevelsWords → (end : StepNumber) → 
 levels_in width words end [] = body_level end (words 0).numbers ∷ []
 levels_in width words end (form ∷ forms) = form_level width form (words (suc (length forms))) ∷ levels_in width words end forms
 
--- a level is that of a form of these points: its end is that of the form's rounds, it has a number and a value for each lane, and what it
--- keeps is kept by the form
+-- a level is that of a form of these points: its end is the number of the form's rounds, it has a number and a value for each lane, and
+-- what it keeps is kept by the form
 pub record IsForm (points : List Point) (width : ℕ) (words : LevelWords) (form : RoundsOf) : Type 0 where
   pub head : StepNumber
   pub next : StepNumber
+  pub body : StepNumber
   pub begins : HasPoint points head (Begin form (at words.end 0) next)
+  pub turns : HasPoint points (at words.end 0) (Turn body)
   pub sized : length words.numbers ≡ width
   pub counted : length words.counters ≡ 9
   pub valued : length words.values ≡ width

@@ -4,11 +4,13 @@ pub mod Variables
 pub mod EntryParameters
 pub mod Plain
 pub mod Nesting
+pub mod RoundNumbers
 pub mod Awaited
 pub mod Declared
 pub mod Levels
 pub mod Shows
 pub mod Effects
+pub mod Rounds
 pub mod Steps
 pub mod Cells
 pub mod GivenRows

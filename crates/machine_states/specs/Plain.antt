@@ -1,9 +1,11 @@
--- Programs without the foreach forms and `switch`: all other statements, every expression, scalars and arrays (a choice of this
--- project: the forms that the machine runs today).
+-- Programs whose expressions read, and whose statements write, scalars and arrays that are where they should be: each name stands for a
+-- variable of the function's own, of the file, or for an array, a call passes each parameter, and an index variable is the function's own.
 use Rattle.std.specs.Prelude.{◌≡◌, ℕ, suc, ◌<◌, ◌≤◌, true, List, [], ◌∷◌, All, Option, Some, None, length, slice_get}
+use Rattle.gang_types.specs.declared.types.Rate.TheVariants.{Uniform, Varying}
 use Rattle.gang_types.specs.declared.places.VarId.TheVariants.{File, Local}
-use Rattle.gang_model.specs.Types.Tree.{Expr, Read, Element, Unary, Binary, Convert, And, Or, Choice, Reduce, Scan, OfOne, OfTwo, Extract, Insert, Rotate, Shift, Shuffle, ShuffleTwo, Select, Scalar, ElementOf, Arg, Value, Array, ResultFor, Nothing, Declares, Assigns, Returns, Stmt, Empty, Then, Declare, Assign, Change, If, Loop, BodyFirst, Break, Continue, Return, Call, Check, PackedStore, PackedLoad, Variable, Standing, Function, Program}
-use Rattle.mask_states.specs.Points.{Point, Put, Go, Branch, Enter}
+use Rattle.gang_model.specs.Types.Tree.{Expr, Read, Element, Unary, Binary, Convert, And, Or, Choice, Reduce, Scan, OfOne, OfTwo, Extract, Insert, Rotate, Shift, Shuffle, ShuffleTwo, Select, Scalar, ElementOf, Arg, Value, Array, ResultFor, Nothing, Declares, Assigns, Returns, Dimension, RoundsOf, Rows, Tiles, EachLane, EachValue, Stmt, Empty, Then, Declare, Assign, Change, If, Loop, BodyFirst, Break, Continue, Return, Switch, Segment, ForEach, Call, Check, PackedStore, PackedLoad, Variable, Standing, Function, Program}
+use Rattle.mask_states.specs.Points.{Point, Put, Go, Branch, Choose, Begin, Turn, Enter}
+use Rattle.foreach_lowering.specs.Law.{HasDimensions}
 use Rattle.machine_states.specs.Variables.{Variables, IsArray, IsScalar, IsOwn, IsOwnArray, own_of, parameters_of}
 
 -- an expression of a function reads scalars and elements of arrays
@@ -53,6 +55,17 @@ ResultPlain variables n (Declares x) = (k : ℕ) × IsOwn variables n k x
 ResultPlain variables n (Assigns x) = IsScalar variables n x
 ResultPlain variables n Returns = Unit {0}
 
+-- a dimension of a foreach form: a varying index variable of the function's own, and its bounds
+abbrev pub DimensionPlain : Variables → (function : ℕ) → Dimension → Type 0
+DimensionPlain variables n d = ((k : ℕ) × IsOwn variables n k d.index) × (d.index.rate ≡ Varying) × IsPlainExpr variables n d.low × IsPlainExpr variables n d.high
+
+-- the head of a foreach form: `foreach` and `foreach_tiled` have one to three dimensions, the other two one uniform index variable
+abbrev pub FormPlain : Variables → (function : ℕ) → RoundsOf → Type 0
+FormPlain variables n (Rows ds) = HasDimensions (Rows ds) × All (DimensionPlain variables n) ds
+FormPlain variables n (Tiles ds) = HasDimensions (Tiles ds) × All (DimensionPlain variables n) ds
+FormPlain variables n (EachLane x) = ((k : ℕ) × IsOwn variables n k x) × (x.rate ≡ Uniform)
+FormPlain variables n (EachValue x e) = ((k : ℕ) × IsOwn variables n k x) × (x.rate ≡ Uniform) × IsPlainExpr variables n e
+
 -- a statement of a function
 abbrev pub IsPlain : Variables → (function : ℕ) → Stmt → Type 0
 IsPlain variables n Empty = Unit {0}
@@ -68,15 +81,17 @@ IsPlain variables n (BodyFirst number test body) = IsPlainExpr variables n test 
 IsPlain variables n (Break number) = Unit {0}
 IsPlain variables n (Continue number) = Unit {0}
 IsPlain variables n (Return number e) = IsPlainOption variables n e
+IsPlain variables n (Switch number e segments) = IsPlainExpr variables n e × IsPlain variables n segments
+IsPlain variables n (Segment label body rest) = IsPlain variables n body × IsPlain variables n rest
+IsPlain variables n (ForEach number form body) = FormPlain variables n form × IsPlain variables n body
 IsPlain variables n (Call number called args result_for) = CallPlain variables n called args × ResultPlain variables n result_for
 IsPlain variables n (Check number e) = IsPlainExpr variables n e
 IsPlain variables n (PackedStore number array from e result_for) =
     IsArray variables n array × IsPlainOption variables n from × IsPlainExpr variables n e × ResultPlain variables n result_for
 IsPlain variables n (PackedLoad number array from x result_for) =
     IsArray variables n array × IsPlainOption variables n from × IsScalar variables n x × ResultPlain variables n result_for
-IsPlain variables n s = ⊥
 
--- what a step of a function does
+-- what a step of a function does; a statement that moves lanes is no step of its own
 abbrev pub IsPlainPoint : Variables → (function : ℕ) → Point → Type 0
 IsPlainPoint variables n (Put (Declare number x e) next) = ((k : ℕ) × IsOwn variables n k x) × IsPlainOption variables n e
 IsPlainPoint variables n (Put (Assign number (Scalar x) e) next) = IsScalar variables n x × IsPlainExpr variables n e
@@ -90,10 +105,13 @@ IsPlainPoint variables n (Put (PackedStore number array from e result_for) next)
 IsPlainPoint variables n (Put (PackedLoad number array from x result_for) next) =
     IsArray variables n array × IsPlainOption variables n from × IsScalar variables n x × ResultPlain variables n result_for
 IsPlainPoint variables n (Put (Return number e) next) = IsPlainOption variables n e
+IsPlainPoint variables n (Put s next) = ⊥
 IsPlainPoint variables n (Go next) = Unit {0}
 IsPlainPoint variables n (Branch test yes' no') = IsPlainExpr variables n test
+IsPlainPoint variables n (Choose e segments entries next) = IsPlainExpr variables n e
+IsPlainPoint variables n (Begin form rounds next) = FormPlain variables n form
+IsPlainPoint variables n (Turn body) = Unit {0}
 IsPlainPoint variables n (Enter called args result_for next) = CallPlain variables n called args × ResultPlain variables n result_for
-IsPlainPoint variables n point = ⊥
 
 -- a name in scope stands for a variable of the function
 abbrev pub IsPlainName : Variables → (function : ℕ) → Variable → Type 0

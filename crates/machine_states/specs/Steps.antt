@@ -32,6 +32,10 @@ abbrev pub end_in : Regions → (index : ℕ) → Function → (level : ℕ) →
 end_in regions index f zero = closing_number f
 end_in regions index f (suc level) = at (regions (OfLevel index (suc level) EndOf)) 0
 
+-- the least number that a lane waits for in a level of a frame
+abbrev pub least_in : Regions → (index : ℕ) → Function → (level : ℕ) → StepNumber
+least_in regions index f level = least (end_in regions index f level) (regions (OfLevel index level NumbersOf))
+
 -- the step that comes next is that of the top frame, of this index and function, with the least number that a lane of it waits for in this
 -- level, the innermost one; it has a point, or is the function's closing brace
 pub record IsNext (p : Program) (width : ℕ) (regions : Regions) (index level n : ℕ) (f : Function) (number : StepNumber) (point : Option Point) : Type 0 where

@@ -1,11 +1,10 @@
--- A sound function of the known forms names nothing before it is declared, and the debugger lists at each of its steps, and at its
+-- A sound function names nothing before it is declared, and the debugger lists at each of its steps, and at its
 -- closing brace, what is declared before.
 use Rattle.std.proofs.Common.{ℕ, suc, ◌+◌, ◌<◌, true, false, List, [], ◌∷◌, ◌++◌, length, ◌≡◌, refl, ◌∙◌, ap, subst, arith}
 use Rattle.std.specs.Prelude.{All, Some, slice_get}
 use Rattle.gang_types.specs.declared.places.VarId.TheVariants.{Local}
 use Rattle.gang_model.specs.Types.Tree.{Variable, Standing, Function}
 use Rattle.gang_model.specs.Source.Parsed.{ParsedParam, ParsedFunction, ParsedGlobal, ParsedSource, globals_in}
-use Rattle.gang_model.specs.Source.Known.{known_stmts}
 use Rattle.gang_model.specs.Names.Scope.{Site, with_name, with_params, after_all, standings_in_all, before_return, function_site, file_bindings, file_scope}
 use Rattle.gang_model.specs.Source.Judged.{Judged, Sound, Faulty, unless}
 use Rattle.gang_model.proofs.JudgedLaws.{OnSound, on_any, on_pair}
@@ -16,15 +15,15 @@ use Rattle.gang_model.specs.Types.Statements.{Made}
 use Rattle.gang_model.specs.Types.Resolved.{global_entries, param_entries, param_variables, function_made, judged_function}
 use Rattle.machine_states.specs.Variables.{is_array_of}
 use Rattle.machine_states.specs.Declared.{IsAmong, declared_before_return, DeclaresFirst, declared_at, scalars_below}
-use Rattle.plain_programs.specs.Sources.{plain_forms, own_variables, variables_made}
+use Rattle.plain_programs.specs.Sources.{own_variables, variables_made}
 use Rattle.plain_programs.proofs.DeclaredScalars.{first_numbers, first_has, scalar_has}
 use Rattle.plain_programs.proofs.DeclaredStatements.{StatementsFirst, statements_first}
 use Rattle.plain_programs.proofs.Elements.{get_more, get_within}
 use Rattle.plain_programs.proofs.OwnNames.{IsOneOf}
 use Rattle.plain_programs.proofs.OwnVariables.{context_of, scope_of, body_of, BodyFaithful, body_faithful}
 use Rattle.plain_programs.proofs.PlainFunctions.{made_scopes}
-use Rattle.plain_programs.proofs.QuietHeads.{AreQuiet}
 use Rattle.plain_programs.proofs.ThereNames.{ScopeThere, NamesThere, AreListed}
+use Rattle.plain_programs.proofs.WellSpelled.{AreWellSpelled}
 
 -- ---- parameters
 
@@ -110,10 +109,10 @@ module _ (source : ParsedSource) (f : ParsedFunction) where
   judged_first (Sound m) faithful h = made_first m faithful h
   judged_first (Faulty first others) faithful h = tt
 
-  pub function_first : known_stmts f.body plain_forms ≡ true → AreQuiet f.body → OnSound (judged_function source f) (IsFirstFunction source f (own_variables source f))
-  function_first known quiet =
+  pub function_first : AreWellSpelled f.body → OnSound (judged_function source f) (IsFirstFunction source f (own_variables source f))
+  function_first spelled =
       on_pair (unless (signature_faults f) f) (body_of source f) _ (λ g. Unit {0})
       (λ m. IsFirstFunction source f (own_variables source f) (function_made (file_scope source) f m)) (IsFirstFunction source f (own_variables source f))
       (on_any (unless (signature_faults f) f))
-      (judged_first (body_of source f) (body_faithful source f) (statements_first f.body (context_of source f) (scope_of source f) count 0 known quiet))
+      (judged_first (body_of source f) (body_faithful source f) (statements_first f.body (context_of source f) (scope_of source f) count 0 spelled))
       (λ g m _ h. h)

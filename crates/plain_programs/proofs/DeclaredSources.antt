@@ -1,5 +1,5 @@
--- The program of a source of the known forms names nothing before it is declared.
-use Rattle.std.proofs.Common.{ℕ, zero, suc, true, List, [], ◌∷◌, ◌++◌, length, ◌≡◌, refl, sym, ◌∙◌, ap, subst}
+-- The program of a spelled source names nothing before it is declared.
+use Rattle.std.proofs.Common.{ℕ, zero, suc, List, [], ◌∷◌, ◌++◌, length, ◌≡◌, refl, sym, ◌∙◌, ap, subst}
 use Rattle.std.proofs.lemmas.Option.{same_Some, none-some}
 use Rattle.std.proofs.lemmas.List.Elements.{All-nil, All-cons, All-head, All-tail}
 use Rattle.std.specs.Prelude.{All, Option, Some, slice_get, slice_index_or}
@@ -8,7 +8,6 @@ use Rattle.gang_model.specs.Types.Tree.{Variable, Standing, Function, Program}
 use Rattle.gang_model.specs.Source.Parsed.{Name, ParsedFunction, ParsedSource, functions_in}
 use Rattle.gang_model.specs.Source.Sources.{IsProgramOf}
 use Rattle.gang_model.specs.Texts.Text.{Bytes}
-use Rattle.gang_model.specs.Source.Known.{is_known}
 use Rattle.gang_model.specs.Types.SourceRefusals.{IsAccepted}
 use Rattle.gang_model.specs.Names.Bindings.{variable_bindings}
 use Rattle.gang_model.specs.Names.Scope.{NameStanding, standing, after_all, standings_in_all, before_return}
@@ -18,15 +17,14 @@ use Rattle.gang_model.proofs.VariableLaws.{names_of_standings, FunctionRight, Fu
 use Rattle.gang_model.specs.Types.Resolved.{judged_function, judged_functions, program_of}
 use Rattle.machine_states.specs.Variables.{is_array_of, own_of, parameters_of}
 use Rattle.machine_states.specs.Declared.{IsThere, declared_before_return, DeclaresFirst, declared_at, scalars_below, scalar_parameters, declared_at_end, declared_before, IsDeclaredName, IsDeclaredFirst, AreDeclaredFirst}
-use Rattle.plain_programs.specs.Sources.{plain_forms, own_variables, source_variables}
+use Rattle.plain_programs.specs.Sources.{own_variables, source_variables}
 use Rattle.plain_programs.proofs.DeclaredScalars.{first_numbers, IsNear, first_near, near_more, at_near, near_at}
-use Rattle.plain_programs.proofs.KnownFunctions.{IsKnownFunction, known_functions}
 use Rattle.plain_programs.proofs.OwnNames.{IsOneOf}
 use Rattle.plain_programs.proofs.OwnVariables.{own_is, own_at, parameters_at}
 use Rattle.plain_programs.proofs.ProgramParts.{program_functions}
-use Rattle.plain_programs.proofs.QuietHeads.{HasQuietBody, HasQuietHeads, quiet_heads}
 use Rattle.plain_programs.proofs.ThereNames.{NamesThere, there_listed, AreListed}
 use Rattle.plain_programs.proofs.DeclaredFunctions.{body_site, IsFirstFunction, function_first}
+use Rattle.plain_programs.proofs.WellSpelled.{HasWellSpelledBody, IsWellSpelledSource, well_spelled}
 
 -- ---- standings
 
@@ -93,12 +91,12 @@ AreFirst source [] (g ∷ typed) = ⊥
 AreFirst source (f ∷ functions) [] = ⊥
 AreFirst source (f ∷ functions) (g ∷ typed) = IsFirstFunction source f (own_variables source f) g × AreFirst source functions typed
 
-functions_first : (source : ParsedSource) (functions : List ParsedFunction) → Each IsKnownFunction functions → Each HasQuietBody functions
+functions_first : (source : ParsedSource) (functions : List ParsedFunction) → Each HasWellSpelledBody functions
     → OnSound (judged_functions source functions) (AreFirst source functions)
-functions_first source [] known quiet = tt
-functions_first source (f ∷ functions) known quiet =
+functions_first source [] spelled = tt
+functions_first source (f ∷ functions) spelled =
     on_pair (judged_function source f) (judged_functions source functions) _ (IsFirstFunction source f (own_variables source f)) (AreFirst source functions) (AreFirst source (f ∷ functions))
-    (function_first source f known.0 quiet.0) (functions_first source functions known.1 quiet.1) (λ g typed one others. (one, others))
+    (function_first source f spelled.0) (functions_first source functions spelled.1) (λ g typed one others. (one, others))
 
 -- a function of the typed tree has its own in the tree as written
 pub record IsOwnFunction (source : ParsedSource) (functions : List ParsedFunction) (n : ℕ) (g : Function) : Type 0 where
@@ -124,22 +122,22 @@ own_function source (f ∷ functions) (h ∷ typed) right first (suc n) g e =
 
 -- ---- the whole source
 
--- a known source without faults of types, whose `for` heads hold no `return`, names nothing before it is declared
-pub declared_program : (source : ParsedSource) (p : Program) → is_known plain_forms source ≡ true → HasQuietHeads source → program_of source ≡ Some p
+-- a spelled source without faults of types names nothing before it is declared
+pub declared_program : (source : ParsedSource) (p : Program) → IsWellSpelledSource source → program_of source ≡ Some p
     → AreDeclaredFirst (source_variables source) p
-declared_program source p known quiet made n g e =
-    let first = program_functions source (AreFirst source (functions_in source)) p (functions_first source (functions_in source) (known_functions source known) quiet) made in
+declared_program source p spelled made n g e =
+    let first = program_functions source (AreFirst source (functions_in source)) p (functions_first source (functions_in source) spelled) made in
     let own = own_function source (functions_in source) p.functions (program_of-right source p made) first n g e in
     declared_function source n own.function g own.found own.right own.first
 
--- an accepted source of the known forms names nothing before it is declared
-pub declared_source : (source : ParsedSource) → is_known plain_forms source ≡ true → IsAccepted source → HasQuietHeads source
+-- an accepted source names nothing before it is declared
+pub declared_source : (source : ParsedSource) → IsAccepted source → IsWellSpelledSource source
     → (p : Program) → program_of source ≡ Some p → AreDeclaredFirst (source_variables source) p
-declared_source source known accepted quiet p made = declared_program source p known quiet made
+declared_source source accepted spelled p made = declared_program source p spelled made
 
 -- the same of the program of an accepted text
-pub declared_text : (text : Bytes) (asked : Option Name) (p : Program) (entry : ℕ) (is : IsProgramOf plain_forms text asked p entry)
+pub declared_text : (text : Bytes) (asked : Option Name) (p : Program) (entry : ℕ) (is : IsProgramOf text asked p entry)
     → AreDeclaredFirst (source_variables is.source) p
 declared_text text asked p entry is =
     let reads = is.accepted.reads in
-    declared_program is.source p is.accepted.known (quiet_heads is.source reads.tokens reads.tree) is.program_is
+    declared_program is.source p (well_spelled is.source reads.tokens reads.tree) is.program_is

@@ -4,8 +4,10 @@ pub mod DeclaredSources
 pub mod DeclaredStatements
 pub mod Elements
 pub mod EntryFunctions
+pub mod FewParameters
 pub mod FewVariables
-pub mod KnownFunctions
+pub mod FormsRow
+pub mod IndexVariables
 pub mod OwnNames
 pub mod OwnParameters
 pub mod OwnVariables
@@ -14,9 +16,9 @@ pub mod PlainFunctions
 pub mod PlainRow
 pub mod PlainSources
 pub mod ProgramParts
-pub mod QuietHeads
 pub mod RunnableSources
 pub mod ScopedTrees
 pub mod StepsNamed
 pub mod ThereExprs
 pub mod ThereNames
+pub mod WellSpelled

@@ -4,7 +4,6 @@ use Rattle.std.specs.Prelude.{cond, filter, map, Option, Some, None, slice_get}
 use Rattle.std.proofs.lemmas.Option.{none-some}
 use Rattle.gang_model.specs.Types.Tree.{Variable}
 use Rattle.gang_model.specs.Source.Parsed.{ParsedParam, ParsedFunction, ParsedSource, functions_in}
-use Rattle.gang_model.specs.Source.Known.{known_stmts}
 use Rattle.gang_model.specs.Source.Judged.{Judged, Sound, Faulty}
 use Rattle.gang_model.specs.Types.Resolved.{param_variables}
 use Rattle.gang_model.specs.Types.Statements.{Made}
@@ -12,11 +11,11 @@ use Rattle.gang_model.proofs.JudgedLaws.{OnSound}
 use Rattle.gang_model.proofs.StandingLaws.{Each}
 use Rattle.gang_model.proofs.VariableLaws.{params_count}
 use Rattle.machine_states.specs.Variables.{own_of, or_none, parameters_of}
-use Rattle.plain_programs.specs.Sources.{plain_forms, own_variables, source_variables, variables_made}
+use Rattle.plain_programs.specs.Sources.{own_variables, source_variables, variables_made}
 use Rattle.plain_programs.proofs.Elements.{each_get, get_mapped}
-use Rattle.plain_programs.proofs.KnownFunctions.{IsKnownFunction}
 use Rattle.plain_programs.proofs.OwnVariables.{context_of, scope_of, body_of, parameters_at}
 use Rattle.plain_programs.proofs.PlainForms.{IsDeclaredScalar, MadePlain, statements_plain}
+use Rattle.plain_programs.proofs.WellSpelled.{AreWellSpelled, HasWellSpelledBody, IsWellSpelledSource}
 
 -- how many variables are parameters
 abbrev pub parameters_among : List Variable → ℕ
@@ -37,18 +36,18 @@ made_scalars : (j : Judged Made) → OnSound j MadePlain → Each IsDeclaredScal
 made_scalars (Sound m) plain = plain.1
 made_scalars (Faulty first others) plain = tt
 
-parameters_counted : (source : ParsedSource) (f : ParsedFunction) → known_stmts f.body plain_forms ≡ true → parameters_among (own_variables source f) ≡ length f.params
-parameters_counted source f known =
+parameters_counted : (source : ParsedSource) (f : ParsedFunction) → AreWellSpelled f.body → parameters_among (own_variables source f) ≡ length f.params
+parameters_counted source f spelled =
     first_counted 0 f.params (variables_made (body_of source f))
-    (made_scalars (body_of source f) (statements_plain f.body (context_of source f) (scope_of source f) (length f.params) 0 known))
+    (made_scalars (body_of source f) (statements_plain f.body (context_of source f) (scope_of source f) (length f.params) 0 spelled))
 
 -- the same of each function
-pub all_parameters_counted : (source : ParsedSource) (functions : List ParsedFunction) → Each IsKnownFunction functions
+pub all_parameters_counted : (source : ParsedSource) (functions : List ParsedFunction) → Each HasWellSpelledBody functions
     → map parameters_among (map (own_variables source) functions) ≡ map (λ f. length f.params) functions
-all_parameters_counted source [] known = refl
-all_parameters_counted source (f ∷ functions) known =
-    ap (λ count. count ∷ map parameters_among (map (own_variables source) functions)) (parameters_counted source f known.0)
-    ∙ ap (λ counts. length f.params ∷ counts) (all_parameters_counted source functions known.1)
+all_parameters_counted source [] spelled = refl
+all_parameters_counted source (f ∷ functions) spelled =
+    ap (λ count. count ∷ map parameters_among (map (own_variables source) functions)) (parameters_counted source f spelled.0)
+    ∙ ap (λ counts. length f.params ∷ counts) (all_parameters_counted source functions spelled.1)
 
 -- ---- arrays
 
@@ -60,9 +59,9 @@ arrays_first (p ∷ params) declared scalars zero v e is = omega arith
 arrays_first (p ∷ params) declared scalars (suc k) v e is = let later = arrays_first params declared scalars k v e is in omega (arith, later)
 
 -- only parameters of a function are arrays
-pub arrays_at : (source : ParsedSource) → Each IsKnownFunction (functions_in source)
+pub arrays_at : (source : ParsedSource) → IsWellSpelledSource source
     → (n k : ℕ) (v : Variable) → slice_get (own_of (source_variables source) n) k ≡ Some v → v.is_array ≡ true → k < parameters_of (source_variables source) n
-arrays_at source known n k v e is = by (slice_get (map (own_variables source) (functions_in source)) n) refl e
+arrays_at source spelled n k v e is = by (slice_get (map (own_variables source) (functions_in source)) n) refl e
   where
     by : (own : Option (List Variable)) → slice_get (map (own_variables source) (functions_in source)) n ≡ own → slice_get (or_none own) k ≡ Some v
         → k < parameters_of (source_variables source) n
@@ -70,7 +69,7 @@ arrays_at source known n k v e is = by (slice_get (map (own_variables source) (f
     by (Some own) there e =
         let at = get_mapped (own_variables source) (functions_in source) n own there in
         let f = at.0 in
-        let body = each_get IsKnownFunction (functions_in source) n f known at.1 in
+        let body = each_get HasWellSpelledBody (functions_in source) n f spelled at.1 in
         let scalars = made_scalars (body_of source f) (statements_plain f.body (context_of source f) (scope_of source f) (length f.params) 0 body) in
         subst (λ m. k < m) (params_count 0 f.params ∙ sym (parameters_at source n f at.1))
         (arrays_first (param_variables 0 f.params) (variables_made (body_of source f)) scalars k v (subst (λ vs. slice_get vs k ≡ Some v) (sym at.2) e) is)

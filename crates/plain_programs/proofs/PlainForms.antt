@@ -1,29 +1,30 @@
--- The typed form of a sound statement of the known forms has the forms of plain statements, and declares scalars of its function.
-use Rattle.std.proofs.Common.{ℕ, ◌+◌, true≢false, true, false, ◌&&◌, List, [], ◌∷◌, ◌++◌, ◌≡◌, refl, sym}
-use Rattle.std.specs.Prelude.{Option, Some, None}
+-- The typed form of a sound statement that tokens spell declares scalars of its function, and its foreach forms have varying or uniform
+-- index variables and one to three dimensions.
+use Rattle.std.proofs.Common.{ℕ, suc, ◌+◌, Bool, true, false, List, [], ◌∷◌, ◌++◌, length, ◌≡◌, refl, ap, arith}
+use Rattle.std.specs.Prelude.{Option, Some, None, if◌then◌else◌}
 use Rattle.gang_types.specs.declared.types.IntType.{IntType}
 use Rattle.gang_types.specs.declared.types.IntType.TheVariants as t
 use Rattle.gang_types.specs.declared.types.Rate.{Rate}
-use Rattle.gang_types.specs.declared.types.Rate.TheVariants.{Varying}
+use Rattle.gang_types.specs.declared.types.Rate.TheVariants.{Uniform, Varying}
 use Rattle.gang_types.specs.declared.places.Place.{Place}
 use Rattle.gang_types.specs.declared.places.VarId.TheVariants.{Local}
 use Rattle.gang_model.specs.declared.refusals.RefusalNumber.TheVariants.{S9}
-use Rattle.gang_model.specs.Types.Tree.{Var, ResultFor, Nothing, Declares, Assigns, Returns, StepNumber, Stmt, Empty, Then, Declare, Assign, Change, If, Loop, BodyFirst, Break, Continue, Return, Call, Check, PackedStore, PackedLoad, Variable}
-use Rattle.gang_model.specs.Source.Parsed.{Name, ParsedExpr, ParsedArgs, ParsedTarget, ParsedStmt, ParsedEmpty, ParsedBlock, ParsedDeclare, ParsedAssign, ParsedChange, ParsedIncrement, ParsedDoCall, ParsedBreak, ParsedContinue, ParsedReturn, ParsedIf, ParsedIfElse, ParsedWhile, ParsedDo, ParsedFor, ParsedSwitch, ParsedForEach, ParsedForEachActive, ParsedForEachUnique, ParsedStmts, ParsedLast, ParsedNext}
-use Rattle.gang_model.specs.Source.Known.{known_expr, known_some, known_stmt, known_stmts}
-use Rattle.gang_model.specs.Running.Numbering.{steps_in}
-use Rattle.gang_model.specs.Names.Scope.{locals_in}
+use Rattle.gang_model.specs.Types.Tree.{Var, ResultFor, Nothing, Declares, Assigns, Returns, Dimension, RoundsOf, Rows, Tiles, EachLane, EachValue, StepNumber, Stmt, Empty, Then, Declare, Assign, Change, If, Loop, BodyFirst, Break, Continue, Return, Switch, Segment, ForEach, Call, Check, PackedStore, PackedLoad, Variable}
+use Rattle.gang_model.specs.Source.Parsed.{Name, ParsedExpr, ParsedArgs, ParsedDim, ParsedTarget, ParsedStmt, ParsedEmpty, ParsedBlock, ParsedDeclare, ParsedAssign, ParsedChange, ParsedIncrement, ParsedDoCall, ParsedBreak, ParsedContinue, ParsedReturn, ParsedIf, ParsedIfElse, ParsedWhile, ParsedDo, ParsedFor, ParsedSwitch, ParsedForEach, ParsedForEachActive, ParsedForEachUnique, ParsedStmts, ParsedLast, ParsedNext, ParsedSegments, ParsedNoMore, ParsedSegment}
+use Rattle.gang_model.specs.Running.Numbering.{steps_in, steps_in_all}
+use Rattle.gang_model.specs.Names.Scope.{locals_in, locals_in_all}
 use Rattle.gang_model.specs.Source.Judged.{Judged, Sound, refused, unless, both, ◌>>=◌}
-use Rattle.gang_model.proofs.JudgedLaws.{OnSound, on_any, on_then, on_both, on_unless, on_pair, on_if, and_true}
+use Rattle.gang_model.proofs.JudgedLaws.{OnSound, on_any, on_then, on_both, on_unless, on_pair, on_if}
 use Rattle.gang_model.proofs.StandingLaws.{Each, each_join}
 use Rattle.gang_model.specs.Types.LibraryTable.{StatementCall, Asserts, PackedStores, PackedLoads, statement_call}
 use Rattle.gang_model.specs.Types.Signatures.{ResultType}
-use Rattle.gang_model.specs.Types.Typing.{Scope, Passing, Scalar, View, Reference, arguments, given_value, first_of, var_of, declared}
+use Rattle.gang_model.specs.Types.Typing.{Scope, Passing, Scalar, View, Reference, arguments, given_value, first_of, var_of, declared, index_entry, expression}
 use Rattle.gang_model.specs.Types.Overloads.{candidates, overload}
 use Rattle.gang_model.specs.Types.Calls.{Context, Called, stored_to, takes_elements, packed, library_statement, call_of_kind, call_of, WholeCall, whole_call, right_call, result_faults}
 use Rattle.gang_model.specs.Types.TypeFaults.{variable_faults}
-use Rattle.gang_model.specs.Types.Statements.{first_value, declaration, scalar_target, target_of, rate_of, assigned_type, variable_of, call_for, assigned_by, operand_for, empty_return, returned_value, returned, value_return, returning, test_of, Made, made, scope_after, statement, statements}
-use Rattle.plain_programs.specs.Sources.{plain_forms}
+use Rattle.gang_model.specs.Types.Statements.{first_value, declaration, scalar_target, target_of, rate_of, assigned_type, variable_of, call_for, assigned_by, operand_for, empty_return, returned_value, returned, value_return, returning, test_of, dimensions, label_word, selector, Made, made, scope_after, index_entries, index_variables, statement, statements, segments_of}
+use Rattle.foreach_lowering.specs.Law.{HasDimensions}
+use Rattle.plain_programs.proofs.WellSpelled.{HasFewDims, IsWellSpelled, AreWellSpelled, SegmentsWellSpelled}
 
 -- ---- forms
 
@@ -36,7 +37,18 @@ abbrev pub DeclaresLocal : ResultFor → Type 0
 DeclaresLocal (Declares x) = IsLocal x
 DeclaresLocal result_for = Unit {0}
 
--- a statement of the forms of plain ones, which declares variables of a function
+-- a dimension's index variable is a varying one of a function
+abbrev pub HasPlainIndex : Dimension → Type 0
+HasPlainIndex d = IsLocal d.index × (d.index.rate ≡ Varying)
+
+-- the head of a foreach form: a domain's dimensions, or a uniform index variable of a function
+abbrev pub HasPlainHead : RoundsOf → Type 0
+HasPlainHead (Rows ds) = HasDimensions (Rows ds) × Each HasPlainIndex ds
+HasPlainHead (Tiles ds) = HasDimensions (Tiles ds) × Each HasPlainIndex ds
+HasPlainHead (EachLane x) = IsLocal x × (x.rate ≡ Uniform)
+HasPlainHead (EachValue x e) = IsLocal x × (x.rate ≡ Uniform)
+
+-- what a statement declares is a function's, and so are the index variables of its foreach forms
 abbrev pub HasPlainForm : Stmt → Type 0
 HasPlainForm Empty = Unit {0}
 HasPlainForm (Then first rest) = HasPlainForm first × HasPlainForm rest
@@ -53,7 +65,9 @@ HasPlainForm (Call number called args result_for) = DeclaresLocal result_for
 HasPlainForm (Check number e) = Unit {0}
 HasPlainForm (PackedStore number array from e result_for) = DeclaresLocal result_for
 HasPlainForm (PackedLoad number array from x result_for) = DeclaresLocal result_for
-HasPlainForm s = ⊥
+HasPlainForm (Switch number e segments) = HasPlainForm segments
+HasPlainForm (Segment label body rest) = HasPlainForm body × HasPlainForm rest
+HasPlainForm (ForEach number form body) = HasPlainHead form × HasPlainForm body
 
 abbrev pub IsNoArray : Variable → Type 0
 IsNoArray v = v.is_array ≡ false
@@ -146,60 +160,77 @@ returning_plain context scope p (Some e) n = value_return_plain context scope e 
 alone_plain : (j : Judged Stmt) → OnSound j HasPlainForm → OnSound (j >>= (λ s. Sound (made s []))) MadePlain
 alone_plain j h = on_then j _ HasPlainForm MadePlain h (λ s k. (k, tt))
 
+-- ---- foreach forms
+
+-- as many dimensions as there are written, each with such an index variable
+abbrev HasPlainIndexes : List ParsedDim → List Dimension → Type 0
+HasPlainIndexes dims ds = (length ds ≡ length dims) × Each HasPlainIndex ds
+
+dimensions_plain : (scope : Scope) (k : ℕ) (dims : List ParsedDim) → OnSound (dimensions scope k dims) (HasPlainIndexes dims)
+dimensions_plain scope k [] = (refl, tt)
+dimensions_plain scope k (d ∷ dims) =
+    let bounds = both (given_value d.low scope t.Int32 Uniform) (given_value d.high scope t.Int32 Uniform) in
+    on_pair bounds (dimensions scope (suc k) dims) _ (λ x. Unit {0}) (HasPlainIndexes dims) (HasPlainIndexes (d ∷ dims)) (on_any bounds)
+    (dimensions_plain scope (suc k) dims) (λ x ds _ h. (ap suc h.0, (((k, refl), refl), h.1)))
+
+few_dimensions : (dims : List ParsedDim) (ds : List Dimension) → HasFewDims dims → length ds ≡ length dims → HasDimensions (Rows ds)
+few_dimensions dims ds few e = (omega (arith, e, few.0), omega (arith, e, few.1))
+
+head_plain : (is_tiled : Bool) (dims : List ParsedDim) (ds : List Dimension) → HasFewDims dims → HasPlainIndexes dims ds
+    → HasPlainHead (if is_tiled then Tiles ds else Rows ds)
+head_plain true dims ds few h = (few_dimensions dims ds few h.0, h.1)
+head_plain false dims ds few h = (few_dimensions dims ds few h.0, h.1)
+
+indexes_scalar : (k : ℕ) (dims : List ParsedDim) → Each IsDeclaredScalar (index_variables k dims)
+indexes_scalar k [] = tt
+indexes_scalar k (d ∷ dims) = ((refl, refl), indexes_scalar (suc k) dims)
+
 -- ---- all statements
 
 mutual
-  -- a sound statement of the known forms
-  pub statement_plain : (s : ParsedStmt) (context : Context) (scope : Scope) (k : ℕ) (n : StepNumber) → known_stmt s plain_forms ≡ true
+  -- a sound statement
+  pub statement_plain : (s : ParsedStmt) (context : Context) (scope : Scope) (k : ℕ) (n : StepNumber) → IsWellSpelled s
       → OnSound (statement s context scope k n) MadePlain
-  statement_plain ParsedEmpty context scope k n known = (tt, tt)
-  statement_plain (ParsedBlock ss) context scope k n known = statements_plain ss context scope k n known
-  statement_plain (ParsedDeclare p spec at name e) context scope k n known =
+  statement_plain ParsedEmpty context scope k n spelled = (tt, tt)
+  statement_plain (ParsedBlock ss) context scope k n spelled = statements_plain ss context scope k n spelled
+  statement_plain (ParsedDeclare p spec at name e) context scope k n spelled =
       let v = declared name (Local k) spec false false in
       let sound = unless (variable_faults at spec) v in
       on_pair sound (declaration context scope (var_of v.variable) e n) _ (λ w. Unit {0}) HasPlainForm MadePlain (on_any sound)
       (declaration_plain context scope (var_of v.variable) e n (k, refl)) (λ w s _ h. (h, ((refl, refl), tt)))
-  statement_plain (ParsedAssign p target e) context scope k n known =
+  statement_plain (ParsedAssign p target e) context scope k n spelled =
       let call = call_for target.index (whole_call context.functions e) in
       alone_plain (assigned_by call context scope target e n) (assigned_plain call context scope target e n)
-  statement_plain (ParsedChange p target op e) context scope k n known =
+  statement_plain (ParsedChange p target op e) context scope k n spelled =
       let aim = target_of scope target.at target.name target.index in
       let operand = operand_for (rate_of aim) e scope in
       on_pair aim operand _ (λ a. Unit {0}) (λ x. Unit {0}) MadePlain (on_any aim) (on_any operand) (λ a x _ _. (tt, tt))
-  statement_plain (ParsedIncrement p target op) context scope k n known =
+  statement_plain (ParsedIncrement p target op) context scope k n spelled =
       let aim = target_of scope target.at target.name target.index in
       on_then aim _ (λ a. Unit {0}) MadePlain (on_any aim) (λ a _. (tt, tt))
-  statement_plain (ParsedDoCall p name args) context scope k n known =
+  statement_plain (ParsedDoCall p name args) context scope k n spelled =
       on_then (call_of context scope p name args Nothing n) _ CalledPlain MadePlain (call_plain context scope p name args Nothing n tt) (λ c h. (h, tt))
-  statement_plain (ParsedBreak p) context scope k n known = (tt, tt)
-  statement_plain (ParsedContinue p) context scope k n known = (tt, tt)
-  statement_plain (ParsedReturn p e) context scope k n known =
+  statement_plain (ParsedBreak p) context scope k n spelled = (tt, tt)
+  statement_plain (ParsedContinue p) context scope k n spelled = (tt, tt)
+  statement_plain (ParsedReturn p e) context scope k n spelled =
       alone_plain (returning context scope p e n) (returning_plain context scope p e n)
-  statement_plain (ParsedIf p e a) context scope k n known =
-      let parts = and_true (known_expr e plain_forms) (known_stmt a plain_forms) known in
+  statement_plain (ParsedIf p e a) context scope k n spelled =
       on_pair (test_of scope (Some e)) (statement a context scope k (n + 1)) _ (λ x. Unit {0}) MadePlain MadePlain (on_any (test_of scope (Some e)))
-      (statement_plain a context scope k (n + 1) parts.1) (λ c m _ h. ((h.0, tt), h.1))
-  statement_plain (ParsedIfElse p e a b) context scope k n known =
-      let parts = and_true (known_expr e plain_forms) (known_stmt a plain_forms && known_stmt b plain_forms) known in
-      let arms = and_true (known_stmt a plain_forms) (known_stmt b plain_forms) parts.1 in
+      (statement_plain a context scope k (n + 1) spelled) (λ c m _ h. ((h.0, tt), h.1))
+  statement_plain (ParsedIfElse p e a b) context scope k n spelled =
       let first = statement a context scope k (n + 1) in
       let other = statement b context scope (k + locals_in a) (n + 1 + steps_in a) in
       on_pair (test_of scope (Some e)) (both first other) _ (λ x. Unit {0}) (λ ms. MadePlain ms.0 × MadePlain ms.1) MadePlain (on_any (test_of scope (Some e)))
-      (on_both first other MadePlain MadePlain (statement_plain a context scope k (n + 1) arms.0)
-      (statement_plain b context scope (k + locals_in a) (n + 1 + steps_in a) arms.1))
+      (on_both first other MadePlain MadePlain (statement_plain a context scope k (n + 1) spelled.0)
+      (statement_plain b context scope (k + locals_in a) (n + 1 + steps_in a) spelled.1))
       (λ c ms _ h. ((h.0.0, h.1.0), each_join IsDeclaredScalar ms.0.variables ms.1.variables h.0.1 h.1.1))
-  statement_plain (ParsedWhile p e body) context scope k n known =
-      let parts = and_true (known_expr e plain_forms) (known_stmt body plain_forms) known in
+  statement_plain (ParsedWhile p e body) context scope k n spelled =
       on_pair (test_of scope (Some e)) (statement body context scope k n) _ (λ x. Unit {0}) MadePlain MadePlain (on_any (test_of scope (Some e)))
-      (statement_plain body context scope k n parts.1) (λ c m _ h. ((tt, h.0), h.1))
-  statement_plain (ParsedDo body p e) context scope k n known =
-      let parts = and_true (known_stmt body plain_forms) (known_expr e plain_forms) known in
+      (statement_plain body context scope k n spelled) (λ c m _ h. ((tt, h.0), h.1))
+  statement_plain (ParsedDo body p e) context scope k n spelled =
       on_pair (statement body context scope k n) (test_of scope (Some e)) _ MadePlain (λ x. Unit {0}) MadePlain
-      (statement_plain body context scope k n parts.0) (on_any (test_of scope (Some e))) (λ m c h _. h)
-  statement_plain (ParsedFor p start e update body) context scope k n known =
-      let parts = and_true (known_stmt start plain_forms) (known_some e plain_forms && (known_stmt update plain_forms && known_stmt body plain_forms)) known in
-      let later = (and_true (known_some e plain_forms) (known_stmt update plain_forms && known_stmt body plain_forms) parts.1).1 in
-      let rounds = and_true (known_stmt update plain_forms) (known_stmt body plain_forms) later in
+      (statement_plain body context scope k n spelled) (on_any (test_of scope (Some e))) (λ m c h _. h)
+  statement_plain (ParsedFor p start e update body) context scope k n spelled =
       let inside = scope_after start scope k in
       let k' = k + locals_in start in
       let b = n + steps_in start in
@@ -208,25 +239,53 @@ mutual
       let updating = statement update context inside k' u in
       let inner = statement body context inside (k' + locals_in update) b in
       on_pair (both before (test_of inside e)) (both updating inner) _ (λ x. MadePlain x.0 × Unit {0}) (λ x. MadePlain x.0 × MadePlain x.1) MadePlain
-      (on_both before (test_of inside e) MadePlain (λ x. Unit {0}) (statement_plain start context scope k n parts.0) (on_any (test_of inside e)))
-      (on_both updating inner MadePlain MadePlain (statement_plain update context inside k' u rounds.0)
-      (statement_plain body context inside (k' + locals_in update) b rounds.1))
+      (on_both before (test_of inside e) MadePlain (λ x. Unit {0}) (statement_plain start context scope k n spelled.2) (on_any (test_of inside e)))
+      (on_both updating inner MadePlain MadePlain (statement_plain update context inside k' u spelled.3)
+      (statement_plain body context inside (k' + locals_in update) b spelled.4))
       (λ x y h l. (
         (h.0.0, (l.0.0, l.1.0)),
         each_join IsDeclaredScalar x.0.variables (y.0.variables ++ y.1.variables) h.0.1 (each_join IsDeclaredScalar y.0.variables y.1.variables l.0.1 l.1.1),
       ))
-  statement_plain (ParsedSwitch p e segments) context scope k n known = absurd (true≢false (sym known))
-  statement_plain (ParsedForEach p is_tiled dims body) context scope k n known = absurd (true≢false (sym known))
-  statement_plain (ParsedForEachActive p at name body) context scope k n known = absurd (true≢false (sym known))
-  statement_plain (ParsedForEachUnique p at name e body) context scope k n known = absurd (true≢false (sym known))
+  statement_plain (ParsedSwitch p e segments) context scope k n spelled =
+      on_then (selector scope e) _ (λ x. Unit {0}) MadePlain (on_any (selector scope e))
+      (λ x _. on_then (segments_of segments x.type context scope k (n + 1)) _ MadePlain MadePlain (segments_plain segments x.type context scope k (n + 1) spelled) (λ m h. h))
+  statement_plain (ParsedForEach p is_tiled dims body) context scope k n spelled =
+      let inside = index_entries k dims scope in
+      on_pair (dimensions scope k dims) (statement body context inside (k + length dims) (n + 1)) _ (HasPlainIndexes dims) MadePlain MadePlain
+      (dimensions_plain scope k dims) (statement_plain body context inside (k + length dims) (n + 1) spelled.1)
+      (λ ds m indexes h. (
+        (head_plain is_tiled dims ds spelled.0 indexes, h.0),
+        each_join IsDeclaredScalar (index_variables k dims) m.variables (indexes_scalar k dims) h.1,
+      ))
+  statement_plain (ParsedForEachActive p at name body) context scope k n spelled =
+      let inside = index_entry name (Local k) t.Int64 Uniform ∷ scope in
+      on_then (statement body context inside (suc k) (n + 1)) _ MadePlain MadePlain (statement_plain body context inside (suc k) (n + 1) spelled)
+      (λ m h. ((((k, refl), refl), h.0), ((refl, refl), h.1)))
+  statement_plain (ParsedForEachUnique p at name e body) context scope k n spelled =
+      on_then (expression e scope) _ (λ x. Unit {0}) MadePlain (on_any (expression e scope))
+      (λ x _.
+      let inside = index_entry name (Local k) x.type Uniform ∷ scope in
+      on_then (statement body context inside (suc k) (n + 1)) _ MadePlain MadePlain (statement_plain body context inside (suc k) (n + 1) spelled)
+      (λ m h. ((((k, refl), refl), h.0), ((refl, refl), h.1))))
 
-  -- sound statements of the known forms
-  pub statements_plain : (ss : ParsedStmts) (context : Context) (scope : Scope) (k : ℕ) (n : StepNumber) → known_stmts ss plain_forms ≡ true
+  -- sound statements
+  pub statements_plain : (ss : ParsedStmts) (context : Context) (scope : Scope) (k : ℕ) (n : StepNumber) → AreWellSpelled ss
       → OnSound (statements ss context scope k n) MadePlain
-  statements_plain ParsedLast context scope k n known = (tt, tt)
-  statements_plain (ParsedNext s ss) context scope k n known =
-      let parts = and_true (known_stmt s plain_forms) (known_stmts ss plain_forms) known in
+  statements_plain ParsedLast context scope k n spelled = (tt, tt)
+  statements_plain (ParsedNext s ss) context scope k n spelled =
       let inside = scope_after s scope k in
       on_pair (statement s context scope k n) (statements ss context inside (k + locals_in s) (n + steps_in s)) _ MadePlain MadePlain MadePlain
-      (statement_plain s context scope k n parts.0) (statements_plain ss context inside (k + locals_in s) (n + steps_in s) parts.1)
+      (statement_plain s context scope k n spelled.0) (statements_plain ss context inside (k + locals_in s) (n + steps_in s) spelled.1)
       (λ a b h l. ((h.0, l.0), each_join IsDeclaredScalar a.variables b.variables h.1 l.1))
+
+  -- sound segments
+  segments_plain : (segments : ParsedSegments) (type : IntType) (context : Context) (scope : Scope) (k : ℕ) (n : StepNumber) → SegmentsWellSpelled segments
+      → OnSound (segments_of segments type context scope k n) MadePlain
+  segments_plain ParsedNoMore type context scope k n spelled = (tt, tt)
+  segments_plain (ParsedSegment p label ss rest) type context scope k n spelled =
+      let body = statements ss context scope k n in
+      let later = segments_of rest type context scope (k + locals_in_all ss) (n + steps_in_all ss) in
+      on_pair (label_word p type label) (both body later) _ (λ l. Unit {0}) (λ ms. MadePlain ms.0 × MadePlain ms.1) MadePlain (on_any (label_word p type label))
+      (on_both body later MadePlain MadePlain (statements_plain ss context scope k n spelled.1)
+      (segments_plain rest type context scope (k + locals_in_all ss) (n + steps_in_all ss) spelled.2))
+      (λ l ms _ h. ((h.0.0, h.1.0), each_join IsDeclaredScalar ms.0.variables ms.1.variables h.0.1 h.1.1))

@@ -1,4 +1,4 @@
--- A sound function of the known forms is plain, with variables of its own in scope at each of its steps.
+-- A sound function is plain, with variables of its own in scope at each of its steps.
 use Rattle.std.proofs.Common.{ℕ, ◌≤◌, List, ◌++◌, length, ◌≡◌, refl, sym, ap, subst, arith}
 use Rattle.std.specs.Prelude.{All, map, Some, slice_get}
 use Rattle.gang_types.specs.declared.places.VarId.{VarId}
@@ -21,11 +21,12 @@ use Rattle.machine_states.specs.Variables.{Variables, own_of, variable_of}
 use Rattle.machine_states.specs.Plain.{IsPlainFunction}
 use Rattle.plain_programs.specs.Sources.{source_variables, variables_made}
 use Rattle.plain_programs.proofs.Elements.{each_get, get_mapped}
-use Rattle.plain_programs.proofs.KnownFunctions.{IsKnownFunction, HasFewParams}
+use Rattle.plain_programs.proofs.FewParameters.{HasFewParams}
 use Rattle.plain_programs.proofs.OwnNames.{IsOneOf, scopes_own}
 use Rattle.plain_programs.proofs.OwnVariables.{context_of, scope_of, body_of, BodyFaithful, body_faithful, own_bound, own_is, parameters_first}
 use Rattle.plain_programs.proofs.PlainForms.{MadePlain, statements_plain}
 use Rattle.plain_programs.proofs.ScopedTrees.{AreParameters, IsTable, stmt_plain}
+use Rattle.plain_programs.proofs.WellSpelled.{HasWellSpelledBody, IsWellSpelledSource}
 
 -- what is in scope at the steps of a function is among its own variables
 pub made_scopes : (source : ParsedSource) (f : ParsedFunction) (m : Made) → BodyFaithful f m → (number : ℕ) (there : Standing)
@@ -36,7 +37,7 @@ made_scopes source f m faithful =
 
 -- ---- functions
 
-module _ (source : ParsedSource) (known : Each IsKnownFunction (functions_in source)) (few : HasFewParams source)
+module _ (source : ParsedSource) (spelled : IsWellSpelledSource source) (few : HasFewParams source)
     (n : ℕ) (f : ParsedFunction) (at : slice_get (functions_in source) n ≡ Some f) where
   abbrev variables : Variables
   variables = source_variables source
@@ -83,10 +84,10 @@ module _ (source : ParsedSource) (known : Each IsKnownFunction (functions_in sou
   body_plain (Sound m) owned faithful plain right = made_plain m owned faithful plain (right (table m owned faithful plain) refl)
   body_plain (Faulty first others) owned faithful plain right = tt
 
-  -- a sound function of the known forms is plain
+  -- a sound function is plain
   pub function_plain : OnSound (judged_function source f) (IsPlainFunction variables n)
   function_plain =
-      let body = each_get IsKnownFunction (functions_in source) n f known at in
+      let body = each_get HasWellSpelledBody (functions_in source) n f spelled at in
       on_pair (unless (signature_faults f) f) (body_of source f) _ (λ g. Unit {0}) (λ m. IsPlainFunction variables n (function_made (file_scope source) f m)) (IsPlainFunction variables n)
       (on_any (unless (signature_faults f) f))
       (body_plain (body_of source f) (own_is source n f at) (body_faithful source f)

@@ -22,17 +22,22 @@ use Rattle.machine_states.specs.Plain.{IsPlainProgram}
 use Rattle.plain_programs.specs.Sources.{source_variables}
 use Rattle.plain_programs.proofs.FewVariables.{few_variables}
 use Rattle.plain_programs.proofs.PlainSources.{plain_program}
+use Rattle.plain_programs.proofs.WellSpelled.{IsWellSpelledSource}
 
 -- uniform int g; int twice(int a) { return a + a; }
 -- export void f() { int x = twice(g); for (int i = 0; i < 4; ++i) { int y = x; if (y < i) break; } x = twice(x); }
 
-abbrev at : ℕ → Place
+abbrev pub at : ℕ → Place
 at column = record { line = 1; col = column }
 
-abbrev int : Option Rate → Spec
+abbrev pub int : Option Rate → Spec
 int rate = record { is_exported = false; is_static = false; is_inline = false; is_constant = false; rate = rate; value_type = Some Int32 }
 
-abbrev named : Name → ℕ → ParsedExpr
+-- export void
+abbrev pub exported : Spec
+exported = record { is_exported = true; is_static = false; is_inline = false; is_constant = false; rate = None; value_type = None }
+
+abbrev pub named : Name → ℕ → ParsedExpr
 named name column = ParsedName (at column) name
 
 abbrev target : Name → ℕ → ParsedTarget
@@ -66,7 +71,7 @@ abbrev entry : ParsedFunction
 entry = record {
   at = at 64;
   name = codes "f";
-  spec = record { is_exported = true; is_static = false; is_inline = false; is_constant = false; rate = None; value_type = None };
+  spec = exported;
   params = [];
   body = ParsedNext (ParsedDeclare (at 70) (int None) (at 74) (codes "x") (Some (twice_of 78 (named (codes "g") 84))))
       (ParsedNext loop (ParsedNext (ParsedAssign (at 146) (target (codes "x") 146) (twice_of 150 (named (codes "x") 156))) ParsedLast));
@@ -102,5 +107,8 @@ accepted = refl
 abbrev typed : (p : Program) × (program_of source ≡ Some p)
 typed = accepted-program source accepted
 
+spelled : IsWellSpelledSource source
+spelled = ((tt, tt), ((tt, ((refl, refl, tt, tt, (tt, (tt, tt))), (tt, tt))), tt))
+
 program_is_plain : IsPlainProgram (source_variables source) most_variables typed.0
-program_is_plain = plain_program source most_variables typed.0 refl (omega arith, (omega arith, tt)) (few_variables source refl) typed.1
+program_is_plain = plain_program source most_variables typed.0 spelled (omega arith, (omega arith, tt)) (few_variables source refl) typed.1

@@ -1,5 +1,5 @@
--- A known source without faults has a plain program.
-use Rattle.std.proofs.Common.{ℕ, zero, suc, ◌+◌, ◌≤◌, true≢false, true, List, [], ◌∷◌, length, ◌≡◌, refl, sym, ◌∙◌, ap, subst, arith}
+-- A spelled source without faults has a plain program.
+use Rattle.std.proofs.Common.{ℕ, zero, suc, ◌+◌, ◌≤◌, true≢false, List, [], ◌∷◌, length, ◌≡◌, refl, sym, ◌∙◌, ap, subst, arith}
 use Rattle.std.proofs.lemmas.Option.{same_Some, none-some}
 use Rattle.std.specs.Prelude.{is_some, map, Option, Some, None, slice_get}
 use Rattle.gang_types.specs.declared.places.VarId.TheVariants.{File}
@@ -9,20 +9,19 @@ use Rattle.gang_model.specs.Source.Sources.{IsProgramOf}
 use Rattle.gang_model.specs.Source.Limits.{most_variables, limit_refusal}
 use Rattle.gang_model.specs.Types.Tree.{Variable, Function, Program}
 use Rattle.gang_model.specs.Source.Parsed.{Name, ParsedFunction, ParsedGlobal, ParsedSource, functions_in, globals_in}
-use Rattle.gang_model.specs.Source.Known.{is_known}
 use Rattle.gang_model.specs.Types.SourceRefusals.{first_refusal, refusal_of, IsAccepted}
 use Rattle.gang_model.specs.Types.Resolved.{global_entry, judged_function, judged_functions, program_of, file_variables}
 use Rattle.gang_model.proofs.JudgedLaws.{OnSound, on_pair}
-use Rattle.gang_model.proofs.StandingLaws.{Each}
 use Rattle.machine_states.specs.Variables.{Variables, own_of}
 use Rattle.machine_states.specs.Plain.{IsPlainFunction, IsPlainProgram}
-use Rattle.plain_programs.specs.Sources.{plain_forms, own_variables, source_variables}
+use Rattle.plain_programs.specs.Sources.{own_variables, source_variables}
 use Rattle.plain_programs.proofs.FewVariables.{few_variables}
-use Rattle.plain_programs.proofs.KnownFunctions.{IsKnownFunction, known_functions, HasFewParams, few_params}
+use Rattle.plain_programs.proofs.FewParameters.{HasFewParams, few_params}
 use Rattle.plain_programs.proofs.OwnParameters.{arrays_at}
 use Rattle.plain_programs.proofs.OwnVariables.{own_at, most_of, within_most}
 use Rattle.plain_programs.proofs.PlainFunctions.{function_plain}
 use Rattle.plain_programs.proofs.ProgramParts.{program_functions}
+use Rattle.plain_programs.proofs.WellSpelled.{IsWellSpelledSource, well_spelled}
 
 -- ---- file-scope variables
 
@@ -46,7 +45,7 @@ plain_at variables k (g ∷ functions) plain zero f e =
 plain_at variables k (g ∷ functions) plain (suc n) f e =
     subst (λ i. IsPlainFunction variables i f) (omega arith) (plain_at variables (suc k) functions plain.1 n f e)
 
-module _ (source : ParsedSource) (known : Each IsKnownFunction (functions_in source)) (few : HasFewParams source) where
+module _ (source : ParsedSource) (spelled : IsWellSpelledSource source) (few : HasFewParams source) where
   functions_plain : (k : ℕ) (later : List ParsedFunction)
       → ((i : ℕ) (f : ParsedFunction) → slice_get later i ≡ Some f → slice_get (functions_in source) (k + i) ≡ Some f)
       → OnSound (judged_functions source later) (ArePlain (source_variables source) k)
@@ -54,7 +53,7 @@ module _ (source : ParsedSource) (known : Each IsKnownFunction (functions_in sou
   functions_plain k (f ∷ later) at =
       let variables = source_variables source in
       on_pair (judged_function source f) (judged_functions source later) _ (IsPlainFunction variables k) (ArePlain variables (suc k)) (ArePlain variables k)
-      (function_plain source known few k f (subst (λ n. slice_get (functions_in source) n ≡ Some f) (omega arith) (at 0 f refl)))
+      (function_plain source spelled few k f (subst (λ n. slice_get (functions_in source) n ≡ Some f) (omega arith) (at 0 f refl)))
       (functions_plain (suc k) later (λ i g e. subst (λ n. slice_get (functions_in source) n ≡ Some g) (omega arith) (at (suc i) g e)))
       (λ g typed one others. (one, others))
 
@@ -65,35 +64,35 @@ module _ (source : ParsedSource) (known : Each IsKnownFunction (functions_in sou
 
 -- ---- the whole source
 
--- a known source without faults of types has a plain program, with any bound on the variables of its functions
-pub plain_program : (source : ParsedSource) (most : ℕ) (p : Program) → is_known plain_forms source ≡ true → HasFewParams source
+-- a spelled source without faults of types has a plain program, with any bound on the variables of its functions
+pub plain_program : (source : ParsedSource) (most : ℕ) (p : Program) → IsWellSpelledSource source → HasFewParams source
     → ((n : ℕ) → length (own_of (source_variables source) n) ≤ most) → program_of source ≡ Some p → IsPlainProgram (source_variables source) most p
-plain_program source most p known few within made =
-    let all = program_plain source (known_functions source known) few p made in
+plain_program source most p spelled few within made =
+    let all = program_plain source spelled few p made in
     record {
       file = λ k v e. file_number 0 (globals_in source) k v e ∙ ap File (omega arith);
       own = own_at source;
-      arrays = arrays_at source (known_functions source known);
+      arrays = arrays_at source spelled;
       few = within;
       functions = λ n f e. subst (λ i. IsPlainFunction (source_variables source) i f) (omega arith) (plain_at (source_variables source) 0 p.functions all n f e);
     }
 
--- an accepted source of the known forms has a plain program
-pub plain_source : (source : ParsedSource) → is_known plain_forms source ≡ true → IsAccepted source → HasFewParams source
+-- an accepted source has a plain program
+pub plain_source : (source : ParsedSource) → IsWellSpelledSource source → IsAccepted source → HasFewParams source
     → (p : Program) → program_of source ≡ Some p → (most : ℕ) × IsPlainProgram (source_variables source) most p
-plain_source source known accepted few p made =
+plain_source source spelled accepted few p made =
     let all = map (own_variables source) (functions_in source) in
-    (most_of all, plain_program source (most_of all) p known few (within_most all) made)
+    (most_of all, plain_program source (most_of all) p spelled few (within_most all) made)
 
 pub no_refusal : (first later : Option SourceRefusal) → first_refusal first later ≡ None → (first ≡ None) × (later ≡ None)
 no_refusal None later e = (refl, e)
 no_refusal (Some refusal) later e = absurd (true≢false (ap is_some e))
 
 -- the program of an accepted text is plain, and no function of it has more variables than a source may have
-pub plain_text : (text : Bytes) (asked : Option Name) (p : Program) (entry : ℕ) (is : IsProgramOf plain_forms text asked p entry)
+pub plain_text : (text : Bytes) (asked : Option Name) (p : Program) (entry : ℕ) (is : IsProgramOf text asked p entry)
     → IsPlainProgram (source_variables is.source) most_variables p
 plain_text text asked p entry is =
     let source = is.source in
     let reads = is.accepted.reads in
     let limits = (no_refusal (refusal_of source) (limit_refusal source) is.accepted.sound).1 in
-    plain_program source most_variables p is.accepted.known (few_params source reads.tokens reads.tree) (few_variables source limits) is.program_is
+    plain_program source most_variables p (well_spelled source reads.tokens reads.tree) (few_params source reads.tokens reads.tree) (few_variables source limits) is.program_is

@@ -1,12 +1,11 @@
 -- The typed program of an accepted text is one that a machine runs.
-use Rattle.std.proofs.Common.{ℕ, suc, true, List, [], ◌∷◌, length, ◌≤◌, ◌≡◌, refl, sym, ◌∙◌, ap, subst, arith}
+use Rattle.std.proofs.Common.{ℕ, suc, List, [], ◌∷◌, length, ◌≤◌, ◌≡◌, refl, sym, ◌∙◌, ap, subst, arith}
 use Rattle.std.proofs.lemmas.Simd.{map-map}
 use Rattle.std.specs.Prelude.{All, get_or, map, Option, Some, slice_get}
 use Rattle.gang_model.specs.Texts.Text.{Bytes}
 use Rattle.gang_model.specs.Types.Tree as t
 use Rattle.gang_model.specs.Types.Tree.{Variable, Standing, Function}
 use Rattle.gang_model.specs.Source.Parsed.{Name, ParsedFunction, ParsedGlobal, ParsedSource, functions_in, globals_in}
-use Rattle.gang_model.specs.Source.Known.{is_known}
 use Rattle.gang_model.specs.Source.Limits.{most_variables, limit_refusal}
 use Rattle.gang_model.specs.Source.Sources.{IsProgramOf}
 use Rattle.gang_model.specs.Source.SpellsSource.{max_params}
@@ -15,7 +14,6 @@ use Rattle.gang_model.specs.Types.TypeFaults.{global_faults}
 use Rattle.gang_model.specs.Types.Resolved.{global_of, judged_globals, program_of, file_variables, param_variables}
 use Rattle.gang_model.specs.Types.SourceRefusals.{refusal_of}
 use Rattle.gang_model.proofs.JudgedLaws.{OnSound, on_pair, on_unless}
-use Rattle.gang_model.proofs.StandingLaws.{Each}
 use Rattle.gang_model.proofs.VariableLaws.{program_of-right}
 use Rattle.mask_states.specs.Points.{closing_number}
 use Rattle.mask_states.proofs.AcceptedPrograms.{program_of-lowerable}
@@ -27,16 +25,17 @@ use Rattle.typed_tree.specs.declared.program.Program.{Program}
 use Rattle.typed_tree.specs.Views.{variable_view, global_view, program_view}
 use Rattle.codegen.specs.Programs as programs
 use Rattle.codegen.specs.Programs.{variables_of, IsRunnable}
-use Rattle.plain_programs.specs.Sources.{plain_forms, source_variables, HasVariablesOf, IsOwnName}
+use Rattle.plain_programs.specs.Sources.{source_variables, HasVariablesOf, IsOwnName}
 use Rattle.plain_programs.proofs.DeclaredSources.{declared_text}
 use Rattle.plain_programs.proofs.Elements.{each_get}
 use Rattle.plain_programs.proofs.EntryFunctions.{entry_exported, typed_function}
-use Rattle.plain_programs.proofs.KnownFunctions.{IsKnownFunction, few_params, known_functions}
+use Rattle.plain_programs.proofs.FewParameters.{few_params}
 use Rattle.plain_programs.proofs.OwnParameters.{parameters_among, all_parameters_counted}
 use Rattle.plain_programs.proofs.OwnVariables.{parameters_first}
 use Rattle.plain_programs.proofs.PlainSources.{no_refusal, plain_text}
 use Rattle.plain_programs.proofs.ScopedTrees.{AreParameters}
 use Rattle.plain_programs.proofs.ProgramParts.{program_globals}
+use Rattle.plain_programs.proofs.WellSpelled.{IsWellSpelledSource, well_spelled}
 
 -- ---- variables
 
@@ -59,11 +58,11 @@ file_alike source program made =
     sym (map-map (λ (g : t.Global). g.variable) global_view program.globals.items)
     ∙ program_globals source (HasFileVariables 0 (globals_in source)) (program_view program) (file_made 0 (globals_in source)) made
 
-parameters_alike : (source : ParsedSource) (program : Program) → Each IsKnownFunction (functions_in source) → HasVariablesOf source program
+parameters_alike : (source : ParsedSource) (program : Program) → IsWellSpelledSource source → HasVariablesOf source program
     → map (λ f. parameters_among (programs.own_variables f)) program.functions.items ≡ map (λ f. length f.params) (functions_in source)
-parameters_alike source program known own =
+parameters_alike source program spelled own =
     sym (map-map parameters_among programs.own_variables program.functions.items)
-    ∙ (ap (map parameters_among) own ∙ all_parameters_counted source (functions_in source) known)
+    ∙ (ap (map parameters_among) own ∙ all_parameters_counted source (functions_in source) spelled)
 
 -- the variables with these parts
 abbrev parts : List Variable → List (List Variable) → List ℕ → Variables
@@ -75,9 +74,9 @@ same_parts {file} {file'} {own} {own'} {parameters} {parameters'} same_file same
     ap (λ x. parts x own parameters) same_file ∙ (ap (λ x. parts file' x parameters) same_own ∙ ap (parts file' own') same_parameters)
 
 -- the variables of a typed program are those of its source
-pub variables_alike : (source : ParsedSource) (program : Program) → is_known plain_forms source ≡ true → HasVariablesOf source program
+pub variables_alike : (source : ParsedSource) (program : Program) → IsWellSpelledSource source → HasVariablesOf source program
     → program_of source ≡ Some (program_view program) → variables_of program ≡ source_variables source
-variables_alike source program known own made = same_parts (file_alike source program made) own (parameters_alike source program (known_functions source known) own)
+variables_alike source program spelled own made = same_parts (file_alike source program made) own (parameters_alike source program spelled own)
 
 -- ---- names in scope
 
@@ -96,7 +95,7 @@ scopes_runnable program runs n f e number there at = λ k d within.
 
 -- ---- accepted texts
 
-module _ (text : Bytes) (asked : Option Name) (entry : ℕ) (program : Program) (is : IsProgramOf plain_forms text asked (program_view program) entry) where
+module _ (text : Bytes) (asked : Option Name) (entry : ℕ) (program : Program) (is : IsProgramOf text asked (program_view program) entry) where
   -- the entry is one of the program's functions
   pub entry_text : (f : Function) × (slice_get (program_view program).functions entry ≡ Some f)
   entry_text =
@@ -105,7 +104,9 @@ module _ (text : Bytes) (asked : Option Name) (entry : ℕ) (program : Program) 
 
   module _ (own : HasVariablesOf is.source program) where
     alike : variables_of program ≡ source_variables is.source
-    alike = variables_alike is.source program is.accepted.known own is.program_is
+    alike =
+        let reads = is.accepted.reads in
+        variables_alike is.source program (well_spelled is.source reads.tokens reads.tree) own is.program_is
 
     -- the typed program of an accepted text is one that a machine runs
     pub runnable_text : IsRunnable program

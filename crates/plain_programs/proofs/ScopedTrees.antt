@@ -1,13 +1,15 @@
 -- A statement of plain forms that names variables of a table is plain.
 use Rattle.std.proofs.Common.{ℕ, suc, ◌+◌, ◌≤◌, List, [], ◌∷◌, length, ◌≡◌, refl, sym, ◌∙◌, ap, subst, arith}
-use Rattle.std.specs.Prelude.{Option, Some, None, slice_get}
+use Rattle.std.specs.Prelude.{All, Option, Some, None, slice_get}
+use Rattle.std.proofs.lemmas.List.Elements.{All-nil, All-cons}
 use Rattle.gang_types.specs.declared.places.VarId.{VarId}
 use Rattle.gang_types.specs.declared.places.VarId.TheVariants.{Local}
-use Rattle.gang_model.specs.Types.Tree.{Var, Expr, Number, ProgramIndex, ProgramCount, LaneMask, Read, Element, Unary, Binary, Convert, And, Or, Choice, Reduce, Scan, OfOne, OfTwo, Extract, Insert, Rotate, Shift, Shuffle, ShuffleTwo, Select, Scalar, ElementOf, Arg, Value, Array, ResultFor, Nothing, Declares, Assigns, Returns, Stmt, Empty, Then, Declare, Assign, Change, If, Loop, BodyFirst, Break, Continue, Return, Call, Check, PackedStore, PackedLoad, Variable}
-use Rattle.gang_model.specs.Types.WellScoped.{Table, variable_at, IsScalar as IsTableScalar, IsArray as IsTableArray, ExprScoped, SomeScoped, ArgsScoped, ResultScoped, StmtScoped}
-use Rattle.machine_states.specs.Variables.{Variables, is_array_of, own_of, parameters_of, variable_of, IsArray, IsScalar}
-use Rattle.machine_states.specs.Plain.{IsPlainExpr, IsPlainOption, ArgsPlain, CallPlain, ResultPlain, IsPlain}
-use Rattle.plain_programs.proofs.PlainForms.{DeclaresLocal, HasPlainForm}
+use Rattle.gang_model.specs.Types.Tree.{Var, Expr, Number, ProgramIndex, ProgramCount, LaneMask, Read, Element, Unary, Binary, Convert, And, Or, Choice, Reduce, Scan, OfOne, OfTwo, Extract, Insert, Rotate, Shift, Shuffle, ShuffleTwo, Select, Scalar, ElementOf, Arg, Value, Array, ResultFor, Nothing, Declares, Assigns, Returns, Dimension, RoundsOf, Rows, Tiles, EachLane, EachValue, Stmt, Empty, Then, Declare, Assign, Change, If, Loop, BodyFirst, Break, Continue, Return, Switch, Segment, ForEach, Call, Check, PackedStore, PackedLoad, Variable}
+use Rattle.gang_model.specs.Types.WellScoped.{Table, variable_at, IsScalar as IsTableScalar, IsArray as IsTableArray, ExprScoped, SomeScoped, ArgsScoped, ResultScoped, DimensionsScoped, RoundsScoped, StmtScoped}
+use Rattle.gang_model.proofs.StandingLaws.{Each}
+use Rattle.machine_states.specs.Variables.{Variables, is_array_of, own_of, parameters_of, variable_of, IsArray, IsScalar, IsOwn}
+use Rattle.machine_states.specs.Plain.{IsPlainExpr, IsPlainOption, ArgsPlain, CallPlain, ResultPlain, DimensionPlain, FormPlain, IsPlain}
+use Rattle.plain_programs.proofs.PlainForms.{IsLocal, DeclaresLocal, HasPlainIndex, HasPlainHead, HasPlainForm}
 
 -- a variable has this number in a function
 abbrev pub StandsAt : Variables → (function : ℕ) → Variable → ℕ → Type 0
@@ -100,18 +102,36 @@ module _ (variables : Variables) (n : ℕ) (table : Table) (of : IsTable variabl
     few = omega (arith, args_count parameters args h, are.few);
   }
 
+  -- a variable of the function
+  own_plain : (x : Var) → IsLocal x → IsTableScalar table x → (k : ℕ) × IsOwn variables n k x
+  own_plain x local h = (local.0, record { id = local.1; scalar = scalar_plain x h })
+
   result_plain : (result_for : ResultFor) → DeclaresLocal result_for → ResultScoped table result_for → ResultPlain variables n result_for
   result_plain Nothing local h = tt
-  result_plain (Declares x) local h = (local.0, record { id = local.1; scalar = scalar_plain x h })
+  result_plain (Declares x) local h = own_plain x local h
   result_plain (Assigns x) local h = scalar_plain x h
   result_plain Returns local h = tt
+
+  -- ---- foreach forms
+
+  dimensions_plain : (ds : List Dimension) → Each HasPlainIndex ds → DimensionsScoped table ds → All (DimensionPlain variables n) ds
+  dimensions_plain [] indexes h = All-nil (DimensionPlain variables n)
+  dimensions_plain (d ∷ ds) indexes h =
+      All-cons (DimensionPlain variables n) d ds (own_plain d.index indexes.0.0 h.0, indexes.0.1, expr_plain d.low h.1, expr_plain d.high h.2)
+      (dimensions_plain ds indexes.1 h.3)
+
+  head_plain : (form : RoundsOf) → HasPlainHead form → RoundsScoped table form → FormPlain variables n form
+  head_plain (Rows ds) form h = (form.0, dimensions_plain ds form.1 h)
+  head_plain (Tiles ds) form h = (form.0, dimensions_plain ds form.1 h)
+  head_plain (EachLane x) form h = (own_plain x form.0 h, form.1)
+  head_plain (EachValue x e) form h = (own_plain x form.0 h.0, form.1, expr_plain e h.1)
 
   -- ---- statements
 
   pub stmt_plain : (s : Stmt) → HasPlainForm s → StmtScoped table s → IsPlain variables n s
   stmt_plain Empty form h = tt
   stmt_plain (Then first rest) form h = (stmt_plain first form.0 h.0, stmt_plain rest form.1 h.1)
-  stmt_plain (Declare number x e) form h = ((form.0, record { id = form.1; scalar = scalar_plain x h.0 }), option_plain e h.1)
+  stmt_plain (Declare number x e) form h = (own_plain x form h.0, option_plain e h.1)
   stmt_plain (Assign number (Scalar x) e) form h = (scalar_plain x h.0, expr_plain e h.1)
   stmt_plain (Assign number (ElementOf array rate index) e) form h = (array_plain array h.0.0, expr_plain index h.0.1, expr_plain e h.1)
   stmt_plain (Change number (Scalar x) type op in_type e) form h = (scalar_plain x h.0, expr_plain e h.1)
@@ -127,4 +147,6 @@ module _ (variables : Variables) (n : ℕ) (table : Table) (of : IsTable variabl
   stmt_plain (Check number e) form h = expr_plain e h
   stmt_plain (PackedStore number array from e result_for) form h = (array_plain array h.0, option_plain from h.1, expr_plain e h.2, result_plain result_for form h.3)
   stmt_plain (PackedLoad number array from x result_for) form h = (array_plain array h.0, option_plain from h.1, scalar_plain x h.2, result_plain result_for form h.3)
-  stmt_plain s form h = absurd form
+  stmt_plain (Switch number e segments) form h = (expr_plain e h.0, stmt_plain segments form h.1)
+  stmt_plain (Segment label body rest) form h = (stmt_plain body form.0 h.0, stmt_plain rest form.1 h.1)
+  stmt_plain (ForEach number head body) form h = (head_plain head form.0 h.0, stmt_plain body form.1 h.1)

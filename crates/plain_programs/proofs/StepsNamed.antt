@@ -1,4 +1,4 @@
--- A sound declaration, assignment, call or `return` of the known forms is one step that names variables in scope alone.
+-- A sound declaration, assignment, call or `return` is one step that names variables in scope alone.
 use Rattle.std.proofs.Common.{ℕ, ◌≡◌, refl, sym, ◌∙◌, subst, Bool, true, false, List, [], ◌∷◌}
 use Rattle.std.specs.Prelude.{not, Option, Some, None, if◌then◌else◌}
 use Rattle.std.proofs.lemmas.Option.{none-some}
@@ -17,13 +17,13 @@ use Rattle.gang_model.proofs.StandingLaws.{Each}
 use Rattle.gang_model.specs.Types.Signatures.{ResultType}
 use Rattle.gang_model.specs.Types.Conversions.{Typed, as_bool, operation_type}
 use Rattle.gang_model.specs.Types.LibraryTable.{StatementCall, Asserts, PackedStores, PackedLoads, statement_call}
-use Rattle.gang_model.specs.Types.Typing.{Scope, Passing, Scalar, View, Reference, has_no_value, var_of, first_of, arguments, given_value}
+use Rattle.gang_model.specs.Types.Typing.{Scope, Passing, Scalar, View, Reference, has_no_value, var_of, first_of, expression, arguments, given_value}
 use Rattle.gang_model.specs.Types.Overloads.{candidates, overload}
 use Rattle.gang_model.specs.Types.Calls.{Context, Called, stored_to, takes_elements, packed, library_statement, WholeCall, whole_call, call_of_kind, call_of, result_faults, right_call}
-use Rattle.gang_model.specs.Types.Statements.{first_value, declaration, Aimed, scalar_target, target_of, rate_of, assigned_type, variable_of, assigned_call, call_for, assigned_by, assignment, operand_for, changed, number_one, empty_return, returned_value, returned, value_return, returning, test_of}
+use Rattle.gang_model.specs.Types.Statements.{first_value, declaration, Aimed, scalar_target, target_of, rate_of, assigned_type, variable_of, assigned_call, call_for, assigned_by, assignment, operand_for, changed, number_one, empty_return, returned_value, returned, value_return, returning, test_of, selector}
 use Rattle.machine_states.specs.Declared.{IsThere, NamesDeclared, TargetDeclared, ResultDeclared, own_number, declared_by_result, declared_by, is_returned, may_return, DeclaresFirst, declared_at}
 use Rattle.plain_programs.proofs.ThereNames.{ScopeThere}
-use Rattle.plain_programs.proofs.ThereExprs.{TypedThere, as_type-there, PassThere, AimThere, args-there, arguments-there, given_value-there, operand-there, right_operand-there, test-there, scalar_target-there, target-there}
+use Rattle.plain_programs.proofs.ThereExprs.{TypedThere, as_type-there, PassThere, AimThere, args-there, arguments-there, expression-there, given_value-there, operand-there, right_operand-there, test-there, scalar_target-there, target_index-there, target-there}
 
 -- what follows for any of several premises
 pub on_each : {A I : Type 0} (j : Judged A) (P : I → A → Type 0) → ((i : I) → OnSound j (P i)) → OnSound j (λ a. (i : I) → P i a)
@@ -47,8 +47,19 @@ pub record IsStep (scope : Scope) (own : List ℕ) (returns : Bool) (s : Stmt) :
 abbrev pub IsNamed : Scope → Expr → Type 0
 IsNamed scope e = (b : Before scope) → NamesDeclared b.there e
 
-value-named : (scope : Scope) (e : ParsedExpr) (type : IntType) (rate : Rate) → OnSound (given_value e scope type rate) (IsNamed scope)
+pub value-named : (scope : Scope) (e : ParsedExpr) (type : IntType) (rate : Rate) → OnSound (given_value e scope type rate) (IsNamed scope)
 value-named scope e type rate = on_each (given_value e scope type rate) (λ b. NamesDeclared b.there) (λ b. given_value-there b.there e scope type rate b.in_scope)
+
+-- a typed expression
+abbrev pub IsValueNamed : Scope → Typed → Type 0
+IsValueNamed scope x = (b : Before scope) → TypedThere b.there x
+
+pub expression-named : (scope : Scope) (e : ParsedExpr) → OnSound (expression e scope) (IsValueNamed scope)
+expression-named scope e = on_each (expression e scope) (λ b. TypedThere b.there) (λ b. expression-there b.there e scope b.in_scope)
+
+-- the selector of a `switch`
+pub selector-named : (scope : Scope) (e : ParsedExpr) → OnSound (selector scope e) (IsValueNamed scope)
+selector-named scope e = on_each (selector scope e) (λ b. TypedThere b.there) (λ b. target_index-there b.there scope e b.in_scope)
 
 pub test-named : (scope : Scope) (e : Option ParsedExpr) → OnSound (test_of scope e) (IsNamed scope)
 test-named scope e = on_each (test_of scope e) (λ b. NamesDeclared b.there) (λ b. test-there b.there scope e b.in_scope)
@@ -179,7 +190,7 @@ pub assignment-step : (context : Context) (scope : Scope) (target : ParsedTarget
     → OnSound (assignment context scope target e n) (IsStep scope [] false)
 assignment-step context scope target e n = assigned-step (call_for target.index (whole_call context.functions e)) context scope target e n
 
-changed-step : (scope : Scope) (op : BinaryOp) (n : StepNumber) (a : Aimed) (x : Typed) → IsAimed scope a → ((b : Before scope) → TypedThere b.there x)
+changed-step : (scope : Scope) (op : BinaryOp) (n : StepNumber) (a : Aimed) (x : Typed) → IsAimed scope a → IsValueNamed scope x
     → IsStep scope [] false (changed op n a x)
 changed-step scope op n a x k u = record {
   alone = λ there. refl;
@@ -195,7 +206,7 @@ pub change-step : (scope : Scope) (target : ParsedTarget) (op : BinaryOp) (e : P
 change-step scope target op e n =
     let aim = target_of scope target.at target.name target.index in
     by (both aim (operand_for (rate_of aim) e scope))
-    (on_both aim (operand_for (rate_of aim) e scope) (IsAimed scope) (λ x. (b : Before scope) → TypedThere b.there x) (target-aimed scope target.at target.name target.index)
+    (on_both aim (operand_for (rate_of aim) e scope) (IsAimed scope) (IsValueNamed scope) (target-aimed scope target.at target.name target.index)
     (on_each (operand_for (rate_of aim) e scope) (λ b. TypedThere b.there) (λ b. operand-there b.there (rate_of aim) e scope b.in_scope)))
   where
     by : (j : Judged (Aimed × Typed)) → OnSound j (λ parts. IsAimed scope parts.0 × ((b : Before scope) → TypedThere b.there parts.1))

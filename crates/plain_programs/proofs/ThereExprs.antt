@@ -257,7 +257,8 @@ module _ (there : List ℕ) where
   scalar_target-there scope p name h =
       on_then (assigned p false (entry_of scope name)) _ VariableThere (λ v. IsThere there v.id) (assigned-there p (entry_of scope name) (found_there scope name h)) (λ n k. k)
 
-  target_index-there : (scope : Scope) (e : ParsedExpr) → ScopeThere there scope → OnSound (target_index scope e) TypedThere
+  -- an index of a target, and the selector of a `switch`
+  pub target_index-there : (scope : Scope) (e : ParsedExpr) → ScopeThere there scope → OnSound (target_index scope e) TypedThere
   target_index-there scope e h =
       on_then (expression e scope) _ TypedThere TypedThere (expression-there e scope h) (λ i u. on_unless (fault_if (is_bool i.type) S8 (first_of e)) i TypedThere u)
 

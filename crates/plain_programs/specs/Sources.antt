@@ -1,9 +1,8 @@
--- The forms that a plain program may have, and the variables of a source, which its typed program has too.
-use Rattle.std.specs.Prelude.{◌≡◌, ℕ, true, false, List, [], ◌++◌, Some, length, map, slice_get}
+-- The variables of a source, which its typed program has too.
+use Rattle.std.specs.Prelude.{◌≡◌, ℕ, List, [], ◌++◌, Some, length, map, slice_get}
 use Rattle.gang_types.specs.declared.places.VarId.TheVariants.{Local}
 use Rattle.gang_model.specs.Types.Tree.{Variable}
 use Rattle.gang_model.specs.Source.Parsed.{ParsedFunction, ParsedSource, functions_in, globals_in}
-use Rattle.gang_model.specs.Source.Known.{Forms}
 use Rattle.gang_model.specs.Source.Judged.{Judged, Sound, Faulty}
 use Rattle.gang_model.specs.Types.Signatures.{result_of}
 use Rattle.gang_model.specs.Types.Statements.{Made, statements}
@@ -11,11 +10,6 @@ use Rattle.gang_model.specs.Types.Resolved.{file_variables, global_entries, para
 use Rattle.machine_states.specs.Variables.{Variables, own_of}
 use Rattle.codegen.specs.Programs as programs
 use Rattle.typed_tree.specs.declared.program.Program.{Program}
-
--- functions over scalars and arrays: control flow, and calls of the source's own functions and of the library; exported functions may
--- have parameters
-abbrev pub plain_forms : Forms
-plain_forms = record { arrays = true; inputs = true; rounds = false; switches = false }
 
 -- the variables that a body declares
 abbrev pub variables_made : Judged Made → List Variable

@@ -1,6 +1,6 @@
 -- How the text of a source reads, why it is refused, and which program it is (a choice of this project: the first phase that
--- finds a fault names it; a form that the program does not let through is S3).
-use Rattle.std.specs.Prelude.{◌≡◌, ◌⊎◌, ℕ, ◌<◌, ◌≤◌, true, false, List, length, Option, Some, None}
+-- finds a fault names it).
+use Rattle.std.specs.Prelude.{◌≡◌, ◌⊎◌, ℕ, ◌<◌, ◌≤◌, List, length, Option, Some, None}
 use Rattle.gang_model.specs.declared.refusals.RefusalNumber.{RefusalNumber}
 use Rattle.gang_model.specs.declared.refusals.RefusalNumber.TheVariants.{S3, S4, S13}
 use Rattle.gang_model.specs.declared.refusals.SourceRefusal.{SourceRefusal}
@@ -11,7 +11,6 @@ use Rattle.gang_model.specs.Source.SpellsSource.{IsTree}
 use Rattle.gang_model.specs.Types.Tree.{Program}
 use Rattle.gang_model.specs.Types.Resolved.{program_of}
 use Rattle.gang_model.specs.Running.Entry.{entry_of}
-use Rattle.gang_model.specs.Source.Known.{Forms, is_known}
 use Rattle.gang_model.specs.Texts.Run.{source_refusal}
 use Rattle.gang_model.specs.Texts.Text.{Bytes}
 
@@ -46,40 +45,30 @@ pub record HasNoTree (text : Bytes) (refusal : SourceRefusal) : Type 0 where
   pub none : (source : ParsedSource) → IsTree source tokens → ⊥
   pub number : IsTreeNumber refusal.number
 
--- a text with a form that is not let through
-pub record IsNotYet (forms : Forms) (text : Bytes) (refusal : SourceRefusal) : Type 0 where
-  pub source : ParsedSource
-  pub reads : ReadsAs text source
-  pub not_yet : is_known forms source ≡ false
-  pub number : refusal.number ≡ S3
-
 -- a text whose tree is refused by its names, its types or the limits
-pub record HasFault (forms : Forms) (text : Bytes) (refusal : SourceRefusal) : Type 0 where
+pub record HasFault (text : Bytes) (refusal : SourceRefusal) : Type 0 where
   pub source : ParsedSource
   pub reads : ReadsAs text source
-  pub known : is_known forms source ≡ true
   pub fault : source_refusal source ≡ Some refusal
 
 -- why a text is refused, of the phase that refuses it
-abbrev pub IsRightRefusal : Forms → Bytes → SourceRefusal → Type 0
-IsRightRefusal forms text refusal =
-    IsTooLong text refusal ⊎ (HasNoTokens text refusal ⊎ (HasNoTree text refusal ⊎ (IsNotYet forms text refusal ⊎ HasFault forms text refusal)))
+abbrev pub IsRightRefusal : Bytes → SourceRefusal → Type 0
+IsRightRefusal text refusal = IsTooLong text refusal ⊎ (HasNoTokens text refusal ⊎ (HasNoTree text refusal ⊎ HasFault text refusal))
 
--- a text without a fault, of which all forms are let through
-pub record IsAcceptedAs (forms : Forms) (text : Bytes) (source : ParsedSource) : Type 0 where
+-- a text without a fault
+pub record IsAcceptedAs (text : Bytes) (source : ParsedSource) : Type 0 where
   pub reads : ReadsAs text source
-  pub known : is_known forms source ≡ true
   pub sound : source_refusal source ≡ None
 
 -- the program of an accepted text, and the function that its run begins with
-pub record IsProgramOf (forms : Forms) (text : Bytes) (asked : Option Name) (program : Program) (entry : ℕ) : Type 0 where
+pub record IsProgramOf (text : Bytes) (asked : Option Name) (program : Program) (entry : ℕ) : Type 0 where
   pub source : ParsedSource
-  pub accepted : IsAcceptedAs forms text source
+  pub accepted : IsAcceptedAs text source
   pub program_is : program_of source ≡ Some program
   pub entry_is : entry_of source asked ≡ Some entry
 
 -- an accepted text that has no function to begin with
-pub record HasNoEntry (forms : Forms) (text : Bytes) (asked : Option Name) : Type 0 where
+pub record HasNoEntry (text : Bytes) (asked : Option Name) : Type 0 where
   pub source : ParsedSource
-  pub accepted : IsAcceptedAs forms text source
+  pub accepted : IsAcceptedAs text source
   pub none : entry_of source asked ≡ None

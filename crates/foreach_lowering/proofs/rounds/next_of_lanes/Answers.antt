@@ -15,4 +15,5 @@ returns g c = (
     is,
   ),
   tt,
+  tt,
 )

@@ -1,4 +1,4 @@
-use Rattle.std.proofs.Common.{sym, subst}
+use Rattle.std.proofs.Common.{refl, sym, subst}
 use Rattle.foreach_lowering.specs.declared.rounds.RoundsLeft.TheVariants.{EachValue as ValuesLeft}
 use Rattle.foreach_lowering.specs.RoundViews.{IsNextRound}
 use Rattle.gang_types.specs.Masks.{lanes_of}
@@ -18,4 +18,5 @@ returns g c = (
     is,
   ),
   tt,
+  refl,
 )
