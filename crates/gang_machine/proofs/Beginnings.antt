@@ -13,6 +13,7 @@ use Rattle.typed_tree.specs.Views.{program_view}
 use Rattle.gang_memory.specs.Recorded.{without_words}
 use Rattle.mask_states.specs.MaskedStep.{masked_start}
 use Rattle.machine_states.specs.Cells.{cells_of}
+use Rattle.machine_states.specs.Nesting.{most_levels}
 use Rattle.machine_words.specs.declared.words.MachineWords.{MachineWords}
 use Rattle.machine_words.proofs.Plans.{planned_for}
 use Rattle.machine_moves.specs.Compiled.{function_of, program_of}
@@ -34,7 +35,7 @@ module _ {T : Type 0} (history : T → History) (width : ℕ) (prepared : Prepar
     lengths = is.lengths;
     layout = is.layout;
     laid = record {
-      planned = planned_for width 0 prepared.layout prepared.compiled.program is.lengths is.layout;
+      planned = planned_for width (most_levels (program_of prepared.compiled)) prepared.layout prepared.compiled.program is.lengths is.layout;
       long = ap (λ h. length h.words) new_record ∙ length-replicate prepared.layout.words 0;
       small = is.small;
     };

@@ -2,6 +2,7 @@ pub mod Agreeing
 pub mod Beginnings
 pub mod EntryArrays
 pub mod Finding
+pub mod HeadSizes
 pub mod Keeping
 pub mod Limiting
 pub mod Placing

@@ -11,6 +11,7 @@ use Rattle.typed_tree.specs.declared.program.Program.{Program}
 use Rattle.machine_states.specs.Shows.{Shows}
 use Rattle.gang_memory.specs.declared.layout.Layout.{Layout}
 use Rattle.gang_memory.specs.Layouts.{IsLayoutOf}
+use Rattle.machine_states.specs.Nesting.{most_levels}
 use Rattle.machine_words.specs.declared.words.MachineWords.{MachineWords}
 use Rattle.machine_words.specs.Ranges.{IsLaid, head_sizes, machine_sizes, regions_of}
 use Rattle.machine_moves.specs.declared.compiled.CompiledProgram.{CompiledProgram}
@@ -41,7 +42,7 @@ module _ {T : Type 0} (history : T → History) (w : ℕ) (compiled : CompiledPr
           gang = lie.gang;
           compiled_is = lie.compiled_is;
           lengths = lie.lengths;
-          layout = subst (λ l. IsLayoutOf w compiled.program lie.lengths machine_sizes (head_sizes w 0) l) (sym layout) lie.layout;
+          layout = subst (λ l. IsLayoutOf w compiled.program lie.lengths machine_sizes (head_sizes w (most_levels (program_of compiled))) l) (sym layout) lie.layout;
           laid = subst (λ l. IsLaid w l h.words) (sym layout) (subst (λ ws. IsLaid w old.layout ws) (sym words) lie.laid);
           room = omega (arith, room, lie.room);
         };

@@ -6,10 +6,12 @@ use Rattle.undo_log.specs.declared.timeline.Undone.{Undone}
 use Rattle.undo_log.specs.History.{History, moment, marked}
 use Rattle.gang_memory.specs.declared.layout.Layout.{Layout}
 use Rattle.gang_memory.specs.Layouts.{IsLayoutOf}
+use Rattle.machine_states.specs.Nesting.{most_levels}
 use Rattle.machine_words.specs.declared.words.MachineWords.{MachineWords}
 use Rattle.machine_words.specs.Ranges.{head_sizes, machine_sizes}
 use Rattle.machine_words.specs.Words.{AreLaid}
 use Rattle.machine_moves.specs.declared.compiled.CompiledProgram.{CompiledProgram}
+use Rattle.machine_moves.specs.Compiled.{program_of}
 use Rattle.machine_moves.specs.Standing.{AreSound, Records}
 use Rattle.debug_machine.specs.Machines.{RecordsWords}
 use Rattle.gang_machine.specs.Machines.{IsMachine, IsSoundMoment}
@@ -31,7 +33,7 @@ module _ {T : Type 0} (history : T → History) (w : ℕ) (compiled : CompiledPr
           gang = lie.gang;
           compiled_is = lie.compiled_is;
           lengths = lie.lengths;
-          layout = subst (λ l. IsLayoutOf w compiled.program lie.lengths machine_sizes (head_sizes w 0) l) (sym layout) lie.layout;
+          layout = subst (λ l. IsLayoutOf w compiled.program lie.lengths machine_sizes (head_sizes w (most_levels (program_of compiled))) l) (sym layout) lie.layout;
           laid = first.laid;
           room = omega (arith, room, lie.room);
         };

@@ -6,6 +6,7 @@ use Rattle.undo_log.specs.History.{History}
 use Rattle.gang_types.specs.declared.places.VarId.TheVariants.{File, Local}
 use Rattle.gang_model.specs.Types.Tree as t
 use Rattle.gang_model.specs.Types.Tree.{Function, Standing, StepNumber, Variable}
+use Rattle.gang_model.specs.Running.RunningOrder.{IsNumberedProgram}
 use Rattle.gang_model.specs.Running.State.{Frame, view_of as array_of, words_in, words_for}
 use Rattle.gang_model.specs.Debugger.Debugger.{Debugger, Setting, elements, now, shown_words}
 use Rattle.gang_model.specs.Debugger.Positions.{scope_now, scope_of, spot_in, standing_in}
@@ -13,18 +14,17 @@ use Rattle.debug_machine.specs.Machines.{IsOneOf, file_variables as variables_of
 use Rattle.typed_tree.specs.declared.program.Function.{Function as TypedFunction}
 use Rattle.typed_tree.specs.declared.program.Global.{Global}
 use Rattle.typed_tree.specs.Views.{function_view, variable_view}
-use Rattle.mask_states.specs.Points.{closing_number, points_in}
-use Rattle.mask_states.specs.Masked.{Level, Masked, least, masked_spot, top_spot}
+use Rattle.mask_states.specs.Points.{points_in}
+use Rattle.mask_states.specs.Masked.{Level, Masked, masked_spot, top_spot}
 use Rattle.codegen.specs.Programs.{IsRunnable}
 use Rattle.machine_states.specs.Declared.{AreDeclared}
-use Rattle.machine_states.specs.Plain.{IsPlainName, IsPlainProgram}
-use Rattle.machine_states.specs.Regions.{Depth, NumbersOf, Regions, OfLevel}
+use Rattle.machine_states.specs.Plain.{IsPlainName}
+use Rattle.machine_states.specs.Regions.{Depth, Regions}
 use Rattle.machine_states.specs.Shows.{AreSized, Shows, ShowsFrames}
-use Rattle.machine_states.specs.Steps.{IsNext as IsNextStep}
+use Rattle.machine_states.specs.Steps.{IsNext as IsNextStep, least_in}
 use Rattle.machine_states.specs.Variables.{Variables, own_of}
 use Rattle.machine_states.proofs.AlwaysDeclared.{HasOwn, scope_has, top_declared}
 use Rattle.machine_states.proofs.DeclaredLists.{same_some}
-use Rattle.machine_states.proofs.PlainLevels.{plain_innermost}
 use Rattle.machine_states.proofs.TopFrame.{spot}
 use Rattle.machine_states.proofs.WrittenVariables.{HasVariable, variable_in}
 use Rattle.machine_words.specs.declared.words.MachineWords.{MachineWords}
@@ -32,6 +32,7 @@ use Rattle.machine_words.specs.Words.{regions_in}
 use Rattle.machine_moves.specs.declared.compiled.CompiledProgram.{CompiledProgram}
 use Rattle.machine_moves.specs.Compiled.{program_of, variables_of}
 use Rattle.machine_moves.specs.Standing.{IsShown}
+use Rattle.machine_moves.proofs.FrameLevels.{innermost_there}
 use Rattle.machine_moves.proofs.Standings.{sized}
 use Rattle.machine_shown.specs.Seen.{IsInScope, IsSeen, StandsAt}
 use Rattle.machine_shown.proofs.Viewed.{viewed_at}
@@ -47,28 +48,31 @@ use Rattle.gang_machine.proofs.Placing.{scope_ended}
 -- a step of the top frame comes next
 record HasNext (p : t.Program) (w : ℕ) (regions : Regions) : Type 0 where
   pub index : ℕ
+  pub level : ℕ
   pub function : ℕ
   pub f : Function
   pub number : StepNumber
-  pub next : IsNextStep p w regions index 0 function f number (slice_get (points_in f) number)
+  pub next : IsNextStep p w regions index level function f number (slice_get (points_in f) number)
 
-module _ (p : t.Program) (variables : Variables) (most : ℕ) (plain : IsPlainProgram variables most p) (w : ℕ) (regions : Regions) where
+module _ (p : t.Program) (variables : Variables) (numbered : IsNumberedProgram p) (w : ℕ) (regions : Regions) where
   next_of : (frames : List Frame) (levels : List (List Level)) → regions Depth ≡ length frames ∷ [] → ShowsFrames p variables w regions frames levels
       → (top_spot frames levels ≡ None) ⊎ HasNext p w regions
   next_of [] levels deep shows = inl refl
   next_of (frame ∷ frames) [] deep shows = absurd shows
   next_of (frame ∷ frames) (levels ∷ rest) deep shows =
       let f = shows.0.function in
+      let inner = innermost_there p variables w regions (length frames) frame levels numbered shows.0 in
       inr (record {
         index = length frames;
+        level = inner.0;
         function = frame.function;
         f = f;
-        number = least (closing_number f) (regions (OfLevel (length frames) 0 NumbersOf));
+        number = least_in regions (length frames) f inner.0;
         next = record {
           depth = deep;
           function = shows.0.number;
           is_function = shows.0.is_function;
-          innermost = plain_innermost variables frame.function f (plain.functions frame.function f shows.0.is_function).body w regions (length frames);
+          innermost = inner.1;
           least_number = refl;
           is_point = refl;
         };
@@ -97,11 +101,11 @@ module _ (w : ℕ) (compiled : CompiledProgram) (runnable : IsRunnable compiled.
         let variables = variables_of compiled in
         let point = slice_get (points_in has.f) has.number in
         let here = same_some (spot_in function number) (spot_in has.function has.number)
-        (sym at_spot ∙ spot p variables w regions masked shows has.index has.function has.f has.number point has.next) in
+        (sym at_spot ∙ spot p variables w regions masked shows has.index has.level has.function has.f has.number point has.next) in
         let same_function : function ≡ has.function = ap (λ s. s.function.0) here in
         let same_number : number ≡ has.number = ap (λ s. s.number) here in
         let same : f ≡ has.f = same_some f has.f (sym stands.is_function ∙ ap (slice_get p.functions) same_function ∙ has.next.is_function) in
-        let top = top_declared variables p w regions has.index has.function has.f has.number point has.next masked shows declared in
+        let top = top_declared variables p w regions has.index has.level has.function has.f has.number point has.next masked shows declared in
         let standing_there : slice_get has.f.standings has.number ≡ Some standing =
         ap (λ h. slice_get h.standings has.number) (sym same) ∙ ap (slice_get f.standings) (sym same_number) ∙ stands.stands in
         let all = scope_has variables p runnable.declared w regions masked has.index has.function has.f has.number has.next.is_function top standing standing_there in
@@ -117,7 +121,7 @@ module _ (w : ℕ) (compiled : CompiledProgram) (runnable : IsRunnable compiled.
 
     -- a scalar has as many words as its rate says
     pub seen_long : (v : Variable) → v.is_array ≡ false → IsSeen compiled masked v → length (words_in masked.state v.id) ≡ words_for w v.rate
-    seen_long v scalar (inl scope) = scope_long v scalar scope (next_or_ended (program_of compiled) (variables_of compiled) runnable.most runnable.plain w regions masked shows)
+    seen_long v scalar (inl scope) = scope_long v scalar scope (next_or_ended (program_of compiled) (variables_of compiled) runnable.lowerable.numbered w regions masked shows)
     seen_long v scalar (inr (k, is)) =
         ap (λ i. length (words_in masked.state i)) (runnable.plain.file k v is)
         ∙ ap length (shows.memory (File k)) ∙ sizes.file k v is scalar
@@ -156,14 +160,14 @@ module _ {T : Type 0} (history : T → History) (w entry : ℕ) (compiled : Comp
   scope_seen : (masked_spot masked ≡ None) ⊎ HasNext (program_of compiled) w (regions_in history w words) → (v : Variable) → IsOneOf (scope_now s.program (now s d)) v → IsInScope compiled masked v
   scope_seen (inl over) v (k, e) = absurd (none-some v (ap (λ vs. slice_get vs k) (sym (scope_none over)) ∙ e))
   scope_seen (inr has) v (k, e) =
-      let at_spot = spot (program_of compiled) (variables_of compiled) w (regions_in history w words) masked shown_here.shows has.index has.function has.f has.number (slice_get (points_in has.f) has.number) has.next in
+      let at_spot = spot (program_of compiled) (variables_of compiled) w (regions_in history w words) masked shown_here.shows has.index has.level has.function has.f has.number (slice_get (points_in has.f) has.number) has.next in
       let standing = standing_is w entry compiled.program lines words.layout (history words.store.timeline) runnable.lowerable s d stands (Some (spot_in has.function has.number)) at_spot
       ∙ ap (λ o. standing_in o has.number) has.next.is_function in
       scope_seen_at has.function has.number has.f at_spot has.next.is_function (slice_get has.f.standings has.number) refl v k (ap (λ o. slice_get (scope_of o) k) (sym standing) ∙ e)
 
   -- a variable in scope, or of the file, is seen
   pub is_seen : (v : Variable) → IsOneOf (scope_now s.program (now s d)) v ⊎ IsOneOf (variables_of_file s) v → IsSeen compiled masked v
-  is_seen v (inl there) = inl (scope_seen (next_or_ended (program_of compiled) (variables_of compiled) runnable.most runnable.plain w (regions_in history w words) masked shown_here.shows) v there)
+  is_seen v (inl there) = inl (scope_seen (next_or_ended (program_of compiled) (variables_of compiled) runnable.lowerable.numbered w (regions_in history w words) masked shown_here.shows) v there)
   is_seen v (inr (k, e)) = inr (k, ap (λ vs. slice_get vs k) (sym (file_here ∙ file_same compiled.program.globals.items)) ∙ e)
 
   -- what is shown of it is what is shown of the masked state

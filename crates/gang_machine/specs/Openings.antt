@@ -9,6 +9,7 @@ use Rattle.gang_memory.specs.Layouts.{IsLayoutOf}
 use Rattle.gang_memory.specs.Ranges.{sizes_of}
 use Rattle.input_rows.specs.declared.row.InputRow.{InputRow}
 use Rattle.input_rows.specs.Inputs.{entry_lengths}
+use Rattle.machine_states.specs.Nesting.{most_levels}
 use Rattle.machine_states.specs.Variables.{parameters_of}
 use Rattle.codegen.specs.Programs.{variables_of}
 use Rattle.machine_words.specs.Ranges.{head_sizes, machine_sizes}
@@ -22,7 +23,7 @@ pub record IsPrepared (width : ℕ) (prepared : PreparedProgram) : Type 0 where
   pub compiled : IsCompiled prepared.compiled
   pub lines : step_lines (program_view prepared.compiled.program) ≡ prepared.lines.items
   pub lengths : List ℕ
-  pub layout : IsLayoutOf width prepared.compiled.program lengths machine_sizes (head_sizes width 0) prepared.layout
+  pub layout : IsLayoutOf width prepared.compiled.program lengths machine_sizes (head_sizes width (most_levels (program_view prepared.compiled.program))) prepared.layout
   pub small : prepared.layout.words < 2 ^ 64
 
 -- a run of this entry may begin with these rows, and the layout has as many words for the entry's arrays as the rows have

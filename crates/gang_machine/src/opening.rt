@@ -6,6 +6,7 @@ ghost use Rattle.gang_model.specs.Debugger.Debugger.{fresh, step_lines};
 ghost use Rattle.gang_model.specs.Debugger.Events.{Row};
 ghost use Rattle.gang_model.specs.Texts.Transcript.{setting};
 ghost use Rattle.machine_states.specs.Cells.{cells_of};
+ghost use Rattle.machine_states.specs.Nesting.{most_levels};
 ghost use Rattle.codegen.specs.Programs.{IsRunnable};
 ghost use Rattle.typed_tree.specs.Views.{program_view};
 ghost use Rattle.gang_memory.specs.Layouts.{layout_sizes};
@@ -31,6 +32,20 @@ use undo_log::Timeline;
 
 /// How many words the machine has itself: the number of frames.
 const OWN: [usize; 1] = [1];
+
+/// The sizes of the parts of a frame's head, where so many foreach forms stand in one another.
+fn head_sizes<const W: usize>(alloc: Global, levels: usize) -> Result<Vec<usize>, AllocError>
+    ensures { IfOk result (λ sizes. sizes.items ≡ head_sizes W levels) }
+{
+    let mut sizes = Vec::from_array(alloc, [1, 1, 1, W, 1, W])?;
+    for _ in 0..levels {
+        sizes.push(1)?;
+        sizes.push(9)?;
+        sizes.push(W)?;
+        sizes.push(W)?;
+    }
+    Ok(sizes)
+}
 
 /// A program with its code, the lines of its steps, and where its words lie at a width. It says how large a record a machine of it
 /// needs, before one is opened.
@@ -63,7 +78,8 @@ impl PreparedProgram {
         let lines = step_lines(alloc, &program.functions)?;
         let code = compile(alloc, &program)?;
         let lengths = entry_lengths(alloc, &program, entry.0, rows)?;
-        let layout = Layout::plan::<W>(alloc, &program, &lengths, &OWN, &[1, 1, 1, W, 1, W])?;
+        let head = head_sizes::<W>(alloc, code.levels)?;
+        let layout = Layout::plan::<W>(alloc, &program, &lengths, &OWN, &head)?;
         let compiled = CompiledProgram { program, code };
         Ok(PreparedProgram {
             compiled,
@@ -75,7 +91,7 @@ impl PreparedProgram {
     /// How many words a machine has.
     pub fn words(&self) -> usize
         ensures layout { result ≡ self.now.layout.words }
-        ensures sizes { (width : ℕ) → IsPrepared width self.now → result ≡ sum (layout_sizes width self.now.compiled.program (sizes_of self.now.layout.entry.items) machine_sizes (head_sizes width 0)) }
+        ensures sizes { (width : ℕ) → IsPrepared width self.now → result ≡ sum (layout_sizes width self.now.compiled.program (sizes_of self.now.layout.entry.items) machine_sizes (head_sizes width (most_levels (program_view self.now.compiled.program)))) }
     {
         self.layout.words
     }

@@ -35,7 +35,7 @@ use Rattle.machine_moves.specs.Compiled.{program_of, variables_of}
 use Rattle.machine_moves.specs.Results.{changed}
 use Rattle.machine_moves.specs.Standing.{AreSound, Begins, DoesNext, EndsAs, IsActive, IsShown, IsValueAt}
 use Rattle.machine_moves.proofs.OldWords.{changed_fails, changed_gives}
-use Rattle.machine_moves.proofs.Standings.{IsAssigning, IsChanging, IsDeclaring, IsValueOf, active_names, active_plain, assigns_at, changes_at, declares_at, ends_well, lanes_long, sized, value_at}
+use Rattle.machine_moves.proofs.Standings.{IsAssigning, IsChanging, IsDeclaring, IsValueOf, active_names, active_plain, assigns_at, changes_at, declares_at, ends_well, lanes_long, sized, some_active, value_at}
 use Rattle.machine_moves.proofs.SentSteps.{MayPut, MaySend, may_put_first, may_send_then, sent_then}
 
 -- ---- initial values
@@ -71,7 +71,7 @@ module _ {T : Type 0} (history : T → History) (left : T → ℕ) (width : ℕ)
   regions = regions_in history width old
 
   abbrev lanes : Lanes
-  lanes = waiting_in regions active.frame 0 active.step
+  lanes = waiting_in regions active.frame active.level active.step
 
   sizes : AreSized (variables_of compiled) width regions
   sizes = sized history width compiled old old sound.lie refl sound.lie.laid
@@ -110,42 +110,43 @@ module _ {T : Type 0} (history : T → History) (left : T → ℕ) (width : ℕ)
         )
 
     pub initial_is : (masked : Masked) (v : Expr) → declared_value ≡ Some v → (r : Result (List ℕ) ModelFault) → value v (lanes_of width active.lanes) masked.state ≡ r
-        → initial declared_value (waiting_in (regions_in history width old) active.frame 0 active.step) masked.state ≡ r
+        → initial declared_value (waiting_in (regions_in history width old) active.frame active.level active.step) masked.state ≡ r
     initial_is masked v is r answer =
         ap (λ e. initial e lanes masked.state) is ∙ ap (λ l. value v l masked.state) (sym declares_here.lanes) ∙ answer
 
-    pub no_initial_is : (masked : Masked) → value' ≡ None → initial declared_value (waiting_in (regions_in history width old) active.frame 0 active.step) masked.state ≡ Ok (replicate width 0)
+    pub no_initial_is : (masked : Masked) → value' ≡ None → initial declared_value (waiting_in (regions_in history width old) active.frame active.level active.step) masked.state ≡ Ok (replicate width 0)
     no_initial_is masked none =
         ap (λ e. initial e lanes masked.state) (no_value_there declared_value value' found_declaration.1.2 none)
         ∙ ap Ok (zeros width lanes (sym (ap length declares_here.lanes) ∙ lanes_long width active.lanes))
 
     pub declaration_faults : (masked : Masked) → IsShown history width compiled old masked → (fault : ModelFault)
-        → initial declared_value (waiting_in (regions_in history width old) active.frame 0 active.step) masked.state ≡ Err fault → FailsWith (program_of compiled) masked fault
+        → initial declared_value (waiting_in (regions_in history width old) active.frame active.level active.step) masked.state ≡ Err fault → FailsWith (program_of compiled) masked fault
     declaration_faults masked shown fault is =
-        declaration_fails (program_of compiled) (variables_of compiled) width regions masked shown.shows active.frame active.function declaring active.step
+        declaration_fails (program_of compiled) (variables_of compiled) width regions masked shown.shows active.frame active.level active.function declaring active.step
         found_declaration.1.0 (var_view variable) declared_value next declares_here.next fault is
 
     module _ (mid : MachineWords T) (begins : Begins history left width undone.Step old mid) (region : Region) (region_is : region ≡ region_of active.frame variable.id) where
       pub may_declare : MayPut history left width variable.rate region active.lanes mid
       may_declare = may_put_first history left width compiled old sound active declaring declaration declares_here (var_view variable) own_here.1.scalar (omega arith) mid begins region region_is
+          (some_active history width compiled old sound active declaring declaration declares_here tt)
 
       module _ (values : List ℕ) (put : MachineWords T)
           (made : Writes history left width region (declared_region variable.rate (lanes_of width active.lanes) values (regions_in history width mid region)) width mid put) where
-        pub declared_may_send : MaySend history left width active.frame active.lanes put
+        pub declared_may_send : MaySend history left width active.frame active.level active.lanes put
         declared_may_send =
             may_send_then history left width compiled old sound active declaring declaration declares_here (var_view variable) own_here.1.scalar (omega arith) mid begins region region_is
-            (λ l ws. declared_region variable.rate l values ws) put made
+            (λ l ws. declared_region variable.rate l values ws) put made (some_active history width compiled old sound active declaring declaration declares_here tt)
 
         pub declared_ends : (new : MachineWords T) (numbers : List ℕ) → length numbers ≡ width → ((k : ℕ) → k < width → at numbers k ≡ next)
-            → Writes history left width (OfLevel active.frame 0 NumbersOf) (merged (lanes_of width active.lanes) numbers (regions_in history width put (OfLevel active.frame 0 NumbersOf))) width put new
-            → (masked : Masked) → IsShown history width compiled old masked → initial declared_value (waiting_in (regions_in history width old) active.frame 0 active.step) masked.state ≡ Ok values
+            → Writes history left width (OfLevel active.frame active.level NumbersOf) (merged (lanes_of width active.lanes) numbers (regions_in history width put (OfLevel active.frame active.level NumbersOf))) width put new
+            → (masked : Masked) → IsShown history width compiled old masked → initial declared_value (waiting_in (regions_in history width old) active.frame active.level active.step) masked.state ≡ Ok values
             → EndsAs history width compiled masked old (Ok tt) new
         declared_ends new numbers long each_number wrote_numbers masked shown is =
             ends_well history left width compiled masked
-            (sent_on active.frame 0 lanes (λ k. next) (declared_in active.frame variable.id variable.rate lanes values regions)) (0 + width + width) old new
+            (sent_on active.frame active.level lanes (λ k. next) (declared_in active.frame variable.id variable.rate lanes values regions)) (0 + width + width) old new
             (sent_then history left width compiled old sound active declaring declaration declares_here (var_view variable) own_here.1.scalar (omega arith) mid begins region region_is
             (λ l ws. declared_region variable.rate l values ws) put made new numbers next long each_number wrote_numbers)
-            (declares (program_of compiled) (variables_of compiled) width regions masked shown.shows active.frame active.function declaring active.step
+            (declares (program_of compiled) (variables_of compiled) width regions masked shown.shows active.frame active.level active.function declaring active.step
             found_declaration.1.0 (var_view variable) declared_value next declares_here.next
             sizes own_here.0 own_here.1 values is)
 
@@ -182,31 +183,32 @@ module _ {T : Type 0} (history : T → History) (left : T → ℕ) (width : ℕ)
     pub assignment_faults : (masked : Masked) → IsShown history width compiled old masked → (fault : ModelFault)
         → value assigned_value (lanes_of width active.lanes) masked.state ≡ Err fault → FailsWith (program_of compiled) masked fault
     assignment_faults masked shown fault is =
-        assignment_fails (program_of compiled) (variables_of compiled) width regions masked shown.shows active.frame active.function assigning active.step
+        assignment_fails (program_of compiled) (variables_of compiled) width regions masked shown.shows active.frame active.level active.function assigning active.step
         found_assignment.1.0 (var_view variable) assigned_value next assigns_here.next fault
         (ap (λ l. value assigned_value l masked.state) (sym assigns_here.lanes) ∙ is)
 
     module _ (mid : MachineWords T) (begins : Begins history left width undone.Step old mid) (region : Region) (region_is : region ≡ region_of active.frame variable.id) where
       pub may_assign : MayPut history left width variable.rate region active.lanes mid
       may_assign = may_put_first history left width compiled old sound active assigning assignment assigns_here (var_view variable) scalar_here (omega arith) mid begins region region_is
+          (some_active history width compiled old sound active assigning assignment assigns_here tt)
 
       module _ (values : List ℕ) (put : MachineWords T)
           (made : Writes history left width region (assigned_region variable.rate (lanes_of width active.lanes) values (regions_in history width mid region)) width mid put) where
-        pub assigned_may_send : MaySend history left width active.frame active.lanes put
+        pub assigned_may_send : MaySend history left width active.frame active.level active.lanes put
         assigned_may_send =
             may_send_then history left width compiled old sound active assigning assignment assigns_here (var_view variable) scalar_here (omega arith) mid begins region region_is
-            (λ l ws. assigned_region variable.rate l values ws) put made
+            (λ l ws. assigned_region variable.rate l values ws) put made (some_active history width compiled old sound active assigning assignment assigns_here tt)
 
         pub assigned_ends : (new : MachineWords T) (numbers : List ℕ) → length numbers ≡ width → ((k : ℕ) → k < width → at numbers k ≡ next)
-            → Writes history left width (OfLevel active.frame 0 NumbersOf) (merged (lanes_of width active.lanes) numbers (regions_in history width put (OfLevel active.frame 0 NumbersOf))) width put new
+            → Writes history left width (OfLevel active.frame active.level NumbersOf) (merged (lanes_of width active.lanes) numbers (regions_in history width put (OfLevel active.frame active.level NumbersOf))) width put new
             → (masked : Masked) → IsShown history width compiled old masked → value assigned_value (lanes_of width active.lanes) masked.state ≡ Ok values
             → EndsAs history width compiled masked old (Ok tt) new
         assigned_ends new numbers long each_number wrote_numbers masked shown is =
             ends_well history left width compiled masked
-            (sent_on active.frame 0 lanes (λ k. next) (assigned_in active.frame variable.id variable.rate lanes values regions)) (0 + width + width) old new
+            (sent_on active.frame active.level lanes (λ k. next) (assigned_in active.frame variable.id variable.rate lanes values regions)) (0 + width + width) old new
             (sent_then history left width compiled old sound active assigning assignment assigns_here (var_view variable) scalar_here (omega arith) mid begins region region_is
             (λ l ws. assigned_region variable.rate l values ws) put made new numbers next long each_number wrote_numbers)
-            (assigns (program_of compiled) (variables_of compiled) width regions masked shown.shows active.frame active.function assigning active.step
+            (assigns (program_of compiled) (variables_of compiled) width regions masked shown.shows active.frame active.level active.function assigning active.step
             found_assignment.1.0 (var_view variable) assigned_value next assigns_here.next
             sizes scalar_here shown.declared there_here values (ap (λ l. value assigned_value l masked.state) (sym assigns_here.lanes) ∙ is))
 
@@ -249,7 +251,7 @@ module _ {T : Type 0} (history : T → History) (left : T → ℕ) (width : ℕ)
     pub operand_faults : (masked : Masked) → IsShown history width compiled old masked → (fault : ModelFault)
         → value operand (lanes_of width active.lanes) masked.state ≡ Err fault → FailsWith (program_of compiled) masked fault
     operand_faults masked shown fault is =
-        operand_fails (program_of compiled) (variables_of compiled) width regions masked shown.shows active.frame active.function changing active.step
+        operand_fails (program_of compiled) (variables_of compiled) width regions masked shown.shows active.frame active.level active.function changing active.step
         number (var_view variable) change.target_type change.operator change.value_type operand next changes_here.next fault (operand_is masked (Err fault) is)
 
     -- the old words were read of the variable's region, and the operation was made of them
@@ -264,7 +266,7 @@ module _ {T : Type 0} (history : T → History) (left : T → ℕ) (width : ℕ)
       pub change_faults : (fault : ModelFault) → changed change (lanes_of width active.lanes) words operands ≡ Err fault
           → (masked : Masked) → IsShown history width compiled old masked → value operand (lanes_of width active.lanes) masked.state ≡ Ok operands → FailsWith (program_of compiled) masked fault
       change_faults fault made masked shown is =
-          operation_fails (program_of compiled) (variables_of compiled) width regions masked shown.shows active.frame active.function changing active.step
+          operation_fails (program_of compiled) (variables_of compiled) width regions masked shown.shows active.frame active.level active.function changing active.step
           number (var_view variable) change.target_type change.operator change.value_type operand next changes_here.next
           sizes changed_scalar shown.declared changed_there operands (operand_is masked (Ok operands) is) fault
           (ap made_by (sym changes_here.lanes)
@@ -273,16 +275,16 @@ module _ {T : Type 0} (history : T → History) (left : T → ℕ) (width : ℕ)
       pub change_goes : (values : List ℕ) → changed change (lanes_of width active.lanes) words operands ≡ Ok values
           → (masked : Masked) → IsShown history width compiled old masked → value operand (lanes_of width active.lanes) masked.state ≡ Ok operands
           → GoesTo (program_of compiled) (variables_of compiled) width masked
-          (sent_on active.frame 0 (waiting_in (regions_in history width old) active.frame 0 active.step) (λ k. next)
-          (assigned_in active.frame variable.id variable.rate (waiting_in (regions_in history width old) active.frame 0 active.step) values (regions_in history width old)))
+          (sent_on active.frame active.level (waiting_in (regions_in history width old) active.frame active.level active.step) (λ k. next)
+          (assigned_in active.frame variable.id variable.rate (waiting_in (regions_in history width old) active.frame active.level active.step) values (regions_in history width old)))
       change_goes values made masked shown is =
           let gives = changed_gives width change (lanes_of width active.lanes) (lanes_long width active.lanes) variable.rate own_words words operands read values made in
           let results = gives.0 in
           let same : values ≡ result_words lanes change.target_type change.value_type results =
           gives.2 ∙ ap (λ l. result_words l change.target_type change.value_type results) changes_here.lanes in
           subst (λ vs. GoesTo (program_of compiled) (variables_of compiled) width masked
-          (sent_on active.frame 0 lanes (λ k. next) (assigned_in active.frame variable.id variable.rate lanes vs regions))) (sym same)
-          (changes (program_of compiled) (variables_of compiled) width regions masked shown.shows active.frame active.function changing active.step
+          (sent_on active.frame active.level lanes (λ k. next) (assigned_in active.frame variable.id variable.rate lanes vs regions))) (sym same)
+          (changes (program_of compiled) (variables_of compiled) width regions masked shown.shows active.frame active.level active.function changing active.step
           number (var_view variable) change.target_type change.operator change.value_type operand next changes_here.next
           sizes changed_scalar shown.declared changed_there operands (operand_is masked (Ok operands) is) results
           (ap made_by (sym changes_here.lanes) ∙ gives.1))
@@ -290,24 +292,25 @@ module _ {T : Type 0} (history : T → History) (left : T → ℕ) (width : ℕ)
     module _ (mid : MachineWords T) (begins : Begins history left width undone.Step old mid) (region : Region) (region_is : region ≡ region_of active.frame variable.id) where
       pub may_change : MayPut history left width variable.rate region active.lanes mid
       may_change = may_put_first history left width compiled old sound active changing changing_point changes_here (var_view variable) changed_scalar (omega arith) mid begins region region_is
+          (some_active history width compiled old sound active changing changing_point changes_here tt)
 
       module _ (values : List ℕ) (put : MachineWords T)
           (made : Writes history left width region (assigned_region variable.rate (lanes_of width active.lanes) values (regions_in history width mid region)) width mid put) where
-        pub changed_may_send : MaySend history left width active.frame active.lanes put
+        pub changed_may_send : MaySend history left width active.frame active.level active.lanes put
         changed_may_send =
             may_send_then history left width compiled old sound active changing changing_point changes_here (var_view variable) changed_scalar (omega arith) mid begins region region_is
-            (λ l ws. assigned_region variable.rate l values ws) put made
+            (λ l ws. assigned_region variable.rate l values ws) put made (some_active history width compiled old sound active changing changing_point changes_here tt)
 
         pub changed_ends : (new : MachineWords T) (numbers : List ℕ) → length numbers ≡ width → ((k : ℕ) → k < width → at numbers k ≡ next)
-            → Writes history left width (OfLevel active.frame 0 NumbersOf) (merged (lanes_of width active.lanes) numbers (regions_in history width put (OfLevel active.frame 0 NumbersOf))) width put new
+            → Writes history left width (OfLevel active.frame active.level NumbersOf) (merged (lanes_of width active.lanes) numbers (regions_in history width put (OfLevel active.frame active.level NumbersOf))) width put new
             → (masked : Masked)
             → GoesTo (program_of compiled) (variables_of compiled) width masked
-            (sent_on active.frame 0 (waiting_in (regions_in history width old) active.frame 0 active.step) (λ k. next)
-            (assigned_in active.frame variable.id variable.rate (waiting_in (regions_in history width old) active.frame 0 active.step) values (regions_in history width old)))
+            (sent_on active.frame active.level (waiting_in (regions_in history width old) active.frame active.level active.step) (λ k. next)
+            (assigned_in active.frame variable.id variable.rate (waiting_in (regions_in history width old) active.frame active.level active.step) values (regions_in history width old)))
             → EndsAs history width compiled masked old (Ok tt) new
         changed_ends new numbers long each_number wrote_numbers masked goes =
             ends_well history left width compiled masked
-            (sent_on active.frame 0 lanes (λ k. next) (assigned_in active.frame variable.id variable.rate lanes values regions)) (0 + width + width) old new
+            (sent_on active.frame active.level lanes (λ k. next) (assigned_in active.frame variable.id variable.rate lanes values regions)) (0 + width + width) old new
             (sent_then history left width compiled old sound active changing changing_point changes_here (var_view variable) changed_scalar (omega arith) mid begins region region_is
             (λ l ws. assigned_region variable.rate l values ws) put made new numbers next long each_number wrote_numbers)
             goes

@@ -1,7 +1,6 @@
 -- Each frame was made for some lane: a run begins so, and each step and poke keeps it.
 use Rattle.std.proofs.Common.{ℕ, zero, suc, ◌<◌, ◌≡◌, refl, sym, ◌∙◌, ap, subst, true, false, arith, List, [], ◌∷◌, length, Option, Some, None}
 use Rattle.std.specs.Prelude.{Err, IfOk, Ok, Result, map, replicate, slice_get, ◌==◌}
-use Rattle.std.proofs.lemmas.Option.{slice_get_within}
 use Rattle.undo_log.specs.History.{History}
 use Rattle.gang_types.specs.declared.faults.FaultName.TheVariants.{CallDepth}
 use Rattle.gang_types.specs.declared.places.VarId.{VarId}
@@ -13,24 +12,23 @@ use Rattle.gang_types.specs.Lanes.{Lanes, lowest, no_lane}
 use Rattle.gang_types.specs.LaneLaws.{some_lane}
 use Rattle.gang_model.specs.Types.Tree.{Assign, Assigns, Call, Change, Check, PackedLoad, PackedStore, Declare, Declares, ElementOf, Function, Nothing, Program, ResultFor, Return, Returns, Scalar, StepNumber, Stmt}
 use Rattle.gang_model.specs.Running.Lanes.{Fault, ◌>>=◌, at, each, try_each}
+use Rattle.gang_model.specs.Running.Rounds.{Turn, rounds}
 use Rattle.gang_model.specs.Running.State.{Frame, State, Store, view_of, with_var, with_words_in}
-use Rattle.gang_model.specs.Running.Step.{Passed, ToElements, deliver, entered, initial, left, old_values, part, passed, returned_on, run, write}
+use Rattle.gang_model.specs.Running.Step.{Passed, ToElements, deliver, entered, initial, left, old_values, part, passed, returned_on, run, with_store, write}
 use Rattle.gang_model.specs.Running.Value.{value}
 use Rattle.gang_model.specs.Debugger.Events.{ElementAt, LaneOf, Poked, Row, WholeOf, poked, started, with_rows}
 use Rattle.gang_model.proofs.LaneWords.{if_ok_after, if_ok_bind, if_or_ok}
-use Rattle.mask_states.specs.Points.{Begin, Branch, Choose, Enter, Go, Point, Put, Turn, closing_number, function_ways, points_in}
+use Rattle.mask_states.specs.Points.{Begin, Branch, Choose, Enter, Go, Point, Put, Turn as TakeTurn, points_in}
 use Rattle.mask_states.specs.Masked.{Level, Masked, next_in, next_waiting}
-use Rattle.mask_states.specs.MaskedStep.{Acted, Goes, act, acted, masked_start, masked_step, points_at, step_levels, step_point, untasked, untasked_frame}
-use Rattle.mask_states.proofs.PlacedPoints.{length-points_of}
+use Rattle.mask_states.specs.MaskedStep.{Acted, Goes, act, acted, masked_start, masked_step, points_at, step_levels, step_point, turn_taken, untasked, untasked_frame}
 use Rattle.machine_states.specs.Plain.{IsPlainProgram}
-use Rattle.machine_states.specs.Regions.{NumbersOf, Regions, OfLevel}
+use Rattle.machine_states.specs.Regions.{Regions}
 use Rattle.machine_states.specs.Shows.{Shows, ShowsFrames}
-use Rattle.machine_states.specs.Levels.{body_level}
-use Rattle.machine_states.proofs.NextPoints.{levels_are}
-use Rattle.machine_states.proofs.PlainLevels.{plain_innermost}
+use Rattle.machine_states.specs.Awaited.{EndHolds}
+use Rattle.machine_states.specs.Declared.{AreDeclared, FramesDeclared, IsAwaited}
 use Rattle.machine_states.specs.Variables.{Variables}
 use Rattle.machine_states.proofs.Beginnings.{nothing_given}
-use Rattle.machine_states.proofs.AwaitedLevels.{Waits, waits_below}
+use Rattle.machine_states.proofs.AwaitedLevels.{IsNoTurn, Waits, point_below, waits_below}
 use Rattle.machine_states.proofs.DeclaredPoints.{IsPlainPoint, IsPlainPut, plain_point}
 use Rattle.machine_states.proofs.DeclaredSteps.{IfGoes, goes_at}
 use Rattle.machine_words.specs.declared.words.MachineWords.{MachineWords}
@@ -48,6 +46,10 @@ words_called state (Local n) words h = by_frames state.frames h
     by_frames : (frames : List Frame) → HaveLanes frames → HaveLanes (with_words_in (record { memory = state.memory; frames = frames }) (Local n) words).frames
     by_frames [] h = tt
     by_frames (frame ∷ frames) h = h
+
+pub store_called : (store : Store) (state : State) → HaveLanes state.frames → HaveLanes (with_store store state).frames
+store_called [] state h = h
+store_called (entry ∷ store) state h = store_called store (with_words_in state entry.0 entry.1) (words_called state entry.0 entry.1 h)
 
 -- a poke keeps each frame's lanes
 pub poked_called : (what : Poked) (word : ℕ) (state : State) → HaveLanes state.frames → HaveLanes (poked what word state).frames
@@ -124,17 +126,21 @@ module _ (variables : Variables) (p : Program) (m : ℕ) (memory : Store) (frame
   entered_called None n number result_for a lanes some = h
   entered_called (Some f) n number result_for a lanes some = if_or_ok After (length (frame ∷ frames) == 64) (record { name = CallDepth; lane = lowest lanes }) _ (some, h)
 
-  act_called : (number : StepNumber) (point : Point) (lanes : Lanes) (level : Level) → no_lane lanes ≡ false → IsPlainPoint variables m number point
-      → IfOk (act p number point lanes state level []) (λ a. HaveLanes a.state.frames)
-  act_called number (Put s next) lanes level some plain = if_ok_bind After _ (run p s lanes state) _ (run_called s lanes plain) (λ after kept. kept)
-  act_called number (Go next) lanes level some plain = h
-  act_called number (Branch test yes' no') lanes level some plain = if_ok_after _ (value test lanes state) _ (λ c. h)
-  act_called number (Choose e segments entries next) lanes level some plain = absurd plain
-  act_called number (Begin form rounds next) lanes level some plain = absurd plain
-  act_called number (Turn body) lanes level some plain = absurd plain
-  act_called number (Enter n args result_for next) lanes level some plain =
+  round_called : (body : StepNumber) (turns : List Turn) (level : Level) (below : List Level) → HaveLanes (turn_taken body turns state level below).state.frames
+  round_called body [] level below = h
+  round_called body (turn ∷ turns) level below = store_called turn.indices state h
+
+  act_called : (number : StepNumber) (point : Point) (lanes : Lanes) (level : Level) (below : List Level) → (IsNoTurn point → no_lane lanes ≡ false) → IsPlainPoint variables m number point
+      → IfOk (act p number point lanes state level below) (λ a. HaveLanes a.state.frames)
+  act_called number (Put s next) lanes level below some plain = if_ok_bind After _ (run p s lanes state) _ (run_called s lanes plain) (λ after kept. kept)
+  act_called number (Go next) lanes level below some plain = h
+  act_called number (Branch test yes' no') lanes level below some plain = if_ok_after _ (value test lanes state) _ (λ c. h)
+  act_called number (Choose e segments entries next) lanes level below some plain = if_ok_after _ (value e lanes state) _ (λ x. h)
+  act_called number (Begin form rounds' next) lanes level below some plain = if_ok_after _ (rounds form lanes state) _ (λ turns. h)
+  act_called number (TakeTurn body) lanes level below some plain = round_called body level.turns level below
+  act_called number (Enter n args result_for next) lanes level below some plain =
       if_ok_bind After _ (run p (Call number n args result_for) lanes state) _
-      (if_ok_after After (passed args lanes state) _ (λ a. entered_called (slice_get p.functions n) n number result_for a lanes some))
+      (if_ok_after After (passed args lanes state) _ (λ a. entered_called (slice_get p.functions n) n number result_for a lanes (some tt)))
       (λ after kept. untasked_called after.frames kept)
 
 abbrev Kept : Masked → Type 0
@@ -145,37 +151,33 @@ if_acted (Ok a) rest h = h
 if_acted (Err fault) rest h = tt
 
 module _ (variables : Variables) (most : ℕ) (p : Program) (plain : IsPlainProgram variables most p) (regions : Regions) (w : ℕ) (memory : Store) where
-  module _ (frame : Frame) (frames : List Frame) (h : HaveLanes (frame ∷ frames)) (rest : List (List Level)) (f : Function) (is : slice_get p.functions frame.function ≡ Some f) (numbers : List StepNumber) where
-    abbrev level : Level
-    level = body_level (closing_number f) numbers
-
-    point_called : (o : Option Point) → slice_get (points_in f) (next_in level) ≡ o → IfGoes (step_point p memory frames frame o level [] rest) Kept
+  module _ (frame : Frame) (frames : List Frame) (h : HaveLanes (frame ∷ frames)) (rest : List (List Level)) (f : Function) (is : slice_get p.functions frame.function ≡ Some f)
+      (P : StepNumber → Type 0) (top : Level) (below : List Level) (ends : EndHolds P f top below) where
+    point_called : (o : Option Point) → slice_get (points_in f) (next_in top) ≡ o → IfGoes (step_point p memory frames frame o top below rest) Kept
     point_called None e = left_called p (slice_get p.functions frame.function) frame memory frames h.1
     point_called (Some point) e =
-        let within = slice_get_within (points_in f) (next_in level) point e in
-        let w : Waits level = waits_below level (omega (arith, within, length-points_of f.body (function_ways f))) in
-        if_acted (act p (next_in level) point (next_waiting level) (record { memory = memory; frames = frame ∷ frames }) level []) rest
-        (act_called variables p frame.function memory frame frames h (next_in level) point (next_waiting level) level (some_lane (next_waiting level) w.lane w.waiting)
-        (plain_point variables frame.function f (plain.functions frame.function f is).body (next_in level) point e))
+        let some : IsNoTurn point → no_lane (next_waiting top) ≡ false = λ unturned.
+        let w : Waits top = waits_below top (point_below P f top below point ends unturned e) in some_lane (next_waiting top) w.lane w.waiting in
+        if_acted (act p (next_in top) point (next_waiting top) (record { memory = memory; frames = frame ∷ frames }) top below) rest
+        (act_called variables p frame.function memory frame frames h (next_in top) point (next_waiting top) top below some
+        (plain_point variables frame.function f (plain.functions frame.function f is).body (next_in top) point e))
 
-  frames_called : (frames : List Frame) (levels : List (List Level)) → ShowsFrames p variables w regions frames levels → HaveLanes frames → IfGoes (step_levels p memory frames levels) Kept
-  frames_called [] levels shown h = tt
-  frames_called (frame ∷ frames) [] shown h = tt
-  frames_called (frame ∷ frames) (levels ∷ rest) shown h =
-      let s = shown.0 in
-      let f : Function = s.function in
-      let numbers = regions (OfLevel (length frames) 0 NumbersOf) in
-      let level : Level = body_level (closing_number f) numbers in
-      let inner = plain_innermost variables frame.function f (plain.functions frame.function f s.is_function).body w regions (length frames) in
-      subst (λ ls. IfGoes (step_levels p memory (frame ∷ frames) (ls ∷ rest)) Kept) (sym (levels_are p variables w regions (length frames) frame levels f s s.is_function inner))
-      (subst (λ o. IfGoes (step_point p memory frames frame (slice_get (points_at o) (next_in level)) level [] rest) Kept) (sym s.is_function)
-      (point_called frame frames h rest f s.is_function numbers (slice_get (points_in f) (next_in level)) refl))
+  frames_called : (frames : List Frame) (levels : List (List Level)) → ShowsFrames p variables w regions frames levels → FramesDeclared variables p frames levels → HaveLanes frames
+      → IfGoes (step_levels p memory frames levels) Kept
+  frames_called [] levels shown all h = tt
+  frames_called (frame ∷ frames) [] shown all h = tt
+  frames_called (frame ∷ frames) ([] ∷ rest) shown all h = tt
+  frames_called (frame ∷ frames) ((top ∷ below) ∷ rest) shown all h =
+      let f : Function = shown.0.function in
+      let is = shown.0.is_function in
+      subst (λ o. IfGoes (step_point p memory frames frame (slice_get (points_at o) (next_in top)) top below rest) Kept) (sym is)
+      (point_called frame frames h rest f is (IsAwaited variables frame.function f frame.vars (length below)) top below (all.0 f is).1 (slice_get (points_in f) (next_in top)) refl)
 
 -- a step keeps it
 pub step_called : (variables : Variables) (most : ℕ) (p : Program) → IsPlainProgram variables most p → (regions : Regions) (w : ℕ) (masked next : Masked) → Shows p variables w regions masked
-    → masked_step p masked ≡ Goes next → HaveLanes masked.state.frames → HaveLanes next.state.frames
-step_called variables most p plain regions w masked next shows e h =
-    goes_at Kept (masked_step p masked) next e (frames_called variables most p plain regions w masked.state.memory masked.state.frames masked.levels shows.frames h)
+    → AreDeclared variables p masked → masked_step p masked ≡ Goes next → HaveLanes masked.state.frames → HaveLanes next.state.frames
+step_called variables most p plain regions w masked next shows all e h =
+    goes_at Kept (masked_step p masked) next e (frames_called variables most p plain regions w masked.state.memory masked.state.frames masked.levels shows.frames all h)
 
 -- ---- the start
 
@@ -194,4 +196,4 @@ pub called_behind : {T : Type 0} (history : T → History) (w : ℕ) (compiled :
     → masked_step (program_of compiled) sound.masked ≡ Goes next → HaveLanes next.state.frames
 called_behind history w compiled words sound next e =
     let runnable = sound.lie.compiled_is.runnable in
-    step_called (variables_of compiled) runnable.most (program_of compiled) runnable.plain (regions_in history w words) w sound.masked next sound.shown.shows e sound.called
+    step_called (variables_of compiled) runnable.most (program_of compiled) runnable.plain (regions_in history w words) w sound.masked next sound.shown.shows sound.shown.declared e sound.called

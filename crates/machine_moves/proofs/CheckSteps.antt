@@ -30,7 +30,7 @@ use Rattle.machine_moves.specs.Checks.{HoldsInEach}
 use Rattle.machine_moves.specs.Compiled.{program_of, variables_of}
 use Rattle.machine_moves.specs.Standing.{AreSound, Begins, DoesNext, EndsAs, IsActive, IsShown, IsValueAt}
 use Rattle.machine_moves.proofs.SentSteps.{MaySend, may_send, sent_so}
-use Rattle.machine_moves.proofs.Standings.{begun, ends_well, lanes_long, value_at}
+use Rattle.machine_moves.proofs.Standings.{begun, ends_well, lanes_long, some_active, value_at}
 
 -- ---- the lanes in which a test does not hold
 
@@ -103,34 +103,35 @@ module _ {T : Type 0} (history : T → History) (left : T → ℕ) (width : ℕ)
       subst (λ c. IsValueAt width compiled regions active checked c) (sym is)
       (value_at width compiled sound.lie.compiled_is regions active does.0 point_is found.3 checked test.items refl found.2)
 
-  pub check_may_send : (mid : MachineWords T) → Begins history left width undone.Step old mid → MaySend history left width active.frame active.lanes mid
+  pub check_may_send : (mid : MachineWords T) → Begins history left width undone.Step old mid → MaySend history left width active.frame active.level active.lanes mid
   check_may_send mid begins =
       may_send history left width compiled old sound active does.0 point_is found.3 regions 0 mid (begun history left width compiled undone.Step old mid sound.lie begins) (omega arith)
+      (some_active history width compiled old sound active does.0 point_is found.3 tt)
 
-  value_is : (masked : Masked) (r : Result (List ℕ) ModelFault) → value checked (lanes_of width active.lanes) masked.state ≡ r → value checked (waiting_in regions active.frame 0 active.step) masked.state ≡ r
+  value_is : (masked : Masked) (r : Result (List ℕ) ModelFault) → value checked (lanes_of width active.lanes) masked.state ≡ r → value checked (waiting_in regions active.frame active.level active.step) masked.state ≡ r
   value_is masked r is = ap (λ l. value checked l masked.state) (sym found.3.lanes) ∙ is
 
   pub check_value_faults : (masked : Masked) → IsShown history width compiled old masked → (fault : ModelFault) → value checked (lanes_of width active.lanes) masked.state ≡ Err fault
       → FailsWith (program_of compiled) masked fault
   check_value_faults masked shown fault is =
-      check_value_fails (program_of compiled) (variables_of compiled) width regions masked shown.shows active.frame active.function does.0 active.step found.0 checked next found.3.next fault
+      check_value_fails (program_of compiled) (variables_of compiled) width regions masked shown.shows active.frame active.level active.function does.0 active.step found.0 checked next found.3.next fault
       (value_is masked (Err fault) is)
 
   module _ (values : List ℕ) (masked : Masked) (shown : IsShown history width compiled old masked) (is : value checked (lanes_of width active.lanes) masked.state ≡ Ok values) where
     pub check_faults : (fault : Fault) → HoldsInEach (lanes_of width active.lanes) values (Err fault) → FailsWith (program_of compiled) masked (fault_view fault)
     check_faults fault fails =
-        check_fails (program_of compiled) (variables_of compiled) width regions masked shown.shows active.frame active.function does.0 active.step found.0 checked next found.3.next
+        check_fails (program_of compiled) (variables_of compiled) width regions masked shown.shows active.frame active.level active.function does.0 active.step found.0 checked next found.3.next
         values (value_is masked (Ok values) is) (fault_view fault)
         (ap (λ l. asserted l values) (sym found.3.lanes) ∙ asserted_fails (lanes_of width active.lanes) values fault fails)
 
     pub check_ends : HoldsInEach (lanes_of width active.lanes) values (Ok tt) → (mid new : MachineWords T) → Begins history left width undone.Step old mid
         → (numbers : List ℕ) → length numbers ≡ width → ((k : ℕ) → k < width → at numbers k ≡ next)
-        → Writes history left width (OfLevel active.frame 0 NumbersOf) (merged (lanes_of width active.lanes) numbers (regions_in history width mid (OfLevel active.frame 0 NumbersOf))) width mid new
+        → Writes history left width (OfLevel active.frame active.level NumbersOf) (merged (lanes_of width active.lanes) numbers (regions_in history width mid (OfLevel active.frame active.level NumbersOf))) width mid new
         → EndsAs history width compiled masked old (Ok tt) new
     check_ends hold mid new begins numbers long each_number made =
-        ends_well history left width compiled masked (sent_on active.frame 0 (waiting_in regions active.frame 0 active.step) (λ k. next) regions) (0 + width) old new
+        ends_well history left width compiled masked (sent_on active.frame active.level (waiting_in regions active.frame active.level active.step) (λ k. next) regions) (0 + width) old new
         (sent_so history left width compiled old sound active does.0 point_is found.3 regions 0 mid (begun history left width compiled undone.Step old mid sound.lie begins) (omega arith)
         new numbers (λ k. next) long each_number made)
-        (checks (program_of compiled) (variables_of compiled) width regions masked shown.shows active.frame active.function does.0 active.step found.0 checked next found.3.next
+        (checks (program_of compiled) (variables_of compiled) width regions masked shown.shows active.frame active.level active.function does.0 active.step found.0 checked next found.3.next
         values (value_is masked (Ok values) is) (each (lanes_of width active.lanes) (λ k. 0))
         (ap (λ l. asserted l values) (sym found.3.lanes) ∙ asserted_holds width (lanes_of width active.lanes) values (lanes_long width active.lanes) hold))

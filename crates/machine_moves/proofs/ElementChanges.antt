@@ -1,9 +1,9 @@
 -- Changes of elements of arrays: `a[e] op= value`.
-use Rattle.std.proofs.Common.{ℕ, ◌+◌, ◌≤◌, inl, inr, ◌≡◌, refl, sym, subst, arith, List, Some, Vec, Global}
+use Rattle.std.proofs.Common.{ℕ, false, ◌+◌, ◌≤◌, inl, inr, ◌≡◌, refl, sym, subst, arith, List, Some, Vec, Global}
 use Rattle.std.specs.Prelude.{Ok, Err}
 use Rattle.gang_types.specs.declared.places.VarId.{VarId}
 use Rattle.gang_types.specs.declared.types.Rate.{Rate}
-use Rattle.gang_types.specs.Lanes.{Lanes}
+use Rattle.gang_types.specs.Lanes.{Lanes, no_lane}
 use Rattle.gang_types.specs.Masks.{lanes_of}
 use Rattle.gang_model.specs.Types.Tree.{Expr, StepNumber, ElementOf, Change as ModelChange, Function}
 use Rattle.gang_model.specs.Running.Lanes.{Fault as ModelFault}
@@ -33,7 +33,7 @@ use Rattle.machine_moves.specs.Results.{changed}
 use Rattle.machine_moves.specs.Standing.{AreSound, DoesNext, IsActive, IsShown, IsValueAt}
 use Rattle.machine_moves.proofs.ElementStores.{AreReached, are_reached, by_fault}
 use Rattle.machine_moves.proofs.OldWords.{given, refused}
-use Rattle.machine_moves.proofs.Standings.{IsAt, active_plain, value_at}
+use Rattle.machine_moves.proofs.Standings.{IsAt, active_plain, some_active, value_at}
 
 -- what the code says of its point
 module _ (width : ℕ) (compiled : CompiledProgram) (regions : Regions) (active : Active) (array : VarId) (index : Vec Instruction Global) (change : Change) (value' : Vec Instruction Global) (next : ℕ) where
@@ -73,7 +73,7 @@ module _ {T : Type 0} (history : T → History) (width : ℕ) (compiled : Compil
   regions = regions_in history width old
 
   abbrev lanes : Lanes
-  lanes = waiting_in regions active.frame 0 active.step
+  lanes = waiting_in regions active.frame active.level active.step
 
   abbrev found : (f : Function) × IsChanging width compiled (regions_in history width old) active array index change value' next f
   found = changes_at width compiled (regions_in history width old) active array index change value' next does
@@ -92,7 +92,8 @@ module _ {T : Type 0} (history : T → History) (width : ℕ) (compiled : Compil
 
   -- the step sets words enough for a store and where its lanes go on
   pub store_here : (f : Function) × (point : Point) × IsActive width compiled (regions_in history width old) active f (Some point) × (width + width ≤ words_set width point)
-  store_here = (found.0, point, here, omega arith)
+      × (no_lane (lanes_of width active.lanes) ≡ false)
+  store_here = (found.0, point, here, omega arith, some_active history width compiled old sound active found.0 point here tt)
 
   array_here : IsArray (variables_of compiled) active.function array
   array_here = (active_plain width compiled sound.lie.compiled_is regions active found.0 point here).0
@@ -115,11 +116,11 @@ module _ {T : Type 0} (history : T → History) (width : ℕ) (compiled : Compil
         → FailsWith (program_of compiled) masked fault
     change_fails fault is =
         by_fault view index_expr operand lanes masked.state (FailsWith (program_of compiled) masked fault) fault
-        (change_index_fails (program_of compiled) (variables_of compiled) width regions masked shown.shows active.frame active.function found.0 active.step found.1.number array found.1.rate index_expr
+        (change_index_fails (program_of compiled) (variables_of compiled) width regions masked shown.shows active.frame active.level active.function found.0 active.step found.1.number array found.1.rate index_expr
         change.target_type change.operator change.value_type operand next here.next array_here fault)
-        (λ x index_is. change_operand_fails (program_of compiled) (variables_of compiled) width regions masked shown.shows active.frame active.function found.0 active.step found.1.number array found.1.rate index_expr
+        (λ x index_is. change_operand_fails (program_of compiled) (variables_of compiled) width regions masked shown.shows active.frame active.level active.function found.0 active.step found.1.number array found.1.rate index_expr
         change.target_type change.operator change.value_type operand next here.next array_here x index_is fault)
-        (λ x y index_is value_is. change_missing_fails (program_of compiled) (variables_of compiled) width regions masked shown.shows active.frame active.function found.0 active.step found.1.number array found.1.rate index_expr
+        (λ x y index_is value_is. change_missing_fails (program_of compiled) (variables_of compiled) width regions masked shown.shows active.frame active.level active.function found.0 active.step found.1.number array found.1.rate index_expr
         change.target_type change.operator change.value_type operand next here.next array_here x index_is y value_is fault)
         (subst (λ l. reached_in view index_expr operand l masked.state ≡ Err fault) here.lanes is)
 
@@ -130,20 +131,20 @@ module _ {T : Type 0} (history : T → History) (width : ℕ) (compiled : Compil
 
       pub operation_fails : (fault : ModelFault) → changed change (lanes_of width active.lanes) elements y ≡ Err fault → FailsWith (program_of compiled) masked fault
       operation_fails fault made =
-          change_operation_fails (program_of compiled) (variables_of compiled) width regions masked shown.shows active.frame active.function found.0 active.step found.1.number array found.1.rate index_expr
+          change_operation_fails (program_of compiled) (variables_of compiled) width regions masked shown.shows active.frame active.level active.function found.0 active.step found.1.number array found.1.rate index_expr
           change.target_type change.operator change.value_type operand next here.next array_here x all.index_is y all.value_is elements all.elements_are fault
           (refused (result_words lanes change.target_type change.value_type) (operated lanes change.target_type change.operator change.value_type elements y) fault
           (subst (λ l. changed change l elements y ≡ Err fault) here.lanes made))
 
       pub change_goes : (values : List ℕ) → changed change (lanes_of width active.lanes) elements y ≡ Ok values → (stored : View) → stored ≡ view_at (regions_in history width old) active.frame array
           → GoesTo (program_of compiled) (variables_of compiled) width masked
-          (sent_on active.frame 0 (lanes_of width active.lanes) (λ k. next) (stored_in stored (lanes_of width active.lanes) x values (regions_in history width old)))
+          (sent_on active.frame active.level (lanes_of width active.lanes) (λ k. next) (stored_in stored (lanes_of width active.lanes) x values (regions_in history width old)))
       change_goes values made stored stored_is =
           let results = given (result_words lanes change.target_type change.value_type) (operated lanes change.target_type change.operator change.value_type elements y) values
           (subst (λ l. changed change l elements y ≡ Ok values) here.lanes made) in
-          subst (λ v. GoesTo (program_of compiled) (variables_of compiled) width masked (sent_on active.frame 0 (lanes_of width active.lanes) (λ k. next) (stored_in v (lanes_of width active.lanes) x values regions)))
+          subst (λ v. GoesTo (program_of compiled) (variables_of compiled) width masked (sent_on active.frame active.level (lanes_of width active.lanes) (λ k. next) (stored_in v (lanes_of width active.lanes) x values regions)))
           (sym stored_is)
-          (subst (λ l. GoesTo (program_of compiled) (variables_of compiled) width masked (sent_on active.frame 0 l (λ k. next) (stored_in view l x values regions))) (sym here.lanes)
-          (subst (λ vs. GoesTo (program_of compiled) (variables_of compiled) width masked (sent_on active.frame 0 lanes (λ k. next) (stored_in view lanes x vs regions))) (sym results.2)
-          (element_changes (program_of compiled) (variables_of compiled) width regions masked shown.shows active.frame active.function found.0 active.step found.1.number array found.1.rate index_expr
+          (subst (λ l. GoesTo (program_of compiled) (variables_of compiled) width masked (sent_on active.frame active.level l (λ k. next) (stored_in view l x values regions))) (sym here.lanes)
+          (subst (λ vs. GoesTo (program_of compiled) (variables_of compiled) width masked (sent_on active.frame active.level lanes (λ k. next) (stored_in view lanes x vs regions))) (sym results.2)
+          (element_changes (program_of compiled) (variables_of compiled) width regions masked shown.shows active.frame active.level active.function found.0 active.step found.1.number array found.1.rate index_expr
           change.target_type change.operator change.value_type operand next here.next array_here x all.index_is y all.value_is elements all.elements_are results.0 results.1)))

@@ -1,9 +1,9 @@
 -- Assignments to elements of arrays.
-use Rattle.std.proofs.Common.{ℕ, ◌+◌, ◌≤◌, inl, inr, ◌≡◌, refl, sym, subst, arith, List, Some, Vec, Global}
+use Rattle.std.proofs.Common.{ℕ, false, ◌+◌, ◌≤◌, inl, inr, ◌≡◌, refl, sym, subst, arith, List, Some, Vec, Global}
 use Rattle.std.specs.Prelude.{Ok, Err}
 use Rattle.gang_types.specs.declared.places.VarId.{VarId}
 use Rattle.gang_types.specs.declared.types.Rate.{Rate}
-use Rattle.gang_types.specs.Lanes.{Lanes}
+use Rattle.gang_types.specs.Lanes.{Lanes, no_lane}
 use Rattle.gang_types.specs.Masks.{lanes_of}
 use Rattle.gang_model.specs.Types.Tree.{Expr, StepNumber, ElementOf, Assign, Function}
 use Rattle.gang_model.specs.Running.Lanes.{Fault as ModelFault}
@@ -29,7 +29,7 @@ use Rattle.machine_moves.specs.Compiled.{program_of, variables_of}
 use Rattle.machine_moves.specs.Elements.{reached_in}
 use Rattle.machine_moves.specs.Standing.{AreSound, DoesNext, IsActive, IsShown, IsValueAt}
 use Rattle.machine_moves.proofs.ElementStores.{are_reached, by_fault}
-use Rattle.machine_moves.proofs.Standings.{IsAt, active_plain, value_at}
+use Rattle.machine_moves.proofs.Standings.{IsAt, active_plain, some_active, value_at}
 
 -- what the code says of its point
 module _ (width : ℕ) (compiled : CompiledProgram) (regions : Regions) (active : Active) (array : VarId) (index value' : Vec Instruction Global) (next : ℕ) where
@@ -64,7 +64,7 @@ module _ {T : Type 0} (history : T → History) (width : ℕ) (compiled : Compil
   regions = regions_in history width old
 
   abbrev lanes : Lanes
-  lanes = waiting_in regions active.frame 0 active.step
+  lanes = waiting_in regions active.frame active.level active.step
 
   abbrev found : (f : Function) × IsStoring width compiled (regions_in history width old) active array index value' next f
   found = stores_at width compiled (regions_in history width old) active array index value' next does
@@ -83,7 +83,8 @@ module _ {T : Type 0} (history : T → History) (width : ℕ) (compiled : Compil
 
   -- the step sets words enough for a store and where its lanes go on
   pub store_here : (f : Function) × (point : Point) × IsActive width compiled (regions_in history width old) active f (Some point) × (width + width ≤ words_set width point)
-  store_here = (found.0, point, here, omega arith)
+      × (no_lane (lanes_of width active.lanes) ≡ false)
+  store_here = (found.0, point, here, omega arith, some_active history width compiled old sound active found.0 point here tt)
 
   array_here : IsArray (variables_of compiled) active.function array
   array_here = (active_plain width compiled sound.lie.compiled_is regions active found.0 point here).0
@@ -106,11 +107,11 @@ module _ {T : Type 0} (history : T → History) (width : ℕ) (compiled : Compil
         → FailsWith (program_of compiled) masked fault
     assign_fails fault is =
         by_fault view index_expr value_expr lanes masked.state (FailsWith (program_of compiled) masked fault) fault
-        (index_fails (program_of compiled) (variables_of compiled) width regions masked shown.shows active.frame active.function found.0 active.step found.1.number array found.1.rate index_expr value_expr next
+        (index_fails (program_of compiled) (variables_of compiled) width regions masked shown.shows active.frame active.level active.function found.0 active.step found.1.number array found.1.rate index_expr value_expr next
         here.next array_here fault)
-        (λ x index_is. element_value_fails (program_of compiled) (variables_of compiled) width regions masked shown.shows active.frame active.function found.0 active.step found.1.number array found.1.rate
+        (λ x index_is. element_value_fails (program_of compiled) (variables_of compiled) width regions masked shown.shows active.frame active.level active.function found.0 active.step found.1.number array found.1.rate
         index_expr value_expr next here.next array_here x index_is fault)
-        (λ x y index_is value_is. missing_fails (program_of compiled) (variables_of compiled) width regions masked shown.shows active.frame active.function found.0 active.step found.1.number array found.1.rate
+        (λ x y index_is value_is. missing_fails (program_of compiled) (variables_of compiled) width regions masked shown.shows active.frame active.level active.function found.0 active.step found.1.number array found.1.rate
         index_expr value_expr next here.next array_here x index_is y value_is fault)
         (subst (λ l. reached_in view index_expr value_expr l masked.state ≡ Err fault) here.lanes is)
 
@@ -118,10 +119,10 @@ module _ {T : Type 0} (history : T → History) (width : ℕ) (compiled : Compil
         → reached_in (view_at (regions_in history width old) active.frame array) index_expr value_expr (lanes_of width active.lanes) masked.state ≡ Ok (x, y, elements)
         → (stored : View) → stored ≡ view_at (regions_in history width old) active.frame array
         → GoesTo (program_of compiled) (variables_of compiled) width masked
-        (sent_on active.frame 0 (lanes_of width active.lanes) (λ k. next) (stored_in stored (lanes_of width active.lanes) x y (regions_in history width old)))
+        (sent_on active.frame active.level (lanes_of width active.lanes) (λ k. next) (stored_in stored (lanes_of width active.lanes) x y (regions_in history width old)))
     assign_goes x y elements is stored stored_is =
         let all = are_reached view index_expr value_expr lanes masked.state x y elements (subst (λ l. reached_in view index_expr value_expr l masked.state ≡ Ok (x, y, elements)) here.lanes is) in
-        subst (λ v. GoesTo (program_of compiled) (variables_of compiled) width masked (sent_on active.frame 0 (lanes_of width active.lanes) (λ k. next) (stored_in v (lanes_of width active.lanes) x y regions))) (sym stored_is)
-        (subst (λ l. GoesTo (program_of compiled) (variables_of compiled) width masked (sent_on active.frame 0 l (λ k. next) (stored_in view l x y regions))) (sym here.lanes)
-        (stores (program_of compiled) (variables_of compiled) width regions masked shown.shows active.frame active.function found.0 active.step found.1.number array found.1.rate index_expr value_expr next
+        subst (λ v. GoesTo (program_of compiled) (variables_of compiled) width masked (sent_on active.frame active.level (lanes_of width active.lanes) (λ k. next) (stored_in v (lanes_of width active.lanes) x y regions))) (sym stored_is)
+        (subst (λ l. GoesTo (program_of compiled) (variables_of compiled) width masked (sent_on active.frame active.level l (λ k. next) (stored_in view l x y regions))) (sym here.lanes)
+        (stores (program_of compiled) (variables_of compiled) width regions masked shown.shows active.frame active.level active.function found.0 active.step found.1.number array found.1.rate index_expr value_expr next
         here.next array_here x all.index_is y all.value_is elements all.elements_are))

@@ -26,7 +26,7 @@ use Rattle.machine_moves.specs.declared.active.Active.{Active}
 use Rattle.machine_moves.specs.declared.compiled.CompiledProgram.{CompiledProgram}
 use Rattle.machine_moves.specs.Elements.{reached_in}
 use Rattle.machine_moves.specs.Standing.{AreSound, Begins, IsActive, Records}
-use Rattle.machine_moves.proofs.Standings.{IsUnderWay, begun, begun_laid, begun_regions, may_write, recorded_so_far, some_active, step_within}
+use Rattle.machine_moves.proofs.Standings.{IsUnderWay, begun, begun_laid, begun_regions, may_write, recorded_so_far, step_within}
 use Rattle.machine_moves.proofs.SentSteps.{MaySend, may_send, sent_so, wrote_so}
 
 -- ---- what a store works on
@@ -136,6 +136,7 @@ module _ {T : Type 0} (history : T → History) (width : ℕ) (compiled : Compil
   may_read frame array view is = (wide, (sound.lie.gang, (sound.lie.laid, part_inside frame array view is)))
 
   module _ (left : T → ℕ) (active : Active) (f : Function) (point : Point) (here : IsActive width compiled (regions_in history width old) active f (Some point)) (both : width + width ≤ words_set width point)
+      (some : no_lane (lanes_of width active.lanes) ≡ false)
       (array : VarId) (view : View) (is : view ≡ view_at (regions_in history width old) active.frame array) (mid : MachineWords T) (begins : Begins history left width undone.Step old mid) where
     abbrev regions : Regions
     regions = regions_in history width old
@@ -156,7 +157,7 @@ module _ {T : Type 0} (history : T → History) (width : ℕ) (compiled : Compil
           (
             subst (λ r. IsInside r view) (sym (begun_regions history left width compiled undone.Step old mid sound.lie begins)) (part_inside active.frame array view is),
             (
-              some_active history width compiled old sound active f point here,
+              some,
               (
                 there,
                 may_write history left width undone.Step regions 0 old mid opened width (omega (arith, both, step_within history width compiled old sound.lie active f point here)),
@@ -174,20 +175,20 @@ module _ {T : Type 0} (history : T → History) (width : ℕ) (compiled : Compil
           wrote_so history left width regions 0 old mid put opened (array_region view.array) (array_region view.array) refl
           (stored view.first lanes x y) (stored_region view lanes x y) (λ ws. refl) width made
 
-      pub stored_may_send : MaySend history left width active.frame active.lanes put
-      stored_may_send = may_send history left width compiled old sound active f point here (stored_in view lanes x y regions) (0 + width) put is_put (omega (arith, both))
+      pub stored_may_send : MaySend history left width active.frame active.level active.lanes put
+      stored_may_send = may_send history left width compiled old sound active f point here (stored_in view lanes x y regions) (0 + width) put is_put (omega (arith, both)) some
 
       module _ (next : StepNumber) (new : MachineWords T) (numbers : List ℕ) (long : length numbers ≡ width) (each_number : (k : ℕ) → k < width → at numbers k ≡ next)
-          (wrote_numbers : Writes history left width (OfLevel active.frame 0 NumbersOf) (merged (lanes_of width active.lanes) numbers (regions_in history width put (OfLevel active.frame 0 NumbersOf))) width put new) where
-        sent : IsUnderWay history left width undone.Step (sent_on active.frame 0 (waiting_in regions active.frame 0 active.step) (λ k. next) (stored_in view lanes x y regions)) (0 + width + width) old new
+          (wrote_numbers : Writes history left width (OfLevel active.frame active.level NumbersOf) (merged (lanes_of width active.lanes) numbers (regions_in history width put (OfLevel active.frame active.level NumbersOf))) width put new) where
+        sent : IsUnderWay history left width undone.Step (sent_on active.frame active.level (waiting_in regions active.frame active.level active.step) (λ k. next) (stored_in view lanes x y regions)) (0 + width + width) old new
         sent =
             sent_so history left width compiled old sound active f point here (stored_in view lanes x y regions) (0 + width) put is_put (omega (arith, both)) new numbers (λ k. next) long each_number
             wrote_numbers
 
         pub stored_regions : (region : Region) → regions_in history width new region
-            ≡ sent_on active.frame 0 (lanes_of width active.lanes) (λ k. next) (stored_in view (lanes_of width active.lanes) x y (regions_in history width old)) region
-        stored_regions region = sent.regions_are region ∙ ap (λ l. sent_on active.frame 0 l (λ k. next) (stored_in view lanes x y regions) region) (sym here.lanes)
+            ≡ sent_on active.frame active.level (lanes_of width active.lanes) (λ k. next) (stored_in view (lanes_of width active.lanes) x y (regions_in history width old)) region
+        stored_regions region = sent.regions_are region ∙ ap (λ l. sent_on active.frame active.level l (λ k. next) (stored_in view lanes x y regions) region) (sym here.lanes)
 
         pub stored_records : Records history width undone.Step old new
         stored_records =
-            recorded_so_far history left width undone.Step (sent_on active.frame 0 (waiting_in regions active.frame 0 active.step) (λ k. next) (stored_in view lanes x y regions)) (0 + width + width) old new sent
+            recorded_so_far history left width undone.Step (sent_on active.frame active.level (waiting_in regions active.frame active.level active.step) (λ k. next) (stored_in view lanes x y regions)) (0 + width + width) old new sent

@@ -1,5 +1,5 @@
 -- The value of an expression of the next step depends on the machine's regions alone.
-use Rattle.std.proofs.Common.{◌≡◌, sym, ap, ◌∙◌, subst, ℕ, suc, ◌<◌, ◌≤◌, List, length, Result, arith}
+use Rattle.std.proofs.Common.{◌≡◌, sym, ap, ◌∙◌, subst, ℕ, suc, ◌<◌, ◌≤◌, List, [], length, Result, arith}
 use Rattle.gang_types.specs.Lanes.{Lanes}
 use Rattle.gang_types.specs.Masks.{lanes_of}
 use Rattle.gang_types.specs.MaskLaws.{length-lanes_of_word}
@@ -17,7 +17,8 @@ use Rattle.expression_machine.specs.Room.{HasRoom}
 use Rattle.machine_states.specs.Declared.{IsThere, declared_before}
 use Rattle.machine_states.specs.Regions.{Regions}
 use Rattle.machine_states.specs.Variables.{IsScalar, Variables}
-use Rattle.machine_states.proofs.AlwaysDeclared.{read_alike, top_declared, same_head}
+use Rattle.machine_states.proofs.AlwaysDeclared.{read_alike, top_declared}
+use Rattle.machine_states.proofs.DeclaredLists.{same_first}
 use Rattle.machine_states.proofs.ElementSteps.{array_shown}
 use Rattle.machine_states.proofs.ReadValues.{AreReadAlike, value_agrees}
 use Rattle.machine_words.specs.declared.words.MachineWords.{MachineWords}
@@ -47,12 +48,12 @@ module _ {T : Type 0} (history : T → History) (width : ℕ) (compiled : Compil
     pub frame_there : active.frame < 64
     frame_there =
         below_most active.frame (length masked.state.frames)
-        (same_head (suc active.frame) (length masked.state.frames) (sym at.active_is.next.depth ∙ shown.shows.depth)) shown.shows.few
+        (same_first (suc active.frame) (length masked.state.frames) [] [] (sym at.active_is.next.depth ∙ shown.shows.depth)) shown.shows.few
 
     alike : (x : Var) → IsScalar variables active.function x → IsThere (declared_before variables active.function at.f active.step) x.id
         → AreReadAlike width x.rate (words_in masked.state x.id) (words_in (region_state history width words active.frame) x.id)
     alike x scalar there =
-        let top = top_declared variables (program_of compiled) width regions active.frame active.function at.f active.step at.point at.active_is.next masked shown.shows shown.declared in
+        let top = top_declared variables (program_of compiled) width regions active.frame active.level active.function at.f active.step at.point at.active_is.next masked shown.shows shown.declared in
         subst (λ ws. AreReadAlike width x.rate (words_in masked.state x.id) ws) (sym (region_state_has history width words active.frame x.id))
         (read_alike variables (program_of compiled) width regions masked active.frame active.function at.f active.step shown.shows top x scalar there)
 
@@ -61,7 +62,7 @@ module _ {T : Type 0} (history : T → History) (width : ℕ) (compiled : Compil
         value_agrees variables active.function (declared_before variables active.function at.f active.step) width masked.state (region_state history width words active.frame)
         alike (λ v. shown.shows.memory v ∙ sym (region_state_memory history width words active.frame v))
         (λ a array.
-        array_shown (program_of compiled) variables width regions masked shown.shows active.frame active.function at.f active.step at.point at.active_is.next a array
+        array_shown (program_of compiled) variables width regions masked shown.shows active.frame active.level active.function at.f active.step at.point at.active_is.next a array
         ∙ sym (region_state_views history width words active.frame a))
         e at.plain at.declared lanes (length-lanes_of_word width active.lanes.word)
 

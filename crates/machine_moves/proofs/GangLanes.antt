@@ -1,7 +1,7 @@
 -- What follows from the width of a gang: it has lanes, a scalar has no more words, and what is kept for its lanes fits in memory.
 use Rattle.std.proofs.Common.{◌≡◌, sym, subst, ℕ, ◌+◌, ◌*◌, ◌<◌, ◌≤◌, true, false, arith, inl, inr, lit<}
 use prog.Memory.{up}
-use Rattle.std.specs.Prelude.{replicate}
+use Rattle.std.specs.Prelude.{max, replicate}
 use Rattle.std.proofs.lemmas.List.{get_or-replicate}
 use Rattle.gang_types.specs.declared.types.Rate.{Rate}
 use Rattle.gang_types.specs.declared.types.Rate.TheVariants.{Uniform, Varying}
@@ -28,7 +28,7 @@ words_few w gang Varying = omega arith
 
 -- ---- what fits in memory
 
-each_width : (P : ℕ → Type 0) → P 4 → P 8 → P 16 → (w : ℕ) → IsGangWidth w → P w
+pub each_width : (P : ℕ → Type 0) → P 4 → P 8 → P 16 → (w : ℕ) → IsGangWidth w → P w
 each_width P four eight sixteen w (inl e) = subst P (sym e) four
 each_width P four eight sixteen w (inr (inl e)) = subst P (sym e) eight
 each_width P four eight sixteen w (inr (inr e)) = subst P (sym e) sixteen
@@ -46,3 +46,10 @@ given_bytes w = up 8 (up 1 (up 8 (0 + up 8 (0 + 8 * (w * 8))) + 8) + 0)
 
 pub given_small : (w : ℕ) → IsGangWidth w → given_bytes w < 9223372036854775808
 given_small w gang = each_width (λ n. given_bytes n < 9223372036854775808) (lit< tt) (lit< tt) (lit< tt) w gang
+
+-- what is left of the rounds of a form
+abbrev pub rounds_bytes : ℕ → ℕ
+rounds_bytes w = up 8 (max 96 (max 16 (max (16 + w * 8) 1)))
+
+pub rounds_small : (w : ℕ) → IsGangWidth w → rounds_bytes w < 9223372036854775808
+rounds_small w gang = each_width (λ n. rounds_bytes n < 9223372036854775808) (lit< tt) (lit< tt) (lit< tt) w gang

@@ -21,7 +21,7 @@ use Rattle.machine_moves.specs.declared.active.Active.{Active}
 use Rattle.machine_moves.specs.declared.compiled.CompiledProgram.{CompiledProgram}
 use Rattle.machine_moves.specs.Compiled.{program_of, variables_of}
 use Rattle.machine_moves.specs.Standing.{AreSound, Begins, DoesNext, EndsAs, IsShown, IsValueAt}
-use Rattle.machine_moves.proofs.Standings.{begun, branches_at, ends_well, goes_at, value_at}
+use Rattle.machine_moves.proofs.Standings.{begun, branches_at, ends_well, goes_at, some_active, value_at}
 use Rattle.machine_moves.proofs.SentSteps.{MaySend, may_send, sent_so}
 
 module _ {T : Type 0} (history : T → History) (left : T → ℕ) (width : ℕ) (compiled : CompiledProgram) (old : MachineWords T) (sound : AreSound history width compiled old) (active : Active) where
@@ -29,21 +29,22 @@ module _ {T : Type 0} (history : T → History) (left : T → ℕ) (width : ℕ)
   regions = regions_in history width old
 
   pub go_may_send : (next : ℕ) → DoesNext width compiled (regions_in history width old) active (code.Go next) → (mid : MachineWords T) → Begins history left width undone.Step old mid
-      → MaySend history left width active.frame active.lanes mid
+      → MaySend history left width active.frame active.level active.lanes mid
   go_may_send next does mid begins =
       let found = goes_at width compiled regions active next does in
       may_send history left width compiled old sound active found.0 (Go next) found.1 regions 0 mid (begun history left width compiled undone.Step old mid sound.lie begins) (omega arith)
+      (some_active history width compiled old sound active found.0 (Go next) found.1 tt)
 
   pub gone : (next : ℕ) → DoesNext width compiled (regions_in history width old) active (code.Go next) → (mid new : MachineWords T) → Begins history left width undone.Step old mid
       → (values : List ℕ) → length values ≡ width → ((k : ℕ) → k < width → at values k ≡ next)
-      → Writes history left width (OfLevel active.frame 0 NumbersOf) (merged (lanes_of width active.lanes) values (regions_in history width mid (OfLevel active.frame 0 NumbersOf))) width mid new
+      → Writes history left width (OfLevel active.frame active.level NumbersOf) (merged (lanes_of width active.lanes) values (regions_in history width mid (OfLevel active.frame active.level NumbersOf))) width mid new
       → (masked : Masked) → IsShown history width compiled old masked → EndsAs history width compiled masked old (Ok tt) new
   gone next does mid new begins values long targets made masked shown =
       let found = goes_at width compiled regions active next does in
-      ends_well history left width compiled masked (sent_on active.frame 0 (waiting_in regions active.frame 0 active.step) (λ k. next) regions) (0 + width) old new
+      ends_well history left width compiled masked (sent_on active.frame active.level (waiting_in regions active.frame active.level active.step) (λ k. next) regions) (0 + width) old new
       (sent_so history left width compiled old sound active found.0 (Go next) found.1 regions 0 mid (begun history left width compiled undone.Step old mid sound.lie begins) (omega arith)
       new values (λ k. next) long targets made)
-      (goes (program_of compiled) (variables_of compiled) width regions masked shown.shows active.frame active.function found.0 active.step next found.1.next)
+      (goes (program_of compiled) (variables_of compiled) width regions masked shown.shows active.frame active.level active.function found.0 active.step next found.1.next)
 
   module _ (test : Vec Instruction Global) (yes' no' : ℕ) (does : DoesNext width compiled (regions_in history width old) active (code.Branch test yes' no')) where
     -- the expression that is tested, for the lanes of the step
@@ -56,25 +57,25 @@ module _ {T : Type 0} (history : T → History) (left : T → ℕ) (width : ℕ)
         subst (λ c. IsValueAt width compiled regions active tested c) (sym is)
         (value_at width compiled sound.lie.compiled_is regions active found.0 (Branch tested yes' no') found.1.2 tested test.items refl found.1.1)
 
-    pub branch_may_send : (mid : MachineWords T) → Begins history left width undone.Step old mid → MaySend history left width active.frame active.lanes mid
+    pub branch_may_send : (mid : MachineWords T) → Begins history left width undone.Step old mid → MaySend history left width active.frame active.level active.lanes mid
     branch_may_send mid begins =
         let found = branches_at width compiled regions active test yes' no' does in
         may_send history left width compiled old sound active found.0 (Branch found.1.0 yes' no') found.1.2 regions 0 mid
-        (begun history left width compiled undone.Step old mid sound.lie begins) (omega arith)
+        (begun history left width compiled undone.Step old mid sound.lie begins) (omega arith) (some_active history width compiled old sound active found.0 (Branch found.1.0 yes' no') found.1.2 tt)
 
     pub branched : (mid new : MachineWords T) → Begins history left width undone.Step old mid
         → (values targets : List ℕ) → length targets ≡ width → ((k : ℕ) → k < width → at targets k ≡ (if holds values k then yes' else no'))
-        → Writes history left width (OfLevel active.frame 0 NumbersOf) (merged (lanes_of width active.lanes) targets (regions_in history width mid (OfLevel active.frame 0 NumbersOf))) width mid new
+        → Writes history left width (OfLevel active.frame active.level NumbersOf) (merged (lanes_of width active.lanes) targets (regions_in history width mid (OfLevel active.frame active.level NumbersOf))) width mid new
         → (masked : Masked) → IsShown history width compiled old masked → value tested (lanes_of width active.lanes) masked.state ≡ Ok values
         → EndsAs history width compiled masked old (Ok tt) new
     branched mid new begins values targets long each_target made masked shown is =
         let found = branches_at width compiled regions active test yes' no' does in
         let e = found.1.0 in
         let at = found.1.2 in
-        ends_well history left width compiled masked (sent_on active.frame 0 (waiting_in regions active.frame 0 active.step) (λ k. if holds values k then yes' else no') regions) (0 + width) old new
+        ends_well history left width compiled masked (sent_on active.frame active.level (waiting_in regions active.frame active.level active.step) (λ k. if holds values k then yes' else no') regions) (0 + width) old new
         (sent_so history left width compiled old sound active found.0 (Branch e yes' no') at regions 0 mid (begun history left width compiled undone.Step old mid sound.lie begins) (omega arith)
         new targets (λ k. if holds values k then yes' else no') long each_target made)
-        (branches (program_of compiled) (variables_of compiled) width regions masked shown.shows active.frame active.function found.0 active.step e yes' no' at.next values
+        (branches (program_of compiled) (variables_of compiled) width regions masked shown.shows active.frame active.level active.function found.0 active.step e yes' no' at.next values
         (ap (λ lanes. value e lanes masked.state) (sym at.lanes) ∙ is))
 
     pub test_faults : (masked : Masked) → IsShown history width compiled old masked → (fault : ModelFault) → value tested (lanes_of width active.lanes) masked.state ≡ Err fault
@@ -83,5 +84,5 @@ module _ {T : Type 0} (history : T → History) (left : T → ℕ) (width : ℕ)
         let found = branches_at width compiled regions active test yes' no' does in
         let e = found.1.0 in
         let at = found.1.2 in
-        branch_fails (program_of compiled) (variables_of compiled) width regions masked shown.shows active.frame active.function found.0 active.step e yes' no' at.next fault
+        branch_fails (program_of compiled) (variables_of compiled) width regions masked shown.shows active.frame active.level active.function found.0 active.step e yes' no' at.next fault
         (ap (λ lanes. value e lanes masked.state) (sym at.lanes) ∙ is)

@@ -28,7 +28,7 @@ use Rattle.machine_moves.specs.Delivering.{GivesResult, TakesResult}
 use Rattle.machine_moves.specs.Parts.{counts_of}
 use Rattle.machine_moves.specs.Standing.{AreSound, IsActive, IsShown}
 use Rattle.machine_moves.proofs.Heads.{alike}
-use Rattle.machine_moves.proofs.Standings.{IsUnderWay, frame_below, may_write, sized, some_active, step_within}
+use Rattle.machine_moves.proofs.Standings.{IsUnderWay, frame_below, may_write, sized, step_within}
 use Rattle.machine_moves.proofs.SentSteps.{MaySend, may_send, sent_so}
 
 -- ---- a result among regions with the same words
@@ -92,7 +92,7 @@ module _ {T : Type 0} (history : T → History) (left : T → ℕ) (width : ℕ)
       by Nothing among = tt
       by (Declares x) among = tt
       by (Assigns x) among =
-          has_variable (program_of compiled) (variables_of compiled) width (regions_in history width old) masked shown.shows active.frame active.function f active.step point is_active.next shown.declared x.id among
+          has_variable (program_of compiled) (variables_of compiled) width (regions_in history width old) masked shown.shows active.frame active.level active.function f active.step point is_active.next shown.declared x.id among
       by Returns among = tt
 
   -- an event is under way in which the frame's function is what it was
@@ -101,27 +101,27 @@ module _ {T : Type 0} (history : T → History) (left : T → ℕ) (width : ℕ)
     takes : TakesResult compiled (regions_in history width put) active.frame for f
     takes = record { n = active.function; runs = is_put.regions_are (OfHead active.frame FunctionOf) ∙ runs; is_function = is_active.next.is_function; plain = plain }
 
-    pub may_give : MayGive history left width compiled active for put
-    may_give = record {
+    pub may_give : no_lane (lanes_of width active.lanes) ≡ false → MayGive history left width compiled active for put
+    may_give some = record {
       laid = is_put.laid;
       sized = sized history width compiled old put sound.lie is_put.layout is_put.laid;
       there = frame_below history width compiled old sound active f (Some point) is_active;
       takes = (f, takes);
-      lane = some_active history width compiled old sound active f point is_active;
+      lane = some;
       room = may_write history left width undone.Step regions writes old put is_put (width + 1) (omega (arith, few, step_within history width compiled old sound.lie active f point is_active));
     }
 
     module _ (given : MachineWords T)
         (gives : (g : Function) → TakesResult compiled (regions_in history width put) active.frame for g
         → GivesResult history left width active.frame g for Int32 (lanes_of width active.lanes) (counts_of (lanes_of width active.lanes)) put given) where
-      pub gave : GivesResult history left width active.frame f for Int32 (waiting_in (regions_in history width old) active.frame 0 active.step) (counts_of (waiting_in (regions_in history width old) active.frame 0 active.step)) put given
+      pub gave : GivesResult history left width active.frame f for Int32 (waiting_in (regions_in history width old) active.frame active.level active.step) (counts_of (waiting_in (regions_in history width old) active.frame active.level active.step)) put given
       gave = subst (λ l. GivesResult history left width active.frame f for Int32 l (counts_of l) put given) is_active.lanes (gives f takes)
 
       -- it was given to these regions
-      pub counted : DeliversAlike width active.frame f Int32 (waiting_in (regions_in history width old) active.frame 0 active.step) (counts_of (waiting_in (regions_in history width old) active.frame 0 active.step))
+      pub counted : DeliversAlike width active.frame f Int32 (waiting_in (regions_in history width old) active.frame active.level active.step) (counts_of (waiting_in (regions_in history width old) active.frame active.level active.step))
           regions gave.delivered for
       counted =
-          delivers_alike width active.frame f Int32 (waiting_in (regions_in history width old) active.frame 0 active.step) (counts_of (waiting_in (regions_in history width old) active.frame 0 active.step))
+          delivers_alike width active.frame f Int32 (waiting_in (regions_in history width old) active.frame active.level active.step) (counts_of (waiting_in (regions_in history width old) active.frame active.level active.step))
           regions gave.delivered (regions_in history width put) is_put.regions_are for gave.delivers
 
       is_given : IsUnderWay history left width undone.Step counted.delivered (writes + (width + 1)) old given
@@ -133,12 +133,12 @@ module _ {T : Type 0} (history : T → History) (left : T → ℕ) (width : ℕ)
         left_is = omega (arith, gave.few, is_put.left_is);
       }
 
-      pub counted_may_send : MaySend history left width active.frame active.lanes given
+      pub counted_may_send : no_lane (lanes_of width active.lanes) ≡ false → MaySend history left width active.frame active.level active.lanes given
       counted_may_send = may_send history left width compiled old sound active f point is_active counted.delivered (writes + (width + 1)) given is_given few
 
       -- then the lanes go on
       pub counted_sent : (new : MachineWords T) (numbers : List ℕ) (next : StepNumber) → length numbers ≡ width → ((k : ℕ) → k < width → at numbers k ≡ next)
-          → Writes history left width (OfLevel active.frame 0 NumbersOf) (merged (lanes_of width active.lanes) numbers (regions_in history width given (OfLevel active.frame 0 NumbersOf))) width given new
-          → IsUnderWay history left width undone.Step (sent_on active.frame 0 (waiting_in (regions_in history width old) active.frame 0 active.step) (λ k. next) counted.delivered) (writes + (width + 1) + width) old new
+          → Writes history left width (OfLevel active.frame active.level NumbersOf) (merged (lanes_of width active.lanes) numbers (regions_in history width given (OfLevel active.frame active.level NumbersOf))) width given new
+          → IsUnderWay history left width undone.Step (sent_on active.frame active.level (waiting_in (regions_in history width old) active.frame active.level active.step) (λ k. next) counted.delivered) (writes + (width + 1) + width) old new
       counted_sent new numbers next long each_number wrote_numbers =
           sent_so history left width compiled old sound active f point is_active counted.delivered (writes + (width + 1)) given is_given few new numbers (λ k. next) long each_number wrote_numbers

@@ -45,7 +45,7 @@ use Rattle.machine_moves.specs.Parts.{HasNextPoint, IsIndexAt, counts_of}
 use Rattle.machine_moves.specs.Standing.{AreSound, Begins, DoesNext, EndsAs, IsActive, IsShown}
 use Rattle.machine_moves.proofs.NamedParts.{index_of}
 use Rattle.machine_moves.proofs.PackedCounts.{MayGive, counted, counted_may_send, counted_sent, may_give, result_there}
-use Rattle.machine_moves.proofs.Standings.{IsAt, IsUnderWay, active_names, active_plain, begun, ends_well, frame_below, lanes_long, sized}
+use Rattle.machine_moves.proofs.Standings.{IsAt, IsUnderWay, active_names, active_plain, begun, ends_well, frame_below, lanes_long, sized, some_active}
 use Rattle.machine_moves.proofs.SentSteps.{HasPlace, MayPut, MaySend, may_put_first, put_so, scalar_place}
 
 -- what the code says of its point
@@ -91,7 +91,7 @@ module _ {T : Type 0} (history : T → History) (left : T → ℕ) (width : ℕ)
   regions = regions_in history width old
 
   abbrev lanes : Lanes
-  lanes = waiting_in regions active.frame 0 active.step
+  lanes = waiting_in regions active.frame active.level active.step
 
   abbrev for : ModelResultFor
   for = result_view result_for
@@ -109,7 +109,7 @@ module _ {T : Type 0} (history : T → History) (left : T → ℕ) (width : ℕ)
   here = found.1.here
 
   pub has_point : HasNextPoint width compiled (regions_in history width old) active
-  has_point = (found.0, point, here)
+  has_point = (found.0, point, here, some_active history width compiled old sound active found.0 point here tt)
 
   array_here : IsArray (variables_of compiled) active.function array
   array_here = (active_plain width compiled sound.lie.compiled_is regions active found.0 point here).0
@@ -128,12 +128,12 @@ module _ {T : Type 0} (history : T → History) (left : T → ℕ) (width : ℕ)
 
   module _ (masked : Masked) (shown : IsShown history width compiled old masked) where
     part_is : (r : Result View ModelFault) → part index_expr (view_at (regions_in history width old) active.frame array) (lanes_of width active.lanes) masked.state ≡ r
-        → part index_expr (view_at (regions_in history width old) active.frame array) (waiting_in (regions_in history width old) active.frame 0 active.step) masked.state ≡ r
+        → part index_expr (view_at (regions_in history width old) active.frame array) (waiting_in (regions_in history width old) active.frame active.level active.step) masked.state ≡ r
     part_is r is = ap (λ l. part index_expr (view_at regions active.frame array) l masked.state) (sym here.lanes) ∙ is
 
     pub part_faults : (fault : ModelFault) → part index_expr (view_at (regions_in history width old) active.frame array) (lanes_of width active.lanes) masked.state ≡ Err fault → FailsWith (program_of compiled) masked fault
     part_faults fault is =
-        load_part_fails (program_of compiled) (variables_of compiled) width regions masked shown.shows active.frame active.function found.0 active.step found.1.number array index_expr (var_view into) for next
+        load_part_fails (program_of compiled) (variables_of compiled) width regions masked shown.shows active.frame active.level active.function found.0 active.step found.1.number array index_expr (var_view into) for next
         here.next array_here fault (part_is (Err fault) is)
 
     module _ (view : View) (view_is : part index_expr (view_at (regions_in history width old) active.frame array) (lanes_of width active.lanes) masked.state ≡ Ok view) where
@@ -143,12 +143,12 @@ module _ {T : Type 0} (history : T → History) (left : T → ℕ) (width : ℕ)
 
       pub rank_faults : (fault : ModelFault) → ReadsElements (regions_in history width old) view (lanes_of width active.lanes) (rank (lanes_of width active.lanes)) (Err fault) → FailsWith (program_of compiled) masked fault
       rank_faults fault reads =
-          load_rank_fails (program_of compiled) (variables_of compiled) width regions masked shown.shows active.frame active.function found.0 active.step found.1.number array index_expr (var_view into) for next
+          load_rank_fails (program_of compiled) (variables_of compiled) width regions masked shown.shows active.frame active.level active.function found.0 active.step found.1.number array index_expr (var_view into) for next
           here.next array_here view (part_is (Ok view) view_is) fault (tried (Err fault) reads)
 
   module _ (mid : MachineWords T) (begins : Begins history left width undone.Step old mid) (region : Region) (region_is : region ≡ region_of active.frame into.id) where
     pub may_load : MayPut history left width into.rate region active.lanes mid
-    may_load = may_put_first history left width compiled old sound active found.0 point here (var_view into) scalar_here (omega arith) mid begins region region_is
+    may_load = may_put_first history left width compiled old sound active found.0 point here (var_view into) scalar_here (omega arith) mid begins region region_is has_point.3
 
     module _ (values : List ℕ) (put : MachineWords T)
         (made : Writes history left width region (assigned_region into.rate (lanes_of width active.lanes) values (regions_in history width mid region)) width mid put) where
@@ -164,16 +164,16 @@ module _ {T : Type 0} (history : T → History) (left : T → ℕ) (width : ℕ)
       runs = function_beside into.id (assigned_region into.rate lanes values (regions (region_of active.frame into.id))) regions active.frame ∙ here.next.function
 
       pub loaded_may_give : MayGive history left width compiled active (result_view result_for) put
-      loaded_may_give = may_give history left width compiled old sound active found.0 point here for result_plain with_values (0 + width) put is_put runs few_words
+      loaded_may_give = may_give history left width compiled old sound active found.0 point here for result_plain with_values (0 + width) put is_put runs few_words has_point.3
 
       module _ (given : MachineWords T)
           (gives : (g : Function) → TakesResult compiled (regions_in history width put) active.frame (result_view result_for) g
           → GivesResult history left width active.frame g (result_view result_for) Int32 (lanes_of width active.lanes) (counts_of (lanes_of width active.lanes)) put given) where
-        pub loaded_may_send : MaySend history left width active.frame active.lanes given
-        loaded_may_send = counted_may_send history left width compiled old sound active found.0 point here for result_plain with_values (0 + width) put is_put runs few_words given gives
+        pub loaded_may_send : MaySend history left width active.frame active.level active.lanes given
+        loaded_may_send = counted_may_send history left width compiled old sound active found.0 point here for result_plain with_values (0 + width) put is_put runs few_words given gives has_point.3
 
         pub loaded_ends : (new : MachineWords T) (numbers : List ℕ) → length numbers ≡ width → ((k : ℕ) → k < width → at numbers k ≡ next)
-            → Writes history left width (OfLevel active.frame 0 NumbersOf) (merged (lanes_of width active.lanes) numbers (regions_in history width given (OfLevel active.frame 0 NumbersOf))) width given new
+            → Writes history left width (OfLevel active.frame active.level NumbersOf) (merged (lanes_of width active.lanes) numbers (regions_in history width given (OfLevel active.frame active.level NumbersOf))) width given new
             → (masked : Masked) → IsShown history width compiled old masked
             → (view : View) → part index_expr (view_at (regions_in history width old) active.frame array) (lanes_of width active.lanes) masked.state ≡ Ok view
             → ReadsElements (regions_in history width old) view (lanes_of width active.lanes) (rank (lanes_of width active.lanes)) (Ok values)
@@ -188,9 +188,9 @@ module _ {T : Type 0} (history : T → History) (left : T → ℕ) (width : ℕ)
             let place = scalar_place (variables_of compiled) width sound.lie.gang regions sizes active.frame active.function (frame_below history width compiled old sound active found.0 (Some point) here) (var_view into) scalar_here in
             ends_well history left width compiled masked _ (0 + width + (width + 1) + width) old new
             (counted_sent history left width compiled old sound active found.0 point here for result_plain with_values (0 + width) put is_put runs few_words given gives new numbers next long each_number wrote_numbers)
-            (unpacks (program_of compiled) (variables_of compiled) width regions masked shown.shows active.frame active.function found.0 active.step found.1.number array index_expr (var_view into) for next
+            (unpacks (program_of compiled) (variables_of compiled) width regions masked shown.shows active.frame active.level active.function found.0 active.step found.1.number array index_expr (var_view into) for next
             here.next array_here view (part_is masked shown (Ok view) view_is) values read sizes scalar_here
-            (has_variable (program_of compiled) (variables_of compiled) width regions masked shown.shows active.frame active.function found.0 active.step point here.next shown.declared into.id names.1)
+            (has_variable (program_of compiled) (variables_of compiled) width regions masked shown.shows active.frame active.level active.function found.0 active.step point here.next shown.declared into.id names.1)
             result_plain (result_there history left width compiled old sound active found.0 point here for masked shown names.2)
             (words_kept width into.rate lanes values (regions (region_of active.frame into.id)) place wide full)
             out.delivered out.delivers)

@@ -82,7 +82,7 @@ module _ {T : Type 0} (history : T → History) (left : T → ℕ) (width : ℕ)
   regions = regions_in history width old
 
   abbrev lanes : Lanes
-  lanes = waiting_in regions active.frame 0 active.step
+  lanes = waiting_in regions active.frame active.level active.step
 
   abbrev for : ModelResultFor
   for = result_view result_for
@@ -103,7 +103,7 @@ module _ {T : Type 0} (history : T → History) (left : T → ℕ) (width : ℕ)
   here = found.1.here
 
   pub has_point : HasNextPoint width compiled (regions_in history width old) active
-  has_point = (found.0, point, here)
+  has_point = (found.0, point, here, some_active history width compiled old sound active found.0 point here tt)
 
   array_here : IsArray (variables_of compiled) active.function array
   array_here = (active_plain width compiled sound.lie.compiled_is regions active found.0 point here).0
@@ -120,19 +120,19 @@ module _ {T : Type 0} (history : T → History) (left : T → ℕ) (width : ℕ)
       (value_at width compiled sound.lie.compiled_is regions active found.0 point here value_expr value'.items (inr refl) found.1.value_is)
 
   pub some_here : no_lane (lanes_of width active.lanes) ≡ false
-  some_here = some_active history width compiled old sound active found.0 point here
+  some_here = has_point.3
 
   few_words : 0 + width + (width + 1) + width ≤ words_set width point
   few_words = omega arith
 
   module _ (masked : Masked) (shown : IsShown history width compiled old masked) where
     part_is : (r : Result View ModelFault) → part index_expr (view_at (regions_in history width old) active.frame array) (lanes_of width active.lanes) masked.state ≡ r
-        → part index_expr (view_at (regions_in history width old) active.frame array) (waiting_in (regions_in history width old) active.frame 0 active.step) masked.state ≡ r
+        → part index_expr (view_at (regions_in history width old) active.frame array) (waiting_in (regions_in history width old) active.frame active.level active.step) masked.state ≡ r
     part_is r is = ap (λ l. part index_expr (view_at regions active.frame array) l masked.state) (sym here.lanes) ∙ is
 
     pub part_faults : (fault : ModelFault) → part index_expr (view_at (regions_in history width old) active.frame array) (lanes_of width active.lanes) masked.state ≡ Err fault → FailsWith (program_of compiled) masked fault
     part_faults fault is =
-        part_fails (program_of compiled) (variables_of compiled) width regions masked shown.shows active.frame active.function found.0 active.step found.1.number array index_expr value_expr for next
+        part_fails (program_of compiled) (variables_of compiled) width regions masked shown.shows active.frame active.level active.function found.0 active.step found.1.number array index_expr value_expr for next
         here.next array_here fault (part_is (Err fault) is)
 
     module _ (view : View) (view_is : part index_expr (view_at (regions_in history width old) active.frame array) (lanes_of width active.lanes) masked.state ≡ Ok view) where
@@ -141,7 +141,7 @@ module _ {T : Type 0} (history : T → History) (left : T → ℕ) (width : ℕ)
 
       pub value_faults : (fault : ModelFault) → value value_expr (lanes_of width active.lanes) masked.state ≡ Err fault → FailsWith (program_of compiled) masked fault
       value_faults fault is =
-          pack_value_fails (program_of compiled) (variables_of compiled) width regions masked shown.shows active.frame active.function found.0 active.step found.1.number array index_expr value_expr for next
+          pack_value_fails (program_of compiled) (variables_of compiled) width regions masked shown.shows active.frame active.level active.function found.0 active.step found.1.number array index_expr value_expr for next
           here.next array_here view (part_is (Ok view) view_is) fault (by_lanes (Err fault) is)
 
       module _ (x : List ℕ) (value_is : value value_expr (lanes_of width active.lanes) masked.state ≡ Ok x) where
@@ -151,7 +151,7 @@ module _ {T : Type 0} (history : T → History) (left : T → ℕ) (width : ℕ)
 
         pub rank_faults : (fault : ModelFault) → ReadsElements (regions_in history width old) view (lanes_of width active.lanes) (rank (lanes_of width active.lanes)) (Err fault) → FailsWith (program_of compiled) masked fault
         rank_faults fault reads =
-            rank_fails (program_of compiled) (variables_of compiled) width regions masked shown.shows active.frame active.function found.0 active.step found.1.number array index_expr value_expr for next
+            rank_fails (program_of compiled) (variables_of compiled) width regions masked shown.shows active.frame active.level active.function found.0 active.step found.1.number array index_expr value_expr for next
             here.next array_here view (part_is (Ok view) view_is) x (by_lanes (Ok x) value_is) fault (tried (Err fault) reads)
 
   module _ (mid : MachineWords T) (begins : Begins history left width undone.Step old mid) where
@@ -182,16 +182,16 @@ module _ {T : Type 0} (history : T → History) (left : T → ℕ) (width : ℕ)
       runs = function_away view.array (stored_region view lanes (ranks_of lanes) x (regions (array_region view.array))) regions active.frame ∙ here.next.function
 
       pub stored_may_give : MayGive history left width compiled active (result_view result_for) put
-      stored_may_give = may_give history left width compiled old sound active found.0 point here for result_plain with_elements (0 + width) put is_put runs few_words
+      stored_may_give = may_give history left width compiled old sound active found.0 point here for result_plain with_elements (0 + width) put is_put runs few_words some_here
 
       module _ (given : MachineWords T)
           (gives : (g : Function) → TakesResult compiled (regions_in history width put) active.frame (result_view result_for) g
           → GivesResult history left width active.frame g (result_view result_for) Int32 (lanes_of width active.lanes) (counts_of (lanes_of width active.lanes)) put given) where
-        pub stored_may_send : MaySend history left width active.frame active.lanes given
-        stored_may_send = counted_may_send history left width compiled old sound active found.0 point here for result_plain with_elements (0 + width) put is_put runs few_words given gives
+        pub stored_may_send : MaySend history left width active.frame active.level active.lanes given
+        stored_may_send = counted_may_send history left width compiled old sound active found.0 point here for result_plain with_elements (0 + width) put is_put runs few_words given gives some_here
 
         pub stored_ends : (new : MachineWords T) (numbers : List ℕ) → length numbers ≡ width → ((k : ℕ) → k < width → at numbers k ≡ next)
-            → Writes history left width (OfLevel active.frame 0 NumbersOf) (merged (lanes_of width active.lanes) numbers (regions_in history width given (OfLevel active.frame 0 NumbersOf))) width given new
+            → Writes history left width (OfLevel active.frame active.level NumbersOf) (merged (lanes_of width active.lanes) numbers (regions_in history width given (OfLevel active.frame active.level NumbersOf))) width given new
             → (masked : Masked) → IsShown history width compiled old masked
             → part index_expr (view_at (regions_in history width old) active.frame array) (lanes_of width active.lanes) masked.state ≡ Ok view
             → value value_expr (lanes_of width active.lanes) masked.state ≡ Ok x
@@ -202,7 +202,7 @@ module _ {T : Type 0} (history : T → History) (left : T → ℕ) (width : ℕ)
             let names = active_names width compiled sound.lie.compiled_is regions active found.0 point here in
             ends_well history left width compiled masked _ (0 + width + (width + 1) + width) old new
             (counted_sent history left width compiled old sound active found.0 point here for result_plain with_elements (0 + width) put is_put runs few_words given gives new numbers next long each_number wrote_numbers)
-            (packs (program_of compiled) (variables_of compiled) width regions masked shown.shows active.frame active.function found.0 active.step found.1.number array index_expr value_expr for next
+            (packs (program_of compiled) (variables_of compiled) width regions masked shown.shows active.frame active.level active.function found.0 active.step found.1.number array index_expr value_expr for next
             here.next array_here view (part_is masked shown (Ok view) view_is) x (by_lanes masked shown view view_is (Ok x) value_is) there (tried masked shown view view_is x value_is (Ok there) reads)
             (sized history width compiled old old sound.lie refl sound.lie.laid) result_plain
             (result_there history left width compiled old sound active found.0 point here for masked shown names.2)

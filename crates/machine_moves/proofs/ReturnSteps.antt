@@ -88,27 +88,27 @@ module _ {T : Type 0} (history : T → History) (left : T → ℕ) (w : ℕ) (co
   }
 
   abbrev returned_on : Regions
-  returned_on = sent_on active.frame 0 (waiting_in regions active.frame 0 active.step) (λ k. target) (returned_in active.frame f.result (waiting_in regions active.frame 0 active.step) values gave.word regions)
+  returned_on = sent_on active.frame active.level (waiting_in regions active.frame active.level active.step) (λ k. target) (returned_in active.frame f.result (waiting_in regions active.frame active.level active.step) values gave.word regions)
 
-  module _ (set : Writes history left w (OfLevel active.frame 0 NumbersOf) (merged lanes (replicate w target) (regions_in history w past (OfLevel active.frame 0 NumbersOf))) w past new) where
+  module _ (set : Writes history left w (OfLevel active.frame active.level NumbersOf) (merged lanes (replicate w target) (regions_in history w past (OfLevel active.frame active.level NumbersOf))) w past new) where
     done : IsUnderWay history left w undone.Step returned_on (w + 1 + w) old new
     done =
         let go : List ℕ → List ℕ = λ numbers. merged lanes (replicate w target) numbers in
-        let sent_words = sent_to w lanes target (result_given (OfLevel active.frame 0 NumbersOf)) (lanes_long w active.lanes) in
-        under_way_alike history left w undone.Step (with_region (OfLevel active.frame 0 NumbersOf) (go (result_given (OfLevel active.frame 0 NumbersOf))) result_given) (w + 1 + w) old new
-        (wrote history left w undone.Step result_given (w + 1) old past given new (OfLevel active.frame 0 NumbersOf) go w set)
+        let sent_words = sent_to w lanes target (result_given (OfLevel active.frame active.level NumbersOf)) (lanes_long w active.lanes) in
+        under_way_alike history left w undone.Step (with_region (OfLevel active.frame active.level NumbersOf) (go (result_given (OfLevel active.frame active.level NumbersOf))) result_given) (w + 1 + w) old new
+        (wrote history left w undone.Step result_given (w + 1) old past given new (OfLevel active.frame active.level NumbersOf) go w set)
         returned_on
-        (λ r. ap (λ numbers. with_region (OfLevel active.frame 0 NumbersOf) numbers result_given r) sent_words
-        ∙ ap (λ ls. sent_on active.frame 0 ls (λ k. target) (returned_in active.frame rate ls values gave.word regions) r) is_active.lanes
-        ∙ ap (λ some. sent_on active.frame 0 (waiting_in regions active.frame 0 active.step) (λ k. target)
-        (returned_in active.frame some (waiting_in regions active.frame 0 active.step) values gave.word regions) r) rate_is)
+        (λ r. ap (λ numbers. with_region (OfLevel active.frame active.level NumbersOf) numbers result_given r) sent_words
+        ∙ ap (λ ls. sent_on active.frame active.level ls (λ k. target) (returned_in active.frame rate ls values gave.word regions) r) is_active.lanes
+        ∙ ap (λ some. sent_on active.frame active.level (waiting_in regions active.frame active.level active.step) (λ k. target)
+        (returned_in active.frame some (waiting_in regions active.frame active.level active.step) values gave.word regions) r) rate_is)
 
     -- lanes have returned
     pub returns_well : (masked : Masked) → IsShown history w compiled old masked → initial e lanes masked.state ≡ Ok values → EndsAs history w compiled masked old (Ok tt) new
     returns_well masked shown is =
-        let keeps : KeepsBoth w (waiting_in regions active.frame 0 active.step) (lanes_in w regions (OfHead active.frame ReturnedOf)) gave.word =
+        let keeps : KeepsBoth w (waiting_in regions active.frame active.level active.step) (lanes_in w regions (OfHead active.frame ReturnedOf)) gave.word =
         subst (λ ls. KeepsBoth w ls (lanes_in w regions (OfHead active.frame ReturnedOf)) gave.word) is_active.lanes
         (subst (λ (before : Regions). KeepsBoth w lanes (lanes_in w before (OfHead active.frame ReturnedOf)) gave.word) same_regions gave.keeps) in
         ends_well history left w compiled masked returned_on (w + 1 + w) old new done
-        (returns (program_of compiled) (variables_of compiled) w regions masked shown.shows active.frame active.function f active.step number e target is_active.next values
+        (returns (program_of compiled) (variables_of compiled) w regions masked shown.shows active.frame active.level active.function f active.step number e target is_active.next values
         (ap (λ ls. initial e ls masked.state) (sym is_active.lanes) ∙ is) gave.word keeps)

@@ -21,7 +21,7 @@ use Rattle.mask_states.specs.Points.{Point}
 use Rattle.mask_states.specs.Masked.{Masked, sent}
 use Rattle.machine_states.specs.Cells.{words_set}
 use Rattle.machine_states.specs.Variables.{IsScalar, Variables, variable_of}
-use Rattle.machine_states.specs.Regions.{NumbersOf, Region, Regions, with_region, LevelOf, OfLevel}
+use Rattle.machine_states.specs.Regions.{NumbersOf, Region, Regions, with_region, OfLevel}
 use Rattle.gang_model.specs.Running.State.{words_for}
 use Rattle.machine_states.specs.Shows.{AreSized}
 use Rattle.machine_states.specs.Effects.{region_of, sent_on}
@@ -32,7 +32,7 @@ use Rattle.machine_moves.specs.declared.active.Active.{Active}
 use Rattle.machine_moves.specs.declared.compiled.CompiledProgram.{CompiledProgram}
 use Rattle.machine_moves.specs.Compiled.{program_of, variables_of}
 use Rattle.machine_moves.specs.Standing.{AreSound, Begins, EndsAs, IsActive}
-use Rattle.machine_moves.proofs.Standings.{IsUnderWay, begun, frame_below, head_sized, lanes_long, may_write, sized, some_active, step_within, wrote}
+use Rattle.machine_moves.proofs.Standings.{IsUnderWay, begun, active_numbers, frame_below, lanes_long, may_write, sized, step_within, wrote}
 use Rattle.machine_moves.proofs.GangLanes.{words_few}
 
 -- ---- lanes
@@ -85,10 +85,10 @@ module _ (variables : Variables) (width : ℕ) (gang : IsGangWidth width) (regio
 
 -- ---- the writes of a step
 
--- what is asked where lanes of a frame are sent on
-abbrev pub MaySend : {T : Type 0} → (history : T → History) → (left : T → ℕ) → (width frame : ℕ) → Mask → MachineWords T → Type 0
-MaySend history left width frame mask machine =
-    (width * 8 < 9223372036854775808) × (IsGangWidth width × (AreLaid history width machine × ((length (regions_in history width machine (OfLevel frame 0 NumbersOf)) ≡ width)
+-- what is asked where lanes of a level of a frame are sent on
+abbrev pub MaySend : {T : Type 0} → (history : T → History) → (left : T → ℕ) → (width frame level : ℕ) → Mask → MachineWords T → Type 0
+MaySend history left width frame level mask machine =
+    (width * 8 < 9223372036854775808) × (IsGangWidth width × (AreLaid history width machine × ((length (regions_in history width machine (OfLevel frame level NumbersOf)) ≡ width)
     × ((no_lane (lanes_of width mask) ≡ false) × (width ≤ left_of history left machine)))))
 
 -- what is asked where a scalar of a region is written
@@ -110,7 +110,7 @@ wrote_so history left width regions writes old mid new so_far region other same 
 module _ {T : Type 0} (history : T → History) (left : T → ℕ) (width : ℕ) (compiled : CompiledProgram) (old : MachineWords T) (sound : AreSound history width compiled old) (active : Active)
     (f : Function) (point : Point) (is_active : IsActive width compiled (regions_in history width old) active f (Some point)) where
   abbrev lanes : Lanes
-  lanes = waiting_in (regions_in history width old) active.frame 0 active.step
+  lanes = waiting_in (regions_in history width old) active.frame active.level active.step
 
   module _ (regions : Regions) (writes : ℕ) (mid : MachineWords T) (so_far : IsUnderWay history left width undone.Step regions writes old mid) (few : writes + width ≤ words_set width point) where
     wide : width * 8 < 9223372036854775808
@@ -119,36 +119,36 @@ module _ {T : Type 0} (history : T → History) (left : T → ℕ) (width : ℕ)
     still : width ≤ left_of history left mid
     still = may_write history left width undone.Step regions writes old mid so_far width (omega (arith, few, step_within history width compiled old sound.lie active f point is_active))
 
-    pub may_send : MaySend history left width active.frame active.lanes mid
-    may_send = (
+    pub may_send : no_lane (lanes_of width active.lanes) ≡ false → MaySend history left width active.frame active.level active.lanes mid
+    may_send some = (
       wide,
       (
         sound.lie.gang,
         (
           so_far.laid,
           (
-            head_sized history width compiled old mid sound.lie so_far.layout so_far.laid active.frame (LevelOf 0 NumbersOf) (frame_below history width compiled old sound active f (Some point) is_active),
-            (some_active history width compiled old sound active f point is_active, still),
+            active_numbers history width compiled old sound active f (Some point) is_active mid so_far.layout so_far.laid,
+            (some, still),
           ),
         ),
       ),
     )
 
-    pub may_put : (x : Var) → IsScalar (variables_of compiled) active.function x → (region : Region) → region ≡ region_of active.frame x.id
+    pub may_put : no_lane (lanes_of width active.lanes) ≡ false → (x : Var) → IsScalar (variables_of compiled) active.function x → (region : Region) → region ≡ region_of active.frame x.id
         → MayPut history left width x.rate region active.lanes mid
-    may_put x scalar region is =
+    may_put some x scalar region is =
         let there = frame_below history width compiled old sound active f (Some point) is_active in
         let place : HasPlace width x.rate (regions_in history width mid region) =
         subst (λ r. HasPlace width x.rate (regions_in history width mid r)) (sym is)
         (scalar_place (variables_of compiled) width sound.lie.gang (regions_in history width mid) (sized history width compiled old mid sound.lie so_far.layout so_far.laid) active.frame active.function there x scalar) in
-        (wide, (sound.lie.gang, (so_far.laid, (place.0, (place.1, (some_active history width compiled old sound active f point is_active, still))))))
+        (wide, (sound.lie.gang, (so_far.laid, (place.0, (place.1, (some, still))))))
 
     -- the lanes are sent on
     pub sent_so : (new : MachineWords T) (values : List ℕ) (target : ℕ → StepNumber) → length values ≡ width → ((k : ℕ) → k < width → at values k ≡ target k)
-        → Writes history left width (OfLevel active.frame 0 NumbersOf) (merged (lanes_of width active.lanes) values (regions_in history width mid (OfLevel active.frame 0 NumbersOf))) width mid new
-        → IsUnderWay history left width undone.Step (sent_on active.frame 0 (waiting_in (regions_in history width old) active.frame 0 active.step) target regions) (writes + width) old new
+        → Writes history left width (OfLevel active.frame active.level NumbersOf) (merged (lanes_of width active.lanes) values (regions_in history width mid (OfLevel active.frame active.level NumbersOf))) width mid new
+        → IsUnderWay history left width undone.Step (sent_on active.frame active.level (waiting_in (regions_in history width old) active.frame active.level active.step) target regions) (writes + width) old new
     sent_so new values target long each_target made =
-        wrote_so history left width regions writes old mid new so_far (OfLevel active.frame 0 NumbersOf) (OfLevel active.frame 0 NumbersOf) refl
+        wrote_so history left width regions writes old mid new so_far (OfLevel active.frame active.level NumbersOf) (OfLevel active.frame active.level NumbersOf) refl
         (merged (lanes_of width active.lanes) values) (sent lanes target)
         (λ ws. sent_is width (lanes_of width active.lanes) values target ws (lanes_long width active.lanes) long each_target ∙ ap (λ l. sent l target ws) is_active.lanes)
         width made
@@ -157,7 +157,7 @@ module _ {T : Type 0} (history : T → History) (left : T → ℕ) (width : ℕ)
     pub put_so : (put : MachineWords T) (region : Region) (id : VarId) → region ≡ region_of active.frame id → (make : Lanes → List ℕ → List ℕ)
         → Writes history left width region (make (lanes_of width active.lanes) (regions_in history width mid region)) width mid put
         → IsUnderWay history left width undone.Step
-        (with_region (region_of active.frame id) (make (waiting_in (regions_in history width old) active.frame 0 active.step) (regions (region_of active.frame id))) regions) (writes + width) old put
+        (with_region (region_of active.frame id) (make (waiting_in (regions_in history width old) active.frame active.level active.step) (regions (region_of active.frame id))) regions) (writes + width) old put
     put_so put region id is make made =
         wrote_so history left width regions writes old mid put so_far region (region_of active.frame id) is
         (make (lanes_of width active.lanes)) (make lanes) (λ ws. ap (λ l. make l ws) is_active.lanes) width made
@@ -168,8 +168,8 @@ module _ {T : Type 0} (history : T → History) (left : T → ℕ) (width : ℕ)
     opened : IsUnderWay history left width undone.Step (regions_in history width old) 0 old mid
     opened = begun history left width compiled undone.Step old mid sound.lie begins
 
-    pub may_put_first : MayPut history left width x.rate region active.lanes mid
-    may_put_first = may_put (regions_in history width old) 0 mid opened (omega (arith, both)) x scalar region region_is
+    pub may_put_first : no_lane (lanes_of width active.lanes) ≡ false → MayPut history left width x.rate region active.lanes mid
+    may_put_first some = may_put (regions_in history width old) 0 mid opened (omega (arith, both)) some x scalar region region_is
 
     module _ (make : Lanes → List ℕ → List ℕ) (put : MachineWords T) (made : Writes history left width region (make (lanes_of width active.lanes) (regions_in history width mid region)) width mid put) where
       abbrev with_put : Regions
@@ -178,14 +178,14 @@ module _ {T : Type 0} (history : T → History) (left : T → ℕ) (width : ℕ)
       is_put : IsUnderWay history left width undone.Step with_put (0 + width) old put
       is_put = put_so (regions_in history width old) 0 mid opened (omega (arith, both)) put region x.id region_is make made
 
-      pub may_send_then : MaySend history left width active.frame active.lanes put
+      pub may_send_then : no_lane (lanes_of width active.lanes) ≡ false → MaySend history left width active.frame active.level active.lanes put
       may_send_then = may_send with_put (0 + width) put is_put (omega (arith, both))
 
       pub sent_then : (new : MachineWords T) (numbers : List ℕ) (next : StepNumber) → length numbers ≡ width → ((k : ℕ) → k < width → at numbers k ≡ next)
-          → Writes history left width (OfLevel active.frame 0 NumbersOf) (merged (lanes_of width active.lanes) numbers (regions_in history width put (OfLevel active.frame 0 NumbersOf))) width put new
+          → Writes history left width (OfLevel active.frame active.level NumbersOf) (merged (lanes_of width active.lanes) numbers (regions_in history width put (OfLevel active.frame active.level NumbersOf))) width put new
           → IsUnderWay history left width undone.Step
-          (sent_on active.frame 0 (waiting_in (regions_in history width old) active.frame 0 active.step) (λ k. next)
-          (with_region (region_of active.frame x.id) (make (waiting_in (regions_in history width old) active.frame 0 active.step) (regions_in history width old (region_of active.frame x.id))) (regions_in history width old)))
+          (sent_on active.frame active.level (waiting_in (regions_in history width old) active.frame active.level active.step) (λ k. next)
+          (with_region (region_of active.frame x.id) (make (waiting_in (regions_in history width old) active.frame active.level active.step) (regions_in history width old (region_of active.frame x.id))) (regions_in history width old)))
           (0 + width + width) old new
       sent_then new numbers next long each_number wrote_numbers = sent_so with_put (0 + width) put is_put (omega (arith, both)) new numbers (λ k. next) long each_number wrote_numbers
 

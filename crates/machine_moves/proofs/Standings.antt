@@ -1,15 +1,14 @@
 -- What follows for each step from how the words of a machine stand.
 use Rattle.std.proofs.Common.{ℕ, zero, suc, ◌+◌, ◌-◌, ◌^◌, ◌<◌, ◌≤◌, ◌⊎◌, false, cond, ◌≡◌, refl, sym, ◌∙◌, ap, ap₂, subst, arith, inl, inr, List, [], ◌∷◌, ◌++◌, length, map, Option, Some, None, Vec, Global}
 use Rattle.std.specs.Prelude.{All, Ok, min, option_map, slice_get, slice_index_or}
-use Rattle.std.proofs.lemmas.Bool.{cases_lt}
 use Rattle.std.proofs.lemmas.List.{length-map}
 use Rattle.std.proofs.lemmas.Option.{get_or_from_slice_get, none-some, slice_get-map, slice_get_within}
 use Rattle.gang_types.specs.declared.masks.Mask.{Mask}
 use Rattle.gang_types.specs.Lanes.{no_lane}
 use Rattle.gang_types.specs.Masks.{lanes_of}
 use Rattle.gang_types.specs.MaskLaws.{gang_width-le, length-lanes_of_word}
-use Rattle.gang_model.specs.Types.Tree.{Var as ModelVar, StepNumber, Expr, Scalar, ElementOf, Arg, Value, Array, Stmt, Empty, Then, Declare, Assign, Change as ModelChange, If, Loop, BodyFirst, Break, Continue, Return, Switch, Segment, ForEach, Call, Check, PackedStore, PackedLoad, Variable, Function, Program}
-use Rattle.gang_model.specs.Running.State.{Frame, words_for}
+use Rattle.gang_model.specs.Types.Tree.{Var as ModelVar, StepNumber, Expr, Scalar, ElementOf, Arg, Value, Array, Dimension, RoundsOf, Rows, Tiles, EachLane, EachValue, Stmt, Empty, Then, Declare, Assign, Change as ModelChange, If, Loop, BodyFirst, Break, Continue, Return, Switch, Segment, ForEach, Call, Check, PackedStore, PackedLoad, Variable, Function, Program}
+use Rattle.gang_model.specs.Running.State.{words_for}
 use Rattle.gang_model.specs.Running.Step.{round_number}
 use Rattle.gang_model.proofs.StandingLaws.{Each, each_join}
 use Rattle.undo_log.specs.History.{History, Moment, marked}
@@ -23,15 +22,18 @@ use Rattle.typed_tree.specs.Views.{result_view, var_view, variable_view}
 use Rattle.gang_memory.specs.declared.parts.Part.{Part}
 use Rattle.gang_memory.specs.Layouts.{IsLayoutOf, global_words}
 use Rattle.gang_memory.specs.Recorded.{left_in, without_words}
-use Rattle.mask_states.specs.Points.{Point, Put, Go, Branch, Turn, Enter, Ways, before_step, entry_of, body_ways, update_ways, round_ways, points_of, function_ways, points_in}
-use Rattle.mask_states.specs.Masked.{Level, Masked}
+use Rattle.mask_states.specs.Points.{Point, Put, Go, Branch, Choose, Begin, Turn, Enter, Ways, before_step, entry_of, body_ways, update_ways, round_ways, points_of, function_ways, points_in}
+use Rattle.mask_states.specs.Masked.{Masked}
 use Rattle.mask_states.specs.MaskedStep.{Goes, masked_step}
+use Rattle.mask_states.proofs.LaneNumbers.{length-waiting_for}
 use Rattle.machine_states.specs.Cells.{cells_of, words_left, words_set}
 use Rattle.machine_states.specs.Variables.{Variables, or_none, own_of}
-use Rattle.machine_states.specs.Regions.{Head, FunctionOf, OfFile, Depth, OfHead, OfLocal, Region, Regions, same_region, with_region}
-use Rattle.machine_states.specs.Shows.{AreSized, ShowsFrames}
+use Rattle.machine_states.specs.Nesting.{most_levels}
+use Rattle.machine_states.specs.Regions.{Head, LevelOf, NumbersOf, OfFile, OfLevel, Depth, OfHead, OfLocal, Region, Regions, same_region, with_region}
+use Rattle.machine_states.specs.Shows.{AreSized}
 use Rattle.machine_states.specs.Steps.{GoesTo}
 use Rattle.machine_states.proofs.AlwaysDeclared.{next_names}
+use Rattle.machine_states.proofs.AwaitedLevels.{IsNoTurn}
 use Rattle.machine_states.proofs.Cells.{cells_enough, cells_few, leaving_enough}
 use Rattle.machine_states.proofs.DeclaredNames.{NamesBefore}
 use Rattle.machine_states.proofs.PlainPoints.{points_in-plain, point_at}
@@ -39,12 +41,12 @@ use Rattle.machine_states.proofs.DeclaredLists.{same_some}
 use Rattle.machine_states.proofs.DeclaredSteps.{step_declared}
 use Rattle.machine_states.proofs.LeaveSteps.{shows_alike}
 use Rattle.machine_states.proofs.NextPoints.{same_word}
-use Rattle.machine_states.proofs.PutSteps.{some_lane}
-use Rattle.machine_states.specs.Plain.{IsPlainExpr, IsPlainOption, ArgsPlain, IsPlainPoint}
-use Rattle.machine_states.specs.Declared.{NamesDeclared, OptionDeclared, ArgsDeclared, declared_before}
+use Rattle.machine_states.proofs.TopFrame.{length-waiting, some_waiting}
+use Rattle.machine_states.specs.Plain.{IsPlainExpr, IsPlainOption, ArgsPlain, DimensionPlain, FormPlain, IsPlainPoint}
+use Rattle.machine_states.specs.Declared.{NamesDeclared, OptionDeclared, ArgsDeclared, DimensionsDeclared, FormDeclared, declared_before}
 use Rattle.expression_instructions.specs.declared.code.Instruction.{Instruction}
 use Rattle.expression_machine.specs.Room.{HasRoom}
-use Rattle.expression_code.specs.ProgramRoom.{ArgsHaveRoom, HaveRoom, SomeHasRoom}
+use Rattle.expression_code.specs.ProgramRoom.{ArgsHaveRoom, DimensionsHaveRoom, HaveRoom, RoundsHaveRoom, SomeHasRoom}
 use Rattle.codegen.specs.declared.code.ArgCode.{ArgCode}
 use Rattle.codegen.specs.declared.code.Change.{Change}
 use Rattle.codegen.specs.declared.code.StepCode.TheVariants as code
@@ -55,6 +57,7 @@ use Rattle.machine_words.specs.Ranges.{head_sizes, machine_sizes, regions_of, he
 use Rattle.machine_words.specs.Words.{AreLaid, Writes, left_of, regions_in, words_of}
 use Rattle.machine_words.specs.Ranges.{IsLaid}
 use Rattle.machine_words.proofs.Sizes.{depth_words, file_words, head_words, local_words}
+use Rattle.machine_moves.proofs.PointRoom.{PointHasRoom, points_room, each_at}
 use Rattle.machine_moves.specs.declared.active.Active.{Active}
 use Rattle.machine_moves.specs.declared.compiled.CompiledProgram.{CompiledProgram}
 use Rattle.machine_moves.specs.Compiled.{IsCompiled, program_of, variables_of}
@@ -179,7 +182,7 @@ module _ {T : Type 0} (history : T → History) (width : ℕ) (compiled : Compil
         gang = lie.gang;
         compiled_is = lie.compiled_is;
         lengths = lie.lengths;
-        layout = subst (λ l. IsLayoutOf width compiled.program lie.lengths machine_sizes (head_sizes width 0) l) (sym records.layout) lie.layout;
+        layout = subst (λ l. IsLayoutOf width compiled.program lie.lengths machine_sizes (head_sizes width (most_levels (program_of compiled))) l) (sym records.layout) lie.layout;
         laid = records.laid;
         room = omega (arith, room, lie.room);
       }
@@ -227,8 +230,8 @@ module _ (functions : List TypedFunction) (most : ℕ) (all : All (λ f. length 
 
 module _ {T : Type 0} (history : T → History) (width : ℕ) (compiled : CompiledProgram) (old new : MachineWords T)
     (lie : AreFor history width compiled old) (layout : new.layout ≡ old.layout) (laid : AreLaid history width new) where
-  is_layout : IsLayoutOf width compiled.program lie.lengths machine_sizes (head_sizes width 0) new.layout
-  is_layout = subst (λ l. IsLayoutOf width compiled.program lie.lengths machine_sizes (head_sizes width 0) l) (sym layout) lie.layout
+  is_layout : IsLayoutOf width compiled.program lie.lengths machine_sizes (head_sizes width (most_levels (program_of compiled))) new.layout
+  is_layout = subst (λ l. IsLayoutOf width compiled.program lie.lengths machine_sizes (head_sizes width (most_levels (program_of compiled))) l) (sym layout) lie.layout
 
   pub depth_sized : length (regions_in history width new Depth) ≡ 1
   depth_sized = depth_words width new.layout (words_of history new) laid
@@ -263,29 +266,6 @@ module _ {T : Type 0} (history : T → History) (width : ℕ) (compiled : Compil
 pub lanes_long : (width : ℕ) (lanes : Mask) → length (lanes_of width lanes) ≡ width
 lanes_long width lanes = length-lanes_of_word width lanes.word
 
--- a frame's function, of which the words of its head have the number
-pub record IsFunctionOf (p : Program) (regions : Regions) (i : ℕ) : Type 0 where
-  pub number : ℕ
-  pub function : Function
-  pub is_number : regions (OfHead i FunctionOf) ≡ number ∷ []
-  pub is_function : slice_get p.functions number ≡ Some function
-
-pub function_in : (p : Program) (variables : Variables) (width : ℕ) (regions : Regions) (i : ℕ) (frames : List Frame) (levels : List (List Level)) → i < length frames → ShowsFrames p variables width regions frames levels → IsFunctionOf p regions i
-function_in p variables width regions i [] levels h shown = absurd (omega (arith, h))
-function_in p variables width regions i (frame ∷ frames) [] h shown = absurd shown
-function_in p variables width regions i (frame ∷ frames) (ls ∷ levels) h shown =
-    elim (cases_lt i (length frames)) [
-      | inl below ↦ function_in p variables width regions i frames levels below shown.2
-      | inr last ↦
-          let same : i ≡ length frames = omega (arith, last, h) in
-          subst (λ j. IsFunctionOf p regions j) (sym same) (record {
-            number = frame.function;
-            function = shown.0.function;
-            is_number = shown.0.number;
-            is_function = shown.0.is_function;
-          })
-    ]
-
 module _ {T : Type 0} (history : T → History) (width : ℕ) (compiled : CompiledProgram) (words : MachineWords T) (sound : AreSound history width compiled words) (active : Active) (f : Function) where
   pub frame_below : (point : Option Point) → IsActive width compiled (regions_in history width words) active f point → active.frame < 64
   frame_below point is_active =
@@ -295,62 +275,25 @@ module _ {T : Type 0} (history : T → History) (width : ℕ) (compiled : Compil
       same_word (regions_in history width words Depth) (suc active.frame) (length masked.state.frames) is_active.next.depth shows.depth in
       omega (arith, height, shows.few)
 
-  -- a step at a point is done by some lane
-  pub some_active : (point : Point) → IsActive width compiled (regions_in history width words) active f (Some point) → no_lane (lanes_of width active.lanes) ≡ false
-  some_active point is_active =
+  -- the level of the next step has a number for each lane, whatever was written since
+  pub active_numbers : (point : Option Point) → IsActive width compiled (regions_in history width words) active f point → (mid : MachineWords T) → mid.layout ≡ words.layout → AreLaid history width mid
+      → length (regions_in history width mid (OfLevel active.frame active.level NumbersOf)) ≡ width
+  active_numbers point is_active mid layout laid =
+      let numbers : Head = LevelOf active.level NumbersOf in
+      let below = frame_below point is_active in
+      head_sized history width compiled words mid sound.lie layout laid active.frame numbers below
+      ∙ ap (λ l. head_size width (levels_of l) numbers) layout
+      ∙ sym (head_sized history width compiled words words sound.lie refl sound.lie.laid active.frame numbers below)
+      ∙ sym (length-waiting_for active.step (regions_in history width words (OfHead active.frame numbers)))
+      ∙ length-waiting (program_of compiled) (variables_of compiled) width (regions_in history width words) sound.masked sound.shown.shows active.frame active.level active.function f active.step point is_active.next
+
+  -- a step that is no round of a form is done by some lane
+  pub some_active : (point : Point) → IsActive width compiled (regions_in history width words) active f (Some point) → IsNoTurn point → no_lane (lanes_of width active.lanes) ≡ false
+  some_active point is_active unturned =
       ap no_lane is_active.lanes
-      ∙ some_lane (program_of compiled) (variables_of compiled) width (regions_in history width words) sound.masked sound.shown.shows active.frame active.function f active.step point is_active.next
+      ∙ some_waiting (program_of compiled) (variables_of compiled) width (regions_in history width words) sound.masked sound.shown.shows active.frame active.level active.function f active.step point is_active.next unturned
 
 -- ---- the expressions of the next step
-
--- all expressions of a point find room
-abbrev pub PointHasRoom : Point → Type 0
-PointHasRoom (Put s next) = HaveRoom s
-PointHasRoom (Branch test yes' no') = HasRoom test
-PointHasRoom (Enter called args result_for next) = ArgsHaveRoom args
-PointHasRoom point = Unit {0}
-
-room_joined : (xs ys : List Point) → Each PointHasRoom xs → Each PointHasRoom ys → Each PointHasRoom (xs ++ ys)
-room_joined xs ys h k = each_join PointHasRoom xs ys h k
-
-points_room : (s : Stmt) (ways : Ways) → HaveRoom s → Each PointHasRoom (points_of s ways)
-points_room Empty ways h = tt
-points_room (Then first rest) ways h =
-    let before = before_step (entry_of rest ways.next) ways in
-    room_joined (points_of first before) (points_of rest ways) (points_room first before h.0) (points_room rest ways h.1)
-points_room (Declare number x e) ways h = (h, tt)
-points_room (Assign number target e) ways h = (h, tt)
-points_room (ModelChange number target type op in_type e) ways h = (h, tt)
-points_room (If number test first other) ways h =
-    (h.0, room_joined (points_of first ways) (points_of other ways) (points_room first ways h.1) (points_room other ways h.2))
-points_room (Loop number test update body) ways h =
-    let inside = body_ways (entry_of update number) ways in
-    let again = update_ways number ways in
-    let last = Branch test (entry_of body (entry_of update number)) ways.next ∷ [] in
-    room_joined (points_of body inside) (points_of update again ++ last) (points_room body inside h.2)
-    (room_joined (points_of update again) last (points_room update again h.1) (h.0, tt))
-points_room (BodyFirst number test body) ways h =
-    let inside = body_ways number ways in
-    room_joined (points_of body inside) (Branch test (entry_of body number) ways.next ∷ []) (points_room body inside h.1) (h.0, tt)
-points_room (Break number) ways h = (tt, tt)
-points_room (Continue number) ways h = (tt, tt)
-points_room (Return number e) ways h = (h, tt)
-points_room (Switch number e segments) ways h = (tt, points_room segments (record ways { on_break = Some ways.next }) h.1)
-points_room (Segment label body rest) ways h =
-    let before = before_step (entry_of rest ways.next) ways in
-    room_joined (points_of body before) (points_of rest ways) (points_room body before h.0) (points_room rest ways h.1)
-points_room (ForEach number form body) ways h =
-    let inside = round_ways (round_number number body) in
-    (tt, room_joined (points_of body inside) (Turn (entry_of body (round_number number body)) ∷ []) (points_room body inside h.1) (tt, tt))
-points_room (Call number called args result_for) ways h = (h, tt)
-points_room (Check number e) ways h = (h, tt)
-points_room (PackedStore number array from e result_for) ways h = (h, tt)
-points_room (PackedLoad number array from x result_for) ways h = (h, tt)
-
-each_at : {A : Type 0} (P : A → Type 0) (xs : List A) (k : ℕ) (x : A) → Each P xs → slice_get xs k ≡ Some x → P x
-each_at P [] k x h e = absurd (none-some x e)
-each_at P (y ∷ xs) zero x h e = subst P (same_some y x e) h.0
-each_at P (y ∷ xs) (suc k) x h e = each_at P xs k x h.1 e
 
 module _ (width : ℕ) (compiled : CompiledProgram) (is : IsCompiled compiled) (regions : Regions) (active : Active) (f : Function) (point : Point)
     (is_active : IsActive width compiled regions active f (Some point)) where
@@ -362,8 +305,8 @@ module _ (width : ℕ) (compiled : CompiledProgram) (is : IsCompiled compiled) (
   -- what it names is declared before it
   pub active_names : NamesBefore (declared_before (variables_of compiled) active.function f) active.step point
   active_names =
-      next_names (variables_of compiled) is.runnable.most (program_of compiled) is.runnable.plain is.runnable.lowerable.numbered is.runnable.declared
-      regions active.frame active.function f active.step point is_active.next
+      next_names (variables_of compiled) (program_of compiled) is.runnable.lowerable.numbered is.runnable.declared
+      regions active.frame active.level active.function f active.step point is_active.next
 
   pub active_room : PointHasRoom point
   active_room =
@@ -374,6 +317,13 @@ module _ (width : ℕ) (compiled : CompiledProgram) (is : IsCompiled compiled) (
 abbrev pub IsArgumentOf : Arg → Expr → Type 0
 IsArgumentOf (Value x v) e = v ≡ e
 IsArgumentOf (Array parameter array from) e = from ≡ Some e
+
+-- an expression is a bound of a dimension, or the value that a foreach form saves
+abbrev pub IsFormValue : RoundsOf → Expr → Type 0
+IsFormValue (Rows ds) e = (k : ℕ) × (d : Dimension) × (slice_get ds k ≡ Some d) × ((d.low ≡ e) ⊎ (d.high ≡ e))
+IsFormValue (Tiles ds) e = (k : ℕ) × (d : Dimension) × (slice_get ds k ≡ Some d) × ((d.low ≡ e) ⊎ (d.high ≡ e))
+IsFormValue (EachLane x) e = ⊥
+IsFormValue (EachValue x v) e = v ≡ e
 
 -- an expression is a value of a point
 abbrev pub IsValueOf : Point → Expr → Type 0
@@ -387,6 +337,8 @@ IsValueOf (Put (PackedLoad number array from x result_for) next) e = from ≡ So
 IsValueOf (Put (Return number (Some v)) next) e = v ≡ e
 IsValueOf (Put (Check number v) next) e = v ≡ e
 IsValueOf (Branch test yes' no') e = test ≡ e
+IsValueOf (Choose v segments entries next) e = v ≡ e
+IsValueOf (Begin form rounds next) e = IsFormValue form e
 IsValueOf (Enter called args result_for next) e = (k : ℕ) × (arg : Arg) × (slice_get args k ≡ Some arg) × IsArgumentOf arg e
 IsValueOf point e = ⊥
 
@@ -414,6 +366,22 @@ module _ (variables : Variables) (n : ℕ) (d : List ℕ) where
       good_option from e (subst (λ a. IsArgumentOf a e) (sym (same_some (Array parameter array from) arg is)) of) plain.2 declared.0 room.0
   good_argument called first (Array parameter array from ∷ args) (suc k) arg e is of plain declared room = good_argument called (suc first) args k arg e is of plain.3 declared.1 room.1
 
+  good_bound : (ds : List Dimension) (k : ℕ) (dimension : Dimension) (e : Expr) → slice_get ds k ≡ Some dimension → (dimension.low ≡ e) ⊎ (dimension.high ≡ e)
+      → All (DimensionPlain variables n) ds → DimensionsDeclared d ds → DimensionsHaveRoom ds → IsGood variables n d e
+  good_bound [] k dimension e is of plain declared room = absurd (none-some dimension is)
+  good_bound (first ∷ ds) zero dimension e is (inl low) plain declared room =
+      good first.low e (ap (λ x. x.low) (same_some first dimension is) ∙ low) (plain 0 first (omega arith)).2 declared.0 room.0
+  good_bound (first ∷ ds) zero dimension e is (inr high) plain declared room =
+      good first.high e (ap (λ x. x.high) (same_some first dimension is) ∙ high) (plain 0 first (omega arith)).3 declared.1 room.1
+  good_bound (first ∷ ds) (suc k) dimension e is of plain declared room =
+      good_bound ds k dimension e is of (λ j other within. plain (suc j) other (omega (arith, within))) declared.2 room.2
+
+  good_form : (form : RoundsOf) (e : Expr) → IsFormValue form e → FormPlain variables n form → FormDeclared d form → RoundsHaveRoom form → IsGood variables n d e
+  good_form (Rows ds) e of plain declared room = good_bound ds of.0 of.1 e of.2 of.3 plain.1 declared room
+  good_form (Tiles ds) e of plain declared room = good_bound ds of.0 of.1 e of.2 of.3 plain.1 declared room
+  good_form (EachLane x) e of plain declared room = absurd of
+  good_form (EachValue x v) e of plain declared room = good v e of plain.2 declared room
+
 module _ (variables : Variables) (n : ℕ) (before : StepNumber → List ℕ) (number : StepNumber) where
   good_value : (point : Point) (e : Expr) → IsPlainPoint variables n point → NamesBefore before number point → PointHasRoom point → IsValueOf point e → IsGood variables n (before number) e
   good_value (Put (Declare m x (Some v)) next) e plain names room same = good variables n (before number) v e same plain.1 names room
@@ -429,6 +397,8 @@ module _ (variables : Variables) (n : ℕ) (before : StepNumber → List ℕ) (n
   good_value (Put (Return m (Some v)) next) e plain names room same = good variables n (before number) v e same plain names room
   good_value (Put (Check m v) next) e plain names room same = good variables n (before number) v e same plain names room
   good_value (Branch test yes' no') e plain names room same = good variables n (before number) test e same plain names room
+  good_value (Choose v segments entries next) e plain names room same = good variables n (before number) v e same plain names room
+  good_value (Begin form rounds next) e plain names room of = good_form variables n (before number) form e of plain names room
   good_value (Enter called args result_for next) e plain names room given =
       good_argument variables n (before number) called 0 args given.0 given.1 e given.2 given.3 plain.0.args_plain names.0 room
   good_value point e plain names room none = absurd none

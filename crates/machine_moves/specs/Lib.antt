@@ -5,4 +5,5 @@ pub mod Elements
 pub mod Parts
 pub mod Read
 pub mod Results
+pub mod Rounds
 pub mod Standing

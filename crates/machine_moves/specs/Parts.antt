@@ -1,7 +1,8 @@
 -- The parts of arrays that the next step names, and how many lanes a packed call has.
-use Rattle.std.specs.Prelude.{◌≡◌, ℕ, List, Option, Some, None, Result, Ok, Err, length, Vec}
+use Rattle.std.specs.Prelude.{◌≡◌, ℕ, false, List, Option, Some, None, Result, Ok, Err, length, Vec}
 use Rattle.std.specs.Global.{Global}
-use Rattle.gang_types.specs.Lanes.{Lanes}
+use Rattle.gang_types.specs.Lanes.{Lanes, no_lane}
+use Rattle.gang_types.specs.Masks.{lanes_of}
 use Rattle.gang_model.specs.Types.Tree.{Expr, Function}
 use Rattle.gang_model.specs.Running.Lanes.{Fault as ModelFault, each, members}
 use Rattle.gang_model.specs.Running.State.{View as ModelView}
@@ -16,9 +17,9 @@ use Rattle.machine_moves.specs.declared.active.Active.{Active}
 use Rattle.machine_moves.specs.declared.compiled.CompiledProgram.{CompiledProgram}
 use Rattle.machine_moves.specs.Standing.{IsActive, IsValueAt}
 
--- the next step has a point, so some lane does it
+-- the next step has a point, and some lane does it
 abbrev pub HasNextPoint : (width : ℕ) → CompiledProgram → Regions → Active → Type 0
-HasNextPoint width compiled regions active = (f : Function) × (point : Point) × IsActive width compiled regions active f (Some point)
+HasNextPoint width compiled regions active = (f : Function) × (point : Point) × IsActive width compiled regions active f (Some point) × (no_lane (lanes_of width active.lanes) ≡ false)
 
 -- the code computes the index from which the next step takes a part of an array, if it takes it from one
 abbrev pub IsIndexAt : (width : ℕ) → CompiledProgram → Regions → Active → Option Expr → Option (Vec Instruction Global) → Type 0

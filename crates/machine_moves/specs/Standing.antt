@@ -19,6 +19,7 @@ use Rattle.mask_states.specs.Masked.{Masked}
 use Rattle.mask_states.specs.MaskedStep.{Goes, Over, masked_step}
 use Rattle.machine_states.specs.Cells.{cells_of}
 use Rattle.machine_states.specs.Declared.{AreDeclared, NamesDeclared, declared_before}
+use Rattle.machine_states.specs.Nesting.{most_levels}
 use Rattle.machine_states.specs.Plain.{IsPlainExpr}
 use Rattle.machine_states.specs.Regions.{Depth, Regions}
 use Rattle.machine_states.specs.Shows.{Shows}
@@ -45,7 +46,7 @@ pub record AreFor {T : Type 0} (history : T → History) (width : ℕ) (compiled
   pub gang : IsGangWidth width
   pub compiled_is : IsCompiled compiled
   pub lengths : List ℕ
-  pub layout : IsLayoutOf width compiled.program lengths machine_sizes (head_sizes width 0) words.layout
+  pub layout : IsLayoutOf width compiled.program lengths machine_sizes (head_sizes width (most_levels (program_of compiled))) words.layout
   pub laid : AreLaid history width words
   pub room : cells_of width (program_of compiled) ≤ (history words.store.timeline).room
 
@@ -63,10 +64,10 @@ pub record AreSound {T : Type 0} (history : T → History) (width : ℕ) (compil
 
 -- ---- the next step
 
--- this is the next step, with its lanes; it has this point, or is the function's closing brace
+-- this is the next step, with its level and its lanes; it has this point, or is the function's closing brace
 pub record IsActive (width : ℕ) (compiled : CompiledProgram) (regions : Regions) (active : Active) (f : Function) (point : Option Point) : Type 0 where
-  pub next : IsNext (program_of compiled) width regions active.frame 0 active.function f active.step point
-  pub lanes : lanes_of width active.lanes ≡ waiting_in regions active.frame 0 active.step
+  pub next : IsNext (program_of compiled) width regions active.frame active.level active.function f active.step point
+  pub lanes : lanes_of width active.lanes ≡ waiting_in regions active.frame active.level active.step
 
 -- the next step, none where no frame is left
 abbrev pub IsNextOf : (width : ℕ) → CompiledProgram → Regions → Option Active → Type 0

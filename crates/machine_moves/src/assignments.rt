@@ -61,7 +61,7 @@ pub fn declare<const W: usize, T: Timeline + Drop>(
     let region = region_of(active.frame, variable.id);
     words.declare::<W>(region, variable.rate, active.lanes, values);
     words.set_lanes::<W>(
-        Region::Head(active.frame, Head::Level(0, LevelPart::Numbers)),
+        Region::Head(active.frame, Head::Level(active.level, LevelPart::Numbers)),
         active.lanes,
         [next as u64; W],
     );
@@ -91,7 +91,7 @@ pub fn assign<const W: usize, T: Timeline + Drop>(
     let region = region_of(active.frame, variable.id);
     words.assign::<W>(region, variable.rate, active.lanes, values);
     words.set_lanes::<W>(
-        Region::Head(active.frame, Head::Level(0, LevelPart::Numbers)),
+        Region::Head(active.frame, Head::Level(active.level, LevelPart::Numbers)),
         active.lanes,
         [next as u64; W],
     );
@@ -131,7 +131,7 @@ pub fn change<const W: usize, T: Timeline + Drop>(
     let region = region_of(active.frame, variable.id);
     words.assign::<W>(region, variable.rate, active.lanes, values);
     words.set_lanes::<W>(
-        Region::Head(active.frame, Head::Level(0, LevelPart::Numbers)),
+        Region::Head(active.frame, Head::Level(active.level, LevelPart::Numbers)),
         active.lanes,
         [next as u64; W],
     );
@@ -178,7 +178,7 @@ pub fn finish<const W: usize, T: Timeline + Drop>(
     begin::<W, T>(words, Undone::Step);
     give_result::<W, T>(active.frame, rate, active.lanes, values, words);
     words.set_lanes::<W>(
-        Region::Head(active.frame, Head::Level(0, LevelPart::Numbers)),
+        Region::Head(active.frame, Head::Level(active.level, LevelPart::Numbers)),
         active.lanes,
         [next as u64; W],
     );

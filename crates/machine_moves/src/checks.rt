@@ -39,7 +39,7 @@ pub fn check<const W: usize, T: Timeline + Drop>(
     hold_in_each(active.lanes, values)?;
     begin::<W, T>(words, Undone::Step);
     words.set_lanes::<W>(
-        Region::Head(active.frame, Head::Level(0, LevelPart::Numbers)),
+        Region::Head(active.frame, Head::Level(active.level, LevelPart::Numbers)),
         active.lanes,
         [next as u64; W],
     );

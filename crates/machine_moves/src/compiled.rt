@@ -1,11 +1,12 @@
 //! Programs with their code.
 ghost use Rattle.std.specs.Prelude.{◌≡◌, Some};
-ghost use Rattle.gang_model.specs.Types.Tree.{Function as ModelFunction};
-ghost use Rattle.codegen.specs.Codes.{DoAll};
+ghost use Rattle.gang_model.specs.Types.Tree.{Function as ModelFunction, RoundsOf};
+ghost use Rattle.codegen.specs.Codes.{DoAll, Fit, IndexesOf, IsRoundOf};
+ghost use Rattle.foreach_lowering.specs.Forms.{round_forms};
 ghost use Rattle.mask_states.specs.Points.{closing_number, entry_of, points_in};
-ghost use Rattle.machine_moves.specs.Compiled.{IsCompiled, function_of};
+ghost use Rattle.machine_moves.specs.Compiled.{IsCompiled, IsRounds, function_of};
 
-use codegen::{Code, StepCode};
+use codegen::{Code, IndexCode, StepCode};
 use typed_tree::Program;
 
 /// A program that a machine runs, with its code.
@@ -20,9 +21,22 @@ impl CompiledProgram {
     pub fn steps(&self, function: usize) -> &[StepCode]
         requires compiled { IsCompiled self.now }
         requires there { (f : ModelFunction) × (function_of self.now function ≡ Some f) }
-        ensures { (f : ModelFunction) → function_of self.now function ≡ Some f → DoAll result.now (points_in f) }
+        ensures does { (f : ModelFunction) → function_of self.now function ≡ Some f → DoAll result.now (points_in f) }
+        ensures rounds { (f : ModelFunction) → function_of self.now function ≡ Some f → Fit IsRoundOf result.now (round_forms f) }
     {
         &self.code.functions[function]
+    }
+
+    /// The index variables of the form whose rounds a step of a function is.
+    pub fn round_form(&self, function: usize, step: usize) -> &IndexCode
+        requires compiled { IsCompiled self.now }
+        requires round { (f : ModelFunction) × (form : RoundsOf) × IsRounds self.now function step f form }
+        ensures { (f : ModelFunction) (form : RoundsOf) → IsRounds self.now function step f form → IndexesOf result.now form }
+    {
+        match &self.steps(function)[step] {
+            StepCode::Round { form, .. } => form,
+            _ => unreachable!(),
+        }
     }
 
     /// The step that the lanes of a call of a function wait for first.

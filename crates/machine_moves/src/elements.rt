@@ -1,6 +1,7 @@
 //! Steps that store to elements of arrays.
-ghost use Rattle.std.specs.Prelude.{◌≡◌, ℕ, ◌+◌, ◌≤◌, Some, IfOk};
+ghost use Rattle.std.specs.Prelude.{◌≡◌, ℕ, ◌+◌, ◌≤◌, false, Some, IfOk};
 ghost use Rattle.gang_types.specs.declared.places.VarId.{VarId};
+ghost use Rattle.gang_types.specs.Lanes.{no_lane};
 ghost use Rattle.gang_types.specs.Masks.{lanes_of};
 ghost use Rattle.gang_model.specs.Types.Tree.{Expr, Function};
 ghost use Rattle.undo_log.specs.declared.timeline.Undone.TheVariants as undone;
@@ -162,18 +163,18 @@ fn store<const W: usize, T: Timeline + Drop>(
 )
     requires sound { AreSound T.history W compiled.now words.old }
     requires step { (f : Function) × (point : Point) × IsActive W compiled.now (regions_in T.history W words.old) active f (Some point)
-        × (W + W ≤ words_set W point) }
+        × (W + W ≤ words_set W point) × (no_lane (lanes_of W active.lanes) ≡ false) }
     requires view { (array : VarId) × (view_view view ≡ view_at (regions_in T.history W words.old) active.frame array) }
     requires there { AreWithin (lanes_of W active.lanes) indices view.len }
     ensures stored { (region : ModelRegion) → regions_in T.history W words.new region
-        ≡ sent_on active.frame 0 (lanes_of W active.lanes) (λ k. next)
+        ≡ sent_on active.frame active.level (lanes_of W active.lanes) (λ k. next)
         (stored_in (view_view view) (lanes_of W active.lanes) indices.entry values.entry (regions_in T.history W words.old)) region }
     ensures recorded { Records T.history W undone.Step words.old words.new }
 {
     begin::<W, T>(words, Undone::Step);
     words.set_elements::<W>(view, active.lanes, indices, values);
     words.set_lanes::<W>(
-        Region::Head(active.frame, Head::Level(0, LevelPart::Numbers)),
+        Region::Head(active.frame, Head::Level(active.level, LevelPart::Numbers)),
         active.lanes,
         [next as u64; W],
     );

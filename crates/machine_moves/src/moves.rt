@@ -33,7 +33,7 @@ pub fn go<const W: usize, T: Timeline + Drop>(
 {
     begin::<W, T>(words, Undone::Step);
     words.set_lanes::<W>(
-        Region::Head(active.frame, Head::Level(0, LevelPart::Numbers)),
+        Region::Head(active.frame, Head::Level(active.level, LevelPart::Numbers)),
         active.lanes,
         [next as u64; W],
     );
@@ -61,7 +61,7 @@ pub fn branch<const W: usize, T: Timeline + Drop>(
     begin::<W, T>(words, Undone::Step);
     let targets = targets(&values, ways.0, ways.1);
     words.set_lanes::<W>(
-        Region::Head(active.frame, Head::Level(0, LevelPart::Numbers)),
+        Region::Head(active.frame, Head::Level(active.level, LevelPart::Numbers)),
         active.lanes,
         targets,
     );

@@ -59,7 +59,7 @@ pub fn store_packed<const W: usize, T: Timeline + Drop>(
     words.set_packed::<W>(view, active.lanes, values);
     give_count::<W, T>(compiled, active, result_for, words);
     words.set_lanes::<W>(
-        Region::Head(active.frame, Head::Level(0, LevelPart::Numbers)),
+        Region::Head(active.frame, Head::Level(active.level, LevelPart::Numbers)),
         active.lanes,
         [next as u64; W],
     );
@@ -98,7 +98,7 @@ pub fn load_packed<const W: usize, T: Timeline + Drop>(
     words.assign::<W>(region, into.rate, active.lanes, values);
     give_count::<W, T>(compiled, active, result_for, words);
     words.set_lanes::<W>(
-        Region::Head(active.frame, Head::Level(0, LevelPart::Numbers)),
+        Region::Head(active.frame, Head::Level(active.level, LevelPart::Numbers)),
         active.lanes,
         [next as u64; W],
     );

@@ -11,15 +11,18 @@ use Rattle.gang_model.specs.Debugger.Positions.{standing_in}
 use Rattle.gang_model.specs.Texts.Text.{Bytes, bits, call_line, line, line_and_column, standing_text}
 use Rattle.debug_machine.specs.declared.machine.Position.{Position}
 use Rattle.debug_machine.specs.Machines.{call_text, position_line}
-use Rattle.mask_states.specs.Points.{closing_number}
-use Rattle.mask_states.specs.Masked.{Masked, least}
-use Rattle.mask_states.proofs.LaneNumbers.{least_at_most}
+use Rattle.mask_states.specs.Points.{closing_number, points_in}
+use Rattle.mask_states.specs.Masked.{Masked}
 use Rattle.machine_states.specs.Variables.{Variables}
-use Rattle.machine_states.specs.Regions.{FunctionOf, LanesOf, NumbersOf, Depth, OfHead, Regions, lanes_in, OfLevel}
-use Rattle.machine_states.specs.Shows.{Shows}
-use Rattle.machine_states.specs.Steps.{IsInnermost}
+use Rattle.machine_states.specs.Regions.{FunctionOf, LanesOf, Depth, OfHead, OpenOf, Regions, lanes_in}
+use Rattle.machine_states.specs.Levels.{ShowsLevels}
+use Rattle.machine_states.specs.Shows.{Shows, level_words}
+use Rattle.machine_states.specs.Steps.{IsInnermost, least_in}
+use Rattle.machine_states.proofs.NextPoints.{same_function, same_word}
 use Rattle.machine_states.proofs.Calls.{made_at, none_made, none_made_at_0, calls}
-use Rattle.machine_moves.proofs.Standings.{function_in}
+use Rattle.machine_moves.specs.Rounds.{IsRunning}
+use Rattle.machine_moves.proofs.FrameLevels.{least_within}
+use Rattle.machine_moves.proofs.ShownFrames.{frame_shown}
 use Rattle.machine_shown.specs.Seen.{IsStandingOf}
 
 -- ---- a position as a line
@@ -94,23 +97,42 @@ module _ (p : Program) (variables : Variables) (w : ℕ) (regions : Regions) (ma
       → (f : Function) × (slice_get p.functions word ≡ Some f) × (regions (OfHead (deep - 1) FunctionOf) ≡ word ∷ [])
   function_at deep depth word depth_is h e =
       let below : deep - 1 < length masked.state.frames = omega (arith, is_below deep depth depth_is h) in
-      let found = function_in p variables w regions (deep - 1) masked.state.frames masked.levels below shows.frames in
-      let same : found.number ≡ word = sym (e ∙ ap (λ words. slice_index words 0) found.is_number) in (
-        found.function,
-        ap (slice_get p.functions) (sym same) ∙ found.is_function,
-        found.is_number ∙ ap (λ m. m ∷ []) same,
+      let found = frame_shown p variables w regions (deep - 1) masked.state.frames masked.levels below shows.frames in
+      let same : found.frame.function ≡ word = sym (e ∙ ap (λ words. slice_index words 0) found.shows.number) in (
+        found.shows.function,
+        ap (slice_get p.functions) (sym same) ∙ found.shows.is_function,
+        found.shows.number ∙ ap (λ m. m ∷ []) same,
       )
 
+  -- so that frame runs it
+  pub running_at : (deep depth word : ℕ) → depth ≡ slice_index (regions Depth) 0 → deep < depth → word ≡ slice_index (regions (OfHead (deep - 1) FunctionOf)) 0 → IsRunning regions (deep - 1) word
+  running_at deep depth word depth_is h e = record {
+    height = length masked.state.frames;
+    depth = shows.depth;
+    below = omega (arith, is_below deep depth depth_is h);
+    runs = (function_at deep depth word depth_is h e).2;
+  }
+
+  -- the step that made a call is one of its function
+  call_within : (deep j level m number : ℕ) (g : Function) → deep ≡ suc j → deep < length masked.state.frames → regions (OfHead j FunctionOf) ≡ m ∷ [] → slice_get p.functions m ≡ Some g
+      → IsInnermost w regions j g level → number ≡ least_in regions j g level → number ≤ closing_number g
+  call_within deep j level m number g e below function is inner least_is =
+      let found = frame_shown p variables w regions j masked.state.frames masked.levels (omega (arith, e, below)) shows.frames in
+      let runs : found.frame.function ≡ m = same_word (regions (OfHead j FunctionOf)) found.frame.function m found.shows.number function in
+      let same : found.shows.function ≡ g = same_function found.shows.function g (slice_get p.functions found.frame.function) found.shows.is_function (ap (slice_get p.functions) runs ∙ is) in
+      let waits = subst (λ f. ShowsLevels (points_in f) w (level_words regions j) (regions (OfHead j OpenOf)) (closing_number f) found.levels) same found.shows.waits in
+      omega (arith, least_is, least_within w regions j g level found.levels inner waits)
+
   -- the position of the step that made a call has the line of the call
-  pub call_shown : (deep j m number : ℕ) (g : Function) (lanes : Mask) (position : Option Position) → deep ≡ suc j → deep < length masked.state.frames
-      → regions (OfHead j FunctionOf) ≡ m ∷ [] → slice_get p.functions m ≡ Some g → IsInnermost w regions j g 0 → number ≡ least (closing_number g) (regions (OfLevel j 0 NumbersOf))
+  pub call_shown : (deep j level m number : ℕ) (g : Function) (lanes : Mask) (position : Option Position) → deep ≡ suc j → deep < length masked.state.frames
+      → regions (OfHead j FunctionOf) ≡ m ∷ [] → slice_get p.functions m ≡ Some g → IsInnermost w regions j g level → number ≡ least_in regions j g level
       → lanes_of w lanes ≡ lanes_in w regions (OfHead deep LanesOf) → length g.standings ≡ closing_number g + 1 → IsStandingOf w g number deep lanes position
       → call_text p deep masked.state.frames ≡ position_line position
-  call_shown deep j m number g lanes position e below function is at_body least_is lanes_are long stands =
-      let made = calls p variables w regions masked shows (length masked.state.frames) shows.depth j m g (omega (arith, e, below)) function is at_body in
+  call_shown deep j level m number g lanes position e below function is at_body least_is lanes_are long stands =
+      let made = calls p variables w regions masked shows (length masked.state.frames) shows.depth j level m g (omega (arith, e, below)) function is at_body in
       let inner = made.0 in
       let frame = made.1 in
-      let at_most : number ≤ closing_number g = omega (arith, least_is, least_at_most (closing_number g) (regions (OfLevel j 0 NumbersOf))) in
+      let at_most : number ≤ closing_number g = call_within deep j level m number g e below function is at_body least_is in
       call_text_made p deep masked.state.frames
       ∙ ap (λ d. line_made p deep (made_at d masked.state.frames)) e
       ∙ ap (line_made p deep) made.2

@@ -114,11 +114,11 @@ module _ (compiled : CompiledProgram) (runnable : IsRunnable compiled.program) w
     top_named active g is v (function, number, f, standing, at_spot, stands, k, e) =
         let point = slice_get (points_in g) active.step in
         let here = same_some (spot_in function number) (spot_in active.function active.step)
-        (sym at_spot ∙ spot p variables width regions masked shows active.frame active.function g active.step point is.next) in
+        (sym at_spot ∙ spot p variables width regions masked shows active.frame active.level active.function g active.step point is.next) in
         let same_function : function ≡ active.function = ap (λ s. s.function.0) here in
         let same_number : number ≡ active.step = ap (λ s. s.number) here in
         let same : f ≡ g = same_some f g (sym stands.is_function ∙ ap (slice_get p.functions) same_function ∙ is.next.is_function) in
-        let top = top_declared variables p width regions active.frame active.function g active.step point is.next masked shows declared in
+        let top = top_declared variables p width regions active.frame active.level active.function g active.step point is.next masked shows declared in
         let standing_is : slice_get g.standings active.step ≡ Some standing =
         ap (λ h. slice_get h.standings active.step) (sym same) ∙ ap (slice_get f.standings) (sym same_number) ∙ stands.stands in
         let all = scope_has variables p runnable.declared width regions masked active.frame active.function g active.step is.next.is_function top standing standing_is in
@@ -174,7 +174,7 @@ module _ (compiled : CompiledProgram) (runnable : IsRunnable compiled.program) w
         record {
           frame = active.frame;
           shown_is = has.shown_is ∙ ap (λ x. shown_of regions active.frame (Local k) x) (same_some has.variable v (sym has.is_variable ∙ own));
-          view = λ array. array_shown p variables width regions masked shows active.frame active.function has.f active.step _ next (Local k) (v, own, array);
+          view = λ array. array_shown p variables width regions masked shows active.frame active.level active.function has.f active.step _ next (Local k) (v, own, array);
           scalar = λ sized plain. variable_in p variables width active.frame active.function regions masked shows next.depth next.function sized (Local k) v own plain (there plain);
           pokes = λ sized plain part word. pokes p variables width regions masked shows sized part word active.frame active.function next.depth next.function (Local k) v own plain (there plain);
         }

@@ -3,20 +3,23 @@ ghost use Rattle.std.specs.Prelude.{◌≡◌, ◌<◌, Some, IfSome};
 ghost use Rattle.gang_types.specs.Masks.{IsGangWidth, lanes_of};
 ghost use Rattle.gang_model.specs.Types.Tree.{Function as ModelFunction};
 ghost use Rattle.debug_machine.specs.Machines.{call_text, position_line};
-ghost use Rattle.mask_states.specs.Masked.{Masked};
+ghost use Rattle.mask_states.specs.Masked.{Masked, masked_lanes};
 ghost use Rattle.machine_states.specs.Regions.{LanesOf, OfHead, lanes_in};
 ghost use Rattle.machine_words.specs.Words.{AreLaid, regions_in};
 ghost use Rattle.machine_moves.specs.Compiled.{function_of, program_of};
-ghost use Rattle.machine_moves.specs.Standing.{AreSound, IsShown};
+ghost use Rattle.machine_moves.specs.Standing.{AreSound, IsNextOf, IsShown};
 ghost use Rattle.machine_shown.specs.Seen.{IsPositionOf, IsStandingOf};
 
+use codegen::StepCode;
 use debug_machine::Position;
 use gang_types::Mask;
-use machine_moves::{CompiledProgram, least, next_step};
-use machine_words::{Head, LevelPart, MachineWords, Region};
+use machine_moves::{Active, CompiledProgram, frame_step, next_step};
+use machine_rounds::next_round;
+use machine_words::{Head, MachineWords, Region};
 use undo_log::Timeline;
 
-/// Where the program stands, unless it has ended. At a closing brace the lanes are those of the call.
+/// Where the program stands, unless it has ended. At the rounds of a foreach form the lanes are those of the round that begins, at a closing
+/// brace those of the call.
 pub fn position<'a, const W: usize, T: Timeline + Drop>(
     compiled: &'a CompiledProgram,
     words: &MachineWords<T>,
@@ -26,11 +29,7 @@ pub fn position<'a, const W: usize, T: Timeline + Drop>(
     ensures width { IfSome result (λ position. IsGangWidth position.width) }
 {
     let active = next_step::<W, T>(compiled, words)?;
-    let lanes = if active.step == compiled.closing(active.function) {
-        call_lanes::<W, T>(words, active.frame)
-    } else {
-        active.lanes
-    };
+    let lanes = shown_lanes::<W, T>(compiled, words, active);
     stands_at::<W>(
         compiled,
         active.function,
@@ -56,10 +55,29 @@ pub fn call<'a, const W: usize, T: Timeline + Drop>(
     }
     let frame = depth - 1;
     let function = words.word::<W>(Region::Head(frame, Head::Function), 0) as usize;
-    let numbers = words.lanes::<W>(Region::Head(frame, Head::Level(0, LevelPart::Numbers)));
-    let step = least(compiled.closing(function) as u64, &numbers);
+    let call = frame_step::<W, T>(compiled, words, frame, function);
     let lanes = call_lanes::<W, T>(words, depth);
-    stands_at::<W>(compiled, function, step as usize, depth, lanes)
+    stands_at::<W>(compiled, function, call.step, depth, lanes)
+}
+
+/// The lanes that are shown at the next step: those of the round that begins, those of the call at the closing brace, and else those that do
+/// it.
+fn shown_lanes<const W: usize, T: Timeline + Drop>(
+    compiled: &CompiledProgram,
+    words: &MachineWords<T>,
+    active: Active,
+) -> Mask
+    requires sound { AreSound T.history W compiled.now words.now }
+    requires next { IsNextOf W compiled.now (regions_in T.history W words.now) (Some active) }
+    ensures { (masked : Masked) → IsShown T.history W compiled.now words.now masked → lanes_of W result ≡ masked_lanes masked }
+{
+    let Some(code) = compiled.steps(active.function).get(active.step) else {
+        return call_lanes::<W, T>(words, active.frame);
+    };
+    match code {
+        StepCode::Round { .. } => next_round::<W, T>(compiled, active, words).lanes,
+        _ => active.lanes,
+    }
 }
 
 /// The lanes of the call that made a frame.

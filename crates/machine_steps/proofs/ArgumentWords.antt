@@ -86,7 +86,7 @@ module _ {T : Type 0} (history : T → History) (width : ℕ) (compiled : Compil
   by_view : part of.index (view_of masked.state array) lanes masked.state ≡ part of.index (view_at regions active.frame array) lanes masked.state
   by_view =
       ap (λ view. part of.index view lanes masked.state)
-      (array_shown (program_of compiled) (variables_of compiled) width regions masked shown.shows active.frame active.function point.0 active.step (Some point.1) point.2.next array of.there)
+      (array_shown (program_of compiled) (variables_of compiled) width regions masked shown.shows active.frame active.level active.function point.0 active.step (Some point.1) point.2.next array of.there)
 
   pub part_faults : (fault : Fault) → part of.index (view_at (regions_in history width words) active.frame array) (lanes_of width active.lanes) masked.state ≡ Err (fault_view fault)
       → IsArgumentAnswer width (regions_in history width words) (lanes_of width active.lanes) masked.state y (Err fault)

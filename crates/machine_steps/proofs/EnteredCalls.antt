@@ -208,7 +208,7 @@ module _ {T : Type 0} (history : T → History) (left : T → ℕ) (width : ℕ)
   lanes = lanes_of width active.lanes
 
   pub call_lanes : no_lane lanes ≡ false
-  call_lanes = some_active history width compiled old sound active call.f (Enter called call.meant call.for call.next) call.at
+  call_lanes = some_active history width compiled old sound active call.f (Enter called call.meant call.for call.next) call.at tt
 
   pub call_below : active.frame < 64
   call_below = frame_below history width compiled old sound active call.f (Some (Enter called call.meant call.for call.next)) call.at
@@ -234,11 +234,11 @@ module _ {T : Type 0} (history : T → History) (left : T → ℕ) (width : ℕ)
   -- a fault of an argument
   pub call_fails : (masked : Masked) → IsShown history width compiled old masked → (fault : ModelFault) → passed call.meant lanes masked.state ≡ Err fault → FailsWith (program_of compiled) masked fault
   call_fails masked shown fault e =
-      fails (program_of compiled) (variables_of compiled) width regions masked shown.shows active.frame active.function called call.f active.step call.meant call.for call.next call.at.next
+      fails (program_of compiled) (variables_of compiled) width regions masked shown.shows active.frame active.level active.function called call.f active.step call.meant call.for call.next call.at.next
       fault (ap (λ l. passed call.meant l masked.state) (sym call.at.lanes) ∙ e)
 
   pub call_point : HasNextPoint width compiled (regions_in history width old) active
-  call_point = (call.f, Enter called call.meant call.for call.next, call.at)
+  call_point = (call.f, Enter called call.meant call.for call.next, call.at, call_lanes)
 
   -- its arguments have words
   abbrev pub HaveWords : Masked → (given : List (List ℕ)) → Type 0
@@ -247,7 +247,7 @@ module _ {T : Type 0} (history : T → History) (left : T → ℕ) (width : ℕ)
   pub given_long : (masked : Masked) (given : List (List ℕ)) → HaveWords masked given → length given ≡ length args
   given_long masked given are = omega (arith, fit_long (AreArgumentWords width regions lanes masked.state) call.meant given are, fit_long IsArg args call.meant call.fits)
 
-  given_passed : (masked : Masked) (given : List (List ℕ)) → HaveWords masked given → passed call.meant (waiting_in regions active.frame 0 active.step) masked.state ≡ Ok (passed_with lanes call.meant given)
+  given_passed : (masked : Masked) (given : List (List ℕ)) → HaveWords masked given → passed call.meant (waiting_in regions active.frame active.level active.step) masked.state ≡ Ok (passed_with lanes call.meant given)
   given_passed masked given are = ap (λ l. passed call.meant l masked.state) (sym call.at.lanes) ∙ all_passed width regions lanes masked.state call.meant given are
 
   -- 64 frames are there
@@ -255,7 +255,7 @@ module _ {T : Type 0} (history : T → History) (left : T → ℕ) (width : ℕ)
       → FailsWith (program_of compiled) masked (record { name = CallDepth; lane = lowest lanes })
   call_too_deep deep masked shown given are =
       subst (λ l. FailsWith (program_of compiled) masked (record { name = CallDepth; lane = lowest l })) (sym call.at.lanes)
-      (too_deep (program_of compiled) (variables_of compiled) width regions masked shown.shows active.frame active.function called call.f active.step call.meant call.for call.next call.at.next
+      (too_deep (program_of compiled) (variables_of compiled) width regions masked shown.shows active.frame active.level active.function called call.f active.step call.meant call.for call.next call.at.next
       call_there.0 call_there.1 (passed_with lanes call.meant given) (given_passed masked given are) (omega (arith, deep)))
 
   -- an event is open
@@ -294,7 +294,7 @@ module _ {T : Type 0} (history : T → History) (left : T → ℕ) (width : ℕ)
             entered_begun history left width variables runnable.most p runnable.plain active.function called frame g lanes size args call.meant call.fits call_is_plain given open' mid new declared begins
             masked.state are_now (omega (arith, wide)) parameters_sized in
             let below = entered_below history left width variables runnable.most p runnable.plain active.function called frame g lanes size args call.meant call.fits call_is_plain given open' mid new declared begins in (
-              enters p variables width regions masked shown.shows active.frame active.function called call.f active.step call.meant call.for call.next call.at.next g is
+              enters p variables width regions masked shown.shows active.frame active.level active.function called call.f active.step call.meant call.for call.next call.at.next g is
                   arguments (given_passed masked given are) (omega (arith, deep)) now
                   (subst (λ l. IsBegun variables width now (suc active.frame) called g l arguments) call.at.lanes
                   (subst (λ i. IsBegun variables width now i called g lanes arguments) (add-one active.frame) begun))

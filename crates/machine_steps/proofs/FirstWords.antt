@@ -18,6 +18,7 @@ use Rattle.gang_memory.specs.declared.parts.Part.{Part}
 use Rattle.gang_memory.specs.Layouts.{IsLayoutOf, global_words as layout_words}
 use Rattle.gang_memory.specs.Ranges.{sizes_of}
 use Rattle.gang_memory.specs.Recorded.{without_words}
+use Rattle.machine_states.specs.Nesting.{most_levels}
 use Rattle.machine_states.specs.Regions.{OfFile}
 use Rattle.machine_states.proofs.StoreWords.{another, itself}
 use Rattle.machine_words.specs.declared.words.MachineWords.{MachineWords}
@@ -116,7 +117,7 @@ module _ {T : Type 0} (history : T → History) (left : T → ℕ) (width : ℕ)
     gang = lie.gang;
     compiled_is = lie.compiled_is;
     lengths = lie.lengths;
-    layout = subst (λ l. IsLayoutOf width compiled.program lie.lengths machine_sizes (head_sizes width 0) l) (sym layout) lie.layout;
+    layout = subst (λ l. IsLayoutOf width compiled.program lie.lengths machine_sizes (head_sizes width (most_levels (program_of compiled))) l) (sym layout) lie.layout;
     laid = laid;
     room = omega (arith, lie.room, ap (λ h. h.room) rest);
   }

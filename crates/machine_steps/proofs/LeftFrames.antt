@@ -5,15 +5,12 @@ use Rattle.undo_log.specs.History.{History}
 use Rattle.undo_log.specs.declared.timeline.Undone.TheVariants as undone
 use Rattle.gang_types.specs.Masks.{IsGangWidth}
 use Rattle.gang_model.specs.Types.Tree.{Function}
-use Rattle.mask_states.specs.Points.{closing_number}
-use Rattle.mask_states.specs.Masked.{Masked, least}
-use Rattle.machine_states.specs.Effects.{sent_on}
-use Rattle.machine_states.specs.Regions.{Depth, NumbersOf, Regions, with_region, OfLevel}
+use Rattle.mask_states.specs.Masked.{Masked}
+use Rattle.machine_states.specs.Regions.{Depth, Regions, with_region}
 use Rattle.machine_states.specs.Shows.{AreSized}
-use Rattle.machine_states.specs.Steps.{Delivers, GoesTo, IsNext, waiting_in}
+use Rattle.machine_states.specs.Steps.{Delivers, GoesTo, IsNext}
 use Rattle.machine_states.proofs.AwaitedResults.{has_result}
 use Rattle.machine_states.proofs.LeaveSteps.{leaves, leaves_entry}
-use Rattle.machine_states.proofs.PlainLevels.{plain_innermost}
 use Rattle.machine_words.specs.declared.words.MachineWords.{MachineWords}
 use Rattle.machine_words.specs.Words.{AreLaid, Writes, regions_in, words_of}
 use Rattle.machine_words.proofs.Sizes.{depth_words}
@@ -23,7 +20,7 @@ use Rattle.machine_moves.specs.Compiled.{IsCompiled, program_of, variables_of}
 use Rattle.machine_moves.specs.Standing.{AreSound, Begins, IsActive, IsClosing, IsShown}
 use Rattle.machine_moves.proofs.Heads.{only_word}
 use Rattle.machine_moves.proofs.Standings.{IsUnderWay, begun, begun_regions, lie_behind, recorded_so_far, shown_alike, sized, under_way_alike, wrote}
-use Rattle.machine_steps.specs.Leaving.{GoesPastCall, lanes_called, result_seen}
+use Rattle.machine_steps.specs.Leaving.{GoesPastCall, behind_call, lanes_called, result_seen}
 use Rattle.machine_steps.proofs.Callers.{call_declared, call_plain}
 
 -- ---- where lanes go on
@@ -35,8 +32,8 @@ module _ {T : Type 0} (history : T → History) (left : T → ℕ) (w : ℕ) (ga
 
   -- behind the call that made the frame
   pub goes_past : (new : MachineWords T) → AreSized (variables_of compiled) w regions → (above : 0 < active.frame) → (gone : GoesPastCall history left w compiled active.frame f words new)
-      → GoesTo (program_of compiled) (variables_of compiled) w masked (with_region Depth (active.frame ∷ [])
-      (sent_on (active.frame - 1) 0 (waiting_in regions (active.frame - 1) 0 (least (closing_number gone.g) (regions (OfLevel (active.frame - 1) 0 NumbersOf)))) (λ k. gone.next) gone.delivered))
+      → GoesTo (program_of compiled) (variables_of compiled) w masked
+      (with_region Depth (active.frame ∷ []) (behind_call regions (active.frame - 1) gone.level gone.g gone.next gone.delivered))
   goes_past new sized above gone =
       let p = program_of compiled in
       let variables = variables_of compiled in
@@ -44,22 +41,22 @@ module _ {T : Type 0} (history : T → History) (left : T → ℕ) (w : ℕ) (ga
       let j = active.frame - 1 in
       let e : active.frame ≡ suc j = omega (arith, above) in
       let call = gone.call in
-      let next : IsNext p w regions (suc j) 0 active.function f active.step None = subst (λ i. IsNext p w regions i 0 active.function f active.step None) e is_active.next in
+      let next : IsNext p w regions (suc j) active.level active.function f active.step None = subst (λ i. IsNext p w regions i active.level active.function f active.step None) e is_active.next in
       let delivers : Delivers w j gone.g gone.for f.result_type (lanes_called w regions (suc j)) (result_seen w regions (suc j) f.result (lanes_called w regions (suc j))) regions gone.delivered =
       subst (λ i. Delivers w j gone.g gone.for f.result_type (lanes_called w regions i) (result_seen w regions i f.result (lanes_called w regions i)) regions gone.delivered) e gone.delivers in
-      let inner = plain_innermost variables gone.n gone.g (runnable.plain.functions gone.n gone.g call.is_function).body w regions j in
-      let has = has_result p variables w regions masked shown.shows j active.function gone.n call.called f gone.g active.step call.args gone.for gone.next next call.runs call.is_function inner call.calls
-      (call_declared p regions j gone.n gone.g gone.for gone.next call variables runnable.most runnable.plain runnable.lowerable.numbered runnable.declared) shown.declared in
-      subst (λ d. GoesTo p variables w masked (with_region Depth (d ∷ []) (sent_on j 0 (waiting_in regions j 0 (least (closing_number gone.g) (regions (OfLevel j 0 NumbersOf)))) (λ k. gone.next) gone.delivered))) (sym e)
-      (leaves p variables w gang regions masked shown.shows sized j active.function gone.n call.called f gone.g active.step call.args gone.for gone.next next call.runs call.is_function inner call.calls
-      gone.delivered (call_plain p regions j gone.n gone.g gone.for gone.next call variables runnable.most runnable.plain) has delivers)
+      let has = has_result p variables w regions masked shown.shows j active.level gone.level active.function gone.n f gone.g active.step gone.for next call.runs call.is_function call.innermost
+      (call_declared p w regions j gone.level gone.n gone.g gone.for gone.next call variables runnable.lowerable.numbered runnable.declared) shown.declared in
+      subst (λ d. GoesTo p variables w masked (with_region Depth (d ∷ []) (behind_call regions j gone.level gone.g gone.next gone.delivered))) (sym e)
+      (leaves p variables w gang regions masked shown.shows sized j active.level gone.level active.function gone.n call.called f gone.g active.step call.args gone.for gone.next next call.runs
+      call.is_function call.innermost call.calls gone.delivered (call_plain p w regions j gone.level gone.n gone.g gone.for gone.next call variables runnable.most runnable.plain) has delivers)
 
   -- nowhere, if the frame is the entry's
   pub goes_nowhere : active.frame ≡ 0 → GoesTo (program_of compiled) (variables_of compiled) w masked (with_region Depth (active.frame ∷ []) regions)
   goes_nowhere e =
       let p = program_of compiled in
       subst (λ d. GoesTo p (variables_of compiled) w masked (with_region Depth (d ∷ []) regions)) (sym e)
-      (leaves_entry p (variables_of compiled) w regions masked shown.shows active.function f active.step (subst (λ i. IsNext p w regions i 0 active.function f active.step None) e is_active.next))
+      (leaves_entry p (variables_of compiled) w regions masked shown.shows active.level active.function f active.step
+      (subst (λ i. IsNext p w regions i active.level active.function f active.step None) e is_active.next))
 
 -- ---- the event
 
@@ -90,8 +87,7 @@ module _ {T : Type 0} (history : T → History) (left : T → ℕ) (w : ℕ) (co
 
   -- it is under way behind the call
   pub past_under_way : (frame : ℕ) (f : Function) (new : MachineWords T) → (gone : GoesPastCall history left w compiled frame f mid new)
-      → IsUnderWay history left w undone.Step (sent_on (frame - 1) 0 (waiting_in (regions_in history w mid) (frame - 1) 0 (least (closing_number gone.g) (regions_in history w mid (OfLevel (frame - 1) 0 NumbersOf)))) (λ k. gone.next) gone.delivered)
-      (w + w + 1) old new
+      → IsUnderWay history left w undone.Step (behind_call (regions_in history w mid) (frame - 1) gone.level gone.g gone.next gone.delivered) (w + w + 1) old new
   past_under_way frame f new gone = record {
     regions_are = gone.regions;
     layout = gone.layout ∙ begins.layout;

@@ -7,12 +7,11 @@ use Rattle.gang_model.specs.Types.Tree.{Arg, Function, Program, ResultFor, StepN
 use Rattle.gang_model.specs.Running.State.{seen}
 use Rattle.undo_log.specs.History.{History}
 use Rattle.gang_memory.specs.Recorded.{without_words}
-use Rattle.mask_states.specs.Points.{Enter, closing_number, points_in}
-use Rattle.mask_states.specs.Masked.{least}
+use Rattle.mask_states.specs.Points.{Enter, points_in}
 use Rattle.machine_states.specs.Effects.{sent_on}
-use Rattle.machine_states.specs.Regions.{FunctionOf, LanesOf, NumbersOf, OfHead, Region, Regions, ResultOf, ReturnedOf, lanes_in, OfLevel}
+use Rattle.machine_states.specs.Regions.{FunctionOf, LanesOf, OfHead, Region, Regions, ResultOf, ReturnedOf, lanes_in}
 use Rattle.machine_states.specs.Shows.{result_of}
-use Rattle.machine_states.specs.Steps.{Delivers, converted_values, waiting_in}
+use Rattle.machine_states.specs.Steps.{Delivers, IsInnermost, converted_values, least_in, waiting_in}
 use Rattle.machine_words.specs.declared.words.MachineWords.{MachineWords}
 use Rattle.machine_words.specs.Words.{AreLaid, left_of, regions_in}
 use Rattle.machine_moves.specs.declared.compiled.CompiledProgram.{CompiledProgram}
@@ -35,28 +34,33 @@ AreSameIn lanes values others = (from to : IntType) → converted_values from to
 
 -- ---- the call
 
--- the next step of a frame that runs g is a call, with what its result is for and where its lanes go on
-pub record IsAtCall (p : Program) (regions : Regions) (frame n : ℕ) (g : Function) (for : ResultFor) (next : StepNumber) : Type 0 where
+-- the next step of a frame that runs g, in this level of it, is a call, with what its result is for and where its lanes go on
+pub record IsAtCall (p : Program) (width : ℕ) (regions : Regions) (frame level n : ℕ) (g : Function) (for : ResultFor) (next : StepNumber) : Type 0 where
   pub called : ℕ
   pub args : List Arg
   pub runs : regions (OfHead frame FunctionOf) ≡ n ∷ []
   pub is_function : slice_get p.functions n ≡ Some g
-  pub calls : slice_get (points_in g) (least (closing_number g) (regions (OfLevel frame 0 NumbersOf))) ≡ Some (Enter called args for next)
+  pub innermost : IsInnermost width regions frame g level
+  pub calls : slice_get (points_in g) (least_in regions frame g level) ≡ Some (Enter called args for next)
+
+-- the lanes of a level of a frame that runs g go on behind their call
+abbrev pub behind_call : Regions → (frame level : ℕ) → (g : Function) → (next : StepNumber) → Regions → Regions
+behind_call regions frame level g next = sent_on frame level (waiting_in regions frame level (least_in regions frame g level)) (λ k. next)
 
 -- The result of a frame of f is given to the frame below, which made its call, and the lanes that wait there go on behind the call.
 -- At most 2 * w + 1 words were set.
 pub record GoesPastCall {T : Type 0} (history : T → History) (left : T → ℕ) (width : ℕ) (compiled : CompiledProgram) (frame : ℕ) (f : Function) (old new : MachineWords T) : Type 0 where
+  pub level : ℕ
   pub n : ℕ
   pub g : Function
   pub for : ResultFor
   pub next : StepNumber
-  pub call : IsAtCall (program_of compiled) (regions_in history width old) (frame - 1) n g for next
+  pub call : IsAtCall (program_of compiled) width (regions_in history width old) (frame - 1) level n g for next
   pub delivered : Regions
   pub delivers : Delivers width (frame - 1) g for f.result_type (lanes_called width (regions_in history width old) frame)
       (result_seen width (regions_in history width old) frame f.result (lanes_called width (regions_in history width old) frame))
       (regions_in history width old) delivered
-  pub regions : (r : Region) → regions_in history width new r
-      ≡ sent_on (frame - 1) 0 (waiting_in (regions_in history width old) (frame - 1) 0 (least (closing_number g) (regions_in history width old (OfLevel (frame - 1) 0 NumbersOf)))) (λ k. next) delivered r
+  pub regions : (r : Region) → regions_in history width new r ≡ behind_call (regions_in history width old) (frame - 1) level g next delivered r
   pub layout : new.layout ≡ old.layout
   pub laid : AreLaid history width new
   pub rest : without_words (history new.store.timeline) ≡ without_words (history old.store.timeline)

@@ -13,7 +13,7 @@ ghost use Rattle.machine_steps.specs.Leaving.{AreSameIn, GoesPastCall, lanes_cal
 
 use codegen::StepCode;
 use gang_types::{Mask, Rate};
-use machine_moves::{Active, CompiledProgram, begin, deliver_values, least, waiting_for};
+use machine_moves::{Active, CompiledProgram, begin, deliver_values, frame_step};
 use machine_words::{Head, LevelPart, MachineWords, Region};
 use masked_operations::only;
 use typed_tree::ResultFor;
@@ -51,20 +51,19 @@ fn go_past_call<const W: usize, T: Timeline + Drop>(
 {
     let below = active.frame - 1;
     let caller = words.word::<W>(Region::Head(below, Head::Function), 0) as usize;
-    let numbers = words.lanes::<W>(Region::Head(below, Head::Level(0, LevelPart::Numbers)));
-    let number = least(compiled.closing(caller) as u64, &numbers);
+    let call = frame_step::<W, T>(compiled, words, below, caller);
     let StepCode::Enter {
         result_for,
         next,
         ..
-    } = &compiled.steps(caller)[number as usize]
+    } = &compiled.steps(caller)[call.step]
     else {
         unreachable!()
     };
     deliver::<W, T>(compiled, active, *result_for, words);
     words.set_lanes::<W>(
-        Region::Head(below, Head::Level(0, LevelPart::Numbers)),
-        waiting_for(number, &numbers),
+        Region::Head(below, Head::Level(call.level, LevelPart::Numbers)),
+        call.lanes,
         [*next as u64; W],
     );
 }

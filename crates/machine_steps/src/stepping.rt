@@ -9,9 +9,10 @@ use codegen::StepCode;
 use debug_machine::{Fault, StepEnd};
 use expression_machine::Stacks;
 use machine_moves::{
-    Active, CompiledProgram, assign, assign_element, branch, change, change_element, check,
+    Active, CompiledProgram, assign, assign_element, branch, change, change_element, check, choose,
     declare, finish, go, load_packed, next_step, store_packed,
 };
+use machine_rounds::{begin_form, take_round};
 use machine_words::MachineWords;
 use undo_log::Timeline;
 
@@ -124,6 +125,15 @@ fn perform<const W: usize, T: Timeline + Drop>(
         StepCode::Branch { test, yes, no } => {
             branch(compiled, active, test, (*yes, *no), words, stacks)
         }
+        StepCode::Choose {
+            selector,
+            segments,
+            next,
+        } => choose(compiled, active, selector, segments, *next, words, stacks),
+        StepCode::Begin { form, rounds, next } => {
+            begin_form(compiled, active, form, *rounds, *next, words, stacks)
+        }
+        StepCode::Round { body, .. } => take_round::<W, T>(compiled, active, *body, words),
         StepCode::Enter { function, args, .. } => {
             enter(compiled, active, *function, args, words, stacks)
         }

@@ -48,7 +48,7 @@ returns g c = λ masked shown.
     let compiled = c.args.compiled.now in
     let old = c.args.words.now in
     let e = declared_value history g.T.Timeline.left g.row.W compiled old c.requires.sound c.args.active c.args.variable c.args.value.now c.args.next c.requires.does in
-    let lanes = waiting_in (regions_in history g.row.W old) c.args.active.frame 0 c.args.active.step in
+    let lanes = waiting_in (regions_in history g.row.W old) c.args.active.frame c.args.active.level c.args.active.step in
     let is : initial e lanes masked.state ≡ Ok c.match-value.values =
     elim c.match-value.branch [
       | in-Some+in_ok-values-in-Some w ↦

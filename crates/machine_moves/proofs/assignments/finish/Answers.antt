@@ -9,7 +9,6 @@ use Rattle.gang_model.specs.Running.Step.{initial}
 use Rattle.gang_model.specs.Running.Value.{value}
 use Rattle.debug_machine.specs.Machines.{fault_view}
 use Rattle.mask_states.specs.Points.{Put}
-use Rattle.machine_states.specs.Regions.{NumbersOf, LevelOf}
 use Rattle.machine_states.specs.Steps.{waiting_in}
 use Rattle.machine_states.proofs.PutSteps.{return_fails}
 use Rattle.typed_tree.specs.Views.{function_view}
@@ -17,10 +16,9 @@ use Rattle.machine_words.specs.Words.{regions_in}
 use Rattle.machine_moves.specs.Compiled.{program_of, variables_of}
 use Rattle.machine_moves.specs.Standing.{EndsAs}
 use Rattle.machine_moves.proofs.FrameResults.{function_is, function_within}
-use Rattle.machine_moves.proofs.Heads.{head_long}
 use Rattle.machine_moves.proofs.ReturnSteps.{each_zero, no_value, returns_well, value_there}
 use Rattle.machine_moves.proofs.GangLanes.{stacks_small}
-use Rattle.machine_moves.proofs.Standings.{begun_laid, frame_below, lanes_long, returns_at, some_active, step_within}
+use Rattle.machine_moves.proofs.Standings.{active_numbers, begun_laid, frame_below, lanes_long, returns_at, some_active, step_within}
 use Rattle.machine_moves.proofs.assignments.finish.Goals.{in-Some+in_ok-values-in-Some, in-None}
 use Rattle.machine_moves.proofs.assignments.finish.Goals as goal
 
@@ -50,11 +48,11 @@ returns-in_err-values-in-Some g c = λ masked shown.
     c.in-Some.value c.in-Some.is c.deref.result.now c.deref.ensures.value in
     let fault = c.in_err-values-in-Some.field-0.0 in
     let failed : value there.0 (lanes_of w active.lanes) masked.state ≡ Err (fault_view fault) = c.in_err-values-in-Some.ensures masked there.0 shown there.2 in
-    let is : initial e (waiting_in regions active.frame 0 active.step) masked.state ≡ Err (fault_view fault) =
-    ap (λ o. initial o (waiting_in regions active.frame 0 active.step) masked.state) there.1 ∙ ap (λ ls. value there.0 ls masked.state) (sym at_step.lanes) ∙ failed in
+    let is : initial e (waiting_in regions active.frame active.level active.step) masked.state ≡ Err (fault_view fault) =
+    ap (λ o. initial o (waiting_in regions active.frame active.level active.step) masked.state) there.1 ∙ ap (λ ls. value there.0 ls masked.state) (sym at_step.lanes) ∙ failed in
     let p = err_from_is_err_and c.from_residual.result c.from_residual.ensures.1 in
     subst (λ r. EndsAs history w compiled masked old r old) (sym (p.1 ∙ ap Err p.2)) (
-      return_fails (program_of compiled) (variables_of compiled) w regions masked shown.shows active.frame active.function returning.0 active.step returning.1.0 e c.args.next at_step.next
+      return_fails (program_of compiled) (variables_of compiled) w regions masked shown.shows active.frame active.level active.function returning.0 active.step returning.1.0 e c.args.next at_step.next
           (fault_view fault) is,
       refl,
     )
@@ -87,7 +85,7 @@ give_result-requires g c =
           begun_laid history left w compiled undone.Step old mid sound.lie c.begin.ensures,
           (
             frame_below history w compiled old sound active returning.0 (Some point) returning.1.3,
-            (some_active history w compiled old sound active returning.0 point returning.1.3, omega (arith, room, c.begin.ensures.left_is)),
+            (some_active history w compiled old sound active returning.0 point returning.1.3 tt, omega (arith, room, c.begin.ensures.left_is)),
           ),
         ),
       ),
@@ -105,16 +103,15 @@ set_lanes-requires g c =
     let sound = c.requires.sound in
     let returning = returns_at w compiled (regions_in history w old) active c.args.value.now c.args.next c.requires.does in
     let point = Put (Return returning.1.0 returning.1.1) c.args.next in
-    let room = step_within history w compiled old sound.lie active returning.0 point returning.1.3 in
-    let there = frame_below history w compiled old sound active returning.0 (Some point) returning.1.3 in (
+    let room = step_within history w compiled old sound.lie active returning.0 point returning.1.3 in (
       omega (arith, gang_width-le w sound.lie.gang),
       (
         sound.lie.gang,
         (
           c.give_result.ensures.laid,
           (
-            head_long history left w c.give_result.new.words c.give_result.ensures.laid active.frame (LevelOf 0 NumbersOf) there,
-            (some_active history w compiled old sound active returning.0 point returning.1.3, omega (arith, room, c.begin.ensures.left_is, c.give_result.ensures.few)),
+            active_numbers history w compiled old sound active returning.0 (Some point) returning.1.3 c.give_result.new.words (c.give_result.ensures.layout ∙ c.begin.ensures.layout) c.give_result.ensures.laid,
+            (some_active history w compiled old sound active returning.0 point returning.1.3 tt, omega (arith, room, c.begin.ensures.left_is, c.give_result.ensures.few)),
           ),
         ),
       ),

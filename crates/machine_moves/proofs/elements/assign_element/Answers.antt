@@ -66,7 +66,7 @@ returns g c = λ masked shown.
     let goes = assign_goes history w compiled old c.requires.sound c.args.active c.args.array c.args.index.now c.args.value.now c.args.next c.requires.does masked shown
     reached.indices reached.values reached.elements (c.in_ok-reached.ensures.answer masked i e shown i_at e_at)
     view c.in_ok-reached.ensures.view in (
-      goes_alike (program_of compiled) (variables_of compiled) w masked (sent_on c.args.active.frame 0 lanes (λ k. c.args.next) (stored_in view lanes reached.indices reached.values regions))
+      goes_alike (program_of compiled) (variables_of compiled) w masked (sent_on c.args.active.frame c.args.active.level lanes (λ k. c.args.next) (stored_in view lanes reached.indices reached.values regions))
           (regions_in history w c.store.new.words) c.store.ensures.stored goes,
       c.store.ensures.recorded,
     )

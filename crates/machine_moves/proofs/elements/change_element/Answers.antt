@@ -84,7 +84,7 @@ returns g c = λ masked shown.
     let goes = change_goes history w compiled old c.requires.sound c.args.active c.args.array c.args.index.now c.args.change c.args.value.now c.args.next c.requires.does masked shown
     before.indices before.values before.elements (c.in_ok-before.ensures.answer masked i e shown i_at e_at) c.in-Ok.values (sym c.changed.ensures ∙ ap answer_of c.in-Ok.is)
     view c.in_ok-before.ensures.view in (
-      goes_alike (program_of compiled) (variables_of compiled) w masked (sent_on c.args.active.frame 0 lanes (λ k. c.args.next) (stored_in view lanes before.indices c.in-Ok.values regions))
+      goes_alike (program_of compiled) (variables_of compiled) w masked (sent_on c.args.active.frame c.args.active.level lanes (λ k. c.args.next) (stored_in view lanes before.indices c.in-Ok.values regions))
           (regions_in history w c.store.new.words) c.store.ensures.stored goes,
       c.store.ensures.recorded,
     )

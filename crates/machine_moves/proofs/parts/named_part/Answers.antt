@@ -10,7 +10,6 @@ use Rattle.machine_words.specs.Views.{view_view}
 use Rattle.machine_words.specs.Words.{regions_in, words_of}
 use Rattle.machine_words.proofs.ArrayWords.{part_inside}
 use Rattle.machine_moves.proofs.NamedParts.{index_there}
-use Rattle.machine_moves.proofs.Standings.{some_active}
 use Rattle.machine_moves.proofs.parts.named_part.Goals as goal
 
 pub returns-in_default-clause-inside : goal.returns-in_default-clause-inside
@@ -31,7 +30,7 @@ part_from-requires g c =
     let whole : IsInside regions view = subst (λ v. IsInside regions v) (sym c.view-whole.ensures) (view_inside regions c.args.active.frame c.args.array) in
     let among = part_inside w words.layout (words_of history words) laid view whole in
     let small : view.first + view.len < 2 ^ 64 = omega (arith, among, laid.long, laid.small) in
-    (omega (arith, gang_width-le w sound.lie.gang), (sound.lie.gang, (some_active history w c.args.compiled.now words sound c.args.active point.0 point.1 point.2, small)))
+    (omega (arith, gang_width-le w sound.lie.gang), (sound.lie.gang, (point.3, small)))
 
 pub returns-in-Ok-clause-part : goal.returns-in-Ok-clause-part
 returns-in-Ok-clause-part g c = λ masked index shown at.

@@ -1,14 +1,10 @@
-use Rattle.std.proofs.Common.{◌≡◌, ◌<◌, ◌∙◌, refl, ap, ap₂, suc, ◌-◌, length, arith}
+use Rattle.std.proofs.Common.{◌≡◌, ◌<◌, ◌∙◌, refl, ap, suc, ◌-◌, length, arith}
 use Rattle.std.specs.Prelude.{slice_index}
-use Rattle.gang_types.specs.MaskLaws.{gang_width-le}
-use Rattle.machine_states.specs.Regions.{FunctionOf, NumbersOf, LevelOf, OfLevel}
-use Rattle.mask_states.specs.Masked.{least}
-use Rattle.mask_states.specs.Points.{closing_number}
-use Rattle.machine_states.proofs.PlainLevels.{plain_innermost}
+use Rattle.machine_states.specs.Regions.{FunctionOf}
 use Rattle.machine_words.specs.Words.{regions_in}
 use Rattle.machine_moves.specs.Compiled.{program_of, variables_of}
 use Rattle.machine_moves.proofs.Standings.{head_sized}
-use Rattle.machine_shown.proofs.CallPlaces.{call_shown, function_at, is_below, no_call, no_call_at_0, standing_width}
+use Rattle.machine_shown.proofs.CallPlaces.{call_shown, function_at, is_below, no_call, no_call_at_0, running_at, standing_width}
 use Rattle.machine_shown.proofs.positions.call.Goals as goal
 use Rattle.machine_shown.proofs.positions.call.Goals.{then-depth-eq0-via-then-depth-eq0, then-depth-eq0-via-else-depth-eq0+then-word-depth}
 
@@ -36,34 +32,13 @@ word-function-requires-clause-within g c =
     let long = head_sized g.T.Timeline.history g.row.W c.args.compiled.now machine machine lie refl lie.laid (c.args.depth - 1) FunctionOf below in
     omega (arith, long)
 
-pub lanes-numbers-requires : goal.lanes-numbers-requires
-lanes-numbers-requires g c =
-    let compiled = c.args.compiled.now in
-    let machine = c.args.words.now in
-    let lie = c.requires.sound.lie in
-    let masked = c.requires.sound.masked in
-    let shows = c.requires.sound.shown.shows in
-    let regions = regions_in g.T.Timeline.history g.row.W machine in
-    let within = is_below (program_of compiled) (variables_of compiled) g.row.W regions masked shows c.args.depth c.word.result c.word.ensures c.if-word-depth.false in
-    let below : c.args.depth - 1 < 64 = omega (arith, within, shows.few) in (
-      omega (arith, gang_width-le g.row.W lie.gang),
-      (
-        lie.gang,
-        (
-          lie.laid,
-          head_sized g.T.Timeline.history g.row.W c.args.compiled.now machine machine lie refl lie.laid (c.args.depth - 1) (LevelOf 0 NumbersOf) below,
-        ),
-      ),
-    )
-
-pub closing-requires-clause-there : goal.closing-requires-clause-there
-closing-requires-clause-there g c =
+pub frame_step-call-requires-clause-runs : goal.frame_step-call-requires-clause-runs
+frame_step-call-requires-clause-runs g c =
     let compiled = c.args.compiled.now in
     let regions = regions_in g.T.Timeline.history g.row.W c.args.words.now in
     let masked = c.requires.sound.masked in
     let shows = c.requires.sound.shown.shows in
-    let there = function_at (program_of compiled) (variables_of compiled) g.row.W regions masked shows c.args.depth c.word.result c.word-function.result c.word.ensures c.if-word-depth.false c.word-function.ensures in
-    (there.0, there.1)
+    running_at (program_of compiled) (variables_of compiled) g.row.W regions masked shows c.args.depth c.word.result c.word-function.result c.word.ensures c.if-word-depth.false c.word-function.ensures
 
 pub stands_at-requires : goal.stands_at-requires
 stands_at-requires g c =
@@ -84,14 +59,9 @@ returns-clause-place g c masked shown =
     let one_more : deep ≡ suc (deep - 1) = omega (arith, c.if-depth-eq0.false) in
     let there = function_at (program_of compiled) (variables_of compiled) g.row.W regions masked shows deep c.word.result c.word-function.result c.word.ensures c.if-word-depth.false c.word-function.ensures in
     let f = there.0 in
-    let numbers = regions (OfLevel (deep - 1) 0 NumbersOf) in
-    let closing : c.closing.result ≡ closing_number f = c.closing.ensures f there.1 in
-    let least_is : c.least-step.result ≡ least (closing_number f) numbers =
-    c.least-step.ensures ∙ ap₂ (λ end words. least end words) closing c.lanes-numbers.ensures in
-    call_shown (program_of compiled) (variables_of compiled) g.row.W regions masked shows deep (deep - 1) c.word-function.result c.least-step.result f
-    c.call_lanes-lanes.result c.stands_at.result one_more below there.2 there.1
-    (plain_innermost (variables_of compiled) c.word-function.result f (c.requires.sound.lie.compiled_is.runnable.plain.functions c.word-function.result f there.1).body g.row.W regions (deep - 1))
-    least_is
+    let found = c.frame_step-call.ensures f there.1 in
+    call_shown (program_of compiled) (variables_of compiled) g.row.W regions masked shows deep (deep - 1) c.frame_step-call.result.level c.word-function.result c.frame_step-call.result.step f
+    c.call_lanes-lanes.result c.stands_at.result one_more below there.2 there.1 found.innermost found.least_number
     c.call_lanes-lanes.ensures
     (c.requires.sound.lie.compiled_is.runnable.lowerable.functions c.word-function.result f there.1).standings
     (c.stands_at.ensures f there.1)
@@ -103,4 +73,4 @@ returns-clause-width g c =
     let masked = c.requires.sound.masked in
     let shows = c.requires.sound.shown.shows in
     let there = function_at (program_of compiled) (variables_of compiled) g.row.W regions masked shows c.args.depth c.word.result c.word-function.result c.word.ensures c.if-word-depth.false c.word-function.ensures in
-    standing_width g.row.W there.0 c.least-step.result c.args.depth c.call_lanes-lanes.result c.stands_at.result c.requires.sound.lie.gang (c.stands_at.ensures there.0 there.1)
+    standing_width g.row.W there.0 c.frame_step-call.result.step c.args.depth c.call_lanes-lanes.result c.stands_at.result c.requires.sound.lie.gang (c.stands_at.ensures there.0 there.1)

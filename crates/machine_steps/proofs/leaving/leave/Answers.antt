@@ -1,14 +1,11 @@
-use Rattle.std.proofs.Common.{◌+◌, sym, subst, arith, [], ◌∷◌}
+use Rattle.std.proofs.Common.{◌+◌, ◌≤◌, sym, ap, subst, arith, [], ◌∷◌}
 use Rattle.std.specs.Prelude.{◌-◌, slice_set}
 use Rattle.undo_log.specs.declared.timeline.Undone.TheVariants as undone
-use Rattle.mask_states.specs.Points.{closing_number}
-use Rattle.mask_states.specs.Masked.{least}
-use Rattle.machine_states.specs.Effects.{sent_on}
-use Rattle.machine_states.specs.Regions.{Depth, NumbersOf, with_region, OfLevel}
-use Rattle.machine_states.specs.Steps.{waiting_in}
-use Rattle.machine_words.specs.Words.{AreLaid, Writes, regions_in, words_of}
+use Rattle.machine_states.specs.Regions.{Depth, with_region}
+use Rattle.machine_words.specs.Words.{AreLaid, Writes, left_of, regions_in, words_of}
 use Rattle.machine_words.proofs.Sizes.{depth_words}
-use Rattle.machine_moves.proofs.Standings.{begun, ends_well}
+use Rattle.machine_moves.proofs.Standings.{begun, ends_well, leaving_within}
+use Rattle.machine_steps.specs.Leaving.{behind_call}
 use Rattle.machine_steps.proofs.LeftFrames.{begun_closing, begun_laid, begun_shown, begun_sized, depth_set, goes_nowhere, goes_past, past_under_way}
 use Rattle.machine_steps.proofs.leaving.leave.Goals.{else-active-gt0, then-active-gt0}
 use Rattle.machine_steps.proofs.leaving.leave.Goals as goal
@@ -37,6 +34,26 @@ set-requires-clause-within g c =
     let laid : AreLaid history g.row.W words = set-requires-clause-laid g c in
     omega (arith, depth_words g.row.W words.layout (words_of history words) laid)
 
+pub set-requires-clause-left : goal.set-requires-clause-left
+set-requires-clause-left g c =
+    let history = g.T.Timeline.history in
+    let left = g.T.Timeline.left in
+    let w = g.row.W in
+    let compiled = c.args.compiled.now in
+    let old = c.args.words.now in
+    let mid = c.begin.new.words in
+    let room = leaving_within history w compiled old c.requires.sound.lie in
+    let begins = c.begin.ensures.left_is in
+    let enough : 1 ≤ left_of history left c.if-active-gt0.words =
+    elim c.if-active-gt0.branch [
+      | then-active-gt0 b ↦
+          let closing = begun_closing history left w compiled old mid c.requires.sound c.begin.ensures c.args.active c.requires.closing in
+          let gone = b.go_past_call.ensures closing.0 closing.1 in
+          omega (arith, room, begins, gone.few, ap (left_of history left) b.words-is)
+      | else-active-gt0 b ↦ omega (arith, room, begins, ap (left_of history left) b.words-is)
+    ] in
+    enough
+
 pub returns : goal.returns
 returns g c = λ masked shown.
     let history = g.T.Timeline.history in
@@ -57,7 +74,7 @@ returns g c = λ masked shown.
           subst (λ words. Writes history left w Depth (slice_set (regions_in history w words Depth) 0 active.frame) 1 words new) b.words-is c.set.ensures in
           let before = regions_in history w mid in
           let below = active.frame - 1 in
-          let regions = sent_on below 0 (waiting_in before below 0 (least (closing_number gone.g) (before (OfLevel below 0 NumbersOf)))) (λ k. gone.next) gone.delivered in
+          let regions = behind_call before below gone.level gone.g gone.next gone.delivered in
           let done = depth_set history left w regions (w + w + 1) old past (past_under_way history left w compiled old mid sound c.begin.ensures active.frame closing.0 past gone) new active.frame set in
           ends_well history left w compiled masked (with_region Depth (active.frame ∷ []) regions) (w + w + 1 + 1) old new done
           (goes_past history left w sound.lie.gang compiled sound.lie.compiled_is active closing.0 masked mid

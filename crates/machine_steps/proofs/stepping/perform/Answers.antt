@@ -93,6 +93,31 @@ branch-compiled-requires g c =
 pub returns-in-Branch : goal.returns-in-Branch
 returns-in-Branch g c = c.branch-compiled.ensures
 
+pub choose-requires : goal.choose-requires
+choose-requires g c =
+    let small = gang_width-le g.row.W c.requires.sound.lie.gang in
+    (omega (arith, small), (c.requires.sound, subst (λ code. DoesNext g.row.W c.args.compiled.now (regions_in g.T.Timeline.history g.row.W c.args.words.now) c.args.active code) c.in-Choose.is c.requires.does))
+
+pub returns-in-Choose : goal.returns-in-Choose
+returns-in-Choose g c = c.choose.ensures
+
+pub begin_form-requires : goal.begin_form-requires
+begin_form-requires g c =
+    let small = gang_width-le g.row.W c.requires.sound.lie.gang in
+    (omega (arith, small), (c.requires.sound, subst (λ code. DoesNext g.row.W c.args.compiled.now (regions_in g.T.Timeline.history g.row.W c.args.words.now) c.args.active code) c.in-Begin.is c.requires.does))
+
+pub returns-in-Begin : goal.returns-in-Begin
+returns-in-Begin g c = c.begin_form.ensures
+
+pub take_round-requires : goal.take_round-requires
+take_round-requires g c = record {
+  sound = c.requires.sound;
+  does = (c.in-Round.form, subst (λ code. DoesNext g.row.W c.args.compiled.now (regions_in g.T.Timeline.history g.row.W c.args.words.now) c.args.active code) c.in-Round.is c.requires.does);
+}
+
+pub returns-in-Round : goal.returns-in-Round
+returns-in-Round g c = c.take_round.ensures
+
 pub enter-requires : goal.enter-requires
 enter-requires g c =
     let small = gang_width-le g.row.W c.requires.sound.lie.gang in

@@ -6,7 +6,8 @@ use Rattle.machine_states.proofs.Endings.{over}
 use Rattle.machine_words.specs.Words.{regions_in}
 use Rattle.machine_moves.specs.Compiled.{program_of, variables_of}
 use Rattle.machine_moves.specs.Standing.{AreSound}
-use Rattle.machine_steps.proofs.StepEnds.{does_next, is_closing, sound_behind, step_done}
+use Rattle.machine_moves.proofs.NextCode.{does_next, is_closing}
+use Rattle.machine_steps.proofs.StepEnds.{sound_behind, step_done}
 use Rattle.machine_steps.proofs.stepping.step.Goals as goal
 
 pub returns-in_default : goal.returns-in_default
@@ -23,7 +24,7 @@ leave-requires-clause-closing g c =
     let regions = regions_in g.T.Timeline.history g.row.W c.args.words.now in
     let next = c.in-Some.ensures in
     let past : length c.steps.result.now ≤ c.in-Some.active.step = c.in_default-get.ensures.lookup.3 in
-    is_closing g.row.W c.args.compiled.now regions c.in-Some.active next c.steps.result.now (c.steps.ensures next.0 next.1.next.is_function) past
+    is_closing g.row.W c.args.compiled.now regions c.in-Some.active next c.steps.result.now (c.steps.ensures.does next.0 next.1.next.is_function) past
 
 pub returns-in_default-get-clause-steps : goal.returns-in_default-get-clause-steps
 returns-in_default-get-clause-steps g c = step_done g.T.Timeline.history g.row.W c.args.compiled.now c.args.words.now c.leave.new.words c.requires.sound c.leave.ensures
@@ -44,7 +45,7 @@ perform-requires g c =
       omega (arith, small),
       (
         c.requires.sound,
-        does_next g.row.W c.args.compiled.now regions c.in-Some.active next steps (c.steps.ensures next.0 next.1.next.is_function) code found,
+        does_next g.row.W c.args.compiled.now regions c.in-Some.active next steps (c.steps.ensures.does next.0 next.1.next.is_function) code found,
       ),
     )
 

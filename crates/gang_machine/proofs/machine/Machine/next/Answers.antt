@@ -42,6 +42,6 @@ returns-clause-step g c s d stands =
     let shown = shown_here history g.row.W m.entry m.compiled m.lines.items m.words c.self.invariant s d here in
     let within : active.function < length functions = viewed_within function_view functions active.function f next.is_function in
     let item = read_at functions functions active.function c.index.result.now refl within c.index.ensures in
-    let at_spot = spot (program_of m.compiled) (variables_of m.compiled) g.row.W (regions_in history g.row.W m.words) _ shown.shows active.frame active.function f active.step (slice_get (points_in f) active.step) next in
+    let at_spot = spot (program_of m.compiled) (variables_of m.compiled) g.row.W (regions_in history g.row.W m.words) _ shown.shows active.frame active.level active.function f active.step (slice_get (points_in f) active.step) next in
     subst (λ m. IsNext m s d c.index.result.now active.step) c.self.view_is
     (is_next history g.row.W m.entry m.compiled m.lines.items m.words c.self.invariant s d here active.function active.step c.index.result.now item at_spot)

@@ -1,8 +1,8 @@
 use Rattle.std.proofs.Common.{◌≡◌, ◌∙◌, sym, ap, arith, subst, ◌+◌}
 use Rattle.gang_types.specs.Masks.{lanes_of}
 use Rattle.machine_moves.proofs.NextLanes.{AreFound, found_all, found_none, found_one}
-use Rattle.machine_moves.proofs.active.waiting_for.Goals as goal
-use Rattle.machine_moves.proofs.active.waiting_for.Goals.{then-waited-number, else-waited-number}
+use Rattle.machine_moves.proofs.waiting.waiting_for.Goals as goal
+use Rattle.machine_moves.proofs.waiting.waiting_for.Goals.{then-waited-number, else-waited-number}
 
 pub loop-lane-preserved : goal.loop-lane-preserved
 loop-lane-preserved g c =

@@ -1,7 +1,7 @@
 use Rattle.std.proofs.Common.{◌<◌, sym, ◌∙◌, ap, arith, length, slice_index}
 use Rattle.std.specs.Prelude.{min}
 use Rattle.machine_moves.proofs.NextLanes.{least_more}
-use Rattle.machine_moves.proofs.active.least.Goals as goal
+use Rattle.machine_moves.proofs.waiting.least.Goals as goal
 
 pub loop-number-preserved : goal.loop-number-preserved
 loop-number-preserved g c =

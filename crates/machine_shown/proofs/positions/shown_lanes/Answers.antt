@@ -1,0 +1,60 @@
+use Rattle.std.proofs.Common.{◌∙◌, sym, ap, subst, length, Some}
+use Rattle.std.proofs.lemmas.Bool.{ltb-true}
+use Rattle.std.proofs.lemmas.Option.{slice_get-get_or}
+use Rattle.machine_words.specs.Words.{regions_in}
+use Rattle.machine_moves.specs.Standing.{DoesNext}
+use Rattle.machine_moves.proofs.NextCode.{does_next, is_closing}
+use Rattle.machine_rounds.proofs.RoundSteps.{round_next}
+use Rattle.machine_rounds.proofs.RoundWrites.{round_small}
+use Rattle.machine_shown.proofs.StepPlaces.{lanes_at_brace, lanes_at_round, lanes_at_step, unturned}
+use Rattle.machine_shown.proofs.positions.shown_lanes.Goals as goal
+
+pub returns-in_default : goal.returns-in_default
+returns-in_default g c masked shown =
+    let regions = regions_in g.T.Timeline.history g.row.W c.args.words.now in
+    let next = c.requires.next in
+    let closing = is_closing g.row.W c.args.compiled.now regions c.args.active next c.steps.result.now (c.steps.ensures.does next.0 next.1.next.is_function) c.in_default.ensures.lookup.3 in
+    lanes_at_brace g.row.W c.args.compiled.now regions c.args.active closing.0 masked shown.shows closing.1 c.call_lanes.result c.call_lanes.ensures
+
+pub next_round-requires : goal.next_round-requires
+next_round-requires g c =
+    let sound = c.requires.sound in
+    let regions = regions_in g.T.Timeline.history g.row.W c.args.words.now in
+    let next = c.requires.next in
+    let code = c.in-Some.code.now in
+    let look = c.in-Some.ensures.lookup in
+    let found = slice_get-get_or c.steps.result.now c.args.active.step code (ltb-true c.args.active.step (length c.steps.result.now) (sym look.0)) ∙ ap Some (sym look.1) in
+    let does = does_next g.row.W c.args.compiled.now regions c.args.active next c.steps.result.now (c.steps.ensures.does next.0 next.1.next.is_function) code found in (
+      round_small g.row.W sound.lie.gang,
+      (
+        sound,
+        (
+          c.in-Round.body,
+          round_next g.row.W c.args.compiled.now regions c.args.active c.in-Round.body
+              (c.in-Round.form, subst (λ step. DoesNext g.row.W c.args.compiled.now regions c.args.active step) c.in-Round.is does),
+        ),
+      ),
+    )
+
+pub returns-in-Round : goal.returns-in-Round
+returns-in-Round g c masked shown =
+    let sound = c.requires.sound in
+    let regions = regions_in g.T.Timeline.history g.row.W c.args.words.now in
+    let next = c.requires.next in
+    let code = c.in-Some.code.now in
+    let look = c.in-Some.ensures.lookup in
+    let found = slice_get-get_or c.steps.result.now c.args.active.step code (ltb-true c.args.active.step (length c.steps.result.now) (sym look.0)) ∙ ap Some (sym look.1) in
+    let does = does_next g.row.W c.args.compiled.now regions c.args.active next c.steps.result.now (c.steps.ensures.does next.0 next.1.next.is_function) code found in
+    let turn = round_next g.row.W c.args.compiled.now regions c.args.active c.in-Round.body
+    (c.in-Round.form, subst (λ step. DoesNext g.row.W c.args.compiled.now regions c.args.active step) c.in-Round.is does) in
+    lanes_at_round g.row.W c.args.compiled.now regions c.args.active turn.0 masked shown.shows sound.lie.gang sound.lie.compiled_is shown.declared c.in-Round.body turn.1 c.next_round.result c.next_round.ensures
+
+pub returns-in_default-code : goal.returns-in_default-code
+returns-in_default-code g c masked shown =
+    let regions = regions_in g.T.Timeline.history g.row.W c.args.words.now in
+    let next = c.requires.next in
+    let code = c.in-Some.code.now in
+    let look = c.in-Some.ensures.lookup in
+    let found = slice_get-get_or c.steps.result.now c.args.active.step code (ltb-true c.args.active.step (length c.steps.result.now) (sym look.0)) ∙ ap Some (sym look.1) in
+    let does = does_next g.row.W c.args.compiled.now regions c.args.active next c.steps.result.now (c.steps.ensures.does next.0 next.1.next.is_function) code found in
+    lanes_at_step g.row.W c.args.compiled.now regions c.args.active does.0 masked shown.shows does.1 does.3 (unturned code does.1 does.2 c.in_default-code.not-Round)
