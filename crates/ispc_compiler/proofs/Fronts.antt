@@ -11,7 +11,7 @@ use Rattle.gang_model.specs.Source.Parsed.{Name, ParsedSource}
 use Rattle.gang_model.specs.Types.Resolved.{program_of}
 use Rattle.gang_model.specs.Texts.Run.{source_refusal}
 use Rattle.gang_model.specs.Types.SourceRefusals.{first_refusal, names_refusal, types_refusal}
-use Rattle.gang_model.specs.Source.Sources.{IsProgramOf, IsTreeNumber}
+use Rattle.gang_model.specs.Source.Sources.{IsProgramOf, IsTreeNumber, ReadsAs}
 use Rattle.gang_model.specs.Source.SpellsSource.{IsTree}
 use Rattle.gang_model.specs.Source.Tokens.{Lexeme}
 use Rattle.source_answers.specs.declared.fault.SourceFault.{SourceFault}
@@ -19,28 +19,28 @@ use Rattle.source_answers.specs.declared.fault.SourceFault.TheVariants.{Memory, 
 use Rattle.ispc_lexer.specs.Refusal.{IsRefusal as IsLexerRefusal}
 use Rattle.ispc_parser_front.specs.Refusals.{IsRefusal as IsParserRefusal}
 use Rattle.ispc_parser_words.specs.Front.{IsParserNumber}
-use Rattle.plain_programs.specs.Sources.{HasVariablesOf, plain_forms}
+use Rattle.plain_programs.specs.Sources.{HasVariablesOf}
 use Rattle.plain_programs.proofs.RunnableSources.{entry_text, runnable_text}
 use Rattle.typed_tree.specs.Views.{program_view}
 use Rattle.ispc_compiler.specs.declared.front.Compiled.{Compiled}
-use Rattle.ispc_compiler.specs.Front.{Compiles, CompilesTree, GivesTree, IsFault, IsRefused, ReadsKnown}
+use Rattle.ispc_compiler.specs.Front.{Compiles, CompilesTree, GivesTree, IsFault, IsRefused}
 
--- a fault of a known tree refuses its text
-pub fault_right : (text : List ℕ) (source : ParsedSource) (fault : SourceFault) → ReadsKnown text source → IsFault (source_refusal source) fault → IsRefused text fault
-fault_right text source Memory known h = tt
-fault_right text source (Refused r) known h = inr (inr (inr (inr (record { source = source; reads = known.reads; known = known.known; fault = h }))))
+-- a fault of a tree refuses its text
+pub fault_right : (text : List ℕ) (source : ParsedSource) (fault : SourceFault) → ReadsAs text source → IsFault (source_refusal source) fault → IsRefused text fault
+fault_right text source Memory reads h = tt
+fault_right text source (Refused r) reads h = inr (inr (inr (record { source = source; reads = reads; fault = h })))
 
--- what a known tree gives, its text gives
-pub compiled_right : (text : List ℕ) (source : ParsedSource) (asked : Option Name) (found : Option Compiled) → ReadsKnown text source → GivesTree source asked found → Compiles text asked found
-compiled_right text source asked None known (sound, none) =
-    record { source = source; accepted = record { reads = known.reads; known = known.known; sound = sound }; none = none }
-compiled_right text source asked (Some c) known g =
-    (record { source = source; accepted = record { reads = known.reads; known = known.known; sound = g.sound }; program_is = g.program; entry_is = g.entry }, g.variables, g.ready)
+-- what a tree gives, its text gives
+pub compiled_right : (text : List ℕ) (source : ParsedSource) (asked : Option Name) (found : Option Compiled) → ReadsAs text source → GivesTree source asked found → Compiles text asked found
+compiled_right text source asked None reads (sound, none) =
+    record { source = source; accepted = record { reads = reads; sound = sound }; none = none }
+compiled_right text source asked (Some c) reads g =
+    (record { source = source; accepted = record { reads = reads; sound = g.sound }; program_is = g.program; entry_is = g.entry }, g.variables, g.ready)
 
-pub found_right : (text : List ℕ) (source : ParsedSource) (asked : Option Name) (result : Result (Option Compiled) SourceFault) → ReadsKnown text source
+pub found_right : (text : List ℕ) (source : ParsedSource) (asked : Option Name) (result : Result (Option Compiled) SourceFault) → ReadsAs text source
     → IfOk result (GivesTree source asked) → IfOk result (Compiles text asked)
-found_right text source asked (Ok found) known h = compiled_right text source asked found known h
-found_right text source asked (Err fault) known h = tt
+found_right text source asked (Ok found) reads h = compiled_right text source asked found reads h
+found_right text source asked (Err fault) reads h = tt
 
 -- the tokens' refusals
 pub lexer_right : (text : List ℕ) (fault : SourceFault) → IsLexerRefusal text fault → IsRefused text fault
@@ -97,13 +97,13 @@ pub by_limits_fault : (source : ParsedSource) (fault : SourceFault) → names_re
 by_limits_fault source fault n t h = subst (λ found. IsFault found fault) (sym (by_limits source n t)) h
 
 -- the program of a tree without a fault
-pub tree_compiles : (text : List ℕ) (source : ParsedSource) (asked : Option Name) (compiled : Compiled) → ReadsKnown text source → names_refusal source ≡ None → types_refusal source ≡ None
+pub tree_compiles : (text : List ℕ) (source : ParsedSource) (asked : Option Name) (compiled : Compiled) → ReadsAs text source → names_refusal source ≡ None → types_refusal source ≡ None
     → limit_refusal source ≡ None → program_of source ≡ Some (program_view compiled.program) → HasVariablesOf source compiled.program → entry_of source asked ≡ Some compiled.entry.0
     → CompilesTree source asked compiled
-tree_compiles text source asked compiled known n t l program own entry =
+tree_compiles text source asked compiled reads n t l program own entry =
     let sound = by_limits source n t ∙ l in
-    let is : IsProgramOf plain_forms text asked (program_view compiled.program) compiled.entry.0 =
-    record { source = source; accepted = record { reads = known.reads; known = known.known; sound = sound }; program_is = program; entry_is = entry } in
+    let is : IsProgramOf text asked (program_view compiled.program) compiled.entry.0 =
+    record { source = source; accepted = record { reads = reads; sound = sound }; program_is = program; entry_is = entry } in
     record {
       sound = sound;
       program = program;

@@ -1,14 +1,13 @@
 -- What the phases from a text to a program give.
-use Rattle.std.specs.Prelude.{◌≡◌, ℕ, true, List, Option, Some, None, slice_get}
+use Rattle.std.specs.Prelude.{◌≡◌, ℕ, List, Option, Some, None, slice_get}
 use Rattle.gang_model.specs.declared.refusals.SourceRefusal.{SourceRefusal}
 use Rattle.gang_model.specs.Running.Entry.{entry_of}
-use Rattle.gang_model.specs.Source.Known.{is_known}
-use Rattle.plain_programs.specs.Sources.{HasVariablesOf, plain_forms}
+use Rattle.plain_programs.specs.Sources.{HasVariablesOf}
 use Rattle.gang_model.specs.Source.Parsed.{Name, ParsedSource}
 use Rattle.gang_model.specs.Types.Resolved.{program_of}
 use Rattle.gang_model.specs.Types.Tree.{Function}
 use Rattle.gang_model.specs.Texts.Run.{source_refusal}
-use Rattle.gang_model.specs.Source.Sources.{HasNoEntry, IsProgramOf, IsRightRefusal, ReadsAs}
+use Rattle.gang_model.specs.Source.Sources.{HasNoEntry, IsProgramOf, IsRightRefusal}
 use Rattle.codegen.specs.Programs.{IsRunnable}
 use Rattle.typed_tree.specs.Views.{program_view}
 use Rattle.source_answers.specs.declared.fault.SourceFault.{SourceFault}
@@ -19,11 +18,6 @@ use Rattle.ispc_compiler.specs.declared.front.Compiled.{Compiled}
 pub record IsReady (compiled : Compiled) : Type 0 where
   pub runnable : IsRunnable compiled.program
   pub entry : (f : Function) × (slice_get (program_view compiled.program).functions compiled.entry.0 ≡ Some f)
-
--- a text reads as a tree of which all forms are let through
-pub record ReadsKnown (text : List ℕ) (source : ParsedSource) : Type 0 where
-  pub reads : ReadsAs text source
-  pub known : is_known plain_forms source ≡ true
 
 -- the program and the entry of a tree without a fault, with the variables that the tree declares
 pub record CompilesTree (source : ParsedSource) (asked : Option Name) (compiled : Compiled) : Type 0 where
@@ -40,9 +34,9 @@ GivesTree source asked (Some compiled) = CompilesTree source asked compiled
 
 -- the program of a text and its entry, with the variables that the text declares, or nothing where it has no function to begin with
 abbrev pub Compiles : List ℕ → (asked : Option Name) → Option Compiled → Type 0
-Compiles text asked None = HasNoEntry plain_forms text asked
+Compiles text asked None = HasNoEntry text asked
 Compiles text asked (Some compiled) =
-    (is : IsProgramOf plain_forms text asked (program_view compiled.program) compiled.entry.0) × HasVariablesOf is.source compiled.program × IsReady compiled
+    (is : IsProgramOf text asked (program_view compiled.program) compiled.entry.0) × HasVariablesOf is.source compiled.program × IsReady compiled
 
 -- out of memory, or the refusal that is found
 abbrev pub IsFault : Option SourceRefusal → SourceFault → Type 0
@@ -52,4 +46,4 @@ IsFault found (Refused refusal) = found ≡ Some refusal
 -- out of memory, or the right refusal
 abbrev pub IsRefused : List ℕ → SourceFault → Type 0
 IsRefused text Memory = Unit {0}
-IsRefused text (Refused refusal) = IsRightRefusal plain_forms text refusal
+IsRefused text (Refused refusal) = IsRightRefusal text refusal

@@ -1,13 +1,12 @@
 //! The phases from a text to a program, each of which may refuse it.
 ghost use Rattle.std.specs.Prelude.{◌≡◌, ℕ, List, None, IfErr, IfOk, OnOk, option_map};
 ghost use Rattle.gang_model.specs.Source.Limits as limits;
+ghost use Rattle.gang_model.specs.Source.Sources.{ReadsAs};
 ghost use Rattle.gang_model.specs.Texts.Run.{source_refusal};
 ghost use Rattle.source_tree.specs.Tree.{tree_view};
-ghost use Rattle.ispc_compiler.specs.Front.{Compiles, GivesTree, IsFault, IsRefused, ReadsKnown};
+ghost use Rattle.ispc_compiler.specs.Front.{Compiles, GivesTree, IsFault, IsRefused};
 
-use crate::forms::check_forms;
-use gang_model::{RefusalNumber, SourceRefusal};
-use gang_types::{FuncId, Place};
+use gang_types::FuncId;
 use ispc_lexer::{source_end, tokens};
 use ispc_names::resolve;
 use ispc_parser::parse;
@@ -31,7 +30,7 @@ pub struct Compiled {
 /// # Errors
 ///
 /// Out of memory, or the refusal of the first phase that finds a fault: S1, S2 or S13 by the tokens, S3, S4 or S13 by the
-/// tree, S3 at a form that is not let through yet, then S5, S6, S11 or S12 by names, S7 to S10 by types, and S13 by the limits.
+/// tree, then S5, S6, S11 or S12 by names, S7 to S10 by types, and S13 by the limits.
 pub fn compile_source(
     alloc: Global,
     source: &[u8],
@@ -44,33 +43,23 @@ pub fn compile_source(
     compile_tree(alloc, tree, asked)
 }
 
-/// The tree of a text all of whose forms are let through.
+/// The tree of a text.
 fn read_tree(alloc: Global, source: &[u8]) -> Result<Tree, SourceFault>
-    ensures reads { IfOk result (λ tree. ReadsKnown source.now (tree_view tree)) }
+    ensures reads { IfOk result (λ tree. ReadsAs source.now (tree_view tree)) }
     ensures refused { IfErr result (IsRefused source.now) }
 {
     let tokens = tokens(alloc, source)?;
     let tree = parse(alloc, tokens.as_slice(), source_end(source))?;
-    match check_forms(&tree) {
-        Ok(()) => Ok(tree),
-        Err(place) => Err(refused(RefusalNumber::S3, place)),
-    }
+    Ok(tree)
 }
 
-/// The refusal of this number at this place.
-fn refused(number: RefusalNumber, place: Place) -> SourceFault
-    ensures { result ≡ SourceFault.Refused (record { number = number; place = place }) }
-{
-    SourceFault::Refused(SourceRefusal { number, place })
-}
-
-/// The program of a tree all of whose forms are let through.
+/// The program of a tree.
 fn compile_tree(
     alloc: Global,
     tree: Tree,
     asked: Option<&[u8]>,
 ) -> Result<Option<Compiled>, SourceFault>
-    requires reads { (text : List ℕ) × ReadsKnown text (tree_view tree) }
+    requires reads { (text : List ℕ) × ReadsAs text (tree_view tree) }
     ensures compiled { IfOk result (GivesTree (tree_view tree) (option_map (λ n. n.now) asked.entry)) }
     ensures refused { IfErr result (IsFault (source_refusal (tree_view tree))) }
 {

@@ -1,7 +1,6 @@
 //! From the text of a source to its program.
 #![tactic(auto)]
 
-mod forms;
 mod front;
 
 pub use front::{Compiled, compile_source};

@@ -21,7 +21,6 @@ use Rattle.ispc_compiler.specs.declared.front.Compiled.{Compiled}
 use Rattle.ispc_compiler.specs.Front.{Compiles}
 use Rattle.machine_states.specs.EntryParameters.{HasEntryParameters}
 use Rattle.machine_steps.specs.Beginning.{MayBegin}
-use Rattle.plain_programs.specs.Sources.{plain_forms}
 use Rattle.plain_programs.proofs.EntryFunctions.{entry_exported}
 use Rattle.plain_programs.proofs.PlainSources.{no_refusal}
 use Rattle.plain_programs.proofs.RunnableSources.{parameters_text}
@@ -64,7 +63,7 @@ module _ (source : List ℕ) (asked : Option Name) (compiled : Compiled) (is : C
         record {
           is_function = at;
           parameters = entry_parameters f at;
-          inputs = inputs_of-text plain_forms source asked (program_view compiled.program) compiled.entry.0 is.0 f at input given read;
+          inputs = inputs_of-text source asked (program_view compiled.program) compiled.entry.0 is.0 f at input given read;
           rows_are = are;
         },
       )

@@ -6,7 +6,6 @@ use Rattle.gang_model.specs.Source.Sources.{HasNoEntry, IsProgramOf, IsRightRefu
 use Rattle.gang_model.specs.Texts.InputText.{InputRefusal, rows_of}
 use Rattle.gang_model.specs.Texts.RunRefusals.{FromInput}
 use Rattle.gang_model.specs.Types.Tree.{Program}
-use Rattle.plain_programs.specs.Sources.{plain_forms}
 use Rattle.gang_model.specs.Texts.Transcript.{Options as ModelOptions}
 use Rattle.debug_inputs.specs.declared.fault.InputFault.{InputFault}
 use Rattle.debug_inputs.specs.declared.fault.InputFault.TheVariants as fault
@@ -47,9 +46,9 @@ IsRightForInput answer r = ⊥
 
 -- whether a refusal of a run of this text with this entry asked for, and with this input, is right; out of memory may come at any time
 abbrev pub IsRight : (text : List ℕ) → (asked : Option Name) → (input : List ℕ) → Refusal → Type 0
-IsRight text asked input (refusal.Source r) = IsRightRefusal plain_forms text r
-IsRight text asked input refusal.NoEntry = HasNoEntry plain_forms text asked
+IsRight text asked input (refusal.Source r) = IsRightRefusal text r
+IsRight text asked input refusal.NoEntry = HasNoEntry text asked
 IsRight text asked input refusal.NoScript = ⊥
 IsRight text asked input (refusal.Input f) =
-    (program : Program) × (entry : ℕ) × IsProgramOf plain_forms text asked program entry × IsInputFault (rows_of program entry input) f
+    (program : Program) × (entry : ℕ) × IsProgramOf text asked program entry × IsInputFault (rows_of program entry input) f
 IsRight text asked input refusal.Memory = Unit {0}

@@ -8,7 +8,6 @@ ghost use Rattle.gang_model.specs.Texts.Endings.{Ends};
 ghost use Rattle.gang_model.specs.Texts.InputText.{rows_of};
 ghost use Rattle.gang_model.specs.Source.Parsed.{Name};
 ghost use Rattle.gang_model.specs.Source.Sources.{IsProgramOf};
-ghost use Rattle.plain_programs.specs.Sources.{plain_forms};
 ghost use Rattle.gang_model.specs.Texts.Transcript.{setting};
 ghost use Rattle.gang_model.specs.Types.Tree.{Function, Program as ModelProgram};
 ghost use Rattle.typed_tree.specs.Views.{program_view};
@@ -59,7 +58,7 @@ pub fn run<R: CommandReader, O: AnswerWriter>(
     requires reader_works { R.has_failed reader.old ≡ false }
     requires writer_works { O.has_failed writer.old ≡ false }
     ensures transcript { IfOk result (λ ending. (program : ModelProgram) × (entry : ℕ) × (rows : List Row)
-        × IsProgramOf plain_forms source.now (asked_of options.now) program entry
+        × IsProgramOf source.now (asked_of options.now) program entry
         × ((rows_of program entry input.now ≡ Ok rows)
         × ((out : List ℕ) × Appends (O.written writer.old) (O.written writer.new) out
         × Ends (setting program entry rows (options_view options.now)) (fresh options.now.history) (ending_of ending) (R.left reader.old) (R.left reader.new) out))) }

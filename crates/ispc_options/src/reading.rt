@@ -1,10 +1,16 @@
 //! The words of the command line.
-ghost use Rattle.std.specs.Prelude.{◌≡◌, ◌≤◌, IfOk, IfSome};
+ghost use Rattle.std.specs.Prelude.{◌≡◌, ◌≤◌, IfOk, IfSome, IsOkAnd, false, true, is_some, option_map};
 ghost use Rattle.clap.specs.Values.{kind_of};
 ghost use Rattle.clap.specs.declared.error.kind.ErrorKind.TheVariants.{UnknownArgument};
+ghost use Rattle.clap.specs.Words.{app_of, first_value, found_of, rule_of};
+ghost use Rattle.clap.specs.Walk.{texts};
+ghost use Rattle.ispc_options.specs.Asked.{AreWidths, AsksFor, HasOptions, HasPaths, command, flag};
+ghost use Rattle.ispc_options.specs.Asked.{number_of, option, option_or, up_to, valued};
+ghost use Rattle.ispc_options.specs.Passed.{ArePassed, HasNumber};
 ghost use Rattle.ispc_options.specs.Ranges.{AreInRange};
 
 use crate::options::{Options, Paths, Width};
+use clap::builder::ValueParser;
 use clap::error::ErrorKind;
 use clap::{Arg, ArgAction, ArgMatches, Command, Error, value_parser};
 use std::alloc::{AllocError, Global};
@@ -27,7 +33,8 @@ pub fn read_options<'a>(
     alloc: Global,
     words: &'a [&'a str],
 ) -> Result<(Options<'a>, Paths<'a>), Error>
-    ensures { IfOk result (λ read. AreInRange read.0) }
+    ensures ranges { IfOk result (λ read. AreInRange read.0) }
+    ensures asked { IfOk result (λ read. AsksFor (texts words.now) read) }
 {
     let matches = command(alloc)?.try_get_matches_from(words)?;
     match options_of(&matches) {
@@ -55,7 +62,8 @@ fn fault_of(alloc: Global, kind: ErrorKind, message: &str) -> Result<Error, Allo
 
 /// The options of the words, or which of their numbers is out of its range.
 fn options_of<'a>(matches: &ArgMatches<'a>) -> Result<Options<'a>, &'static str>
-    ensures { IfOk result AreInRange }
+    ensures ranges { IfOk result AreInRange }
+    ensures read { ArePassed (found_of matches.now) → IsOkAnd result (HasOptions (first_value (found_of matches.now))) }
 {
     let Some(history) = number_within(matches, "history", MOST_HISTORY) else {
         return Err("the history is 1 to 65536");
@@ -77,7 +85,9 @@ fn options_of<'a>(matches: &ArgMatches<'a>) -> Result<Options<'a>, &'static str>
     })
 }
 
-fn paths_of<'a>(matches: &ArgMatches<'a>) -> Paths<'a> {
+fn paths_of<'a>(matches: &ArgMatches<'a>) -> Paths<'a>
+    ensures { HasPaths (first_value (found_of matches.now)) result }
+{
     Paths {
         source: matches.get_str("source"),
         input: matches.get_str("input"),
@@ -85,62 +95,85 @@ fn paths_of<'a>(matches: &ArgMatches<'a>) -> Paths<'a> {
 }
 
 fn number_within(matches: &ArgMatches<'_>, id: &str, most: u32) -> Option<u32>
-    ensures { IfSome result (λ n. (1 ≤ n) × (n ≤ most)) }
+    ensures within { IfSome result (λ n. (1 ≤ n) × (n ≤ most)) }
+    ensures read { HasNumber most (found_of matches.now) id.now → (is_some result ≡ true)
+        × (option_map number_of (first_value (found_of matches.now) id.now) ≡ result) }
 {
     let n = matches.get_one::<u32>(id)?;
     if 1 <= n && n <= most { Some(n) } else { None }
 }
 
 /// The options that there are. Each is made where it is added, so that none is alive where memory runs out.
-fn command<'a>(alloc: Global) -> Result<Command<'a>, AllocError> {
+fn command<'a>(alloc: Global) -> Result<Command<'a>, AllocError>
+    ensures { IfOk result (λ parser. (widths : _) × AreWidths widths × (app_of parser ≡ command widths)) }
+{
     Command::new(alloc, "ispc_cli")
         .no_binary_name(true)
         .about("Compiles a program for gangs and debugs it")
-        .arg(
-            Arg::new(alloc, "source").value_name("SOURCE").help(
-                "the program; without it, standard input has the program, a line %% and the commands",
-            ),
-        )?
-        .arg(
-            Arg::new(alloc, "input")
-                .long("input")
-                .value_name("FILE")
-                .help("the input of the entry function"),
-        )?
-        .arg(
-            Arg::new(alloc, "entry")
-                .long("entry")
-                .value_name("NAME")
-                .help("the entry function"),
-        )?
-        .arg(
-            Arg::new(alloc, "width")
-                .long("width")
-                .value_name("W")
-                .value_parser(WIDTHS.as_slice())
-                .default_value("4")
-                .help("how many lanes a gang has"),
-        )?
-        .arg(
-            Arg::new(alloc, "history")
-                .long("history")
-                .value_name("N")
-                .value_parser(value_parser!(u32).range(1..65_537))
-                .default_value("64")
-                .help("how many events can be taken back"),
-        )?
-        .arg(
-            Arg::new(alloc, "steps")
-                .long("steps")
-                .value_name("N")
-                .value_parser(value_parser!(u32).range(1..10_000_001))
-                .default_value("1000000")
-                .help("how many moves one command makes at most"),
-        )?
-        .arg(
-            Arg::new(alloc, "lane-pure")
-                .long("lane-pure")
-                .action(ArgAction::SetTrue)
-                .help("reports which functions are lane-pure, and runs nothing"),
-        )
+        .arg(valued(alloc, "source", "SOURCE").help(
+            "the program; without it, standard input has the program, a line %% and the commands",
+        ))?
+        .arg(option(alloc, "input", "FILE").help("the input of the entry function"))?
+        .arg(option(alloc, "entry", "NAME").help("the entry function"))?
+        .arg(option_or(alloc, "width", "W", widths(), "4").help("how many lanes a gang has"))?
+        .arg(option_or(alloc, "history", "N", up_to(MOST_HISTORY), "64").help(
+            "how many events can be taken back",
+        ))?
+        .arg(option_or(alloc, "steps", "N", up_to(MOST_STEPS), "1000000").help(
+            "how many moves one command makes at most",
+        ))?
+        .arg(flag(alloc, "lane-pure").help(
+            "reports which functions are lane-pure, and runs nothing",
+        ))
+}
+
+/// An argument whose value has a name in the help.
+fn valued<'a>(alloc: Global, id: &'a str, value: &'a str) -> Arg<'a>
+    ensures { (rule_of result ≡ valued id.now) × (result.global ≡ false) }
+{
+    Arg::new(alloc, id).value_name(value)
+}
+
+fn option<'a>(alloc: Global, name: &'a str, value: &'a str) -> Arg<'a>
+    ensures { (rule_of result ≡ option name.now) × (result.global ≡ false) }
+{
+    valued(alloc, name, value).long(name)
+}
+
+fn option_or<'a>(
+    alloc: Global,
+    name: &'a str,
+    value: &'a str,
+    parser: ValueParser<'a>,
+    default: &'a str,
+) -> Arg<'a>
+    ensures { (rule_of result ≡ option_or name.now parser.entry default.now) × (result.global ≡ false) }
+{
+    option(alloc, name, value)
+        .action(ArgAction::Set)
+        .value_parser(parser)
+        .default_value(default)
+}
+
+fn flag<'a>(alloc: Global, name: &'a str) -> Arg<'a>
+    ensures { (rule_of result ≡ flag name.now) × (result.global ≡ false) }
+{
+    Arg::new(alloc, name)
+        .long(name)
+        .action(ArgAction::SetTrue)
+        .value_parser(value_parser!(bool))
+}
+
+/// One of the widths.
+fn widths<'a>() -> ValueParser<'a>
+    ensures { (widths : _) × AreWidths widths × (result ≡ ValueParser.Names widths) }
+{
+    WIDTHS.as_slice().into()
+}
+
+/// Whole numbers from 1 to `most`.
+fn up_to<'a>(most: u32) -> ValueParser<'a>
+    ensures { result ≡ up_to most }
+{
+    ValueParser::signed(1, i64::from(most))
 }

@@ -1,9 +1,8 @@
 -- The refusals of the phases, as those of a report.
-use Rattle.std.proofs.Common.{◌≡◌, ◌⊎◌, ◌≤◌, true, List, length, Some, None, refl, sym, ap, ◌∙◌, subst, inl, inr}
+use Rattle.std.proofs.Common.{◌≡◌, ◌⊎◌, ◌≤◌, List, length, Some, None, refl, sym, ap, ◌∙◌, subst, inl, inr}
 use Rattle.gang_model.specs.declared.refusals.RefusalNumber.{RefusalNumber}
 use Rattle.gang_model.specs.declared.refusals.RefusalNumber.TheVariants.{S1, S2, S3, S4, S5, S6, S7, S8, S9, S10, S11, S12, S13}
 use Rattle.gang_model.specs.declared.refusals.SourceRefusal.{SourceRefusal}
-use Rattle.gang_model.specs.Source.Known.{Forms, is_known}
 use Rattle.gang_model.specs.Source.Lexes.{Lexes, max_source}
 use Rattle.gang_model.specs.Source.Limits.{limit_refusal}
 use Rattle.gang_model.specs.Source.Parsed.{ParsedSource}
@@ -66,15 +65,13 @@ module _ (text : Bytes) (source : ParsedSource) (reads : ReadsAs text source) wh
 pub by_neither : (source : ParsedSource) → names_refusal source ≡ None → types_refusal source ≡ None → IsAccepted source
 by_neither source names types = ap (λ n. first_refusal n (types_refusal source)) names ∙ types
 
--- where a run lets all forms of the source through, it is refused as the report is
-pub as_in_a_run : (forms : Forms) (text : Bytes) (refusal : SourceRefusal) → ((source : ParsedSource) → ReadsAs text source → is_known forms source ≡ true)
-    → IsSourceRefusal text refusal → IsRightRefusal forms text refusal
-as_in_a_run forms text refusal known (inl long) = inl long
-as_in_a_run forms text refusal known (inr (inl none)) = inr (inl none)
-as_in_a_run forms text refusal known (inr (inr (inl none))) = inr (inr (inl none))
-as_in_a_run forms text refusal known (inr (inr (inr faulty))) = inr (inr (inr (inr (record {
+-- a run of the source is refused as the report is
+pub as_in_a_run : (text : Bytes) (refusal : SourceRefusal) → IsSourceRefusal text refusal → IsRightRefusal text refusal
+as_in_a_run text refusal (inl long) = inl long
+as_in_a_run text refusal (inr (inl none)) = inr (inl none)
+as_in_a_run text refusal (inr (inr (inl none))) = inr (inr (inl none))
+as_in_a_run text refusal (inr (inr (inr faulty))) = inr (inr (inr (record {
   source = faulty.source;
   reads = faulty.reads;
-  known = known faulty.source faulty.reads;
   fault = ap (λ found. first_refusal found (limit_refusal faulty.source)) faulty.fault;
-}))))
+})))

@@ -1,5 +1,5 @@
--- Why a source has no report: its refusal, of the first phase from the tokens to the types that has one. Every form of the
--- language that is read is let through, and no limit on variables or array words is asked for, since nothing is run.
+-- Why a source has no report: its refusal, of the first phase from the tokens to the types that has one. No limit
+-- on variables or array words is asked for, since nothing is run.
 use Rattle.std.specs.Prelude.{◌≡◌, ◌⊎◌, Some}
 use Rattle.gang_model.specs.declared.refusals.SourceRefusal.{SourceRefusal}
 use Rattle.gang_model.specs.Source.Parsed.{ParsedSource}

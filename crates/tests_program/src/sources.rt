@@ -29,8 +29,9 @@ fn is_refused(alloc: Global, source: &[u8], number: RefusalNumber, col: u32) -> 
     compiled(alloc, source, None) == Err(refused)
 }
 
-fn is_not_yet(alloc: Global, source: &[u8], col: u32) -> bool {
-    is_refused(alloc, source, RefusalNumber::S3, col)
+/// Whether a source without an exported function has no fault.
+fn is_accepted(alloc: Global, source: &[u8]) -> bool {
+    compiled(alloc, source, None) == Ok(None)
 }
 
 #[test]
@@ -109,29 +110,21 @@ fn exported_functions_have_uniform_parameters(rt: HostRuntime) {
 }
 
 #[test]
-fn rounds_are_no_form_yet(rt: HostRuntime) {
-    assert!(rt; is_not_yet(rt.alloc(), b"void f() { foreach (i = 0 ... 4) ; }", 12));
+fn foreach_forms_and_switch_are_let_through(rt: HostRuntime) {
+    assert!(rt; is_accepted(rt.alloc(), b"void f() { foreach (i = 0 ... 4) ; }"));
+    assert!(rt; is_accepted(rt.alloc(), b"void f() { foreach_tiled (i = 0 ... 4) ; }"));
+    assert!(rt; is_accepted(rt.alloc(), b"void f() { foreach_active (i) ; }"));
+    assert!(rt; is_accepted(rt.alloc(), b"void f() { foreach_unique (v in 1) ; }"));
     assert!(rt;
-        is_not_yet(
+        is_accepted(
             rt.alloc(),
-            b"void f() { foreach_tiled (i = 0 ... 4) ; }",
-            12
-        )
-    );
-    assert!(rt; is_not_yet(rt.alloc(), b"void f() { foreach_active (i) ; }", 12));
-    assert!(rt; is_not_yet(rt.alloc(), b"void f() { foreach_unique (v in 1) ; }", 12));
-    assert!(rt;
-        is_not_yet(
-            rt.alloc(),
-            b"void f() { { if (true) foreach_active (i) ; } }",
-            24
+            b"void f() { for (;;) { if (true) foreach_active (i) ; } }"
         )
     );
     assert!(rt;
-        is_not_yet(
+        is_accepted(
             rt.alloc(),
-            b"void f() { for (;;) { foreach_active (i) ; } }",
-            23
+            b"void f() { switch (1) { case 1: break; default: { int x = 2; } } }"
         )
     );
 }

@@ -12,5 +12,4 @@ mod AcceptedRows
 mod LimitRows
 mod TypedRows
 mod ListedRows
-mod KnownRows
 mod WordRows

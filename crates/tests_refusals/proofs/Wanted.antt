@@ -1,20 +1,15 @@
 -- What is wanted of a source, and what the definitions give for it.
-use Rattle.std.specs.Prelude.{ℕ, Bool, true, false, List, [], ◌∷◌, map, Option, Some, None, slice_get}
+use Rattle.std.specs.Prelude.{ℕ, List, [], ◌∷◌, map, Option, Some, None, slice_get}
 use Rattle.gang_types.specs.declared.types.Rate.{Rate}
 use Rattle.gang_types.specs.declared.types.IntType.{IntType}
 use Rattle.gang_model.specs.declared.refusals.RefusalNumber.{RefusalNumber}
 use Rattle.gang_model.specs.declared.refusals.SourceRefusal.{SourceRefusal}
 use Rattle.gang_model.specs.Source.Parsed.{Name, ParsedExpr, ParsedSource, functions_in}
 use Rattle.gang_model.specs.Source.Judged.{Sound, Faulty}
-use Rattle.gang_model.specs.Source.Known.{Forms}
 use Rattle.gang_model.specs.Names.Scope.{NameStanding, standings_at}
 use Rattle.gang_model.specs.Types.Typing.{expression}
 use Rattle.gang_model.specs.Types.Resolved.{program_of}
 use Rattle.tests_transcripts.proofs.Forms.{at}
-
--- functions over scalars and arrays
-abbrev pub forms_of_today : Forms
-forms_of_today = record { arrays = true; inputs = true; rounds = false; switches = false }
 
 -- a refusal and its place
 abbrev pub refused : RefusalNumber → ℕ → ℕ → Option SourceRefusal

@@ -1,0 +1,89 @@
+-- The options that there are, and what the words of a command line ask for by them. Which words go to which option is the option parser's
+-- definition of its matches.
+use Rattle.std.specs.Prelude.{◌≡◌, ◌↔◌, ℕ, IsTrue, true, List, [], ◌∷◌, Option, Some, codes, option_map, pos}
+use Rattle.std.specs.Borrow.{Bor}
+use Rattle.std.specs.Str.Parse.{digits_value, without_leading_plus}
+use Rattle.clap.specs.Walk.{Rule, Text, first_of, texts}
+use Rattle.clap.specs.Simple.{App, matches_of, new_rule, new_shape}
+use Rattle.clap.specs.declared.builder.action.ArgAction.TheVariants.{Set, SetTrue}
+use Rattle.clap.specs.declared.builder.value_parser.ValueParser.{ValueParser}
+use Rattle.clap.specs.declared.builder.value_parser.ValueParser.TheVariants as parser
+use Rattle.ispc_options.specs.declared.options.Options.{Options}
+use Rattle.ispc_options.specs.declared.options.Paths.{Paths}
+use Rattle.ispc_options.specs.declared.options.Width.{Width}
+use Rattle.ispc_options.specs.declared.options.Width.TheVariants.{Four, Eight, Sixteen}
+
+-- an argument whose value has one name in the help
+abbrev pub valued : Text → Rule
+valued name = record (new_rule name) { value_names = 1 }
+
+-- `--name VALUE`
+abbrev pub option : Text → Rule
+option name = record (valued name) { long = Some name }
+
+-- the same, of the values that a parser takes, and with the value where the words give none
+abbrev pub option_or : Text → ValueParser → Text → Rule
+option_or name parser default =
+    record (option name) { action = Some Set; parser = Some parser; defaults = default ∷ [] }
+
+-- `--name`, which is true where the words have it
+abbrev pub flag : Text → Rule
+flag name = record (new_rule name) { long = Some name; action = Some SetTrue; parser = Some parser.Bool }
+
+-- whole numbers from 1 to `most`
+abbrev pub up_to : ℕ → ValueParser
+up_to most = parser.Signed (pos 1) (pos most)
+
+-- the texts of a list in memory are the widths
+abbrev pub AreWidths : Bor (List (Bor Text)) → Type 0
+AreWidths names = texts names.now ≡ codes "4" ∷ codes "8" ∷ codes "16" ∷ []
+
+-- a source, and the options; the widths lie somewhere in memory
+abbrev pub rules : Bor (List (Bor Text)) → List Rule
+rules widths = valued (codes "source")
+    ∷ option (codes "input")
+    ∷ option (codes "entry")
+    ∷ option_or (codes "width") (parser.Names widths) (codes "4")
+    ∷ option_or (codes "history") (up_to 65536) (codes "64")
+    ∷ option_or (codes "steps") (up_to 10000000) (codes "1000000")
+    ∷ flag (codes "lane-pure")
+    ∷ []
+
+abbrev pub command : Bor (List (Bor Text)) → App
+command widths = record {
+  top = record (new_shape (codes "ispc_cli")) { rules = rules widths; no_binary_name = true };
+  subs = [];
+}
+
+abbrev pub width_text : Width → Text
+width_text Four = codes "4"
+width_text Eight = codes "8"
+width_text Sixteen = codes "16"
+
+-- the number that decimal digits spell, after a plus if there is one
+abbrev pub number_of : Text → ℕ
+number_of text = digits_value 10 (without_leading_plus text)
+
+abbrev pub text_of : Option (Bor Text) → Option Text
+text_of = option_map (λ s. s.now)
+
+-- the options are those of the values that the options' names have
+pub record HasOptions (value : Text → Option Text) (options : Options) : Type 0 where
+  pub width : value (codes "width") ≡ Some (width_text options.width)
+  pub history : option_map number_of (value (codes "history")) ≡ Some options.history
+  pub steps : option_map number_of (value (codes "steps")) ≡ Some options.steps
+  pub entry : value (codes "entry") ≡ text_of options.entry
+  pub lane_pure : IsTrue options.lane_pure ↔ (value (codes "lane-pure") ≡ Some (codes "true"))
+
+pub record HasPaths (value : Text → Option Text) (paths : Paths) : Type 0 where
+  pub source : value (codes "source") ≡ text_of paths.source
+  pub input : value (codes "input") ≡ text_of paths.input
+
+-- the first value that the words give to a name, or else its default
+abbrev pub value_of : Bor (List (Bor Text)) → List Text → Text → Option Text
+value_of widths words name = first_of name (matches_of (command widths) words)
+
+-- what the words ask for
+abbrev pub AsksFor : List Text → Options × Paths → Type 0
+AsksFor words read = (widths : Bor (List (Bor Text))) × AreWidths widths
+    × HasOptions (value_of widths words) read.0 × HasPaths (value_of widths words) read.1
