@@ -43,6 +43,13 @@ def elements(length, turns=TURNS):
     return both_ways(text, steps, 1, steps)
 
 
+def rounds(indices, count=1_000):
+    """The first rounds, each of one statement, of a `foreach` over so many indices, at least four for each round."""
+    text = f"export void go() {{\nint x = 0;\nforeach (i = 0 ... {indices})\nx += i;\n}}\n"
+    steps = 2 + 2 * count
+    return both_ways(text, steps, 1, steps)
+
+
 def recursion():
     """A function that calls itself down to a depth, and the line of its innermost frame."""
     text = "int down(int n) {\nif (n < 1) {\nreturn 0;\n}\nint r = down(n - 1);\nreturn r + 1;\n}\n"

@@ -6,7 +6,7 @@ import sys
 
 sys.path.insert(0, str(pathlib.Path(__file__).resolve().parents[1]))
 from row_files import WORDS, comment, imports  # noqa: E402
-from table import FIRST_WORDS, KNOWN, LISTED, TABLES, TYPED  # noqa: E402
+from table import FIRST_WORDS, LISTED, TABLES, TYPED  # noqa: E402
 from tree_of_source import Reader, items, name, tree_of  # noqa: E402
 
 PROOFS = pathlib.Path(__file__).resolve().parents[2] / "crates/tests_refusals/proofs"
@@ -15,8 +15,7 @@ HEAD = (
     WORDS
     + """use Rattle.gang_model.specs.declared.refusals.RefusalNumber.TheVariants.{S5, S6, S7, S8, S9, S10, S11, S12, S13}
 use Rattle.gang_model.specs.Types.SourceRefusals.{refusal_of}
-use Rattle.gang_model.specs.Source.Known.{is_known}
-use Rattle.tests_refusals.proofs.Wanted.{forms_of_today, refused, accepted, type_of, has_type, listed_at, first_words}
+use Rattle.tests_refusals.proofs.Wanted.{refused, accepted, type_of, has_type, listed_at, first_words}
 """
 )
 OPENED = "unfolding value_of residue word_of value_in wrapped binary_of\n"
@@ -64,14 +63,6 @@ def listed_rows():
     return code
 
 
-def known_rows():
-    code = ""
-    for number, (source, want) in enumerate(KNOWN):
-        code += noted(source) + tree_term(number, source)
-        code += row_term(number, f"is_known forms_of_today tree_{number}", str(want).lower())
-    return code
-
-
 def word_rows():
     code = ""
     for number, (source, want) in enumerate(FIRST_WORDS):
@@ -84,10 +75,9 @@ def main():
         write(file, title, refusal_rows(rows))
     write("TypedRows", "Rows of the types and rates of expressions.", typed_rows())
     write("ListedRows", "Rows of the names that the debugger lists at each step of a function, the closing brace last.", listed_rows())
-    write("KnownRows", "Rows of sources that have functions over scalars and arrays alone, and of others.", known_rows())
     write("WordRows", "Rows of the first words of file-scope variables.", word_rows())
     # LimitRows.antt is written by hand: its declarations are counted, not listed
-    rows = [it[0] for it in TABLES] + ["LimitRows", "TypedRows", "ListedRows", "KnownRows", "WordRows"]
+    rows = [it[0] for it in TABLES] + ["LimitRows", "TypedRows", "ListedRows", "WordRows"]
     (PROOFS / "Lib.antt").write_text("pub mod Wanted\n" + "".join(f"mod {it}\n" for it in rows))
 
 

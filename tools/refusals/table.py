@@ -342,21 +342,6 @@ LISTED = [
     ('void f() { }\nvoid g(int a, uniform int b[]) { }', 1, [['a', 'b']]),
 ]
 
-# a source, and whether its forms are those that are let through alone
-KNOWN = [
-    ('export void go() {\n    int x = programIndex * 3;\n    x += 1;\n}', True),
-    ('export void go() { }', True),
-    (P + 'int x = (1 + programIndex) * 0x10; x = x; }', True),
-    (P + 'int x; }', True), (P + 'int x = 2147483648; }', True), (P + 'int x = 1u; }', True), (P + 'int x = 1 - 1; }', True),
-    (P + 'int8 x = 1; }', True), (P + 'uniform int x = 1; }', True), (P + 'int x = programCount; }', True), (P + 'int x = 1; x -= 1; }', True), (P + '{ } }', True),
-    (P + 'if (1) ; }', True), ('void go() { }', True), (P + '}\n' + P + '}', True), ('uniform int a;', True), (P + 'int x = any(1); }', True),
-    ('uniform int a[3];', True), (P + 'int x = a[0]; }', True), (P + 'a[0] = 1; }', True), ('void f(int n) { }', True), (P + 'f(); }', True), (P + 'int x = -f(); }', True),
-    (P + '{ while (true) ; } }', True), (P + 'break; }', True), (P + 'return; }', True), (P + 'foreach (i = 0 ... 4) ; }', False),
-    ('export void go(uniform int n) { }', True), ('void f(uniform int a[]) { }', True), (P + 'f(a[0]); }', True), (P + 'f(&a[0]); }', True), (P + 'assert(true); }', True),
-    (P + 'foreach_active (i) ; }', False), (P + 'foreach_unique (v in 1) ; }', False), (P + 'switch (1) { } }', False),
-    (P + 'if (1) ; else { for (int i = 0; i < abs(1); i++) ; } }', True),
-]
-
 # a file-scope variable and its first word
 FIRST_WORDS = [
     ('int64 v = -5u;', 4294967291), ('int8 v = 300;', 44), ('int v = -1;', 18446744073709551615), ('uint8 v = -1;', 255), ('bool v = 7;', 1), ('bool v = true;', 1), ('uint v = true;', 1),

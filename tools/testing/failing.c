@@ -3,12 +3,16 @@
    ALLOCATIONS_FILE=NAME how many allocations were made is written there at the end;
    WRITTEN_BYTES=N       standard output takes so many bytes, and fails then;
    READ_BYTES=N          standard input gives so many bytes, and fails then;
-   SINGLE_BYTES=1        a read or write of these two moves one byte. */
+   ENDLESS_BYTE=N        standard input gives this byte for ever;
+   SINGLE_BYTES=1        a read or write of these two moves one byte;
+   STACK_BYTES=N         so much of the stack is taken before the program begins;
+   ENDS_FIRST=1          the program ends with status 0 before it begins. */
 #define _GNU_SOURCE
 #include <dlfcn.h>
 #include <errno.h>
 #include <stdio.h>
 #include <stdlib.h>
+#include <string.h>
 #include <unistd.h>
 
 static long allocations, moved[2];
@@ -72,12 +76,23 @@ ssize_t read(int file, void *bytes, size_t size) {
     static ssize_t (*real)(int, void *, size_t);
     if (!real) real = (ssize_t (*)(int, void *, size_t))dlsym(RTLD_NEXT, "read");
     if (file != 0) return real(file, bytes, size);
-    long most = left(0, "READ_BYTES", size);
+    long most = left(0, "READ_BYTES", size), endless = number("ENDLESS_BYTE", -1);
     if (most < 0) {
         errno = EIO;
         return -1;
     }
+    if (endless >= 0) {
+        memset(bytes, (int)endless, most);
+        return most;
+    }
     return counted(0, real(file, bytes, most));
+}
+
+__attribute__((constructor)) static void begin(void) {
+    long size = number("STACK_BYTES", 0);
+    volatile char *stack = __builtin_alloca(size + 1);
+    for (long at = size; at >= 0; at -= 4096) stack[at] = 0;
+    if (number("ENDS_FIRST", 0)) _exit(0);
 }
 
 __attribute__((destructor)) static void tell(void) {

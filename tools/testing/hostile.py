@@ -1,6 +1,7 @@
 """The built program where things fail: each of its allocations is refused, its devices fail after each byte, its sources are damaged.
 
-Each is a run of an example. Whatever fails, the program says so in the words of its pages, and nothing that it wrote before is wrong.
+Each is a run of an example; its devices also fail in the session with an answer of each kind. Whatever fails, the program says so in the words
+of its pages, and nothing that it wrote before is wrong.
 """
 
 import os
@@ -9,7 +10,7 @@ import re
 import subprocess
 import tempfile
 
-from . import examples
+from . import examples, kinds
 from .tried import Result
 
 LIBRARY = pathlib.Path(__file__).with_name("failing.c")
@@ -25,30 +26,31 @@ REFUSAL = re.compile(rb"(\d+):\d+: S\d+ [A-Z]\w+\n|entry: E1 NoEntry\n|input( \d
 
 
 class Case:
-    """A run of the program on an example: its source, its arguments and its commands, in a folder that has its files."""
+    """A run of the program: its arguments and its commands, in a folder that has its files, with variables of the library."""
 
-    def __init__(self, root, name, program, failing):
-        self.name, self.folder, self.program, self.failing = name, root / "examples", program, failing
-        words, self.data = examples.with_input(name, examples.input_of(root, name))
-        self.arguments = [f"{name}.ispc", *examples.arguments(root, name), *words]
-        self.commands = (self.folder / f"{name}.commands").read_bytes()
-        self.is_report = "--lane-pure" in self.arguments
+    def __init__(self, name, folder, arguments, commands, program, failing):
+        self.name, self.folder, self.program, self.failing = name, folder, program, failing
+        self.arguments, self.commands, self.variables = arguments, commands, {}
 
     def ended(self, commands=None, **variables):
         """The status, the output and the errors of the run, with these variables of the library that makes things fail."""
-        environment = {"LD_PRELOAD": self.failing, **{name: str(value) for name, value in variables.items()}}
+        variables = {name: str(value) for name, value in (self.variables | variables).items()}
+        environment = {"LD_PRELOAD": self.failing, **variables}
         given = self.commands if commands is None else commands
         ran = subprocess.run([self.program, *self.arguments], cwd=self.folder, env=environment, input=given, capture_output=True)
         return ran.returncode, ran.stdout, ran.stderr
+
+    def counted(self, commands=None):
+        """How the run ends, and how many allocations it makes."""
+        with tempfile.NamedTemporaryFile("r") as told:
+            return self.ended(commands, ALLOCATIONS_FILE=told.name), int(told.read() or 0)
 
     def result(self, what, why):
         return Result(f"{self.name}: {what}", not why, why)
 
     def memory(self):
         """All memory is taken before the first command; or the run goes on without, as where a file is read in smaller pieces."""
-        with tempfile.NamedTemporaryFile("r") as told:
-            whole = self.ended(ALLOCATIONS_FILE=told.name)
-            count = int(told.read() or 0)
+        whole, count = self.counted()
         given = [self.ended(REFUSED_ALLOCATION=number) for number in range(1, count + 1)]
         why = [f"allocation {at}: {it!r}" for at, it in enumerate(given, 1) if it not in (MEMORY, whole)]
         if whole[0] != 0 or given.count(MEMORY) < LEAST:
@@ -81,6 +83,19 @@ class Case:
         same = self.ended(SINGLE_BYTES=1) == self.ended()
         return self.result("a byte a read and write", [] if same else ["it answers otherwise"])
 
+    def devices(self):
+        return [self.writes(), self.reads(), self.single_bytes()]
+
+
+class Example(Case):
+    """A run of an example."""
+
+    def __init__(self, root, name, program, failing):
+        words, self.data = examples.with_input(name, examples.input_of(root, name))
+        arguments, folder = [f"{name}.ispc", *examples.arguments(root, name), *words], root / "examples"
+        super().__init__(name, folder, arguments, (folder / f"{name}.commands").read_bytes(), program, failing)
+        self.is_report = "--lane-pure" in arguments
+
     def damaged(self):
         """Each front of the source, and the source with each byte changed: a run, or a refusal that has a place in the text."""
         source = (self.folder / f"{self.name}.ispc").read_bytes()
@@ -108,28 +123,33 @@ class Case:
         return said[1] is None or int(said[1]) <= text.count(b"\n") + 2
 
     def results(self):
-        devices = [] if self.is_report else [self.writes(), self.reads(), self.single_bytes()]
-        return [self.memory(), *devices, self.damaged()]
+        return [self.memory(), *([] if self.is_report else self.devices()), self.damaged()]
+
+
+def every_kind(root, program, failing):
+    """The session with an answer of each kind, in which the last growth of the history limit is refused."""
+    session = kinds.session(root)
+    with tempfile.TemporaryDirectory(prefix="kinds-") as folder:
+        pathlib.Path(folder, session.source_name).write_bytes(session.source)
+        arguments = [session.source_name, *session.options]
+        case = Case("an answer of each kind", folder, arguments, session.commands, program, failing)
+        _, before = case.counted(session.commands[: session.commands.index(kinds.GROWTH)])
+        case.variables = {"REFUSED_ALLOCATION": before + 1}
+        came, wanted = case.ended(), (0, session.answers.replace(kinds.GROWN, kinds.REFUSED), b"")
+        why = [] if came == wanted and kinds.REFUSED in came[1] else [f"{came!r}"]
+        return [case.result("with a growth refused", why), *case.devices()]
 
 
 def growth(program, failing):
     """A history limit that grows from 2 to 6: where its memory is refused, two steps are kept as before, and else four."""
 
-    def ended(commands, **variables):
-        environment = {"LD_PRELOAD": failing, **variables}
-        ran = subprocess.run([program, "growing.ispc", "--history", "2"], cwd=folder, env=environment, input=commands, capture_output=True)
-        return ran.returncode, ran.stdout, ran.stderr
-
-    def counted(commands):
-        with tempfile.NamedTemporaryFile("r") as told:
-            return ended(commands, ALLOCATIONS_FILE=told.name), int(told.read() or 0)
-
     with tempfile.TemporaryDirectory(prefix="growing-") as folder:
         pathlib.Path(folder, "growing.ispc").write_bytes(GROWING)
-        (_, before), (whole, count) = counted(STEPS + BACK), counted(STEPS + GROWTH + BACK)
+        case = Case("growing", folder, ["growing.ispc", "--history", "2"], STEPS + GROWTH + BACK, program, failing)
+        (_, before), (whole, count) = case.counted(STEPS + BACK), case.counted()
         why = [] if whole == (0, GROWN, b"") and before < count else [f"a whole run: {whole!r}, {before} and {count} allocations"]
         for number in range(before + 1, count + 1):
-            came = ended(STEPS + GROWTH + BACK, REFUSED_ALLOCATION=str(number))
+            came = case.ended(REFUSED_ALLOCATION=number)
             why += [] if came == (0, REFUSED, b"") else [f"allocation {number}: {came!r}"]
     return Result(f"a history limit that grows: each of {count - before} allocations refused", not why, why)
 
@@ -149,5 +169,5 @@ def results(root, program):
         failing = library(folder)
         if failing is None:
             return [Result("a library that makes things fail", False, ["cc does not make it"])]
-        found = [result for name in examples.names(root) for result in Case(root, name, program, failing).results()]
-        return [*found, growth(program, failing)]
+        found = [result for name in examples.names(root) for result in Example(root, name, program, failing).results()]
+        return [*found, growth(program, failing), *every_kind(root, program, failing)]

@@ -1,5 +1,5 @@
-"""The built program on large texts: sources of 65,536 bytes of each shape, each compiled in half a second, and a million command lines,
-answered in little memory."""
+"""The built program on large texts: sources of 65,536 bytes of each shape, each compiled in half a second; an input of a million values;
+and a million command lines, answered in little memory."""
 
 import pathlib
 import resource
@@ -11,6 +11,7 @@ from .tried import Result
 
 MOST_BYTES = 65_536
 SECONDS, ROUNDS = 0.5, 3
+MOST_VALUES, INPUT_SECONDS = 1 << 20, 2
 ADDRESS_SPACE = 8 << 20
 GO = "export void go() {\n"
 EMPTY = "export void go() { }\n"
@@ -47,11 +48,11 @@ def shapes():
     yield "blanks", repeated(EMPTY, lambda number: " ", "\n")
 
 
-def timed(program, file, commands, before=None):
-    """The seconds of a run, its status, and its output."""
+def timed(program, file, commands, before=None, words=()):
+    """The seconds of a run, its status, its output and its errors."""
     began = time.monotonic()
-    ran = subprocess.run([program, file], env={}, input=commands, stdout=subprocess.PIPE, stderr=subprocess.DEVNULL, preexec_fn=before)
-    return time.monotonic() - began, ran.returncode, ran.stdout
+    ran = subprocess.run([program, file, *words], env={}, input=commands, capture_output=True, preexec_fn=before)
+    return time.monotonic() - began, ran.returncode, ran.stdout, ran.stderr
 
 
 def compiled(program, folder, name, text):
@@ -73,12 +74,27 @@ def many_commands(program, folder):
     file = pathlib.Path(folder, "first.ispc")
     file.write_text(GO + "int x = 3 * programIndex;\nx++;\n}\n")
     lines = b"step\nprint x\ninfo locals\nundo\n"
-    _, status, once = timed(program, file, lines)
-    _, many_status, output = timed(program, file, lines * 250_000, with_little_memory)
+    _, status, once, _ = timed(program, file, lines)
+    _, many_status, output, _ = timed(program, file, lines * 250_000, with_little_memory)
     is_right = (status, many_status) == (0, 0) and once.count(b"\n") == 4 and output == once * 250_000
     return Result("a million command lines", is_right, [f"statuses {status}, {many_status}, {len(once)} and {len(output)} bytes"])
 
 
+def inputs(program, folder):
+    """As many values as an entry's arrays may have, read in two seconds, the last of which is printed; and one more, which is I4."""
+    source, text = pathlib.Path(folder, "values.ispc"), pathlib.Path(folder, "values.input")
+    source.write_text("export void go(uniform int8 a[]) { }\n")
+    commands, words = b"print a[%d]\n" % (MOST_VALUES - 1), ["--input", text]
+    text.write_bytes(b"a =" + b" 1" * (MOST_VALUES - 1) + b" 7\n")
+    seconds, *most = timed(program, source, commands, words=words)
+    text.write_bytes(b"a =" + b" 1" * (MOST_VALUES + 1) + b"\n")
+    _, *many = timed(program, source, commands, words=words)
+    why = [] if most == [0, b"a[%d] = 7\n" % (MOST_VALUES - 1), b""] else [f"{MOST_VALUES} values: {most!r}"]
+    why += [] if many == [2, b"", b"input 1: I4 TooLarge\n"] else [f"{MOST_VALUES + 1} values: {many!r}"]
+    why += [f"{seconds:.2f} seconds"] if seconds > INPUT_SECONDS else []
+    return Result(f"an input of {MOST_VALUES} values, and of one more", not why, why)
+
+
 def results(program):
     with tempfile.TemporaryDirectory(prefix="large-") as folder:
-        return [compiled(program, folder, name, text) for name, text in shapes()] + [many_commands(program, folder)]
+        return [compiled(program, folder, name, text) for name, text in shapes()] + [inputs(program, folder), many_commands(program, folder)]

@@ -138,13 +138,23 @@ def declarations(count):
     return b"export void go() {\n" + b"".join(b"int v%d;\n" % number for number in range(1, count + 1)) + b"}\n"
 
 
+def labels(count):
+    """A function whose `switch` has so many labels, and where the last one stands."""
+    before = b"void f(int a) { switch (a) { " + b"".join(b"case %d: " % label for label in range(count - 1))
+    return before + b"default: ; } }\n", len(before) + 1
+
+
 def runs_at_limits():
     """Sources at a limit and past it, and entries that are none."""
     functions = b"void a() { }\nexport void b() { int x = 1; }\nexport void c() { }\n"
     deep = b"export void go() { int x = " + b"(" * 64 + b"1; }\n"
     sum_is = b"at 1:1055 go depth 1 lanes 1111\nx = 257 257 257 257\n"
     last_is = b"at 258:1 go depth 1 lanes 1111\nv256 = 0 0 0 0\n"
+    (most_labels, _), (many_labels, last_at) = labels(256), labels(257)
+    report = ["--lane-pure"]
     return [
+        answered("256 labels", script(most_labels), b"lane-pure 1:6 f: yes\n", report),
+        refused("257 labels", script(many_labels), b"1:%d: S13 Limit\n" % last_at, report),
         refused("a source of 65,537 bytes", b" " * 65_536 + b"\n%%\nstep\n", b"1:1: S13 Limit\n"),
         refused("65 nestings", script(deep, b"step"), b"1:91: S4 TooDeep\n"),
         refused("257 operators", script(long_sum(257), b"step"), b"1:1054: S13 Limit\n"),

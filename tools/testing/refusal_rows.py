@@ -1,13 +1,9 @@
-"""The rows of tools/refusals, as runs of the program: sources with the refusal of their names or types, or without one.
-
-Those of sources whose forms are there today.
-"""
+"""The rows of tools/refusals, as runs of the program: sources with the refusal of their names or types, or without one."""
 
 import importlib.util
 import re
 
 from .tried import Run
-from .worked_rows import FORM_TO_COME
 
 NO_ENTRY = b"entry: E1 NoEntry\n"
 NO_ROW = b"input: I2 Missing "
@@ -40,9 +36,4 @@ def run_of(name, source, refusal):
 
 
 def runs(root):
-    found = []
-    for name, rows in tables(root):
-        for number, (source, refusal, _) in enumerate(rows):
-            if not FORM_TO_COME.search(source):
-                found.append(run_of(f"{name} {number}", source, refusal))
-    return found
+    return [run_of(f"{name} {number}", source, refusal) for name, rows in tables(root) for number, (source, refusal, _) in enumerate(rows)]

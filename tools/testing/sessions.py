@@ -10,7 +10,7 @@ HEAD, COMMANDS, COMMAND, REFUSAL = "=== ", "%%", "> ", "!!! "
 
 
 class Session:
-    """A session: its name, the options, the source, its commands, the answers, and the refusal if there is one."""
+    """A session: its name, the options, the source, its commands, the answers, both as they are written, and the refusal if there is one."""
 
     def __init__(self, file, number, lines):
         head, _, options = lines[0].removeprefix(HEAD).partition(" | ")
@@ -21,6 +21,7 @@ class Session:
         said = lines[ends + 1 :] if self.is_whole else []
         self.source = "\n".join(lines[1:ends]).encode()
         self.refusal = lines[ends].removeprefix(REFUSAL) if self.is_whole and lines[ends] != COMMANDS else None
+        self.said = "".join(f"{it}\n" for it in said)
         self.commands = lines_as_bytes(it.removeprefix(COMMAND) for it in said if it.startswith(COMMAND))
         self.answers = lines_as_bytes(it for it in said if not it.startswith(COMMAND))
 

@@ -21,13 +21,14 @@ class Run:
     """A run of a program, and what it is to give.
 
     What is wanted of its output and of standard error is bytes, or a call that says what is wrong with what came, or None where
-    anything will do. Its data are the files that lie where it runs, each as a path or as its bytes.
+    anything will do. Its data are the files that lie where it runs, each as a path or as its bytes. Its memory is the most that it is
+    to find, in bytes, to which a built program alone is held.
     """
 
-    def __init__(self, name, stdin=b"", arguments=(), output=b"", errors=None, status=0, data=None):
+    def __init__(self, name, stdin=b"", arguments=(), output=b"", errors=None, status=0, data=None, memory=None):
         self.name, self.stdin, self.arguments = name, stdin, list(arguments)
         self.output, self.errors, self.status = output, errors, status
-        self.data = data or {}
+        self.data, self.memory = data or {}, memory
 
     def judged(self, status, output, errors):
         why = [] if status == self.status else [f"status {status}, and {self.status} is wanted"]

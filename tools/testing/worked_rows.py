@@ -1,12 +1,8 @@
-"""The worked rows of tools/transcripts, as runs of the program: those of sources whose forms are there today."""
+"""The worked rows of tools/transcripts, as runs of the program."""
 
 import importlib.util
-import re
 
 from .tried import Run
-
-# What stands in a source with a form that is not there yet: a `switch` or a foreach form.
-FORM_TO_COME = re.compile(r"\b(foreach\w*|switch)\b")
 
 
 def rows(root):
@@ -36,6 +32,6 @@ def run_of(name, source, run):
 def runs(root):
     found = []
     for row in rows(root):
-        parts = [(source, run) for source, given in row.parts for run in given if not FORM_TO_COME.search(source)]
+        parts = [(source, run) for source, given in row.parts for run in given]
         found += [run_of(f"row {row.name} {number}", source, run) for number, (source, run) in enumerate(parts, 1)]
     return found
