@@ -1,5 +1,5 @@
 -- What a machine's calls do, where it stands for a debugger's state.
-use Rattle.std.specs.Prelude.{◌≡◌, ℕ, ◌<◌, ◌+◌, ◌==◌, ◌⊎◌, false, not, List, [], ◌∷◌, ◌++◌, filter, length, map, slice_get, Option, Some, None, Result, Ok, Err, codes, decimal, if◌then◌else◌}
+use Rattle.std.specs.Prelude.{◌≡◌, ℕ, ◌<◌, ◌+◌, ◌-◌, ◌==◌, ◌⊎◌, false, not, List, [], ◌∷◌, ◌++◌, filter, length, map, slice_get, take, Option, Some, None, Result, Ok, Err, codes, decimal, if◌then◌else◌}
 use Rattle.gang_types.specs.Masks.{lanes_of}
 use Rattle.undo_log.specs.declared.timeline.Undone.{Undone}
 use Rattle.undo_log.specs.declared.timeline.Undone.TheVariants as undone
@@ -30,6 +30,10 @@ file_variables s = map (λ g. g.variable) s.program.globals
 -- the local variables in scope, without the parameters
 abbrev pub listed : Setting → Debugger → List Variable
 listed s d = filter (λ v. not v.is_parameter) (scope_now s.program (now s d))
+
+-- the parameters in scope
+abbrev pub listed_parameters : Setting → Debugger → List Variable
+listed_parameters s d = filter (λ v. v.is_parameter) (scope_now s.program (now s d))
 
 -- a variable is one of a list
 abbrev pub IsOneOf : List Variable → Variable → Type 0
@@ -128,6 +132,25 @@ UndoesWords old (Err none) new = (old.past ≡ []) × (new ≡ old)
 abbrev pub LimitsWords : {X E : Type 0} → History → (limit : ℕ) → Result X E → History → Type 0
 LimitsWords old limit (Ok done) new = new ≡ limited_words limit old
 LimitsWords old limit (Err memory) new = (old.limit < limit) × (new ≡ old)
+
+-- ---- what is taken back at once
+
+-- the event that `undo` gives right after a step: the step, where it was done
+abbrev pub undone_after : StepEnd → Option Undone
+undone_after end.Done = Some undone.Step
+undone_after (end.Fault fault) = None
+undone_after end.Ended = None
+
+-- All words are those before the event that was taken back, and of the events before it the newest are kept, all but the oldest where as many were
+-- kept as can be.
+abbrev pub AreBack : History → History → Type 0
+AreBack old new = (new.words ≡ old.words) × (new.past ≡ take (old.limit - 1) old.past) × (new.limit ≡ old.limit)
+
+-- a step that was done was taken back; else nothing changed
+abbrev pub HasStepBack : StepEnd → History → History → Type 0
+HasStepBack end.Done old new = AreBack old new
+HasStepBack (end.Fault fault) old new = new ≡ old
+HasStepBack end.Ended old new = new ≡ old
 
 -- ---- places
 

@@ -1,11 +1,12 @@
 //! A machine whose events are recorded.
 ghost use Rattle.std.specs.Prelude.{◌≡◌, ℕ, ◌<◌, ◌≤◌, false, is_none, length, List, slice_get, slice_index, IfSome, None};
+ghost use Rattle.undo_log.specs.History.{steps_in};
 ghost use Rattle.gang_types.specs.Masks.{IsGangWidth};
 ghost use Rattle.gang_model.specs.Types.Tree.{Variable};
 ghost use Rattle.gang_model.specs.Debugger.Positions.{line_now};
 ghost use Rattle.gang_model.specs.Debugger.Debugger.{Debugger, Setting, bad_part, depth, found, has_ended, kept_steps, least_from, now, shown_words, step_lines};
 ghost use Rattle.gang_model.specs.Texts.Text.{where_text};
-ghost use Rattle.debug_machine.specs.Machines.{Finds, FindsInFile, IsPart, IsShown, Limits, LimitsWords, Pokes, PokesWords, ShowsNamed, ShowsNext, Steps, StepsWords, Undoes, UndoesWords, call_text, depth_of, file_variables, line_of_position, listed, position_line, position_text};
+ghost use Rattle.debug_machine.specs.Machines.{Finds, FindsInFile, IsPart, IsShown, Limits, LimitsWords, Pokes, PokesWords, ShowsNamed, ShowsNext, Steps, StepsWords, Undoes, UndoesWords, call_text, depth_of, file_variables, line_of_position, listed, listed_parameters, position_line, position_text};
 
 use gang_types::{FaultName, IntType, Mask, Place, Rate, VarId};
 use std::alloc::AllocError;
@@ -59,7 +60,7 @@ pub struct NamedVariable<'a> {
     pub shown: Shown,
 }
 
-/// A local variable, and the place from which on those after it are.
+/// A local variable or a parameter, and the place from which on those after it are.
 #[derive(Clone, Copy, Debug)]
 pub struct NextLocal<'a> {
     pub variable: NamedVariable<'a>,
@@ -85,6 +86,9 @@ pub trait RecordedMachine {
     // The local variables in scope from a place on, parameters left out, where it stands for such a debugger.
     ghost locals_from: { Self → Setting → Debugger → ℕ → List Variable };
 
+    // The parameters in scope from a place on, where it stands for such a debugger.
+    ghost parameters_from: { Self → Setting → Debugger → ℕ → List Variable };
+
     /// Does the next step and records it.
     fn step(&mut self) -> StepEnd
         ensures step { (s : Setting) (d : Debugger) → stands self.old s d → Steps stands s d result self.new }
@@ -103,15 +107,19 @@ pub trait RecordedMachine {
 
     /// The number of events that can be taken back.
     fn kept(&self) -> usize
-        ensures { (s : Setting) (d : Debugger) → stands self.now s d → result ≡ d.kept };
+        ensures debugger { (s : Setting) (d : Debugger) → stands self.now s d → result ≡ d.kept }
+        ensures all { result ≡ length (history self.now).past };
 
     /// The number of steps that can be taken back.
     fn kept_steps(&self) -> usize
-        ensures { (s : Setting) (d : Debugger) → stands self.now s d → result ≡ kept_steps d };
+        ensures debugger { (s : Setting) (d : Debugger) → stands self.now s d → result ≡ kept_steps d }
+        ensures all { result ≡ steps_in (history self.now).past };
 
-    /// The most events that can be taken back.
+    /// The most events that can be taken back, at least one.
     fn limit(&self) -> usize
-        ensures { (s : Setting) (d : Debugger) → stands self.now s d → result ≡ d.history };
+        ensures debugger { (s : Setting) (d : Debugger) → stands self.now s d → result ≡ d.history }
+        ensures some { 1 ≤ result }
+        ensures all { result ≡ (history self.now).limit };
 
     /// Changes the most events that can be taken back. A smaller limit drops the oldest events and takes no memory.
     ///
@@ -153,6 +161,12 @@ pub trait RecordedMachine {
         ensures all { (s : Setting) (d : Debugger) → stands self.now s d → locals_from self.now s d 0 ≡ listed s d }
         ensures next { (s : Setting) (d : Debugger) → stands self.now s d → ShowsNext s d (locals_from self.now s d) from result }
         ensures further { IfSome result (λ local. from < local.next) };
+
+    /// The first parameter in scope where it stands, from a place on. The places begin at 0.
+    fn next_parameter(&self, from: usize) -> Option<NextLocal<'_>>
+        ensures all { (s : Setting) (d : Debugger) → stands self.now s d → parameters_from self.now s d 0 ≡ listed_parameters s d }
+        ensures next { (s : Setting) (d : Debugger) → stands self.now s d → ShowsNext s d (parameters_from self.now s d) from result }
+        ensures further { IfSome result (λ parameter. from < parameter.next) };
 
     /// A word of a variable.
     fn word(&self, shown: Shown, index: usize) -> u64

@@ -1,23 +1,24 @@
 -- The variables that names and numbers stand for.
 use Rattle.std.proofs.Common.{◌≡◌, refl, sym, ap, subst, ◌∙◌, ℕ, ◌≤◌, ◌⊎◌, inl, inr, false, List, [], ◌∷◌, length, Option, Some, None, arith}
-use Rattle.std.specs.Prelude.{filter, not, slice_get}
+use Rattle.std.specs.Prelude.{filter, slice_get}
 use Rattle.gang_types.specs.Masks.{IsGangWidth}
 use Rattle.gang_types.specs.MaskLaws.{gang_width-le}
 use Rattle.gang_model.specs.Debugger.Debugger.{Debugger, Setting, found, global_named, now, or_else, shown_words}
 use Rattle.gang_model.specs.Debugger.Positions.{scope_now}
 use Rattle.gang_model.specs.Source.Names.{named}
 use Rattle.gang_model.specs.Types.Tree.{Variable}
-use Rattle.debug_machine.specs.Machines.{Finds, FindsInFile, IsOneOf, IsShown, ShowsNamed, ShowsNext, file_variables as variables_of_file, listed}
+use Rattle.debug_machine.specs.Machines.{Finds, FindsInFile, IsOneOf, IsShown, ShowsNamed, ShowsNext, file_variables as variables_of_file}
 use Rattle.debug_machine.specs.declared.machine.NamedVariable.{NamedVariable}
 use Rattle.debug_machine.specs.declared.machine.NextLocal.{NextLocal}
 use Rattle.debug_machine.specs.declared.machine.Shown.{Shown}
 use Rattle.typed_tree.specs.declared.program.Function.{Function}
 use Rattle.machine_moves.proofs.GangLanes.{words_few}
 use Rattle.machine_names.specs.Found.{FindsNumber, IsNamed, IsSeen, SeesFound}
-use Rattle.machine_names.specs.Listed.{SeesNext, listed_from}
+use Rattle.machine_names.specs.declared.listing.ListedKind.{ListedKind}
+use Rattle.machine_names.specs.Listed.{SeesNext, is_of, listed_from}
 use Rattle.machine_names.proofs.FirstNamed.{named_there}
 use Rattle.machine_names.proofs.Listed.{listed_all, listed_in_scope}
-use Rattle.gang_machine.specs.Nexts.{HasEnded, IsNext, Sees, locals_at, locals_left, locals_of}
+use Rattle.gang_machine.specs.Nexts.{HasEnded, IsNext, Sees, listed_at, listed_left, listed_of}
 use Rattle.gang_machine.specs.Standings.{View}
 
 seen_found : (w : ℕ) (o : Option Variable) (shown : Shown) → SeesFound w o (Some shown) → (v : Variable) × (o ≡ Some v) × IsSeen w v shown
@@ -55,8 +56,8 @@ module _ (w : ℕ) (scope file : List Variable) (s : Setting) (d : Debugger) (se
 
   -- ---- what is listed
 
-  pub listed_is : filter (λ v. not v.is_parameter) scope ≡ listed s d
-  listed_is = sym (ap (filter (λ v. not v.is_parameter)) sees.scope_is)
+  pub listed_is : (kind : ListedKind) → filter (λ v. is_of kind v) scope ≡ filter (λ v. is_of kind v) (scope_now s.program (now s d))
+  listed_is kind = sym (ap (filter (λ v. is_of kind v)) sees.scope_is)
 
 -- ---- what is shown of them
 
@@ -98,30 +99,30 @@ module _ (w : ℕ) (s : Setting) (d : Debugger) where
 
 -- ---- what is listed from a number on
 
-module _ (w : ℕ) (m : View) (s : Setting) (d : Debugger) where
-  locals_here : (f : Function) (step place : ℕ) → IsNext m s d f step → locals_left m s d place ≡ listed_from f step place
-  locals_here f step place next =
-      ap (λ spot. locals_at m.program.functions.items spot place) next.stands ∙ ap (λ f. locals_of f step place) next.is_function
+module _ (w : ℕ) (kind : ListedKind) (m : View) (s : Setting) (d : Debugger) where
+  listed_here : (f : Function) (step place : ℕ) → IsNext m s d f step → listed_left kind m s d place ≡ listed_from kind f step place
+  listed_here f step place next =
+      ap (λ spot. listed_at kind m.program.functions.items spot place) next.stands ∙ ap (λ f. listed_of kind f step place) next.is_function
 
-  pub all_listed : (f : Function) (step : ℕ) → IsNext m s d f step → locals_left m s d 0 ≡ listed s d
-  all_listed f step next = locals_here f step 0 next ∙ listed_all f step ∙ listed_is w _ _ s d next.sees
+  pub all_listed : (f : Function) (step : ℕ) → IsNext m s d f step → listed_left kind m s d 0 ≡ filter (λ v. is_of kind v) (scope_now s.program (now s d))
+  all_listed f step next = listed_here f step 0 next ∙ listed_all kind f step ∙ listed_is w _ _ s d next.sees kind
 
-  pub none_listed : HasEnded m s d → locals_left m s d 0 ≡ listed s d
-  none_listed ended = ap (λ spot. locals_at m.program.functions.items spot 0) ended.stands ∙ listed_is w _ _ s d ended.sees
+  pub none_listed : HasEnded m s d → listed_left kind m s d 0 ≡ filter (λ v. is_of kind v) (scope_now s.program (now s d))
+  none_listed ended = ap (λ spot. listed_at kind m.program.functions.items spot 0) ended.stands ∙ listed_is w _ _ s d ended.sees kind
 
-  pub none_left : (place : ℕ) → HasEnded m s d → locals_left m s d place ≡ []
-  none_left place ended = ap (λ spot. locals_at m.program.functions.items spot place) ended.stands
+  pub none_left : (place : ℕ) → HasEnded m s d → listed_left kind m s d place ≡ []
+  none_left place ended = ap (λ spot. listed_at kind m.program.functions.items spot place) ended.stands
 
-  pub none_behind : (f : Function) (step place : ℕ) → IsNext m s d f step → SeesNext w (listed_from f step) place None → ShowsNext s d (locals_left m s d) place None
-  none_behind f step place next none = locals_here f step place next ∙ none
+  pub none_behind : (f : Function) (step place : ℕ) → IsNext m s d f step → SeesNext w (listed_from kind f step) place None → ShowsNext s d (listed_left kind m s d) place None
+  none_behind f step place next none = listed_here f step place next ∙ none
 
-  pub shows_left : (f : Function) (step place : ℕ) (local : NextLocal) (counted : NamedVariable) → IsNext m s d f step → SeesNext w (listed_from f step) place (Some local)
+  pub shows_left : (f : Function) (step place : ℕ) (local : NextLocal) (counted : NamedVariable) → IsNext m s d f step → SeesNext w (listed_from kind f step) place (Some local)
       → ((v : Variable) → IsThere w s d v → IsNamed w v local.variable → ShowsNamed s d (Some v) (Some counted))
-      → ShowsNext s d (locals_left m s d) place (Some (record { variable = counted; next = local.next }))
+      → ShowsNext s d (listed_left kind m s d) place (Some (record { variable = counted; next = local.next }))
   shows_left f step place local counted next (v, is, given) count =
-      let here = listed_in_scope f step place v (listed_from f step local.next) is in (
+      let here = listed_in_scope kind f step place v (listed_from kind f step local.next) is in (
         v,
-        locals_here f step place next ∙ is ∙ ap (λ us. v ∷ us) (sym (locals_here f step local.next next)),
+        listed_here f step place next ∙ is ∙ ap (λ us. v ∷ us) (sym (listed_here f step local.next next)),
         count v (inl (subst (λ vs. IsOneOf vs v) (sym next.sees.scope_is) here)) given,
       )
 

@@ -7,6 +7,7 @@ use Rattle.gang_types.specs.declared.places.Spot.{Spot}
 use Rattle.gang_model.specs.Types.Tree.{Variable}
 use Rattle.typed_tree.specs.declared.program.Function.{Function}
 use Rattle.typed_tree.specs.Views.{function_view}
+use Rattle.machine_names.specs.declared.listing.ListedKind.{ListedKind}
 use Rattle.machine_names.specs.Found.{file_variables}
 use Rattle.machine_names.specs.Listed.{listed_from}
 use Rattle.gang_machine.specs.Standings.{View}
@@ -29,15 +30,15 @@ pub record HasEnded (m : View) (s : Setting) (d : Debugger) : Type 0 where
   pub sees : Sees [] (file_variables m.program.globals.items) s d
 
 -- the variables of a function that are listed at a step, from a number on; none of no function
-abbrev pub locals_of : Option Function → (step from : ℕ) → List Variable
-locals_of None step from = []
-locals_of (Some function) step from = listed_from function step from
+abbrev pub listed_of : ListedKind → Option Function → (step from : ℕ) → List Variable
+listed_of kind None step from = []
+listed_of kind (Some function) step from = listed_from kind function step from
 
 -- those of the function of a spot, at its step; none without a spot
-abbrev pub locals_at : List Function → Option Spot → (from : ℕ) → List Variable
-locals_at functions None from = []
-locals_at functions (Some spot) from = locals_of (slice_get functions spot.function.0) spot.number from
+abbrev pub listed_at : ListedKind → List Function → Option Spot → (from : ℕ) → List Variable
+listed_at kind functions None from = []
+listed_at kind functions (Some spot) from = listed_of kind (slice_get functions spot.function.0) spot.number from
 
--- the local variables that are listed where the debugger stands, from a number on
-abbrev pub locals_left : View → Setting → Debugger → (from : ℕ) → List Variable
-locals_left m s d from = locals_at m.program.functions.items (spot_now s.program (now s d)) from
+-- the variables that are listed where the debugger stands, from a number on
+abbrev pub listed_left : ListedKind → View → Setting → Debugger → (from : ℕ) → List Variable
+listed_left kind m s d from = listed_at kind m.program.functions.items (spot_now s.program (now s d)) from

@@ -1,20 +1,23 @@
 //! The machine: a compiled program, and words that lie in a timeline.
 ghost use Rattle.std.specs.Prelude.{◌≡◌, ◌⊎◌, ℕ, ◌<◌, ◌≤◌, false, filter, length, map, not, slice_get, slice_index, None, Some, IfSome, OnErr};
 ghost use Rattle.gang_types.specs.Masks.{IsGangWidth};
-ghost use Rattle.undo_log.specs.History.{TakenBack};
+ghost use Rattle.undo_log.specs.History.{TakenBack, steps_in};
 ghost use Rattle.gang_model.specs.Types.Tree.{Variable};
 ghost use Rattle.gang_model.specs.Debugger.Debugger.{Debugger, Setting, depth, found, kept_steps, least_from, now, shown_words, step_lines};
 ghost use Rattle.gang_model.specs.Debugger.Positions.{line_now, scope_now};
 ghost use Rattle.gang_model.specs.Texts.Text.{where_text};
-ghost use Rattle.debug_machine.specs.Machines.{Finds, FindsInFile, IsOneOf, IsPart, IsShown, Limits, LimitsWords, Pokes, PokesWords, ShowsNamed, ShowsNext, Steps, StepsWords, Undoes, UndoesWords, call_text, depth_of, file_variables, line_of_position, listed, position_line, position_text};
+ghost use Rattle.debug_machine.specs.Machines.{Finds, FindsInFile, IsOneOf, IsPart, IsShown, Limits, LimitsWords, Pokes, PokesWords, ShowsNamed, ShowsNext, Steps, StepsWords, Undoes, UndoesWords, call_text, depth_of, file_variables, line_of_position, listed, listed_parameters, position_line, position_text};
 ghost use Rattle.machine_names.specs.Found.{IsNamed, IsSeen, SeesFound};
-ghost use Rattle.gang_machine.specs.Nexts.{HasEnded, IsNext, locals_left};
+ghost use Rattle.machine_names.specs.Listed.{is_of};
+ghost use Rattle.gang_machine.specs.Nexts.{HasEnded, IsNext, listed_left};
 ghost use Rattle.gang_machine.specs.Standings.{Stands, history_of};
 
 use debug_machine::{NamedVariable, NextLocal, Position, RecordedMachine, Shown, StepEnd};
 use expression_machine::Stacks;
 use machine_moves::{CompiledProgram, next_step};
-use machine_names::{file_named, file_number, least_from, local_named, named, next_listed};
+use machine_names::{
+    ListedKind, file_named, file_number, least_from, local_named, named, next_listed,
+};
 use machine_shown::{call, count, poke, position, word};
 use machine_steps::step;
 use machine_words::MachineWords;
@@ -104,14 +107,32 @@ impl<const W: usize, T: Timeline + Drop> Machine<W, T> {
             shown: self.counted(variable.shown),
         }
     }
+
+    /// The first of the variables in scope of this kind, from a number on.
+    fn next_variable(&self, kind: ListedKind, from: usize) -> Option<NextLocal<'_>>
+        ensures all { (s : Setting) (d : Debugger) → Stands self.now s d → listed_left kind self.now s d 0 ≡ filter (λ v. is_of kind v) (scope_now s.program (now s d)) }
+        ensures next { (s : Setting) (d : Debugger) → Stands self.now s d → ShowsNext s d (listed_left kind self.now s d) from result }
+        ensures further { IfSome result (λ variable. from < variable.next) }
+    {
+        let (function, step) = self.next()?;
+        let listed = next_listed::<W>(kind, function, step, from)?;
+        Some(NextLocal {
+            variable: self.counted_by_name(listed.variable),
+            next: listed.next,
+        })
+    }
 }
 
 impl<const W: usize, T: Timeline + Drop> RecordedMachine for Machine<W, T> {
+    ghost use Rattle.machine_names.specs.declared.listing.ListedKind.TheVariants.{Locals, Parameters};
+
     ghost stands = { Stands };
 
     ghost history = { history_of };
 
-    ghost locals_from = { locals_left };
+    ghost locals_from = { listed_left Locals };
+
+    ghost parameters_from = { listed_left Parameters };
 
     fn step(&mut self) -> StepEnd {
         step::<W, T>(&self.compiled, &mut self.words, &mut self.stacks)
@@ -165,12 +186,11 @@ impl<const W: usize, T: Timeline + Drop> RecordedMachine for Machine<W, T> {
     }
 
     fn next_local(&self, from: usize) -> Option<NextLocal<'_>> {
-        let (function, step) = self.next()?;
-        let local = next_listed::<W>(function, step, from)?;
-        Some(NextLocal {
-            variable: self.counted_by_name(local.variable),
-            next: local.next,
-        })
+        self.next_variable(ListedKind::Locals, from)
+    }
+
+    fn next_parameter(&self, from: usize) -> Option<NextLocal<'_>> {
+        self.next_variable(ListedKind::Parameters, from)
     }
 
     fn word(&self, shown: Shown, index: usize) -> u64 {

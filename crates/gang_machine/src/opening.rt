@@ -107,8 +107,8 @@ impl PreparedProgram {
     }
 }
 
-/// A machine before the first step of a program's entry, which these rows of an input are given to, over a new record of any kind that has room for what one event sets. All
-/// memory that it needs is taken by then.
+/// A machine before the first step of a program's entry, which these rows of an input are given to, over a new record of any kind that has
+/// room for what one event sets. All memory that it needs is taken by then.
 ///
 /// # Errors
 ///

@@ -35,7 +35,8 @@ use Rattle.machine_moves.specs.Compiled.{program_of, variables_of}
 use Rattle.machine_moves.specs.Results.{changed}
 use Rattle.machine_moves.specs.Standing.{AreSound, Begins, DoesNext, EndsAs, IsActive, IsShown, IsValueAt}
 use Rattle.machine_moves.proofs.OldWords.{changed_fails, changed_gives}
-use Rattle.machine_moves.proofs.Standings.{IsAssigning, IsChanging, IsDeclaring, IsValueOf, active_names, active_plain, assigns_at, changes_at, declares_at, ends_well, lanes_long, sized, some_active, value_at}
+use Rattle.machine_moves.proofs.Standings.{ends_well, lanes_long, sized, some_active}
+use Rattle.machine_moves.proofs.StepValues.{IsAssigning, IsChanging, IsDeclaring, IsValueOf, active_names, active_plain, assigns_at, changes_at, declares_at, value_at}
 use Rattle.machine_moves.proofs.SentSteps.{MayPut, MaySend, may_put_first, may_send_then, sent_then}
 
 -- ---- initial values

@@ -30,7 +30,8 @@ use Rattle.machine_moves.specs.Checks.{HoldsInEach}
 use Rattle.machine_moves.specs.Compiled.{program_of, variables_of}
 use Rattle.machine_moves.specs.Standing.{AreSound, Begins, DoesNext, EndsAs, IsActive, IsShown, IsValueAt}
 use Rattle.machine_moves.proofs.SentSteps.{MaySend, may_send, sent_so}
-use Rattle.machine_moves.proofs.Standings.{begun, ends_well, lanes_long, some_active, value_at}
+use Rattle.machine_moves.proofs.Standings.{begun, ends_well, lanes_long, some_active}
+use Rattle.machine_moves.proofs.StepValues.{value_at}
 
 -- ---- the lanes in which a test does not hold
 

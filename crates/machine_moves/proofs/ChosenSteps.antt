@@ -24,7 +24,8 @@ use Rattle.machine_moves.specs.declared.active.Active.{Active}
 use Rattle.machine_moves.specs.declared.compiled.CompiledProgram.{CompiledProgram}
 use Rattle.machine_moves.specs.Compiled.{program_of, variables_of}
 use Rattle.machine_moves.specs.Standing.{AreSound, Begins, DoesNext, EndsAs, IsShown, IsValueAt}
-use Rattle.machine_moves.proofs.Standings.{IsAt, begun, ends_well, some_active, value_at}
+use Rattle.machine_moves.proofs.Standings.{begun, ends_well, some_active}
+use Rattle.machine_moves.proofs.StepValues.{IsAt, value_at}
 use Rattle.machine_moves.proofs.SentSteps.{MaySend, may_send, sent_so}
 
 -- the switch of the next step: its selector, its segments, and where they begin

@@ -33,7 +33,8 @@ use Rattle.machine_moves.specs.Results.{changed}
 use Rattle.machine_moves.specs.Standing.{AreSound, DoesNext, IsActive, IsShown, IsValueAt}
 use Rattle.machine_moves.proofs.ElementStores.{AreReached, are_reached, by_fault}
 use Rattle.machine_moves.proofs.OldWords.{given, refused}
-use Rattle.machine_moves.proofs.Standings.{IsAt, active_plain, some_active, value_at}
+use Rattle.machine_moves.proofs.Standings.{some_active}
+use Rattle.machine_moves.proofs.StepValues.{IsAt, active_plain, value_at}
 
 -- what the code says of its point
 module _ (width : ℕ) (compiled : CompiledProgram) (regions : Regions) (active : Active) (array : VarId) (index : Vec Instruction Global) (change : Change) (value' : Vec Instruction Global) (next : ℕ) where

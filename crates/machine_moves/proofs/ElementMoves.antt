@@ -29,7 +29,8 @@ use Rattle.machine_moves.specs.Compiled.{program_of, variables_of}
 use Rattle.machine_moves.specs.Elements.{reached_in}
 use Rattle.machine_moves.specs.Standing.{AreSound, DoesNext, IsActive, IsShown, IsValueAt}
 use Rattle.machine_moves.proofs.ElementStores.{are_reached, by_fault}
-use Rattle.machine_moves.proofs.Standings.{IsAt, active_plain, some_active, value_at}
+use Rattle.machine_moves.proofs.Standings.{some_active}
+use Rattle.machine_moves.proofs.StepValues.{IsAt, active_plain, value_at}
 
 -- what the code says of its point
 module _ (width : ℕ) (compiled : CompiledProgram) (regions : Regions) (active : Active) (array : VarId) (index value' : Vec Instruction Global) (next : ℕ) where

@@ -65,6 +65,25 @@ module _ (counters : List ℕ) where
       ap₂ (λ a bs. a ∷ bs) is (ap₂ (λ b c. b ∷ c ∷ []) (more ∙ sym second_pair) (last ∙ sym third_pair))
   three_bounds (d ∷ other ∷ another ∷ more_of ∷ ds) e first second third is more last = absurd (omega (arith, e))
 
+-- the bounds of at most three dimensions lie in the first six words
+abbrev pub first_six : (words : List ℕ) → (rest : List ℕ) → List ℕ
+first_six words rest = at words 0 ∷ at words 1 ∷ at words 2 ∷ at words 3 ∷ at words 4 ∷ at words 5 ∷ rest
+
+pub same_bounds : (ds : List Dimension) (words rest : List ℕ) → (1 ≤ length ds) × (length ds ≤ 3) → bounds_in ds (first_six words rest) ≡ bounds_in ds words
+same_bounds [] words rest few = absurd (omega (arith, few.0))
+same_bounds (a ∷ []) words rest few = one_bound words (a ∷ []) refl (pair_at (first_six words rest) 0) refl
+same_bounds (a ∷ b ∷ []) words rest few =
+    two_bounds words (a ∷ b ∷ []) refl (pair_at (first_six words rest) 0) (pair_at (first_six words rest) 1) refl refl
+same_bounds (a ∷ b ∷ c ∷ []) words rest few =
+    three_bounds words (a ∷ b ∷ c ∷ []) refl (pair_at (first_six words rest) 0) (pair_at (first_six words rest) 1) (pair_at (first_six words rest) 2) refl refl refl
+same_bounds (a ∷ b ∷ c ∷ d ∷ more) words rest few = absurd (omega (arith, few.1))
+
+pub six_bounds : (words : List ℕ) (a b c d e f : ℕ) → a ≡ at words 0 → b ≡ at words 1 → c ≡ at words 2 → d ≡ at words 3 → e ≡ at words 4 → f ≡ at words 5
+    → (ds : List Dimension) → (1 ≤ length ds) × (length ds ≤ 3) → bounds_in ds (a ∷ b ∷ c ∷ d ∷ e ∷ f ∷ []) ≡ bounds_in ds words
+six_bounds words a b c d e f first second third fourth fifth sixth ds few =
+    let same : (a ∷ b ∷ c ∷ d ∷ e ∷ f ∷ []) ≡ first_six words [] = cc in
+    ap (bounds_in ds) same ∙ same_bounds ds words [] few
+
 -- ---- forms
 
 module _ (w : ℕ) (regions : Regions) (frame level : ℕ) where
@@ -89,18 +108,18 @@ module _ (w : ℕ) (regions : Regions) (frame level : ℕ) where
           (subst (λ b. IsLeft (grid_by is w b) (grid_view left)) (sym bounds_are)
           (subst (λ l. IsLeft (grid_by is w (bounds_in ds counters_of)) l) (sym left_is) kept))
 
-    pub domain_rounds : ((ds : List Dimension) → length ds ≡ length indices.items → bounds_view bounds ≡ bounds_in ds (regions (OfLevel frame level CountersOf)))
+    pub domain_rounds : ((ds : List Dimension) → length ds ≡ length indices.items → (1 ≤ length ds) × (length ds ≤ 3) → bounds_view bounds ≡ bounds_in ds (regions (OfLevel frame level CountersOf)))
         → grid_view left ≡ left_in (regions (OfLevel frame level CountersOf)) → (form : RoundsOf) → KeepsRounds w regions frame level (index.Domain order indices) form
         → AreRoundsOf w regions frame level form (DomainLeft (record { order = order; bounds = bounds }) left)
     domain_rounds bounds_are left_is (Rows ds) keeps =
-        let are = bounds_are ds (index_count indices ds keeps.indexes.1) in
+        let are = bounds_are ds (index_count indices ds keeps.indexes.1) keeps.dimensions in
         record {
           kept = same_kept ds are left_is keeps.kept.0;
           of_form = of_order ds are left_is keeps.kept.0 by.Rows keeps.indexes.0;
           are_left = left_of_grid ds are left_is keeps.kept.0 by.Rows keeps.indexes.0 keeps.kept.1;
         }
     domain_rounds bounds_are left_is (Tiles ds) keeps =
-        let are = bounds_are ds (index_count indices ds keeps.indexes.1) in
+        let are = bounds_are ds (index_count indices ds keeps.indexes.1) keeps.dimensions in
         record {
           kept = same_kept ds are left_is keeps.kept.0;
           of_form = of_order ds are left_is keeps.kept.0 by.Tiles keeps.indexes.0;

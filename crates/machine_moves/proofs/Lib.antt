@@ -27,6 +27,7 @@ pub mod SentSteps
 pub mod ShownFrames
 pub mod PointRoom
 pub mod Standings
+pub mod StepValues
 pub mod TopFrames
 pub mod ElementStores
 pub mod ElementMoves

@@ -21,7 +21,8 @@ use Rattle.machine_moves.specs.declared.active.Active.{Active}
 use Rattle.machine_moves.specs.declared.compiled.CompiledProgram.{CompiledProgram}
 use Rattle.machine_moves.specs.Compiled.{program_of, variables_of}
 use Rattle.machine_moves.specs.Standing.{AreSound, Begins, DoesNext, EndsAs, IsShown, IsValueAt}
-use Rattle.machine_moves.proofs.Standings.{begun, branches_at, ends_well, goes_at, some_active, value_at}
+use Rattle.machine_moves.proofs.Standings.{begun, ends_well, some_active}
+use Rattle.machine_moves.proofs.StepValues.{branches_at, goes_at, value_at}
 use Rattle.machine_moves.proofs.SentSteps.{MaySend, may_send, sent_so}
 
 module _ {T : Type 0} (history : T → History) (left : T → ℕ) (width : ℕ) (compiled : CompiledProgram) (old : MachineWords T) (sound : AreSound history width compiled old) (active : Active) where

@@ -11,7 +11,7 @@ use Rattle.machine_moves.specs.declared.compiled.CompiledProgram.{CompiledProgra
 use Rattle.machine_moves.specs.Compiled.{IsCompiled}
 use Rattle.machine_moves.specs.Parts.{IsIndexAt}
 use Rattle.machine_moves.specs.Standing.{IsActive, IsValueAt}
-use Rattle.machine_moves.proofs.Standings.{IsValueOf, value_at}
+use Rattle.machine_moves.proofs.StepValues.{IsValueOf, value_at}
 
 -- the index of a point of the next step
 module _ (width : ℕ) (compiled : CompiledProgram) (is : IsCompiled compiled) (regions : Regions) (active : Active) (f : Function) (point : Point) (is_active : IsActive width compiled regions active f (Some point)) where

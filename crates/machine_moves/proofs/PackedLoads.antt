@@ -45,7 +45,8 @@ use Rattle.machine_moves.specs.Parts.{HasNextPoint, IsIndexAt, counts_of}
 use Rattle.machine_moves.specs.Standing.{AreSound, Begins, DoesNext, EndsAs, IsActive, IsShown}
 use Rattle.machine_moves.proofs.NamedParts.{index_of}
 use Rattle.machine_moves.proofs.PackedCounts.{MayGive, counted, counted_may_send, counted_sent, may_give, result_there}
-use Rattle.machine_moves.proofs.Standings.{IsAt, IsUnderWay, active_names, active_plain, begun, ends_well, frame_below, lanes_long, sized, some_active}
+use Rattle.machine_moves.proofs.Standings.{IsUnderWay, begun, ends_well, frame_below, lanes_long, sized, some_active}
+use Rattle.machine_moves.proofs.StepValues.{IsAt, active_names, active_plain}
 use Rattle.machine_moves.proofs.SentSteps.{HasPlace, MayPut, MaySend, may_put_first, put_so, scalar_place}
 
 -- what the code says of its point

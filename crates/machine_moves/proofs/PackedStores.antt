@@ -41,7 +41,8 @@ use Rattle.machine_moves.specs.Parts.{HasNextPoint, IsIndexAt, counts_of}
 use Rattle.machine_moves.specs.Standing.{AreSound, Begins, DoesNext, EndsAs, IsActive, IsShown, IsValueAt}
 use Rattle.machine_moves.proofs.NamedParts.{index_of}
 use Rattle.machine_moves.proofs.PackedCounts.{MayGive, counted, counted_may_send, counted_sent, may_give, result_there}
-use Rattle.machine_moves.proofs.Standings.{IsAt, IsUnderWay, active_names, active_plain, begun, begun_laid, begun_regions, ends_well, may_write, sized, some_active, step_within, value_at}
+use Rattle.machine_moves.proofs.Standings.{IsUnderWay, begun, begun_laid, begun_regions, ends_well, may_write, sized, some_active, step_within}
+use Rattle.machine_moves.proofs.StepValues.{IsAt, active_names, active_plain, value_at}
 use Rattle.machine_moves.proofs.SentSteps.{MaySend, wrote_so}
 
 -- what the code says of its point

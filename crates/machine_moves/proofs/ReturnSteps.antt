@@ -26,7 +26,8 @@ use Rattle.machine_moves.specs.Compiled.{IsCompiled, program_of, variables_of}
 use Rattle.machine_moves.specs.Results.{Returns}
 use Rattle.machine_moves.specs.Standing.{AreSound, Begins, EndsAs, IsActive, IsShown, IsValueAt}
 use Rattle.machine_moves.proofs.Heads.{sent_to}
-use Rattle.machine_moves.proofs.Standings.{IsUnderWay, begun_regions, ends_well, lanes_long, under_way_alike, value_at, wrote}
+use Rattle.machine_moves.proofs.Standings.{IsUnderWay, begun_regions, ends_well, lanes_long, under_way_alike, wrote}
+use Rattle.machine_moves.proofs.StepValues.{value_at}
 
 -- ---- the value
 

@@ -32,6 +32,6 @@ pub use packed::{load_packed, store_packed};
 pub use parts::named_part;
 pub use reading::TopVariables;
 pub use recording::begin;
-pub use rounds_left::kept_rounds;
+pub use rounds_left::{bounds_of, kept_rounds};
 pub use values::value_of;
 pub use waiting::{least, waiting_for};

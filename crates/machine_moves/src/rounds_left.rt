@@ -1,5 +1,5 @@
 //! The rounds that a foreach form has left, as the words of its level keep them.
-ghost use Rattle.std.specs.Prelude.{◌≡◌, ◌+◌, ◌*◌, ◌<◌, ◌≤◌, List, length};
+ghost use Rattle.std.specs.Prelude.{◌≡◌, ◌+◌, ◌*◌, ◌<◌, ◌≤◌, List, length, slice_index};
 ghost use Rattle.gang_types.specs.declared.types.IntType.TheVariants.{Int32};
 ghost use Rattle.gang_types.specs.Masks.{IsGangWidth, lanes_of, lanes_of_word};
 ghost use Rattle.gang_types.specs.Values.{value_of};
@@ -35,7 +35,7 @@ pub fn kept_rounds<const W: usize, T: Timeline + Drop>(
         IndexCode::Domain { order, indices } => RoundsLeft::Domain {
             domain: Domain {
                 order: *order,
-                bounds: bounds::<W, T>(words, counters, indices.len()),
+                bounds: bounds_of(&bounds_kept::<W, T>(words, counters), indices.len()),
             },
             left: grid_left::<W, T>(words, counters),
         },
@@ -49,48 +49,51 @@ pub fn kept_rounds<const W: usize, T: Timeline + Drop>(
     }
 }
 
-/// The bounds of one dimension.
-fn range<const W: usize, T: Timeline + Drop>(
+/// The words of low and high of each of three dimensions.
+fn bounds_kept<const W: usize, T: Timeline + Drop>(
     words: &MachineWords<T>,
     counters: Region,
-    dimension: usize,
-) -> Range
-    requires width { IsGangWidth W }
-    requires laid { AreLaid T.history W words.now }
-    requires within { 2 * dimension + 1 < length (regions_in T.history W words.now (region_view counters)) }
-    requires few { dimension < 3 }
-    ensures { range_view result ≡ (
-      value_of Int32 (at (regions_in T.history W words.now (region_view counters)) (2 * dimension)),
-      value_of Int32 (at (regions_in T.history W words.now (region_view counters)) (2 * dimension + 1)),
-    ) }
-{
-    Range {
-        low: words.word::<W>(counters, 2 * dimension).cast_signed(),
-        high: words.word::<W>(counters, 2 * dimension + 1).cast_signed(),
-    }
-}
-
-/// The bounds of so many dimensions.
-fn bounds<const W: usize, T: Timeline + Drop>(
-    words: &MachineWords<T>,
-    counters: Region,
-    dimensions: usize,
-) -> Bounds
+) -> [u64; 6]
     requires width { IsGangWidth W }
     requires laid { AreLaid T.history W words.now }
     requires whole { length (regions_in T.history W words.now (region_view counters)) ≡ 9 }
-    requires some { (1 ≤ dimensions) × (dimensions ≤ 3) }
-    ensures { (ds : List Dimension) → length ds ≡ dimensions → bounds_view result ≡ bounds_in ds (regions_in T.history W words.now (region_view counters)) }
+    ensures { (ds : List Dimension) → (1 ≤ length ds) × (length ds ≤ 3) → bounds_in ds result ≡ bounds_in ds (regions_in T.history W words.now (region_view counters)) }
 {
-    let first = range::<W, T>(words, counters, 0);
+    [
+        words.word::<W>(counters, 0),
+        words.word::<W>(counters, 1),
+        words.word::<W>(counters, 2),
+        words.word::<W>(counters, 3),
+        words.word::<W>(counters, 4),
+        words.word::<W>(counters, 5),
+    ]
+}
+
+/// The bounds of so many dimensions by their words: low and high of each of three, one behind the other.
+pub fn bounds_of(words: &[u64; 6], dimensions: usize) -> Bounds
+    requires { (1 ≤ dimensions) × (dimensions ≤ 3) }
+    ensures { (ds : List Dimension) → length ds ≡ dimensions → bounds_view result ≡ bounds_in ds words.now }
+{
+    let first = range(words, 0);
     if dimensions == 1 {
         return Bounds::One(first);
     }
-    let second = range::<W, T>(words, counters, 1);
+    let second = range(words, 1);
     if dimensions == 2 {
         return Bounds::Two(first, second);
     }
-    Bounds::Three(first, second, range::<W, T>(words, counters, 2))
+    Bounds::Three(first, second, range(words, 2))
+}
+
+/// Those of one dimension.
+fn range(words: &[u64; 6], dimension: usize) -> Range
+    requires { dimension < 3 }
+    ensures { range_view result ≡ (value_of Int32 (slice_index words.now (2 * dimension)), value_of Int32 (slice_index words.now (2 * dimension + 1))) }
+{
+    Range {
+        low: words[2 * dimension].cast_signed(),
+        high: words[2 * dimension + 1].cast_signed(),
+    }
 }
 
 /// How much of the grid of a domain is left.

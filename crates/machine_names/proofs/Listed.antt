@@ -1,6 +1,6 @@
 -- The variables that are listed at a step, by their numbers: the first one of a name.
 use Rattle.std.proofs.Common.{◌≡◌, refl, sym, ap, subst, ◌∙◌, ℕ, zero, suc, ◌+◌, ◌-◌, ◌<◌, ◌≤◌, cond, eqb, Bool, true, false, List, [], ◌∷◌, length, get_or, Option, Some, None, arith}
-use Rattle.std.specs.Prelude.{map, filter, nat_le, not, option_map, slice_get, if◌then◌else◌}
+use Rattle.std.specs.Prelude.{map, filter, nat_le, option_map, slice_get, if◌then◌else◌}
 use Rattle.std.specs.List.{range_with_len}
 use Rattle.std.proofs.lemmas.Bool.Decides.{nat_tests}
 use Rattle.std.specs.Option.{option_eq}
@@ -22,7 +22,8 @@ use Rattle.ispc_names_table.proofs.Links.{linked-none}
 use Rattle.ispc_names_table.proofs.ListedNumbers.{front_number, is_listed, listed_ids, name_at, passing, tested}
 use Rattle.typed_tree.specs.declared.program.Function.{Function}
 use Rattle.typed_tree.specs.Views.{function_view, variable_view}
-use Rattle.machine_names.specs.Listed.{is_from, listed_from}
+use Rattle.machine_names.specs.declared.listing.ListedKind.{ListedKind}
+use Rattle.machine_names.specs.Listed.{is_from, is_of, listed_from}
 use Rattle.machine_names.proofs.FirstNamed.{scope_names}
 
 -- the innermost variable in scope at a step, none past the last step
@@ -105,48 +106,48 @@ pub number_hidden : (vs : List Variable) (test : ℕ → Bool) (name : List ℕ)
     → named name (from_number vs test (a + 1) n) ≡ named name (from_number vs test a n)
 number_hidden vs test name a n lt hidden = sym (front_named vs test name a n (same_text (local_at vs (Local a)).name name) false lt hidden refl)
 
--- ---- those without parameters
+-- ---- those that are listed
 
--- the variables that are listed from a number on, without parameters
-abbrev pub locals_from : List Variable → (ℕ → Bool) → (a n : ℕ) → List Variable
-locals_from vs test a n = filter (λ v. not v.is_parameter) (from_number vs test a n)
+-- the variables in scope that are listed from a number on
+abbrev pub kind_from : ListedKind → List Variable → (ℕ → Bool) → (a n : ℕ) → List Variable
+kind_from kind vs test a n = filter (λ v. is_of kind v) (from_number vs test a n)
 
-front_local : (vs : List Variable) (test : ℕ → Bool) (a n : ℕ) (t p : Bool) → a < n → test a ≡ t → (local_at vs (Local a)).is_parameter ≡ p
-    → locals_from vs test a n ≡ cond t (cond (not p) (local_at vs (Local a) ∷ locals_from vs test (a + 1) n) (locals_from vs test (a + 1) n)) (locals_from vs test (a + 1) n)
-front_local vs test a n t p lt passes is = ap (λ js. filter (λ v. not v.is_parameter) (map (λ j. local_at vs (Local j)) js)) (front_number test a n lt) ∙ ap pick passes ∙ chosen t
+front_kind : (kind : ListedKind) (vs : List Variable) (test : ℕ → Bool) (a n : ℕ) (t o : Bool) → a < n → test a ≡ t → is_of kind (local_at vs (Local a)) ≡ o
+    → kind_from kind vs test a n ≡ cond t (cond o (local_at vs (Local a) ∷ kind_from kind vs test (a + 1) n) (kind_from kind vs test (a + 1) n)) (kind_from kind vs test (a + 1) n)
+front_kind kind vs test a n t o lt passes is = ap (λ js. filter (λ v. is_of kind v) (map (λ j. local_at vs (Local j)) js)) (front_number test a n lt) ∙ ap pick passes ∙ chosen t
   where
     rest : List ℕ
     rest = passing test (a + 1) n
 
     pick : Bool → List Variable
-    pick t = filter (λ v. not v.is_parameter) (map (λ j. local_at vs (Local j)) (cond t (a ∷ rest) rest))
+    pick t = filter (λ v. is_of kind v) (map (λ j. local_at vs (Local j)) (cond t (a ∷ rest) rest))
 
-    chosen : (t : Bool) → pick t ≡ cond t (cond (not p) (local_at vs (Local a) ∷ locals_from vs test (a + 1) n) (locals_from vs test (a + 1) n)) (locals_from vs test (a + 1) n)
-    chosen true = ap (λ p. cond (not p) (local_at vs (Local a) ∷ locals_from vs test (a + 1) n) (locals_from vs test (a + 1) n)) is
+    chosen : (t : Bool) → pick t ≡ cond t (cond o (local_at vs (Local a) ∷ kind_from kind vs test (a + 1) n) (kind_from kind vs test (a + 1) n)) (kind_from kind vs test (a + 1) n)
+    chosen true = ap (λ o. cond o (local_at vs (Local a) ∷ kind_from kind vs test (a + 1) n) (kind_from kind vs test (a + 1) n)) is
     chosen false = refl
 
 -- the variable of a number is the first of them
-pub local_first : (vs : List Variable) (test : ℕ → Bool) (a n : ℕ) → a < n → test a ≡ true → (local_at vs (Local a)).is_parameter ≡ false
-    → locals_from vs test a n ≡ local_at vs (Local a) ∷ locals_from vs test (a + 1) n
-local_first vs test a n lt passes own = front_local vs test a n true false lt passes own
+pub kind_first : (kind : ListedKind) (vs : List Variable) (test : ℕ → Bool) (a n : ℕ) → a < n → test a ≡ true → is_of kind (local_at vs (Local a)) ≡ true
+    → kind_from kind vs test a n ≡ local_at vs (Local a) ∷ kind_from kind vs test (a + 1) n
+kind_first kind vs test a n lt passes own = front_kind kind vs test a n true true lt passes own
 
--- it is not listed
-pub locals_hidden : (vs : List Variable) (test : ℕ → Bool) (a n : ℕ) → a < n → test a ≡ false → locals_from vs test (a + 1) n ≡ locals_from vs test a n
-locals_hidden vs test a n lt hidden = sym (front_local vs test a n false (local_at vs (Local a)).is_parameter lt hidden refl)
+-- it is not in scope
+pub kind_hidden : (kind : ListedKind) (vs : List Variable) (test : ℕ → Bool) (a n : ℕ) → a < n → test a ≡ false → kind_from kind vs test (a + 1) n ≡ kind_from kind vs test a n
+kind_hidden kind vs test a n lt hidden = sym (front_kind kind vs test a n false (is_of kind (local_at vs (Local a))) lt hidden refl)
 
--- it is a parameter
-pub locals_parameter : (vs : List Variable) (test : ℕ → Bool) (a n : ℕ) → a < n → (local_at vs (Local a)).is_parameter ≡ true → locals_from vs test (a + 1) n ≡ locals_from vs test a n
-locals_parameter vs test a n lt is = sym (front_local vs test a n (test a) true lt refl is ∙ either (test a))
+-- it is not of this kind
+pub kind_other : (kind : ListedKind) (vs : List Variable) (test : ℕ → Bool) (a n : ℕ) → a < n → is_of kind (local_at vs (Local a)) ≡ false → kind_from kind vs test (a + 1) n ≡ kind_from kind vs test a n
+kind_other kind vs test a n lt is = sym (front_kind kind vs test a n (test a) false lt refl is ∙ either (test a))
   where
-    either : (t : Bool) → cond t (locals_from vs test (a + 1) n) (locals_from vs test (a + 1) n) ≡ locals_from vs test (a + 1) n
+    either : (t : Bool) → cond t (kind_from kind vs test (a + 1) n) (kind_from kind vs test (a + 1) n) ≡ kind_from kind vs test (a + 1) n
     either true = refl
     either false = refl
 
 -- past the last number there is none
-pub locals_end : (vs : List Variable) (test : ℕ → Bool) (a n : ℕ) → n ≤ a → locals_from vs test a n ≡ []
-locals_end vs test a n past =
+pub kind_end : (kind : ListedKind) (vs : List Variable) (test : ℕ → Bool) (a n : ℕ) → n ≤ a → kind_from kind vs test a n ≡ []
+kind_end kind vs test a n past =
     let none : n - a ≡ 0 = omega arith in
-    ap (λ m. filter (λ v. not v.is_parameter) (map (λ j. local_at vs (Local j)) (filter test (range_with_len a m)))) none
+    ap (λ m. filter (λ v. is_of kind v) (map (λ j. local_at vs (Local j)) (filter test (range_with_len a m)))) none
 
 -- ---- what a clause says of them
 
@@ -206,27 +207,27 @@ local_ids a (j ∷ js) = one (nat_le a j) (filter (is_from a) (map Local js)) (f
     one false ids rest h = h
 
 -- what is listed from a number on
-pub listed_rest : (vs : List Variable) (ds : List Declaration) (ss : List Standing) (step a : ℕ)
-    → filter (λ v. not v.is_parameter) (map (λ (b : Binding). local_at vs b.id) (filter (λ (b : Binding). is_from a b.id) (names_at (slice_get (map (standing_view ds) ss) step))))
-    ≡ locals_from vs (is_listed (name_at ds) (in_scope ds (innermost_at (slice_get ss step)))) a (length ds)
-listed_rest vs ds ss step a =
+pub listed_rest : (kind : ListedKind) (vs : List Variable) (ds : List Declaration) (ss : List Standing) (step a : ℕ)
+    → filter (λ v. is_of kind v) (map (λ (b : Binding). local_at vs b.id) (filter (λ (b : Binding). is_from a b.id) (names_at (slice_get (map (standing_view ds) ss) step))))
+    ≡ kind_from kind vs (is_listed (name_at ds) (in_scope ds (innermost_at (slice_get ss step)))) a (length ds)
+listed_rest kind vs ds ss step a =
     let i = innermost_at (slice_get ss step) in
     let test = is_listed (name_at ds) (in_scope ds i) in
     let names = unhidden (in_scope ds i) in
     let all = passing test 0 (length ds) in
     let ids = ids_from a names ∙ ap (filter (is_from a)) (ids_same names all (listed_ids ds i)) ∙ local_ids a all ∙ ap (map Local) (passing_from test a (length ds)) in
-    ap (filter (λ v. not v.is_parameter)) (ap (λ bs. map (λ (b : Binding). local_at vs b.id) (filter (λ (b : Binding). is_from a b.id) bs)) (listed_names ds ss step)
+    ap (filter (λ v. is_of kind v)) (ap (λ bs. map (λ (b : Binding). local_at vs b.id) (filter (λ (b : Binding). is_from a b.id) bs)) (listed_names ds ss step)
     ∙ sym (map-map (local_at vs) (λ (b : Binding). b.id) (filter (λ (b : Binding). is_from a b.id) names))
     ∙ ap (map (local_at vs)) ids
     ∙ map-map (local_at vs) Local (passing test a (length ds)))
 
 -- from the first number on they are all
-pub listed_all : (f : Function) (step : ℕ) → listed_from f step 0 ≡ filter (λ v. not v.is_parameter) (scope_of (slice_get (function_view f).standings step))
-listed_all f step =
+pub listed_all : (kind : ListedKind) (f : Function) (step : ℕ) → listed_from kind f step 0 ≡ filter (λ v. is_of kind v) (scope_of (slice_get (function_view f).standings step))
+listed_all kind f step =
     let vs = map variable_view f.variables.items in
     let ds = f.scopes.declarations.items in
     let ss = f.scopes.standings.items in
-    listed_rest vs ds ss step 0 ∙ sym (ap (filter (λ v. not v.is_parameter)) (scope_numbers vs ds ss step))
+    listed_rest kind vs ds ss step 0 ∙ sym (ap (filter (λ v. is_of kind v)) (scope_numbers vs ds ss step))
 
 kept_mapped : {A B : Type 0} (g : A → B) (test : A → Bool) (xs : List A) (k : ℕ) (y : B) → slice_get (map g (filter test xs)) k ≡ Some y → (n : ℕ) × (slice_get (map g xs) n ≡ Some y)
 kept_mapped g test [] k y e = cc
@@ -249,10 +250,10 @@ one_of_all test (u ∷ vs) k v e = either (test u) k e (λ k. one_of_all test vs
     either false k e more = let (n, get) = more k e in (suc n, get)
 
 -- and each is one of those in scope
-pub listed_in_scope : (f : Function) (step from : ℕ) (v : Variable) (rest : List Variable) → listed_from f step from ≡ v ∷ rest → IsOneOf (scope_of (slice_get (function_view f).standings step)) v
-listed_in_scope f step from v rest e =
+pub listed_in_scope : (kind : ListedKind) (f : Function) (step from : ℕ) (v : Variable) (rest : List Variable) → listed_from kind f step from ≡ v ∷ rest → IsOneOf (scope_of (slice_get (function_view f).standings step)) v
+listed_in_scope kind f step from v rest e =
     let vs = map variable_view f.variables.items in
     let names = names_at (slice_get (standings_view f.scopes) step) in
-    let first : slice_get (listed_from f step from) 0 ≡ Some v = ap (λ us. slice_get us 0) e in
-    let (k, here) = one_of_all (λ v. not v.is_parameter) (map (λ (b : Binding). local_at vs b.id) (filter (λ (b : Binding). is_from from b.id) names)) 0 v first in
+    let first : slice_get (listed_from kind f step from) 0 ≡ Some v = ap (λ us. slice_get us 0) e in
+    let (k, here) = one_of_all (λ v. is_of kind v) (map (λ (b : Binding). local_at vs b.id) (filter (λ (b : Binding). is_from from b.id) names)) 0 v first in
     subst (λ us. IsOneOf us v) (sym (scope_names vs (standings_view f.scopes) step)) (kept_mapped (λ (b : Binding). local_at vs b.id) (λ (b : Binding). is_from from b.id) names k v here)

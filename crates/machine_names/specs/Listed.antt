@@ -9,6 +9,8 @@ use Rattle.debug_machine.specs.declared.machine.NextLocal.{NextLocal}
 use Rattle.ispc_names_table.specs.Scopes.{standings_view}
 use Rattle.typed_tree.specs.declared.program.Function.{Function}
 use Rattle.typed_tree.specs.Views.{variable_view}
+use Rattle.machine_names.specs.declared.listing.ListedKind.{ListedKind}
+use Rattle.machine_names.specs.declared.listing.ListedKind.TheVariants.{Locals, Parameters}
 use Rattle.machine_names.specs.Found.{IsNamed}
 
 -- whether a variable is a function's, and its number at least this one
@@ -16,10 +18,15 @@ abbrev pub is_from : ℕ → VarId → Bool
 is_from from (Local number) = nat_le from number
 is_from from (File number) = false
 
--- the variables in scope at a step whose numbers are at least this one, without the parameters
-abbrev pub listed_from : Function → (step from : ℕ) → List Variable
-listed_from f step from =
-    filter (λ v. not v.is_parameter)
+-- whether a variable is one of those that are listed: of the parameters, or of all others
+abbrev pub is_of : ListedKind → Variable → Bool
+is_of Locals v = not v.is_parameter
+is_of Parameters v = v.is_parameter
+
+-- those of the variables in scope at a step whose numbers are at least this one
+abbrev pub listed_from : ListedKind → Function → (step from : ℕ) → List Variable
+listed_from kind f step from =
+    filter (λ v. is_of kind v)
     (map (λ b. local_at (map variable_view f.variables.items) b.id) (filter (λ (b : Binding). is_from from b.id) (names_at (slice_get (standings_view f.scopes) step))))
 
 -- the first of the variables from a number on is given by its name, with the number from which on the others are; or there is none

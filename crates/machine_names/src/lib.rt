@@ -6,5 +6,5 @@ mod listing;
 mod names;
 
 pub use breakpoint_lines::{least_from, step_lines};
-pub use listing::next_listed;
+pub use listing::{ListedKind, next_listed};
 pub use names::{file_named, file_number, local_named, named};

@@ -20,7 +20,7 @@ use Rattle.foreach_lowering.specs.Views.{bounds_view, grid_view}
 use Rattle.foreach_lowering.specs.Kept.{Kept, kept_of, kept_lanes}
 use Rattle.foreach_lowering.specs.Law.{first_kept}
 use Rattle.machine_states.specs.Levels.{LevelWords, bounds_in, kept_domain, kept_in, left_in}
-use Rattle.machine_moves.proofs.LeftRounds.{one_bound, pair_at, three_bounds, two_bounds}
+use Rattle.machine_moves.proofs.LeftRounds.{first_six, same_bounds}
 use Rattle.machine_rounds.specs.Beginning.{KeepsDomain, bounds_at, bounds_words}
 
 -- ---- bounds
@@ -122,18 +122,6 @@ domain_answer w order ds form form_is lanes state long few bounds counters value
     (domain_first w order ds lanes state long few bounds counters is keeps ∙ ap Ok (sym (domain_words w order ds counters values)))
 
 -- ---- the counters of a domain
-
-abbrev first_six : (words : List ℕ) → (rest : List ℕ) → List ℕ
-first_six words rest = at words 0 ∷ at words 1 ∷ at words 2 ∷ at words 3 ∷ at words 4 ∷ at words 5 ∷ rest
-
-same_bounds : (ds : List Dimension) (words rest : List ℕ) → (1 ≤ length ds) × (length ds ≤ 3) → bounds_in ds (first_six words rest) ≡ bounds_in ds words
-same_bounds [] words rest few = absurd (omega (arith, few.0))
-same_bounds (a ∷ []) words rest few = one_bound words (a ∷ []) refl (pair_at (first_six words rest) 0) refl
-same_bounds (a ∷ b ∷ []) words rest few =
-    two_bounds words (a ∷ b ∷ []) refl (pair_at (first_six words rest) 0) (pair_at (first_six words rest) 1) refl refl
-same_bounds (a ∷ b ∷ c ∷ []) words rest few =
-    three_bounds words (a ∷ b ∷ c ∷ []) refl (pair_at (first_six words rest) 0) (pair_at (first_six words rest) 1) (pair_at (first_six words rest) 2) refl refl refl
-same_bounds (a ∷ b ∷ c ∷ d ∷ more) words rest few = absurd (omega (arith, few.1))
 
 -- the bounds, then how much of the grid is left: all of it
 pub keeps_domain : (w : ℕ) (order : Order) (ds : List Dimension) (words : List ℕ) → (1 ≤ length ds) × (length ds ≤ 3) → (bounds : Bounds) (left : Grid) → bounds_view bounds ≡ bounds_in ds words

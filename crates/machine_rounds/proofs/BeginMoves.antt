@@ -35,7 +35,8 @@ use Rattle.machine_moves.specs.declared.compiled.CompiledProgram.{CompiledProgra
 use Rattle.machine_moves.specs.Compiled.{program_of, variables_of}
 use Rattle.machine_moves.specs.Standing.{AreSound, Begins, DoesNext, EndsAs, IsShown}
 use Rattle.machine_moves.proofs.SentSteps.{ends_with_fault}
-use Rattle.machine_moves.proofs.Standings.{IsUnderWay, active_plain, begun, begun_laid, begun_regions, ends_well, frame_below, may_write, some_active, step_within}
+use Rattle.machine_moves.proofs.Standings.{IsUnderWay, begun, begun_laid, begun_regions, ends_well, frame_below, may_write, some_active, step_within}
+use Rattle.machine_moves.proofs.StepValues.{active_plain}
 use Rattle.machine_rounds.specs.Beginning.{BeginsForm, Sets, opened_in}
 use Rattle.machine_rounds.specs.declared.beginning.FirstWords.{FirstWords}
 use Rattle.machine_rounds.proofs.BeginBounds.{kept_alike}

@@ -28,7 +28,7 @@ use Rattle.machine_moves.specs.declared.active.Active.{Active}
 use Rattle.machine_moves.specs.declared.compiled.CompiledProgram.{CompiledProgram}
 use Rattle.machine_moves.specs.Compiled.{IsCompiled}
 use Rattle.machine_moves.specs.Standing.{DoesNext, IsActive, IsAnswer, IsValueAt}
-use Rattle.machine_moves.proofs.Standings.{IsFormValue, active_plain, value_at}
+use Rattle.machine_moves.proofs.StepValues.{IsFormValue, active_plain, value_at}
 use Rattle.machine_rounds.specs.Beginning.{AreDimensionsAt, BeginsForm, IsBoundsCode, IsFirst, bounds_at, bounds_words}
 use Rattle.machine_rounds.specs.declared.beginning.FirstWords.{FirstWords}
 

@@ -1,14 +1,10 @@
 //! The head of a foreach form: what the form keeps is computed, and then it begins.
 ghost use Rattle.std.specs.Prelude.{◌≡◌, ◌+◌, ◌*◌, ◌<◌, ◌≤◌, List, false, length, slice_get, slice_index};
-ghost use Rattle.gang_types.specs.declared.types.IntType.TheVariants.{Int32};
 ghost use Rattle.gang_types.specs.Lanes.{no_lane};
 ghost use Rattle.gang_types.specs.Masks.{IsGangWidth, lanes_of, lanes_of_word};
-ghost use Rattle.gang_types.specs.Values.{value_of};
 ghost use Rattle.gang_model.specs.Types.Tree.{Dimension, RoundsOf};
 ghost use Rattle.mask_states.specs.Masked.{Masked};
 ghost use Rattle.foreach_lowering.specs.Law.{first_kept};
-ghost use Rattle.foreach_lowering.specs.Views.{bounds_view, range_view};
-ghost use Rattle.machine_states.specs.Levels.{bounds_in};
 ghost use Rattle.codegen.specs.declared.code.StepCode.TheVariants as code;
 ghost use Rattle.machine_words.specs.Ranges.{levels_of};
 ghost use Rattle.machine_words.specs.Words.{AreLaid, left_of, regions_in};
@@ -18,9 +14,9 @@ ghost use Rattle.machine_rounds.specs.Beginning.{AreDimensionsAt, BeginsForm, Is
 use codegen::{DimensionCode, FormCode};
 use debug_machine::Fault;
 use expression_machine::Stacks;
-use foreach_lowering::{Bounds, Domain, Order, Range};
+use foreach_lowering::{Domain, Order};
 use gang_types::Mask;
-use machine_moves::{Active, CompiledProgram, begin, value_of};
+use machine_moves::{Active, CompiledProgram, begin, bounds_of, value_of};
 use machine_words::{Head, LevelPart, MachineWords, Region};
 use undo_log::{Timeline, Undone};
 
@@ -142,40 +138,13 @@ fn bounds_at<const W: usize, T: Timeline + Drop>(
     Ok((low[lane], high[lane]))
 }
 
-/// The bounds of one dimension by their words.
-fn range(words: &[u64; 6], dimension: usize) -> Range
-    requires { dimension < 3 }
-    ensures { range_view result ≡ (value_of Int32 (slice_index words.now (2 * dimension)), value_of Int32 (slice_index words.now (2 * dimension + 1))) }
-{
-    Range {
-        low: words[2 * dimension].cast_signed(),
-        high: words[2 * dimension + 1].cast_signed(),
-    }
-}
-
-/// Those of so many dimensions.
-fn bounds(words: &[u64; 6], dimensions: usize) -> Bounds
-    requires { (1 ≤ dimensions) × (dimensions ≤ 3) }
-    ensures { (ds : List Dimension) → length ds ≡ dimensions → bounds_view result ≡ bounds_in ds words.now }
-{
-    let first = range(words, 0);
-    if dimensions == 1 {
-        return Bounds::One(first);
-    }
-    let second = range(words, 1);
-    if dimensions == 2 {
-        return Bounds::Two(first, second);
-    }
-    Bounds::Three(first, second, range(words, 2))
-}
-
 /// The counters of a domain of so many dimensions with these bounds, of which all rounds are left.
 fn domain_counters<const W: usize>(order: Order, dimensions: usize, words: &[u64; 6]) -> [u64; 9]
     requires width { IsGangWidth W }
     requires few { (1 ≤ dimensions) × (dimensions ≤ 3) }
     ensures { (ds : List Dimension) → length ds ≡ dimensions → KeepsDomain W order ds words.now result }
 {
-    let bounds = bounds(words, dimensions);
+    let bounds = bounds_of(words, dimensions);
     let left = Domain { order, bounds }.grid::<W>().all_left();
     [
         words[0],

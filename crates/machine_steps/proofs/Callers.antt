@@ -1,6 +1,6 @@
 -- The call that the lanes of a frame wait in, and the lanes of the call that made the top frame.
-use Rattle.std.proofs.Common.{ℕ, ◌<◌, ◌≡◌, refl, sym, ◌∙◌, ap, false, List, ◌∷◌, length}
-use Rattle.std.specs.Prelude.{Option, Some}
+use Rattle.std.proofs.Common.{ℕ, ◌<◌, ◌≡◌, refl, sym, ◌∙◌, ap, false, List, length}
+use Rattle.std.specs.Prelude.{Option}
 use Rattle.std.proofs.lemmas.Option.{slice_get_within}
 use Rattle.gang_types.specs.Lanes.{no_lane}
 use Rattle.gang_model.specs.Types.Tree.{Arg, Function, Program, ResultFor, StepNumber}

@@ -42,7 +42,8 @@ use Rattle.machine_moves.specs.Standing.{AreSound, Begins, DoesNext, EndsAs, IsA
 use Rattle.codegen.proofs.Rows.{fit_long}
 use Rattle.machine_moves.proofs.FunctionCode.{fit_at}
 use Rattle.machine_moves.proofs.GangLanes.{gang_wide}
-use Rattle.machine_moves.proofs.Standings.{IsArgumentOf, active_plain, begun_laid, begun_regions, enters_at, frame_below, lanes_long, own_sized, some_active, step_within, value_at}
+use Rattle.machine_moves.proofs.Standings.{begun_laid, begun_regions, frame_below, lanes_long, own_sized, some_active, step_within}
+use Rattle.machine_moves.proofs.StepValues.{IsArgumentOf, active_plain, enters_at, value_at}
 use Rattle.machine_steps.specs.Calls.{AreArgumentWords, AreParametersDeclared, BeginsFrame, IsArgumentAt}
 use Rattle.machine_states.proofs.KeptViews.{kept_whole}
 use Rattle.machine_steps.proofs.OwnParameters.{argument_region, array_in, array_there, made_region, own_of_argument, parameter_in}

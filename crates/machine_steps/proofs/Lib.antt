@@ -15,4 +15,5 @@ pub mod RowLengths
 pub mod RowWords
 pub mod RowsGiven
 pub mod StepEnds
+pub mod StepKinds
 pub mod WrittenRegions

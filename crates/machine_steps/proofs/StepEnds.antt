@@ -1,5 +1,5 @@
 -- How a step ends.
-use Rattle.std.proofs.Common.{ℕ, ◌≡◌}
+use Rattle.std.proofs.Common.{ℕ}
 use Rattle.std.specs.Prelude.{Ok}
 use Rattle.undo_log.specs.History.{History}
 use Rattle.undo_log.specs.declared.timeline.Undone.TheVariants as undone

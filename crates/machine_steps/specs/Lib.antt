@@ -1,3 +1,4 @@
 pub mod Beginning
 pub mod Calls
 pub mod Leaving
+pub mod Stepping

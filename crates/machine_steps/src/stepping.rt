@@ -2,6 +2,7 @@
 ghost use Rattle.machine_moves.specs.Standing.{AreSound, DoesNext, Ends, IsShown, Steps};
 ghost use Rattle.machine_words.specs.Words.{regions_in};
 ghost use Rattle.mask_states.specs.Masked.{Masked};
+ghost use Rattle.machine_steps.specs.Stepping.{IsPacked, IsWrite};
 
 use crate::calls::enter;
 use crate::leaving::leave;
@@ -39,7 +40,7 @@ pub fn step<const W: usize, T: Timeline + Drop>(
     }
 }
 
-/// Does the next step by its code.
+/// Does the next step by its code: where lanes go, or what is written.
 fn perform<const W: usize, T: Timeline + Drop>(
     compiled: &CompiledProgram,
     active: Active,
@@ -49,6 +50,42 @@ fn perform<const W: usize, T: Timeline + Drop>(
 ) -> Result<(), Fault>
     requires sound { AreSound T.history W compiled.now words.old }
     requires does { DoesNext W compiled.now (regions_in T.history W words.old) active code.now }
+    ensures { Ends T.history W compiled.now words.old result words.new }
+{
+    match code {
+        StepCode::Check { test, next } => check(compiled, active, test, *next, words, stacks),
+        StepCode::Return { value, next } => finish(compiled, active, value, *next, words, stacks),
+        StepCode::Go { next } => go::<W, T>(compiled, active, *next, words),
+        StepCode::Branch { test, yes, no } => {
+            branch(compiled, active, test, (*yes, *no), words, stacks)
+        }
+        StepCode::Choose {
+            selector,
+            segments,
+            next,
+        } => choose(compiled, active, selector, segments, *next, words, stacks),
+        StepCode::Begin { form, rounds, next } => {
+            begin_form(compiled, active, form, *rounds, *next, words, stacks)
+        }
+        StepCode::Round { body, .. } => take_round::<W, T>(compiled, active, *body, words),
+        StepCode::Enter { function, args, .. } => {
+            enter(compiled, active, *function, args, words, stacks)
+        }
+        _ => write(compiled, active, code, words, stacks),
+    }
+}
+
+/// Does a step that writes a variable or elements.
+fn write<const W: usize, T: Timeline + Drop>(
+    compiled: &CompiledProgram,
+    active: Active,
+    code: &StepCode,
+    words: &mut MachineWords<T>,
+    stacks: &mut Stacks<W>,
+) -> Result<(), Fault>
+    requires sound { AreSound T.history W compiled.now words.old }
+    requires does { DoesNext W compiled.now (regions_in T.history W words.old) active code.now }
+    requires writes { IsWrite code.now }
     ensures { Ends T.history W compiled.now words.old result words.new }
 {
     match code {
@@ -85,7 +122,24 @@ fn perform<const W: usize, T: Timeline + Drop>(
         } => change_element(
             compiled, active, *array, index, *operation, value, *next, words, stacks,
         ),
-        StepCode::Check { test, next } => check(compiled, active, test, *next, words, stacks),
+        _ => move_packed(compiled, active, code, words, stacks),
+    }
+}
+
+/// Does a packed store or a packed load.
+fn move_packed<const W: usize, T: Timeline + Drop>(
+    compiled: &CompiledProgram,
+    active: Active,
+    code: &StepCode,
+    words: &mut MachineWords<T>,
+    stacks: &mut Stacks<W>,
+) -> Result<(), Fault>
+    requires sound { AreSound T.history W compiled.now words.old }
+    requires does { DoesNext W compiled.now (regions_in T.history W words.old) active code.now }
+    requires packed { IsPacked code.now }
+    ensures { Ends T.history W compiled.now words.old result words.new }
+{
+    match code {
         StepCode::PackedStore {
             array,
             from,
@@ -120,22 +174,6 @@ fn perform<const W: usize, T: Timeline + Drop>(
             words,
             stacks,
         ),
-        StepCode::Return { value, next } => finish(compiled, active, value, *next, words, stacks),
-        StepCode::Go { next } => go::<W, T>(compiled, active, *next, words),
-        StepCode::Branch { test, yes, no } => {
-            branch(compiled, active, test, (*yes, *no), words, stacks)
-        }
-        StepCode::Choose {
-            selector,
-            segments,
-            next,
-        } => choose(compiled, active, selector, segments, *next, words, stacks),
-        StepCode::Begin { form, rounds, next } => {
-            begin_form(compiled, active, form, *rounds, *next, words, stacks)
-        }
-        StepCode::Round { body, .. } => take_round::<W, T>(compiled, active, *body, words),
-        StepCode::Enter { function, args, .. } => {
-            enter(compiled, active, *function, args, words, stacks)
-        }
+        _ => unreachable!(),
     }
 }

@@ -82,7 +82,7 @@ C10 NoSuchNumber\n"
 
 /// What is written for answers, up to the first fault of a writer that has so much room.
 fn told(answers: &[Answer<'_>], at: Standing, stops: &[NumberedStop], room: usize) -> PieceWriter {
-    let machine = StillMachine { at };
+    let machine = StillMachine::new(at);
     let mut writer = PieceWriter::new(7, room);
     for answer in answers {
         if write_answer(answer, &machine, stops, &mut writer).is_err() {
@@ -138,7 +138,7 @@ fn stops_where_the_writer_fails(rt: HostRuntime) {
 
 #[test]
 fn writes_a_wide_gang(rt: HostRuntime) {
-    let machine = StillMachine { at: Standing::Wide };
+    let machine = StillMachine::new(Standing::Wide);
     let mut writer = PieceWriter::new(64, 1000);
     let written = write_answer(&Answer::HistoryEnd, &machine, &[], &mut writer);
     assert!(rt; written.is_ok());

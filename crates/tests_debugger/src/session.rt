@@ -49,6 +49,17 @@ fn told_by(answer: Answer<'_>) -> Said {
     }
 }
 
+/// The last number of breakpoints and watches.
+const MOST_NUMBER: u32 = 10_000_000;
+
+/// Whether an answer tells of a breakpoint of this number on line 3.
+fn is_breakpoint(answer: Answer<'_>, wanted: u32) -> bool {
+    match answer {
+        Answer::BreaksAt { number, line } => number == wanted && line == 3,
+        _ => false,
+    }
+}
+
 /// Does commands, each with what is said then and the line where the program stands, 0 where it has ended.
 fn does(rt: &impl Abort, session: &mut Session<TwoFrames>, rows: &[(Command<'static>, Said, u32)]) {
     for (command, wanted, wanted_line) in rows {
@@ -280,6 +291,31 @@ fn holds_sixty_four(rt: HostRuntime) -> Result<(), Fail> {
         (Command::Delete(Some(1)), Said::Deleted, 10),
         (Command::Break(12), Said::BreaksAt(65, 12), 10),
         (Command::Continue, Said::Breakpoint(2), 12),
+    ];
+    does(&rt, &mut session, &rows);
+    Ok(())
+}
+
+/// Numbers go up to 10,000,000 and are not used again, so that no room is left then.
+#[test]
+fn numbers_up_to_ten_million(rt: HostRuntime) -> Result<(), Fail> {
+    let mut session = Session::open(TwoFrames::new(rt.alloc(), 64, None)?, 100);
+    let mut are_numbered = true;
+    for number in 1..=MOST_NUMBER {
+        let answer = session.do_command(Command::Break(3));
+        are_numbered = are_numbered && is_breakpoint(answer, number);
+        let _ = session.do_command(Command::Delete(None));
+    }
+    assert!(rt; are_numbered);
+    let rows = [
+        (Command::Break(3), Said::Refused(Refusal::TableFull), 10),
+        (
+            Command::Watch(whole(b"total")),
+            Said::Refused(Refusal::TableFull),
+            10,
+        ),
+        (Command::Delete(None), Said::Deleted, 10),
+        (Command::Continue, Said::Here, 0),
     ];
     does(&rt, &mut session, &rows);
     Ok(())

@@ -35,13 +35,21 @@ pub enum Standing {
     Ended,
 }
 
-/// Stands there, whatever it is asked to do.
+/// Stands there, whatever it is asked to do, and keeps one event at most.
 #[derive(Drop)]
 pub struct StillMachine {
-    pub at: Standing,
+    at: Standing,
+    has_poke: bool,
 }
 
 impl StillMachine {
+    pub fn new(at: Standing) -> Self {
+        StillMachine {
+            at,
+            has_poke: false,
+        }
+    }
+
     fn has_ended(&self) -> bool {
         match self.at {
             Standing::Ended => true,
@@ -52,26 +60,36 @@ impl StillMachine {
 
 // It stands for no program, so that only its answers count.
 impl RecordedMachine for StillMachine {
-    ghost use Rattle.std.specs.Prelude.{[]};
+    ghost use Rattle.std.specs.Prelude.{[], ◌∷◌, if◌then◌else◌};
+    ghost use Rattle.undo_log.specs.declared.timeline.Undone.TheVariants.{Poke};
+    ghost use Rattle.undo_log.specs.History.{moment};
 
     ghost stands = { λ _ _ _. ⊥ };
 
-    ghost history = { λ _. record { words = []; past = []; limit = 0; room = 0 } };
+    ghost history = { λ m. record { words = []; past = (if m.has_poke then (moment Poke [] ∷ []) else []); limit = 1; room = 0 } };
 
     ghost locals_from = { λ _ _ _ _. [] };
+
+    ghost parameters_from = { λ _ _ _ _. [] };
 
     fn step(&mut self) -> StepEnd {
         StepEnd::Ended
     }
 
     fn undo(&mut self) -> Result<Undone, NoHistory> {
-        Err(NoHistory)
+        if !self.has_poke {
+            return Err(NoHistory);
+        }
+        self.has_poke = false;
+        Ok(Undone::Poke)
     }
 
-    fn poke(&mut self, _shown: Shown, _at: Option<u32>, _word: u64) {}
+    fn poke(&mut self, _shown: Shown, _at: Option<u32>, _word: u64) {
+        self.has_poke = true;
+    }
 
     fn kept(&self) -> usize {
-        0
+        if self.has_poke { 1 } else { 0 }
     }
 
     fn kept_steps(&self) -> usize {
@@ -79,11 +97,11 @@ impl RecordedMachine for StillMachine {
     }
 
     fn limit(&self) -> usize {
-        0
+        1
     }
 
-    fn set_limit(&mut self, _limit: usize) -> Result<(), AllocError> {
-        Err(AllocError)
+    fn set_limit(&mut self, limit: usize) -> Result<(), AllocError> {
+        if limit > 1 { Err(AllocError) } else { Ok(()) }
     }
 
     fn position(&self) -> Option<Position<'_>> {
@@ -148,6 +166,10 @@ impl RecordedMachine for StillMachine {
             },
             next: 1,
         })
+    }
+
+    fn next_parameter(&self, _from: usize) -> Option<NextLocal<'_>> {
+        None
     }
 
     fn word(&self, shown: Shown, index: usize) -> u64 {

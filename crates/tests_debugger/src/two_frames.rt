@@ -117,6 +117,8 @@ impl RecordedMachine for TwoFrames {
 
     ghost locals_from = { λ _ _ _ _. [] };
 
+    ghost parameters_from = { λ _ _ _ _. [] };
+
     fn step(&mut self) -> StepEnd {
         let at = self.words.word(0);
         if at >= 8 {
@@ -233,6 +235,10 @@ impl RecordedMachine for TwoFrames {
             variable: of_main(from)?,
             next,
         })
+    }
+
+    fn next_parameter(&self, _from: usize) -> Option<NextLocal<'_>> {
+        None
     }
 
     fn word(&self, shown: Shown, index: usize) -> u64 {

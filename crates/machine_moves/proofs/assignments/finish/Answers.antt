@@ -18,7 +18,8 @@ use Rattle.machine_moves.specs.Standing.{EndsAs}
 use Rattle.machine_moves.proofs.FrameResults.{function_is, function_within}
 use Rattle.machine_moves.proofs.ReturnSteps.{each_zero, no_value, returns_well, value_there}
 use Rattle.machine_moves.proofs.GangLanes.{stacks_small}
-use Rattle.machine_moves.proofs.Standings.{active_numbers, begun_laid, frame_below, lanes_long, returns_at, some_active, step_within}
+use Rattle.machine_moves.proofs.Standings.{active_numbers, begun_laid, frame_below, lanes_long, some_active, step_within}
+use Rattle.machine_moves.proofs.StepValues.{returns_at}
 use Rattle.machine_moves.proofs.assignments.finish.Goals.{in-Some+in_ok-values-in-Some, in-None}
 use Rattle.machine_moves.proofs.assignments.finish.Goals as goal
 

@@ -2,47 +2,8 @@ use Rattle.std.proofs.Common.{arith, subst}
 use Rattle.gang_types.specs.MaskLaws.{gang_width-le}
 use Rattle.machine_words.specs.Words.{regions_in}
 use Rattle.machine_moves.specs.Standing.{DoesNext}
+use Rattle.machine_steps.proofs.StepKinds.{writes_else}
 use Rattle.machine_steps.proofs.stepping.perform.Goals as goal
-
-pub declare-requires : goal.declare-requires
-declare-requires g c =
-    let small = gang_width-le g.row.W c.requires.sound.lie.gang in
-    (omega (arith, small), (c.requires.sound, subst (λ code. DoesNext g.row.W c.args.compiled.now (regions_in g.T.Timeline.history g.row.W c.args.words.now) c.args.active code) c.in-Declare.is c.requires.does))
-
-pub returns-in-Declare : goal.returns-in-Declare
-returns-in-Declare g c = c.declare.ensures
-
-pub assign-requires : goal.assign-requires
-assign-requires g c =
-    let small = gang_width-le g.row.W c.requires.sound.lie.gang in
-    (omega (arith, small), (c.requires.sound, subst (λ code. DoesNext g.row.W c.args.compiled.now (regions_in g.T.Timeline.history g.row.W c.args.words.now) c.args.active code) c.in-Assign.is c.requires.does))
-
-pub returns-in-Assign : goal.returns-in-Assign
-returns-in-Assign g c = c.assign.ensures
-
-pub change-requires : goal.change-requires
-change-requires g c =
-    let small = gang_width-le g.row.W c.requires.sound.lie.gang in
-    (omega (arith, small), (c.requires.sound, subst (λ code. DoesNext g.row.W c.args.compiled.now (regions_in g.T.Timeline.history g.row.W c.args.words.now) c.args.active code) c.in-Change.is c.requires.does))
-
-pub returns-in-Change : goal.returns-in-Change
-returns-in-Change g c = c.change.ensures
-
-pub assign_element-requires : goal.assign_element-requires
-assign_element-requires g c =
-    let small = gang_width-le g.row.W c.requires.sound.lie.gang in
-    (omega (arith, small), (c.requires.sound, subst (λ code. DoesNext g.row.W c.args.compiled.now (regions_in g.T.Timeline.history g.row.W c.args.words.now) c.args.active code) c.in-AssignElement.is c.requires.does))
-
-pub returns-in-AssignElement : goal.returns-in-AssignElement
-returns-in-AssignElement g c = c.assign_element.ensures
-
-pub change_element-requires : goal.change_element-requires
-change_element-requires g c =
-    let small = gang_width-le g.row.W c.requires.sound.lie.gang in
-    (omega (arith, small), (c.requires.sound, subst (λ code. DoesNext g.row.W c.args.compiled.now (regions_in g.T.Timeline.history g.row.W c.args.words.now) c.args.active code) c.in-ChangeElement.is c.requires.does))
-
-pub returns-in-ChangeElement : goal.returns-in-ChangeElement
-returns-in-ChangeElement g c = c.change_element.ensures
 
 pub check-requires : goal.check-requires
 check-requires g c =
@@ -51,22 +12,6 @@ check-requires g c =
 
 pub returns-in-Check : goal.returns-in-Check
 returns-in-Check g c = c.check.ensures
-
-pub store_packed-requires : goal.store_packed-requires
-store_packed-requires g c =
-    let small = gang_width-le g.row.W c.requires.sound.lie.gang in
-    (omega (arith, small), (c.requires.sound, subst (λ code. DoesNext g.row.W c.args.compiled.now (regions_in g.T.Timeline.history g.row.W c.args.words.now) c.args.active code) c.in-PackedStore.is c.requires.does))
-
-pub returns-in-PackedStore : goal.returns-in-PackedStore
-returns-in-PackedStore g c = c.store_packed.ensures
-
-pub load_packed-requires : goal.load_packed-requires
-load_packed-requires g c =
-    let small = gang_width-le g.row.W c.requires.sound.lie.gang in
-    (omega (arith, small), (c.requires.sound, subst (λ code. DoesNext g.row.W c.args.compiled.now (regions_in g.T.Timeline.history g.row.W c.args.words.now) c.args.active code) c.in-PackedLoad.is c.requires.does))
-
-pub returns-in-PackedLoad : goal.returns-in-PackedLoad
-returns-in-PackedLoad g c = c.load_packed.ensures
 
 pub finish-requires : goal.finish-requires
 finish-requires g c =
@@ -125,3 +70,14 @@ enter-requires g c =
 
 pub returns-in-Enter : goal.returns-in-Enter
 returns-in-Enter g c = c.enter.ensures
+
+pub write-requires : goal.write-requires
+write-requires g c =
+    let small = gang_width-le g.row.W c.requires.sound.lie.gang in
+    let d = c.in_default in (
+      omega (arith, small),
+      (
+        c.requires.sound,
+        (c.requires.does, writes_else c.args.code.now d.not-Check d.not-Return d.not-Go d.not-Branch d.not-Choose d.not-Begin d.not-Round d.not-Enter),
+      ),
+    )

@@ -1,6 +1,6 @@
 use Rattle.std.proofs.Common.{arith, ◌∙◌}
 use Rattle.machine_moves.proofs.LeftRounds.{one_bound, three_bounds, two_bounds}
-use Rattle.machine_rounds.proofs.beginning.bounds.Goals as goal
+use Rattle.machine_moves.proofs.rounds_left.bounds_of.Goals as goal
 
 pub returns-then-dimensions-eq1 : goal.returns-then-dimensions-eq1
 returns-then-dimensions-eq1 c ds long = one_bound c.args.words.now ds (long ∙ c.if-dimensions-eq1.true) _ c.range-first.ensures
