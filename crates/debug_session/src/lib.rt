@@ -12,4 +12,5 @@ mod stopping;
 mod table;
 mod watching;
 
+pub use debug_answers::{Answer, NumberedStop, Refusal, Stop};
 pub use session::Session;

@@ -5,7 +5,7 @@ use Rattle.gang_model.specs.Running.Entry.{entry_of}
 use Rattle.plain_programs.specs.Sources.{HasVariablesOf}
 use Rattle.gang_model.specs.Source.Parsed.{Name, ParsedSource}
 use Rattle.gang_model.specs.Types.Resolved.{program_of}
-use Rattle.gang_model.specs.Types.Tree.{Function}
+use Rattle.gang_model.specs.Types.Tree.{Function, Program as ModelProgram}
 use Rattle.gang_model.specs.Texts.Run.{source_refusal}
 use Rattle.gang_model.specs.Source.Sources.{HasNoEntry, IsProgramOf, IsRightRefusal}
 use Rattle.codegen.specs.Programs.{IsRunnable}
@@ -37,6 +37,15 @@ abbrev pub Compiles : List ℕ → (asked : Option Name) → Option Compiled →
 Compiles text asked None = HasNoEntry text asked
 Compiles text asked (Some compiled) =
     (is : IsProgramOf text asked (program_view compiled.program) compiled.entry.0) × HasVariablesOf is.source compiled.program × IsReady compiled
+
+-- a text has no program with an entry
+abbrev pub HasNoProgram : List ℕ → (asked : Option Name) → Type 0
+HasNoProgram text asked = (program : ModelProgram) (entry : ℕ) → IsProgramOf text asked program entry → ⊥
+
+-- a text has no other program and no other entry than this one
+abbrev pub IsOnly : List ℕ → (asked : Option Name) → Option Compiled → Type 0
+IsOnly text asked None = HasNoProgram text asked
+IsOnly text asked (Some compiled) = (program : ModelProgram) (entry : ℕ) → IsProgramOf text asked program entry → (program ≡ program_view compiled.program) × (entry ≡ compiled.entry.0)
 
 -- out of memory, or the refusal that is found
 abbrev pub IsFault : Option SourceRefusal → SourceFault → Type 0

@@ -1,10 +1,10 @@
 //! The phases from a text to a program, each of which may refuse it.
-ghost use Rattle.std.specs.Prelude.{◌≡◌, ℕ, List, None, IfErr, IfOk, OnOk, option_map};
+ghost use Rattle.std.specs.Prelude.{◌≡◌, ◌⊎◌, ℕ, List, None, IfErr, IfOk, OnOk, option_map};
 ghost use Rattle.gang_model.specs.Source.Limits as limits;
 ghost use Rattle.gang_model.specs.Source.Sources.{ReadsAs};
 ghost use Rattle.gang_model.specs.Texts.Run.{source_refusal};
 ghost use Rattle.source_tree.specs.Tree.{tree_view};
-ghost use Rattle.ispc_compiler.specs.Front.{Compiles, GivesTree, IsFault, IsRefused};
+ghost use Rattle.ispc_compiler.specs.Front.{Compiles, GivesTree, HasNoProgram, IsFault, IsOnly, IsRefused};
 
 use gang_types::FuncId;
 use ispc_lexer::{source_end, tokens};
@@ -25,7 +25,7 @@ pub struct Compiled {
 }
 
 /// The program of a source with its entry, the first exported function, of the given name if one is asked for; none where
-/// the source has no such function.
+/// the source has no such function. A text has no other program and no other entry, and none where it is refused.
 ///
 /// # Errors
 ///
@@ -36,8 +36,13 @@ pub fn compile_source(
     source: &[u8],
     asked: Option<&[u8]>,
 ) -> Result<Option<Compiled>, SourceFault>
+    // What is compiled is a program of the text.
     ensures compiled { IfOk result (Compiles source.now (option_map (λ n. n.now) asked.entry)) }
+    // No other is.
+    ensures one { IfOk result (IsOnly source.now (option_map (λ n. n.now) asked.entry)) }
     ensures refused { IfErr result (IsRefused source.now) }
+    // Where none is compiled, there is none, unless memory ran out.
+    ensures none { IfErr result (λ fault. (fault ≡ SourceFault.Memory) ⊎ HasNoProgram source.now (option_map (λ n. n.now) asked.entry)) }
 {
     let tree = read_tree(alloc, source)?;
     compile_tree(alloc, tree, asked)

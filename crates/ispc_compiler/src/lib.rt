@@ -4,3 +4,4 @@
 mod front;
 
 pub use front::{Compiled, compile_source};
+pub use source_answers::SourceFault;

@@ -1,6 +1,7 @@
 -- What an input gives the run of a compiled source: rows that it may begin with, or the right refusal.
-use Rattle.std.proofs.Common.{◌≡◌, ℕ, List, length, refl, ◌∙◌, ap, subst}
+use Rattle.std.proofs.Common.{◌≡◌, ℕ, List, length, inl, inr, refl, ◌∙◌, ap, subst}
 use Rattle.std.specs.Prelude.{Option, Some, Result, Ok, slice_get}
+use Rattle.gang_types.specs.Masks.{IsGangWidth}
 use Rattle.gang_model.specs.Debugger.Events.{Row}
 use Rattle.gang_model.specs.Source.Limits.{limit_refusal}
 use Rattle.gang_model.specs.Source.Parsed.{Name}
@@ -19,13 +20,21 @@ use Rattle.input_rows.proofs.InputRows.{inputs_of-text}
 use Rattle.input_rows.proofs.UniformParameters.{exported_uniform}
 use Rattle.ispc_compiler.specs.declared.front.Compiled.{Compiled}
 use Rattle.ispc_compiler.specs.Front.{Compiles}
+use Rattle.ispc_options.specs.declared.options.Width.{Width}
+use Rattle.ispc_options.specs.declared.options.Width.TheVariants.{Four, Eight, Sixteen}
 use Rattle.machine_states.specs.EntryParameters.{HasEntryParameters}
 use Rattle.machine_steps.specs.Beginning.{MayBegin}
 use Rattle.plain_programs.proofs.EntryFunctions.{entry_exported}
 use Rattle.plain_programs.proofs.PlainSources.{no_refusal}
 use Rattle.plain_programs.proofs.RunnableSources.{parameters_text}
 use Rattle.typed_tree.specs.Views.{program_view}
-use Rattle.ispc_debugger.specs.Runs.{IsRightForInput, told}
+use Rattle.ispc_debugger.specs.Runs.{IsRightForInput, lanes_of, told}
+
+-- the widths of the options are those of gangs
+pub gang_width : (width : Width) (lanes : ℕ) → lanes ≡ lanes_of width → IsGangWidth lanes
+gang_width Four lanes is = inl is
+gang_width Eight lanes is = inr (inl is)
+gang_width Sixteen lanes is = inr (inr is)
 
 -- a fault of the input is told rightly
 pub told_right : (answer : Result (List Row) InputRefusal) (fault : InputFault) → IsRefusedBy fault answer → IsRightForInput answer (told fault)

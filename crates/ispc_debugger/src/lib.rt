@@ -1,6 +1,12 @@
-//! The run: a source and command lines to their transcript.
+//! A source and an input to a debugger's session, and command lines to their transcript.
 #![tactic(auto)]
 
+mod opening;
 mod running;
 
+pub use ispc_options::{Options, Paths, Width, read_options};
+pub use ispc_refusals::{Refusal, write_refusal};
+pub use ispc_script::split_script;
+pub use opening::{ProgramSession, open_session};
 pub use running::run;
+pub use transcript::Ending;

@@ -12,4 +12,6 @@ mod reports;
 #[cfg(test)]
 mod runs;
 #[cfg(test)]
+mod sessions;
+#[cfg(test)]
 mod sources;

@@ -8,7 +8,8 @@ use ispc_script::split_script;
 use tests_devices::{BlankReader, PieceReader, PieceWriter};
 use transcript::Ending;
 
-const SOURCE: &[u8] = b"export void go() {\n    int x = programIndex * 3;\n    x += 1;\n}\n";
+pub(crate) const SOURCE: &[u8] =
+    b"export void go() {\n    int x = programIndex * 3;\n    x += 1;\n}\n";
 
 const COMMANDS: &[u8] = b"step\nstep\nprint x\nreverse-step\nprint x\n";
 

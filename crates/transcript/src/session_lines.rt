@@ -1,8 +1,9 @@
-//! A session answers command lines.
-ghost use Rattle.std.specs.Prelude.{◌≡◌, false};
+//! A session answers command lines, and its answers are written.
+ghost use Rattle.std.specs.Prelude.{◌≡◌, false, is_err};
 ghost use Rattle.gang_model.specs.Debugger.Debugger as model;
 ghost use Rattle.gang_model.specs.Debugger.Debugger.{Debugger, Setting};
 ghost use Rattle.gang_model.specs.Texts.Text.{text};
+ghost use Rattle.debug_machine.specs.Devices.{Writes};
 ghost use Rattle.debug_answers.specs.Meanings.{Means};
 ghost use Rattle.debug_session.specs.Sessions.{StandsFor};
 ghost use Rattle.transcript.specs.Lines.{Tells, fails};
@@ -10,9 +11,8 @@ ghost use Rattle.transcript.specs.Lines.{Tells, fails};
 use crate::debugger::{LineDebugger, Turn};
 use debug_answers::{Answer, Refusal};
 use debug_commands::{Command, read_command};
-use debug_machine::{AnswerWriter, RecordedMachine};
+use debug_machine::{AnswerWriter, RecordedMachine, WriteFault};
 use debug_session::Session;
-use debug_texts::write_answer;
 
 impl<M: RecordedMachine> LineDebugger for Session<M> {
     ghost use Rattle.debug_session.specs.Sessions.{StandsFor};
@@ -31,7 +31,25 @@ impl<M: RecordedMachine> LineDebugger for Session<M> {
     }
 }
 
-/// Writes an answer of a session.
+/// Writes the text of an answer that a session gave, before its next command.
+///
+/// # Errors
+///
+/// `WriteFault` where the writer fails or takes 0 bytes; a strict front of the text has been written then.
+pub fn write_answer<M: RecordedMachine, O: AnswerWriter>(
+    answer: &Answer<'_>,
+    session: &Session<M>,
+    writer: &mut O,
+) -> Result<(), WriteFault>
+    requires works { O.has_failed writer.old ≡ false }
+    ensures said { (s : Setting) (d : Debugger) (meant : model.Answer) → StandsFor M.stands session.now s d → Means s d answer.now meant
+        → Writes (text s meant d) (O.written writer.old) (O.written writer.new) (O.has_failed writer.new) result }
+    ensures failed { O.has_failed writer.new ≡ is_err result }
+{
+    debug_texts::write_answer(answer, session.machine(), session.stops(), writer)
+}
+
+/// Writes an answer of a session, and says what the line led to.
 fn tell<M: RecordedMachine, O: AnswerWriter>(
     answer: &Answer<'_>,
     session: &Session<M>,
@@ -42,7 +60,7 @@ fn tell<M: RecordedMachine, O: AnswerWriter>(
         → Tells (text s meant d) (O.written writer.old) (O.written writer.new) result }
     ensures failed { O.has_failed writer.new ≡ fails result }
 {
-    match write_answer(answer, session.machine(), session.stops(), writer) {
+    match write_answer(answer, session, writer) {
         Ok(()) => Turn::Goes,
         Err(_) => Turn::Fails,
     }

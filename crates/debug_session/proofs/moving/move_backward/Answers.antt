@@ -19,7 +19,7 @@ returns-in-Ends-clause-replied g c s d st are some =
     let now : kept - c.loop-done._done ≡ suc (kept - (c.loop-done._done + 1)) = omega (arith, c.loop-done-test.true) in
     let stops = subst (AreStops s c.args.stops.now.items) (sym follows.stops) are in
     done_on g.M.RecordedMachine.stands s d e c.loop-done.machine _ _ _ c.in-Ends.answer
-    (sym (ap (λ n. backward n s (goal_view c.args.goal) d) (c.kept-done-end.ensures s (bare d) st)) ∙ same ∙ ap (λ n. backward n s (goal_view c.loop-done.left) e) now)
+    (sym (ap (λ n. backward n s (goal_view c.args.goal) d) (c.kept-done-end.ensures.debugger s (bare d) st)) ∙ same ∙ ap (λ n. backward n s (goal_view c.loop-done.left) e) now)
     follows (c.in-Ends.ensures.moved s e k follows.there stops more first)
 
 pub returns-clause-replied : goal.returns-clause-replied
@@ -27,7 +27,7 @@ returns-clause-replied g c s d st are some =
     let (e, follows, more, first, same) = c.loop-done.invariant s d st are some in
     let none : c.kept-done-end.result - c.loop-done._done ≡ 0 = omega (arith, c.loop-done-test.false) in
     done_so g.M.RecordedMachine.stands s d _ _ _ _
-    (sym (ap (λ n. backward n s (goal_view c.args.goal) d) (c.kept-done-end.ensures s (bare d) st)) ∙ same ∙ ap (λ n. backward n s (goal_view c.loop-done.left) e) none)
+    (sym (ap (λ n. backward n s (goal_view c.args.goal) d) (c.kept-done-end.ensures.debugger s (bare d) st)) ∙ same ∙ ap (λ n. backward n s (goal_view c.loop-done.left) e) none)
     (record { follows = follows; means = refl })
 
 pub loop-done-preserved : goal.loop-done-preserved

@@ -13,7 +13,7 @@ returns-clause-moved g c s d n st are some first =
     let e = stepped_back d in
     let there = c.take_step_back.ensures s d st some in
     let reached = c.reached_by-at.ensures s e there in
-    let kept = c.kept_steps-none_kept.ensures s (bare e) there in
+    let kept = c.kept_steps-none_kept.ensures.debugger s (bare e) there in
     let means = c.after_move.ensures.means s e (now s d) HistoryEnd there are first reached refl in
     moved_so stands s d e c.take_step_back.new.machine c.after_move.result (backward n s) _ _
     (backward_goes s d n (goal_view c.args.goal) (c.kept_steps-none_kept.result == 0) (ap (λ k. k == 0) kept))
@@ -21,7 +21,7 @@ returns-clause-moved g c s d n st are some first =
 
 pub returns-clause-more : goal.returns-clause-more
 returns-clause-more g c s d st some =
-    let kept = c.kept_steps-none_kept.ensures s (bare (stepped_back d)) (c.take_step_back.ensures s d st some) in
+    let kept = c.kept_steps-none_kept.ensures.debugger s (bare (stepped_back d)) (c.take_step_back.ensures s d st some) in
     goes_on c.after_move.result _ _ (λ h. more c.kept_steps-none_kept.result (kept_steps (stepped_back d)) kept h) c.after_move.ensures.more
   where
     more : (k n : ℕ) → k ≡ n → (k == 0) ≡ false → 0 < n

@@ -3,7 +3,7 @@ use Rattle.gang_model.specs.Debugger.Debugger.{fresh}
 use Rattle.gang_model.specs.Texts.Transcript.{setting}
 use Rattle.typed_tree.specs.Views.{program_view}
 use Rattle.gang_machine.specs.Standings.{Stands}
-use Rattle.ispc_debugger.proofs.running.begun.Goals as goal
+use Rattle.ispc_debugger.proofs.opening.begun.Goals as goal
 
 -- the machine stands for the first state at every number of steps, and the session begins over it at the one that is asked for
 pub returns : goal.returns
