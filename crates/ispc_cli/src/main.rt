@@ -181,11 +181,13 @@ fn refuse_words(rt: &HostRuntime, message: &str) -> ExitCode {
     }
 }
 
-/// Prints a fault of the arguments, or the help that was asked for.
+/// Prints a fault of the arguments, or the help that was asked for. Where standard output does not take the help, that is a write fault.
 fn refuse_arguments(rt: &HostRuntime, fault: &Error) -> ExitCode {
     if fault.kind() == ErrorKind::OutOfMemory {
         return refuse(rt, &Refusal::Memory);
     }
-    let _ = fault.print(rt);
-    ExitCode::from(fault.exit_code() as u8)
+    match fault.print(rt) {
+        Err(_) if !fault.use_stderr() => finish(rt, Ok(Ending::WriteFault)),
+        _ => ExitCode::from(fault.exit_code() as u8),
+    }
 }

@@ -1,3 +1,4 @@
 pub mod Numbers
 pub mod Given
 pub mod Parses
+pub mod Rows

@@ -1,13 +1,19 @@
 -- The options that there are, and what the words of a command line ask for by them. Which words go to which option is the option parser's
 -- definition of its matches.
-use Rattle.std.specs.Prelude.{◌≡◌, ◌↔◌, ℕ, IsTrue, true, List, [], ◌∷◌, Option, Some, codes, option_map, pos}
+use Rattle.std.specs.Prelude.{◌≡◌, ◌↔◌, ◌⊎◌, ℕ, IsTrue, true, List, [], ◌∷◌, Option, Some, Result, MatchResult, codes, option_map, pos}
 use Rattle.std.specs.Borrow.{Bor}
 use Rattle.std.specs.Str.Parse.{digits_value, without_leading_plus}
 use Rattle.clap.specs.Walk.{Rule, Text, first_of, texts}
+use Rattle.clap.specs.Faults.{fault_of}
+use Rattle.clap.specs.Kinds.{IsAmong, Kinds}
+use Rattle.clap.specs.Values.{kind_of}
 use Rattle.clap.specs.Simple.{App, matches_of, new_rule, new_shape}
 use Rattle.clap.specs.declared.builder.action.ArgAction.TheVariants.{Set, SetTrue}
 use Rattle.clap.specs.declared.builder.value_parser.ValueParser.{ValueParser}
 use Rattle.clap.specs.declared.builder.value_parser.ValueParser.TheVariants as parser
+use Rattle.clap.specs.declared.error.Error.{Error}
+use Rattle.clap.specs.declared.error.kind.ErrorKind.{ErrorKind}
+use Rattle.clap.specs.declared.error.kind.ErrorKind.TheVariants.{OutOfMemory}
 use Rattle.ispc_options.specs.declared.options.Options.{Options}
 use Rattle.ispc_options.specs.declared.options.Paths.{Paths}
 use Rattle.ispc_options.specs.declared.options.Width.{Width}
@@ -87,3 +93,16 @@ value_of widths words name = first_of name (matches_of (command widths) words)
 abbrev pub AsksFor : List Text → Options × Paths → Type 0
 AsksFor words read = (widths : Bor (List (Bor Text))) × AreWidths widths
     × HasOptions (value_of widths words) read.0 × HasPaths (value_of widths words) read.1
+
+-- the kinds of fault that the words may have: those of the first word, value or default that is none of the options', and none where there is
+-- no such word. A call for help is a fault, and so is an option that stands twice
+abbrev pub HaveFaults : List Text → Kinds → Type 0
+HaveFaults words kinds = (widths : Bor (List (Bor Text))) × AreWidths widths × (fault_of (command widths) words ≡ kinds)
+
+abbrev pub HaveFault : List Text → ErrorKind → Type 0
+HaveFault words kind = (kinds : Kinds) × HaveFaults words kinds × IsAmong kind kinds
+
+-- words are read only where they have no fault, and refused only with the kind of a fault that they have, or out of memory
+abbrev pub FailsFor : List Text → Result (Options × Paths) Error → Type 0
+FailsFor words read = MatchResult read (λ _. HaveFaults words [])
+    (λ e. (kind_of e ≡ OutOfMemory) ⊎ HaveFault words (kind_of e))

@@ -4,7 +4,7 @@ ghost use Rattle.clap.specs.Values.{kind_of};
 ghost use Rattle.clap.specs.declared.error.kind.ErrorKind.TheVariants.{UnknownArgument};
 ghost use Rattle.clap.specs.Words.{app_of, first_value, found_of, rule_of};
 ghost use Rattle.clap.specs.Walk.{texts};
-ghost use Rattle.ispc_options.specs.Asked.{AreWidths, AsksFor, HasOptions, HasPaths, command, flag};
+ghost use Rattle.ispc_options.specs.Asked.{AreWidths, AsksFor, FailsFor, HasOptions, HasPaths, command, flag};
 ghost use Rattle.ispc_options.specs.Asked.{number_of, option, option_or, up_to, valued};
 ghost use Rattle.ispc_options.specs.Passed.{ArePassed, HasNumber};
 ghost use Rattle.ispc_options.specs.Ranges.{AreInRange};
@@ -27,14 +27,15 @@ const MOST_STEPS: u32 = 10_000_000;
 ///
 /// # Errors
 ///
-/// What the words lack or have too much, as `clap` tells it; a history or a number of steps out of its range; or the help that
-/// was asked for. Out of memory is a kind of it.
+/// The first word or value that is none of the options', as `clap` tells it, or the help that was asked for. Out of memory is a
+/// kind of it.
 pub fn read_options<'a>(
     alloc: Global,
     words: &'a [&'a str],
 ) -> Result<(Options<'a>, Paths<'a>), Error>
     ensures ranges { IfOk result (λ read. AreInRange read.0) }
     ensures asked { IfOk result (λ read. AsksFor (texts words.now) read) }
+    ensures refused { FailsFor (texts words.now) result }
 {
     let matches = command(alloc)?.try_get_matches_from(words)?;
     match options_of(&matches) {

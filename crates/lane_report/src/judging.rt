@@ -1,5 +1,7 @@
 //! A source, and which of its functions are lane-pure.
-ghost use Rattle.std.specs.Prelude.{◌≡◌, IfOk, IfErr, Some};
+ghost use Rattle.std.specs.Prelude.{◌≡◌, ◌↔◌, IfOk, IfErr, IsTrue, Some};
+ghost use Rattle.gang_model.specs.Running.LanePure.{IsLanePure};
+ghost use Rattle.gang_model.specs.Running.SeparateInstances.{HasSeparateLanes};
 ghost use Rattle.gang_model.specs.Source.Sources.{ReadsAs};
 ghost use Rattle.gang_model.specs.Types.Resolved.{program_of};
 ghost use Rattle.gang_model.specs.Types.SourceRefusals.{IsAccepted};
@@ -54,8 +56,16 @@ pub(crate) fn answers_of(alloc: Global, checked: &Checked) -> Result<Vec<bool>, 
     for item in &checked.tree().items {
         if let Item::Function(_) = item {
             let number = answers.len();
-            answers.push(is_lane_pure(alloc, checked, FuncId(number))?)?;
+            answers.push(answer_of(alloc, checked, number)?)?;
         }
     }
     Ok(answers)
+}
+
+/// Whether the function of this number is lane-pure.
+fn answer_of(alloc: Global, checked: &Checked, number: usize) -> Result<bool, AllocError>
+    ensures decides { IfOk result (λ is. (p : Program) → program_of (tree_view checked.now) ≡ Some p → (IsTrue is ↔ IsLanePure (tree_view checked.now) p number)) }
+    ensures separate { IfOk result (λ is. IsTrue is → HasSeparateLanes (tree_view checked.now) number) }
+{
+    is_lane_pure(alloc, checked, FuncId(number))
 }

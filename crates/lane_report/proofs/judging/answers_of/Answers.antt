@@ -4,7 +4,7 @@ use Rattle.source_tree.specs.Tree.{function_view, tree_view}
 use Rattle.lane_report.proofs.Answering.{IsAnswer, all_answered, are_answers, one_fewer, with_one_more}
 use Rattle.lane_report.proofs.Functions.{function_first, functions_from, none_left, variable_first}
 use Rattle.lane_report.proofs.judging.answers_of.Goals as goal
-use Rattle.lane_report.proofs.judging.answers_of.Goals.{in-Function+in_ok-is_lane_pure+in_ok-push, in_default}
+use Rattle.lane_report.proofs.judging.answers_of.Goals.{in-Function+in_ok-answer_of+in_ok-push, in_default}
 
 pub loop-item-preserved : goal.loop-item-preserved
 loop-item-preserved c =
@@ -15,9 +15,9 @@ loop-item-preserved c =
     let all = c.loop-item.invariant.0 in
     let right = c.loop-item.invariant.1 in
     elim c.match-item.branch [
-      | in-Function+in_ok-is_lane_pure+in_ok-push w ↦
-          let is = w.in_ok-is_lane_pure.field-0 in
-          let known = w.in_ok-is_lane_pure.ensures in
+      | in-Function+in_ok-answer_of+in_ok-push w ↦
+          let is = w.in_ok-answer_of.field-0 in
+          let known = w.in_ok-answer_of.ensures in
           let f = function_view w.in-Function.field-0 in
           let first = function_first items i c.item-item.result c.loop-item-test.true c.item-item.is w.in-Function.field-0 w.in-Function.is in
           rw (w.answers-is, w.in_ok-push.ensures.items) (
