@@ -4,12 +4,12 @@ An answer [3:5 1111] stands for the place text `at 3:5 go depth 1 lanes 1111`.
 """
 
 import re
-from dataclasses import dataclass
+from dataclasses import dataclass, field
 
 
 @dataclass
 class Run:
-    """One run of a source: its input, its entry if one is named, its options, and the commands with their answers."""
+    """One run of a source: its input, its entry if one is named, its options, and the commands with their answers; or its report."""
 
     script: list
     input: str = ""
@@ -18,12 +18,13 @@ class Run:
     history: int = 64
     steps: int = 1000000
     refusal: str = ""
+    report: list = field(default_factory=list)
 
     def commands(self):
         return "".join(command + "\n" for command, _ in self.script)
 
     def transcript(self):
-        text = self.refusal and self.refusal + "\n"
+        text = "".join(line + "\n" for line in [self.refusal, *self.report] if line)
         for _, answer in self.script:
             for line in [answer] if isinstance(answer, str) else answer:
                 text += re.sub(r"\[(\d+:\d+) ([01]+)\]", r"at \1 go depth 1 lanes \2", line) + "\n"
@@ -32,11 +33,12 @@ class Run:
 
 @dataclass
 class Row:
-    """A file of rows: what they show, and the sources with their runs."""
+    """A file of rows: what they show, and the sources with their runs; and whether the definitions compute their answers too."""
 
     name: str
     shows: str
     parts: list
+    is_computed: bool = True
 
 
 ROWS = []
@@ -50,8 +52,18 @@ def rows(name, shows, *parts):
     ROWS.append(Row(name, shows, list(parts)))
 
 
+def runs(name, shows, *parts):
+    """Rows that runs alone show: of sources that no tree spells, and of answers that the definitions compute in another row."""
+    ROWS.append(Row(name, shows, list(parts), is_computed=False))
+
+
 def refused(text, input=""):
     return Run([], input=input, refusal=text)
+
+
+def source_of(name):
+    """The source of an earlier row."""
+    return next(row.parts[0][0] for row in ROWS if row.name == name)
 
 
 ENTRY = "export void go() { "
@@ -1718,4 +1730,87 @@ export void c() { }""",
             Run([], entry="d", refusal="entry: E1 NoEntry"),
         ],
     ),
+)
+
+runs(
+    "RefusedTexts",
+    "texts that no tokens or no tree spell, each refused at its place. Refuses a parser that finds every source unexpected",
+    refused_at(ENTRY + "int x = @0x", "S2 BadNumber"),
+    refused_at(ENTRY + "int x@", "S3 Unexpected"),
+    refused_at(ENTRY + "int x = 1@.5; }", "S1 BadByte"),
+    refused_at(ENTRY + "int x = " + "(" * 63 + "@(", "S4 TooDeep"),
+    refused_at("1...@.2", "S1 BadByte"),
+    refused_at("@08", "S2 BadNumber"),
+    refused_at("@1uu", "S2 BadNumber"),
+    refused_at("@0b12", "S2 BadNumber"),
+    refused_at("@18446744073709551616", "S2 BadNumber"),
+    refused_at("@/* x", "S1 BadByte"),
+    refused_at(ENTRY + "switch (1) { @x = 1; } }", "S3 Unexpected"),
+    refused_at(ENTRY + "int x = 1" + " + 1" * 256 + " @+ 1; }", "S13 Limit"),
+    ("", [refused("entry: E1 NoEntry")]),
+)
+
+runs(
+    "MostVariables",
+    "256 variables of one function",
+    ("export void go() {\n" + "".join(f"int v{n};\n" for n in range(1, 257)) + "}", [Run([("step 256", "[258:1 1111]"), ("print v256", "v256 = 0 0 0 0")])]),
+)
+
+runs(
+    "RefusedInputs",
+    "inputs of an entry that has a scalar and an array, and of one with an array of the file",
+    (
+        source_of("EntryArray"),
+        [
+            refused("input: I2 Missing n"),
+            refused("input 1: I1 BadLine", "n = x"),
+            refused("input 1: I3 Range", "n = 3000000000"),
+        ],
+    ),
+    (
+        source_of("InputRows"),
+        [
+            refused("input 2: I1 BadLine", "n = 1\nn = 1"),
+            refused("input 1: I4 TooLarge", "t = 1 2 3 200"),
+        ],
+    ),
+)
+
+runs(
+    "CountedSteps",
+    "one command makes as many steps as it says, up to a fault or a place",
+    (source_of("CallDepthFault"), [Run([("step 64", "fault F5 CallDepth lane 0: at 1:12 r depth 64 lanes 1111")])]),
+    (source_of("LibraryAcrossLanes"), [Run([("step 8", "[11:1 01010000]")], width=8)]),
+)
+
+runs(
+    "ChangedHistory",
+    "the history limit, made smaller and larger",
+    (
+        source_of("HistoryLimit"),
+        [
+            Run(
+                [
+                    ("step 6", "[9:1 1111]"),
+                    ("set record full insn-number-max 2", "history 2"),
+                    ("reverse-step 3", "history end: [7:1 1111]"),
+                    ("print t", "t = 4"),
+                    ("set record full insn-number-max 6", "history 6"),
+                    ("step 2", "[9:1 1111]"),
+                    ("reverse-step 2", "[7:1 1111]"),
+                    ("reverse-step", "C3 NoHistory"),
+                    ("set record full insn-number-max 65537", "C8 OutOfRange"),
+                    ("set record full insn-number-max 0", "C1 BadCommand"),
+                ],
+                history=4,
+            )
+        ],
+    ),
+)
+
+runs(
+    "Reports",
+    "which functions are lane-pure",
+    (source_of("Recursion"), [Run([], report=["lane-pure 1:5 f: yes", "lane-pure 6:13 go: yes"])]),
+    (source_of("LibraryAcrossLanes"), [Run([], report=["lane-pure 2:13 go: no"])]),
 )
