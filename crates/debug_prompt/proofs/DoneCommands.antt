@@ -1,0 +1,60 @@
+-- Commands that a prompt does, and the lists that they make.
+use Rattle.std.proofs.Common.{◌≡◌, true, List, [], ◌∷◌, ◌++◌, sym, ap, ◌∙◌, inl, inr}
+use Rattle.std.proofs.lemmas.Bool.{true≢false}
+use Rattle.gang_model.specs.Debugger.Debugger.{Command, Debugger, DoBacktrace, DoBreak, DoContinue, DoDelete, DoFinish, DoInfoBreakpoints, DoInfoLocals, DoNext, DoNothing, DoPrint, DoQuit, DoReverseContinue, DoReverseFinish, DoReverseNext, DoReverseStep, DoSet, DoSetHistory, DoStep, DoUndo, DoWatch, IsReply, MayRunOut, Reply, Setting, do_command}
+use Rattle.debug_answers.specs.declared.answer.Answer.{Answer}
+use Rattle.debug_session.specs.declared.session.Session.{Session}
+use Rattle.debug_session.specs.Sessions.{RepliesTo, StandsFor}
+use Rattle.command_lists.specs.Lists.{HasDone}
+use Rattle.command_lists.proofs.DoneLists.{done_one, done_then}
+use Rattle.debug_prompt.specs.Doing as doing
+use Rattle.debug_prompt.specs.Given as given
+use Rattle.debug_prompt.specs.Holding.{Held}
+use Rattle.debug_prompt.proofs.AnswersMean.{follows-means}
+
+-- a command that moves wants for no memory
+move_sure : (command : Command) (d : Debugger) → doing.moves command ≡ true → MayRunOut command d → ⊥
+move_sure (DoStep n) d moving may = may
+move_sure (DoNext n) d moving may = may
+move_sure (DoReverseStep n) d moving may = may
+move_sure (DoReverseNext n) d moving may = may
+move_sure DoFinish d moving may = may
+move_sure DoContinue d moving may = may
+move_sure DoReverseFinish d moving may = may
+move_sure DoReverseContinue d moving may = may
+move_sure DoUndo d moving may = may
+move_sure (DoPrint target) d moving may = absurd (true≢false (sym moving))
+move_sure (DoSet target z) d moving may = absurd (true≢false (sym moving))
+move_sure (DoBreak n) d moving may = absurd (true≢false (sym moving))
+move_sure (DoWatch target) d moving may = absurd (true≢false (sym moving))
+move_sure (DoDelete n) d moving may = absurd (true≢false (sym moving))
+move_sure DoInfoBreakpoints d moving may = absurd (true≢false (sym moving))
+move_sure DoInfoLocals d moving may = absurd (true≢false (sym moving))
+move_sure DoBacktrace d moving may = absurd (true≢false (sym moving))
+move_sure DoNothing d moving may = absurd (true≢false (sym moving))
+move_sure DoQuit d moving may = absurd (true≢false (sym moving))
+move_sure (DoSetHistory n) d moving may = absurd (true≢false (sym moving))
+
+-- a command that wants for no memory has one reply
+pub sure_reply : (s : Setting) (command : Command) (d : Debugger) (r : Reply) → (MayRunOut command d → ⊥) → IsReply s command d r → r ≡ do_command s command d
+sure_reply s command d r sure is = elim is [ inl e ↦ e | inr out ↦ absurd (sure out.0) ]
+
+module _ {M : Type 0} (stands : M → Setting → Debugger → Type 0) (s : Setting) (d : Debugger) where
+  -- a command, and then what follows it from wherever it leads
+  pub one_then : (command : Command) (more : List Command) (told : Answer) (middle new : Session M) → RepliesTo stands s command d told middle
+      → ((e : Debugger) → StandsFor stands middle s e → HasDone stands s more e new) → HasDone stands s (command ∷ more) d new
+  one_then command more told middle new replies next =
+      let first = done_one stands s command d told middle replies in
+      done_then stands s (command ∷ []) more d middle new first (next first.after first.there)
+
+  -- a list of commands, and then another
+  pub list_then : (cs ds : List Command) (middle new : Session M) → HasDone stands s cs d middle
+      → ((e : Debugger) → StandsFor stands middle s e → HasDone stands s ds e new) → HasDone stands s (cs ++ ds) d new
+  list_then cs ds middle new first next = done_then stands s cs ds d middle new first (next first.after first.there)
+
+  -- what follows a move is what its answer means
+  pub move_follows : (h : Held) (command : Command) (told : Answer) (middle : Session M) → doing.moves command ≡ true → RepliesTo stands s command d told middle
+      → given.follows h told ≡ doing.follows h (do_command s command d).answer
+  move_follows h command told middle moving replies =
+      follows-means s replies.reply.next h told replies.reply.answer replies.replied.means
+      ∙ ap (λ (r : Reply). doing.follows h r.answer) (sure_reply s command d replies.reply (move_sure command d moving) replies.is_reply)

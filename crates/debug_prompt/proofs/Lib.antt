@@ -1,0 +1,4 @@
+mod AnswersMean
+mod DoneCommands
+mod Displays
+mod WorkedLines

@@ -1,0 +1,29 @@
+-- What a prompt holds from line to line, as far as it decides what is done.
+use Rattle.std.specs.Prelude.{ℕ, List, [], map}
+use Rattle.prompt_lines.specs.Words.{Spelled}
+use Rattle.prompt_lines.specs.declared.line.Kind.TheVariants as kind
+use Rattle.debug_prompt.specs.declared.holding.Displayed.{Displayed}
+use Rattle.debug_prompt.specs.declared.holding.Holding as declared
+
+-- the numbers of the last breakpoints that go when they have stopped a move; what is displayed after each move, by its number and
+-- its command line; the next such number
+pub record Held : Type 0 where
+  pub temporaries : List ℕ
+  pub displays : List (ℕ × List ℕ)
+  pub next : ℕ
+
+-- what is held at the start
+abbrev pub held_at_start : Held
+held_at_start = record { temporaries = []; displays = []; next = 1 }
+
+-- a blank line, which does nothing
+abbrev pub nothing_kept : Spelled
+nothing_kept = record { kind = kind.Own; text = [] }
+
+-- what is displayed, by its number
+abbrev pub entry_of : Displayed → ℕ × List ℕ
+entry_of displayed = (displayed.number, displayed.text.items)
+
+-- what is held, as the definitions have it
+abbrev pub held : declared.Holding → Held
+held h = record { temporaries = h.temporaries.items; displays = map entry_of h.displays.items; next = h.next }

@@ -1,0 +1,109 @@
+//! What a prompt holds from line to line, as far as it decides what is done.
+ghost use Rattle.std.specs.Prelude.{◌≡◌, ◌==◌, []};
+ghost use Rattle.std.specs.List.{list_any};
+ghost use Rattle.debug_prompt.specs.Doing as spec;
+ghost use Rattle.debug_prompt.specs.Holding.{held, held_at_start};
+
+use arrayvec::ArrayVec;
+use prompt_lines::{Text, held_line};
+
+/// How many breakpoints may be temporary.
+const TEMPORARIES: usize = 64;
+
+/// How much may be displayed.
+const DISPLAYS: usize = 16;
+
+/// The last number that is given to what is displayed.
+const LAST_NUMBER: u32 = 10_000_000;
+
+/// What is displayed after each move: its number, and the command line that prints it.
+#[derive(Drop)]
+pub(crate) struct Displayed {
+    pub(crate) number: u32,
+    pub(crate) text: Text,
+}
+
+/// The blank in an unused place.
+impl Default for Displayed {
+    ghost is_default = { λ entry. entry.number ≡ 0 };
+
+    fn default() -> Self {
+        Displayed {
+            number: 0,
+            text: Text::new(),
+        }
+    }
+}
+
+/// The numbers of the last temporary breakpoints, and what is displayed.
+#[derive(Drop)]
+pub(crate) struct Holding {
+    temporaries: ArrayVec<u32, TEMPORARIES>,
+    displays: ArrayVec<Displayed, DISPLAYS>,
+    next: u32,
+}
+
+impl Holding {
+    /// Nothing is held.
+    pub(crate) fn new() -> Self
+        ensures { held result ≡ held_at_start }
+    {
+        Holding {
+            temporaries: ArrayVec::new(),
+            displays: ArrayVec::new(),
+            next: 1,
+        }
+    }
+
+    /// What is displayed.
+    pub(crate) fn displays(&self) -> &[Displayed]
+        ensures { result.now ≡ self.now.displays.items }
+    {
+        self.displays.as_slice()
+    }
+
+    /// Whether a breakpoint is temporary.
+    pub(crate) fn is_temporary(&self, number: u32) -> bool
+        ensures { result ≡ list_any (λ t. t == number) self.now.temporaries.items }
+    {
+        self.temporaries
+            .as_slice()
+            .iter()
+            .any(|other| *other == number)
+    }
+
+    /// Notes that a breakpoint, if one was made, is temporary.
+    pub(crate) fn add_temporary(&mut self, made: Option<u32>)
+        ensures { held self.new ≡ spec.with_temporary (held self.old) made }
+    {
+        if let Some(number) = made {
+            if self.temporaries.is_full() {
+                self.temporaries.remove(0);
+            }
+            self.temporaries.push(number);
+        }
+    }
+
+    /// Displays a command line from now on, where there is room.
+    pub(crate) fn add_display(&mut self, text: &[u8])
+        ensures { held self.new ≡ spec.with_display (held self.old) text.now }
+    {
+        if !self.displays.is_full() && self.next < LAST_NUMBER {
+            self.displays.push(Displayed {
+                number: self.next,
+                text: held_line(text),
+            });
+            self.next += 1;
+        }
+    }
+
+    /// Displays what has a number no more, or nothing.
+    pub(crate) fn remove_display(&mut self, number: Option<u32>)
+        ensures { held self.new ≡ spec.without_display (held self.old) number }
+    {
+        match number {
+            None => self.displays.clear(),
+            Some(number) => self.displays.retain(|entry| entry.number != number),
+        }
+    }
+}

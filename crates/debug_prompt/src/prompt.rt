@@ -1,0 +1,193 @@
+//! The prompt.
+ghost use Rattle.std.specs.Prelude.{◌≡◌};
+ghost use Rattle.gang_model.specs.Debugger.Debugger.{Debugger, Setting};
+ghost use Rattle.command_lists.specs.Lists.{HasDone};
+ghost use Rattle.debug_session.specs.Sessions.{StandsFor};
+ghost use Rattle.prompt_lines.specs.Readings.{spelled};
+ghost use Rattle.debug_prompt.specs.Doing as spec;
+ghost use Rattle.debug_prompt.specs.Holding.{held, held_at_start, nothing_kept};
+
+use crate::doing::{
+    break_temporarily, display, do_spelled, go_until, print_hexadecimal, undisplay,
+};
+use crate::holding::Holding;
+use crate::looking::Looking;
+use crate::readings::command_repeats;
+use crate::turning::Scene;
+use debug_commands::{Command, read_command};
+use debug_machine::{AnswerWriter, RecordedMachine};
+use debug_session::Session;
+use prompt_lines::{Kind, Look, PromptLine, Text, read_line};
+use prompt_texts::{Page, Source, show_here};
+use std::mem::replace;
+
+/// What a line led to.
+#[derive(Clone, Copy, Debug, PartialEq, Eq)]
+pub enum Turn {
+    Goes,
+    /// The line quits.
+    Quits,
+    /// The writer failed.
+    Fails,
+}
+
+/// What lasts from line to line: the line that an empty one repeats, temporary breakpoints, what is displayed, and what is
+/// looked at.
+#[derive(Drop)]
+pub struct Prompt {
+    kept: PromptLine,
+    holding: Holding,
+    looking: Looking,
+}
+
+impl Prompt {
+    /// A prompt before its first line.
+    pub fn new() -> Self
+        ensures kept { spelled result.kept ≡ nothing_kept }
+        ensures held { held result.holding ≡ held_at_start }
+    {
+        Prompt {
+            kept: nothing(),
+            holding: Holding::new(),
+            looking: Looking::new(),
+        }
+    }
+
+    /// Writes where the program stands.
+    pub fn begin<M: RecordedMachine, O: AnswerWriter + Drop>(
+        &self,
+        source: Source<'_>,
+        session: &Session<M>,
+        page: &mut Page<O>,
+    ) {
+        show_here(source, session, page);
+    }
+
+    /// Does a line, its line feed not included, by a list of the debugger's commands, and shows what they came to. Where the
+    /// writer has failed, the commands are done, and nothing is shown any more.
+    pub fn do_line<M: RecordedMachine, O: AnswerWriter + Drop>(
+        &mut self,
+        line: &[u8],
+        source: Source<'_>,
+        session: &mut Session<M>,
+        page: &mut Page<O>,
+    ) -> Turn
+        ensures done { (s : Setting) (d : Debugger) → StandsFor M.stands session.old s d
+            → HasDone M.stands s (spec.commands_of (spelled self.old.kept) (held self.old.holding) s d line.now) d session.new
+            × (held self.new.holding ≡ spec.held_after (spelled self.old.kept) (held self.old.holding) s d line.now) }
+        ensures kept { spelled self.new.kept ≡ spec.kept_after (spelled self.old.kept) line.now }
+    {
+        let read = read_line(line);
+        let is_again = read.kind == Kind::Again;
+        let meant = meant(read, &mut self.kept);
+        let scene = Scene {
+            line: if is_again {
+                meant.text.as_slice()
+            } else {
+                line
+            },
+            source,
+        };
+        do_meant(
+            &meant,
+            is_again,
+            &mut self.holding,
+            &mut self.looking,
+            scene,
+            session,
+            page,
+        );
+        let turn = turn_of(&meant, page);
+        self.kept = if_repeats(meant);
+        turn
+    }
+}
+
+/// A blank line, which does nothing.
+fn nothing() -> PromptLine
+    ensures { spelled result ≡ nothing_kept }
+{
+    PromptLine {
+        kind: Kind::Own,
+        text: Text::new(),
+    }
+}
+
+/// The line that is meant: an empty one means the one that was kept.
+fn meant(read: PromptLine, kept: &mut PromptLine) -> PromptLine
+    ensures { spelled result ≡ spec.meant_by read.kind (spelled kept.old) (spelled read) }
+{
+    match read.kind {
+        Kind::Again => replace(kept, nothing()),
+        _ => read,
+    }
+}
+
+/// A line that repeats, else one that does nothing.
+fn if_repeats(line: PromptLine) -> PromptLine
+    ensures { spelled result ≡ spec.if_repeats (spelled line) }
+{
+    if repeats(&line) { line } else { nothing() }
+}
+
+/// Whether an empty line repeats this one.
+fn repeats(line: &PromptLine) -> bool
+    ensures { result ≡ spec.repeats line.now.kind line.now.text.items }
+{
+    match line.kind {
+        Kind::Own => command_repeats(read_command(line.text.as_slice())),
+        Kind::Until
+        | Kind::Hexadecimal
+        | Kind::Look(Look::List)
+        | Kind::Look(Look::Up)
+        | Kind::Look(Look::Down) => true,
+        Kind::Again | Kind::Temporary | Kind::Display | Kind::Undisplay | Kind::Look(_) => false,
+    }
+}
+
+/// Does a command line, by its kind.
+fn do_meant<M: RecordedMachine, O: AnswerWriter + Drop>(
+    line: &PromptLine,
+    is_again: bool,
+    holding: &mut Holding,
+    looking: &mut Looking,
+    scene: Scene<'_>,
+    session: &mut Session<M>,
+    page: &mut Page<O>,
+)
+    ensures { (s : Setting) (d : Debugger) → StandsFor M.stands session.old s d
+        → HasDone M.stands s (spec.commands_by line.now.kind s d (held holding.old) line.now.text.items) d session.new
+        × (held holding.new ≡ spec.changed_by line.now.kind s d (held holding.old) line.now.text.items) }
+{
+    let text = line.text.as_slice();
+    match line.kind {
+        Kind::Again => {}
+        Kind::Own => {
+            looking.leave(text);
+            do_spelled(text, holding, scene, session, page);
+        }
+        Kind::Temporary => break_temporarily(text, holding, scene, session, page),
+        Kind::Until => {
+            *looking = Looking::new();
+            go_until(text, holding, scene, session, page);
+        }
+        Kind::Hexadecimal => print_hexadecimal(text, scene, session, page),
+        Kind::Display => display(text, holding, scene, session, page),
+        Kind::Undisplay => undisplay(text, holding, scene, page),
+        Kind::Look(look) => looking.look(look, text, is_again, holding, scene, session, page),
+    }
+}
+
+/// What a line led to.
+fn turn_of<O: AnswerWriter + Drop>(line: &PromptLine, page: &Page<O>) -> Turn {
+    if page.has_failed() {
+        return Turn::Fails;
+    }
+    match line.kind {
+        Kind::Own => match read_command(line.text.as_slice()) {
+            Some(Command::Quit) => Turn::Quits,
+            _ => Turn::Goes,
+        },
+        _ => Turn::Goes,
+    }
+}

@@ -1,0 +1,113 @@
+//! What command lines and answers tell a prompt.
+ghost use Rattle.std.specs.Prelude.{◌≡◌};
+ghost use Rattle.gang_model.specs.Texts.CommandText.{command_of};
+ghost use Rattle.debug_commands.specs.TargetViews.{target_option};
+ghost use Rattle.debug_commands.specs.Views.{command_view, option_view};
+ghost use Rattle.debug_prompt.specs.Doing as spec;
+ghost use Rattle.debug_prompt.specs.Given as given;
+
+use debug_answers::Answer;
+use debug_commands::{Command, Target, read_command};
+
+/// Whether a command moves.
+pub(crate) fn is_move(command: Command<'_>) -> bool
+    ensures { result ≡ spec.moves (command_view command.entry) }
+{
+    match command {
+        Command::Step(_)
+        | Command::Next(_)
+        | Command::ReverseStep(_)
+        | Command::ReverseNext(_)
+        | Command::Finish
+        | Command::Continue
+        | Command::ReverseFinish
+        | Command::ReverseContinue
+        | Command::Undo => true,
+        Command::Print(_)
+        | Command::Set { .. }
+        | Command::Break(_)
+        | Command::Watch(_)
+        | Command::Delete(_)
+        | Command::SetHistory(_)
+        | Command::InfoBreakpoints
+        | Command::InfoLocals
+        | Command::Backtrace
+        | Command::Nothing
+        | Command::Quit => false,
+    }
+}
+
+/// Whether an empty line repeats a command.
+pub(crate) fn command_repeats(command: Option<Command<'_>>) -> bool
+    ensures { result ≡ spec.command_repeats (option_view command.entry) }
+{
+    match command {
+        None => false,
+        Some(Command::Print(_)) => true,
+        Some(command) => is_move(command),
+    }
+}
+
+/// The target that a command line prints.
+pub(crate) fn print_of(text: &[u8]) -> Option<Target<'_>>
+    ensures { target_option result ≡ spec.print_of (command_of text.now) }
+{
+    match read_command(text) {
+        Some(Command::Print(target)) => Some(target),
+        _ => None,
+    }
+}
+
+/// The line of a breakpoint that a command line makes.
+pub(crate) fn break_of(text: &[u8]) -> Option<u32>
+    ensures { result ≡ spec.break_of (command_of text.now) }
+{
+    match read_command(text) {
+        Some(Command::Break(line)) => Some(line),
+        _ => None,
+    }
+}
+
+/// The number that a command line deletes, or all.
+pub(crate) fn delete_of(text: &[u8]) -> Option<Option<u32>>
+    ensures { result ≡ spec.delete_of (command_of text.now) }
+{
+    match read_command(text) {
+        Some(Command::Delete(number)) => Some(number),
+        _ => None,
+    }
+}
+
+/// The breakpoint that stopped a move.
+pub(crate) fn stopped_number(answer: &Answer<'_>) -> Option<u32>
+    ensures { result ≡ given.stopped_number answer.now }
+{
+    match answer {
+        Answer::AtBreakpoint(number) => Some(*number),
+        _ => None,
+    }
+}
+
+/// The breakpoint that was made.
+pub(crate) fn made_number(answer: &Answer<'_>) -> Option<u32>
+    ensures { result ≡ given.made_number answer.now }
+{
+    match answer {
+        Answer::BreaksAt { number, .. } => Some(*number),
+        _ => None,
+    }
+}
+
+/// Whether a target is shown.
+pub(crate) fn is_shown(answer: &Answer<'_>) -> bool
+    ensures { result ≡ given.is_shown answer.now }
+{
+    matches!(answer, Answer::Shows { .. })
+}
+
+/// Whether a command is refused.
+pub(crate) fn is_refusal(answer: &Answer<'_>) -> bool
+    ensures { result ≡ given.is_refusal answer.now }
+{
+    matches!(answer, Answer::Refused(_))
+}

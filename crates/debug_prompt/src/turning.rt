@@ -1,0 +1,169 @@
+//! Moves, and what follows them.
+ghost use Rattle.std.specs.Prelude.{◌≡◌, ◌∷◌, ◌++◌, [], true, map};
+ghost use Rattle.gang_model.specs.Debugger.Debugger.{Debugger, Setting, do_command};
+ghost use Rattle.gang_model.specs.Texts.CommandText.{command_of};
+ghost use Rattle.command_lists.specs.Lists.{HasDone};
+ghost use Rattle.debug_commands.specs.Views.{command_view};
+ghost use Rattle.debug_session.specs.Sessions.{StandsFor};
+ghost use Rattle.debug_prompt.specs.Doing as spec;
+ghost use Rattle.debug_prompt.specs.Given as given;
+ghost use Rattle.debug_prompt.specs.Holding.{entry_of, held};
+
+use crate::holding::{Displayed, Holding};
+use crate::readings::{is_move, is_refusal, print_of, stopped_number};
+use debug_answers::Answer;
+use debug_commands::Command;
+use debug_machine::{AnswerWriter, RecordedMachine};
+use debug_session::Session;
+use prompt_texts::{Before, Page, Source, tell, tell_move};
+
+/// The line that is done, as it was typed, and the source that is shown.
+#[derive(Clone, Copy)]
+pub(crate) struct Scene<'a> {
+    pub(crate) line: &'a [u8],
+    pub(crate) source: Source<'a>,
+}
+
+/// Does a command, and what follows a move.
+pub(crate) fn do_own<M: RecordedMachine, O: AnswerWriter + Drop>(
+    command: Command<'_>,
+    holding: &Holding,
+    scene: Scene<'_>,
+    session: &mut Session<M>,
+    page: &mut Page<O>,
+)
+    ensures { (s : Setting) (d : Debugger) → StandsFor M.stands session.old s d
+        → HasDone M.stands s (spec.done_with s d (held holding.now) (command_view command.entry)) d session.new }
+{
+    if is_move(command) {
+        do_move(command, holding, scene, session, page);
+    } else {
+        do_alone(command, scene, session, page);
+    }
+}
+
+/// Does a command that does not move, and tells what it came to.
+fn do_alone<M: RecordedMachine, O: AnswerWriter + Drop>(
+    command: Command<'_>,
+    scene: Scene<'_>,
+    session: &mut Session<M>,
+    page: &mut Page<O>,
+)
+    ensures { (s : Setting) (d : Debugger) → StandsFor M.stands session.old s d
+        → HasDone M.stands s (command_view command.entry ∷ []) d session.new }
+{
+    let answer = session.do_command(command);
+    tell(&answer, scene.line, scene.source, session, page);
+}
+
+/// Moves, and tells where to and what changed; then what follows a move.
+fn do_move<M: RecordedMachine, O: AnswerWriter + Drop>(
+    command: Command<'_>,
+    holding: &Holding,
+    scene: Scene<'_>,
+    session: &mut Session<M>,
+    page: &mut Page<O>,
+)
+    requires { spec.moves (command_view command) ≡ true }
+    ensures { (s : Setting) (d : Debugger) → StandsFor M.stands session.old s d
+        → HasDone M.stands s (command_view command.entry ∷ spec.follows (held holding.now) (do_command s (command_view command.entry) d).answer) d session.new }
+{
+    let before = Before::note(session.machine());
+    let answer = session.do_command(command);
+    tell_move(&answer, scene.line, &before, scene.source, session, page);
+    follow(&answer, holding, scene, session, page);
+}
+
+/// What follows a move: the temporary breakpoint that stopped it goes, and all that is displayed is printed.
+pub(crate) fn follow<M: RecordedMachine, O: AnswerWriter + Drop>(
+    answer: &Answer<'_>,
+    holding: &Holding,
+    scene: Scene<'_>,
+    session: &mut Session<M>,
+    page: &mut Page<O>,
+)
+    ensures { (s : Setting) (d : Debugger) → StandsFor M.stands session.old s d
+        → HasDone M.stands s (given.follows (held holding.now) answer.now) d session.new }
+{
+    if is_refusal(answer) {
+        return;
+    }
+    follow_done(answer, holding, scene, session, page);
+}
+
+/// What follows a move that was not refused.
+fn follow_done<M: RecordedMachine, O: AnswerWriter + Drop>(
+    answer: &Answer<'_>,
+    holding: &Holding,
+    scene: Scene<'_>,
+    session: &mut Session<M>,
+    page: &mut Page<O>,
+)
+    ensures { (s : Setting) (d : Debugger) → StandsFor M.stands session.old s d
+        → HasDone M.stands s (spec.deleted (held holding.now).temporaries (given.stopped_number answer.now) ++ spec.shown (held holding.now).displays) d session.new }
+{
+    delete_stopped(stopped_number(answer), holding, session);
+    show_displays(holding.displays(), scene, session, page);
+}
+
+/// Deletes the breakpoint that stopped a move, where it is temporary.
+fn delete_stopped<M: RecordedMachine>(
+    stopped: Option<u32>,
+    holding: &Holding,
+    session: &mut Session<M>,
+)
+    ensures { (s : Setting) (d : Debugger) → StandsFor M.stands session.old s d
+        → HasDone M.stands s (spec.deleted (held holding.now).temporaries stopped) d session.new }
+{
+    if let Some(number) = stopped {
+        if holding.is_temporary(number) {
+            let _ = session.do_command(Command::Delete(Some(number)));
+        }
+    }
+}
+
+/// Prints all that is displayed.
+pub(crate) fn show_displays<M: RecordedMachine, O: AnswerWriter + Drop>(
+    displays: &[Displayed],
+    scene: Scene<'_>,
+    session: &mut Session<M>,
+    page: &mut Page<O>,
+)
+    ensures { (s : Setting) (d : Debugger) → StandsFor M.stands session.old s d
+        → HasDone M.stands s (spec.shown (map entry_of displays.now)) d session.new }
+{
+    for displayed in displays {
+        show_display(displayed, scene, session, page);
+    }
+}
+
+/// Prints what is displayed by a number. What is not in scope now is left out.
+fn show_display<M: RecordedMachine, O: AnswerWriter + Drop>(
+    displayed: &Displayed,
+    scene: Scene<'_>,
+    session: &mut Session<M>,
+    page: &mut Page<O>,
+)
+    ensures { (s : Setting) (d : Debugger) → StandsFor M.stands session.old s d
+        → HasDone M.stands s (spec.printed (spec.print_of (command_of displayed.now.text.items))) d session.new }
+{
+    if let Some(target) = print_of(displayed.text.as_slice()) {
+        let answer = session.do_command(Command::Print(target));
+        tell_displayed(displayed.number, &answer, scene, session, page);
+    }
+}
+
+/// Writes what is displayed, behind its number.
+fn tell_displayed<M: RecordedMachine, O: AnswerWriter + Drop>(
+    number: u32,
+    answer: &Answer<'_>,
+    scene: Scene<'_>,
+    session: &Session<M>,
+    page: &mut Page<O>,
+) {
+    if let Answer::Shows { .. } = answer {
+        page.put_number(i128::from(number));
+        page.put(b": ");
+        tell(answer, scene.line, scene.source, session, page);
+    }
+}

@@ -1,0 +1,180 @@
+//! What commands there are, and what each does.
+use debug_words::{Marks, next_word};
+
+/// A command: the words that it begins with, how it is used, and what it does.
+#[derive(Clone, Copy, Debug)]
+pub struct Topic {
+    names: &'static [&'static [u8]],
+    pub usage: &'static [u8],
+    pub text: &'static [u8],
+}
+
+/// All commands, in the order in which help lists them.
+const TOPICS: [Topic; 30] = [
+    Topic {
+        names: &[b"step", b"s", b"stepi", b"si"],
+        usage: b"step [N]",
+        text: b"does N steps, also into functions; one step is one statement, test or round. `stepi` and `si` are the same.",
+    },
+    Topic {
+        names: &[b"next", b"n", b"nexti", b"ni"],
+        usage: b"next [N]",
+        text: b"does N steps of this function, and over calls.",
+    },
+    Topic {
+        names: &[b"finish", b"fin"],
+        usage: b"finish",
+        text: b"goes on until this function has returned.",
+    },
+    Topic {
+        names: &[b"continue", b"c", b"cont", b"fg", b"run", b"r"],
+        usage: b"continue",
+        text: b"goes on to a breakpoint, a change of a watched variable, a fault or the end. `run` is the same: the program has begun already.",
+    },
+    Topic {
+        names: &[b"until", b"u", b"advance"],
+        usage: b"until [N]",
+        text: b"goes on to the first line from N on that has a step; without N the same as `next`. `advance N` is the same.",
+    },
+    Topic {
+        names: &[b"start"],
+        usage: b"start",
+        text: b"shows where the program stands: it has begun already.",
+    },
+    Topic {
+        names: &[b"reverse-step", b"rs", b"reverse-stepi", b"rsi"],
+        usage: b"reverse-step [N]",
+        text: b"takes N steps back.",
+    },
+    Topic {
+        names: &[b"reverse-next", b"rn", b"reverse-nexti", b"rni"],
+        usage: b"reverse-next [N]",
+        text: b"takes N steps of this function back, and over calls.",
+    },
+    Topic {
+        names: &[b"reverse-finish"],
+        usage: b"reverse-finish",
+        text: b"goes back to the call of this function.",
+    },
+    Topic {
+        names: &[b"reverse-continue", b"rc"],
+        usage: b"reverse-continue",
+        text: b"goes back to a breakpoint, a change of a watched variable, or as far as the history goes.",
+    },
+    Topic {
+        names: &[b"undo"],
+        usage: b"undo",
+        text: b"takes the last step, or the last change by `set var`, back.",
+    },
+    Topic {
+        names: &[b"print", b"p", b"inspect"],
+        usage: b"print T",
+        text: b"shows a variable T, or one lane or element as T[K]. `p/x T` shows it in hexadecimal digits.",
+    },
+    Topic {
+        names: &[b"p/x", b"print/x"],
+        usage: b"p/x T",
+        text: b"shows a variable, a lane or an element in hexadecimal digits.",
+    },
+    Topic {
+        names: &[b"set"],
+        usage: b"set var T = V",
+        text: b"gives a variable, a lane or an element a value: T = V does for all lanes. `set T = V` is the same; `undo` takes it back.",
+    },
+    Topic {
+        names: &[b"display"],
+        usage: b"display [T]",
+        text: b"shows T now and after each move; without T all that is displayed.",
+    },
+    Topic {
+        names: &[b"undisplay"],
+        usage: b"undisplay [N]",
+        text: b"displays N no more, or nothing.",
+    },
+    Topic {
+        names: &[b"break", b"b", b"br"],
+        usage: b"break N",
+        text: b"stops where the program comes to the first line from N on that has a step.",
+    },
+    Topic {
+        names: &[b"tbreak", b"tb"],
+        usage: b"tbreak N",
+        text: b"as `break`, and is deleted when it has stopped a move.",
+    },
+    Topic {
+        names: &[b"watch"],
+        usage: b"watch T",
+        text: b"stops where a variable of the file, a lane or an element of it has changed, also going back.",
+    },
+    Topic {
+        names: &[b"delete", b"d", b"del"],
+        usage: b"delete [N]",
+        text: b"deletes the breakpoint or watch N, or all.",
+    },
+    Topic {
+        names: &[b"info", b"i"],
+        usage: b"info WHAT",
+        text: b"lists: breakpoints, watchpoints, locals, args, display, frame, record, source, line.",
+    },
+    Topic {
+        names: &[b"backtrace", b"bt", b"where"],
+        usage: b"backtrace",
+        text: b"lists the frames, the top one first.",
+    },
+    Topic {
+        names: &[b"frame", b"f"],
+        usage: b"frame [N]",
+        text: b"shows frame N, and where its call stands; names are looked up in the top frame.",
+    },
+    Topic {
+        names: &[b"up"],
+        usage: b"up [N]",
+        text: b"shows the frame of the caller.",
+    },
+    Topic {
+        names: &[b"down"],
+        usage: b"down [N]",
+        text: b"shows the frame that was called.",
+    },
+    Topic {
+        names: &[b"list", b"l"],
+        usage: b"list [N]",
+        text: b"shows ten lines of the source, around line N or where the program stands; again shows the next ones.",
+    },
+    Topic {
+        names: &[b"whatis", b"ptype"],
+        usage: b"whatis T",
+        text: b"shows the type of a variable.",
+    },
+    Topic {
+        names: &[b"record"],
+        usage: b"record",
+        text: b"says how much can be taken back; all is recorded. `set record full insn-number-max N` sets how much at most.",
+    },
+    Topic {
+        names: &[b"help", b"h"],
+        usage: b"help [COMMAND]",
+        text: b"lists the commands, or says what one does.",
+    },
+    Topic {
+        names: &[b"quit", b"q", b"exit"],
+        usage: b"quit",
+        text: b"ends; so does Ctrl-D on an empty line.",
+    },
+];
+
+/// All commands, in the order in which help lists them.
+pub fn topics() -> &'static [Topic] {
+    &TOPICS
+}
+
+/// The command that has the first word of a text.
+pub fn topic_of(text: &[u8]) -> Option<Topic> {
+    let (word, _) = next_word(Marks::OfCommands, text)?;
+    for topic in topics() {
+        if topic.names.iter().any(|name| *name == word) {
+            return Some(*topic);
+        }
+    }
+    None
+}

@@ -1,0 +1,4 @@
+mod HeldTexts
+mod Prefixes
+mod Rows
+mod WorkedLines

@@ -1,0 +1,9 @@
+-- A text that is not empty is read by the table.
+use Rattle.std.proofs.Common.{◌≡◌, ℕ, List, [], ◌∷◌, length, false, refl}
+use Rattle.std.specs.Prelude.{◌==◌}
+use Rattle.std.proofs.lemmas.Bool.{true≢false}
+use Rattle.prompt_lines.specs.Words.{rows, spelled_by, text_spelled}
+
+pub filled : (text : List ℕ) → (length text == 0) ≡ false → text_spelled text ≡ spelled_by rows text
+filled [] none = absurd (true≢false none)
+filled (b ∷ bytes) some = refl

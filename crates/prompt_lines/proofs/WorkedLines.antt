@@ -1,0 +1,34 @@
+-- Lines, and what they stand for, computed.
+use Rattle.std.proofs.Common.{◌≡◌, refl}
+use Rattle.std.specs.Prelude.{[], codes}
+use Rattle.prompt_lines.specs.declared.line.Kind.TheVariants as kind
+use Rattle.prompt_lines.specs.declared.line.Look.TheVariants as look
+use Rattle.prompt_lines.specs.Words.{line_of}
+
+temporary_row : line_of (codes "tbreak 5") ≡ record { kind = kind.Temporary; text = codes "break  5" }
+temporary_row = refl
+
+set_row : line_of (codes "  set x[1] = 3") ≡ record { kind = kind.Own; text = codes "set var  x[1] = 3" }
+set_row = refl
+
+set_var_row : line_of (codes "set var x = 3") ≡ record { kind = kind.Own; text = codes "set var  x = 3" }
+set_var_row = refl
+
+hexadecimal_row : line_of (codes "p/x x") ≡ record { kind = kind.Hexadecimal; text = codes "print  x" }
+hexadecimal_row = refl
+
+own_row : line_of (codes "reverse-next 2") ≡ record { kind = kind.Own; text = codes "reverse-next 2" }
+own_row = refl
+
+list_row : line_of (codes "info  b") ≡ record { kind = kind.Own; text = codes "info breakpoints " }
+list_row = refl
+
+look_row : line_of (codes "up 2") ≡ record { kind = kind.Look look.Up; text = codes "step  2" }
+look_row = refl
+
+-- a longer word is another one
+longer_row : line_of (codes "upwards") ≡ record { kind = kind.Own; text = codes "upwards" }
+longer_row = refl
+
+blank_row : line_of (codes "  ") ≡ record { kind = kind.Again; text = [] }
+blank_row = refl

@@ -1,0 +1,149 @@
+-- How the lines are read that people type: each stands for a command line of the debugger, and a kind says what is done with it
+-- (GDB manual; which words there are, and what they stand for, are choices of this project).
+use Rattle.std.specs.Prelude.{ℕ, Bool, true, false, ◌||◌, List, [], ◌∷◌, ◌++◌, drop, take, Option, Some, None, option_and_then, codes, if◌then◌else◌}
+use Rattle.std.specs.List.{prefix_len}
+use Rattle.gang_model.specs.Texts.Spellings.{Word, behind, is_blank, words_of_line}
+use Rattle.gang_model.specs.Texts.CommandText.{is_mark}
+use Rattle.prompt_lines.specs.declared.line.Kind.{Kind}
+use Rattle.prompt_lines.specs.declared.line.Kind.TheVariants as kind
+use Rattle.prompt_lines.specs.declared.line.Look.TheVariants as look
+
+-- a command line of the debugger, cut behind as many bytes as spell a command at most and one more, and what is done with it
+pub record Spelled : Type 0 where
+  pub kind : Kind
+  pub text : List ℕ
+
+-- the words that a line begins with, what is done with it, and the debugger's own words for them
+pub record Row : Type 0 where
+  pub words : List Word
+  pub kind : Kind
+  pub own : List ℕ
+
+abbrev pub row : List Word → Kind → List ℕ → Row
+row words kind own = record { words = words; kind = kind; own = own }
+
+-- all words that people type beside the debugger's own
+abbrev pub rows : List Row
+rows =
+    row (codes "set" ∷ codes "var" ∷ []) kind.Own (codes "set var")
+    ∷ row (codes "set" ∷ codes "variable" ∷ []) kind.Own (codes "set var")
+    ∷ row (codes "set" ∷ codes "record" ∷ []) kind.Own (codes "set record")
+    ∷ row (codes "set" ∷ []) kind.Own (codes "set var")
+    ∷ row (codes "stepi" ∷ []) kind.Own (codes "step")
+    ∷ row (codes "si" ∷ []) kind.Own (codes "step")
+    ∷ row (codes "nexti" ∷ []) kind.Own (codes "next")
+    ∷ row (codes "ni" ∷ []) kind.Own (codes "next")
+    ∷ row (codes "reverse-stepi" ∷ []) kind.Own (codes "reverse-step")
+    ∷ row (codes "rsi" ∷ []) kind.Own (codes "reverse-step")
+    ∷ row (codes "reverse-nexti" ∷ []) kind.Own (codes "reverse-next")
+    ∷ row (codes "rni" ∷ []) kind.Own (codes "reverse-next")
+    ∷ row (codes "run" ∷ []) kind.Own (codes "continue")
+    ∷ row (codes "r" ∷ []) kind.Own (codes "continue")
+    ∷ row (codes "cont" ∷ []) kind.Own (codes "continue")
+    ∷ row (codes "fg" ∷ []) kind.Own (codes "continue")
+    ∷ row (codes "fin" ∷ []) kind.Own (codes "finish")
+    ∷ row (codes "inspect" ∷ []) kind.Own (codes "print")
+    ∷ row (codes "p/d" ∷ []) kind.Own (codes "print")
+    ∷ row (codes "print/d" ∷ []) kind.Own (codes "print")
+    ∷ row (codes "br" ∷ []) kind.Own (codes "break")
+    ∷ row (codes "d" ∷ []) kind.Own (codes "delete")
+    ∷ row (codes "del" ∷ []) kind.Own (codes "delete")
+    ∷ row (codes "delete" ∷ codes "breakpoints" ∷ []) kind.Own (codes "delete")
+    ∷ row (codes "info" ∷ codes "b" ∷ []) kind.Own (codes "info breakpoints")
+    ∷ row (codes "info" ∷ codes "break" ∷ []) kind.Own (codes "info breakpoints")
+    ∷ row (codes "i" ∷ codes "b" ∷ []) kind.Own (codes "info breakpoints")
+    ∷ row (codes "i" ∷ codes "breakpoints" ∷ []) kind.Own (codes "info breakpoints")
+    ∷ row (codes "i" ∷ codes "locals" ∷ []) kind.Own (codes "info locals")
+    ∷ row (codes "where" ∷ []) kind.Own (codes "backtrace")
+    ∷ row (codes "info" ∷ codes "stack" ∷ []) kind.Own (codes "backtrace")
+    ∷ row (codes "exit" ∷ []) kind.Own (codes "quit")
+    ∷ row (codes "tbreak" ∷ []) kind.Temporary (codes "break")
+    ∷ row (codes "tb" ∷ []) kind.Temporary (codes "break")
+    ∷ row (codes "until" ∷ []) kind.Until (codes "break")
+    ∷ row (codes "u" ∷ []) kind.Until (codes "break")
+    ∷ row (codes "advance" ∷ []) kind.Until (codes "break")
+    ∷ row (codes "p/x" ∷ []) kind.Hexadecimal (codes "print")
+    ∷ row (codes "print/x" ∷ []) kind.Hexadecimal (codes "print")
+    ∷ row (codes "undisplay" ∷ []) kind.Undisplay (codes "delete")
+    ∷ row (codes "delete" ∷ codes "display" ∷ []) kind.Undisplay (codes "delete")
+    ∷ row (codes "display" ∷ []) kind.Display (codes "print")
+    ∷ row (codes "list" ∷ []) (kind.Look look.List) (codes "delete")
+    ∷ row (codes "l" ∷ []) (kind.Look look.List) (codes "delete")
+    ∷ row (codes "frame" ∷ []) (kind.Look look.Frame) (codes "delete")
+    ∷ row (codes "f" ∷ []) (kind.Look look.Frame) (codes "delete")
+    ∷ row (codes "up" ∷ []) (kind.Look look.Up) (codes "step")
+    ∷ row (codes "down" ∷ []) (kind.Look look.Down) (codes "step")
+    ∷ row (codes "whatis" ∷ []) (kind.Look look.Type) (codes "print")
+    ∷ row (codes "ptype" ∷ []) (kind.Look look.Type) (codes "print")
+    ∷ row (codes "info" ∷ codes "args" ∷ []) (kind.Look look.Arguments) []
+    ∷ row (codes "i" ∷ codes "args" ∷ []) (kind.Look look.Arguments) []
+    ∷ row (codes "info" ∷ codes "display" ∷ []) (kind.Look look.Displays) []
+    ∷ row (codes "info" ∷ codes "frame" ∷ []) (kind.Look look.Frame) (codes "delete")
+    ∷ row (codes "i" ∷ codes "f" ∷ []) (kind.Look look.Frame) (codes "delete")
+    ∷ row (codes "info" ∷ codes "record" ∷ []) (kind.Look look.Recording) []
+    ∷ row (codes "record" ∷ []) (kind.Look look.Recording) []
+    ∷ row (codes "info" ∷ codes "watchpoints" ∷ []) (kind.Look look.Watches) []
+    ∷ row (codes "i" ∷ codes "watchpoints" ∷ []) (kind.Look look.Watches) []
+    ∷ row (codes "info" ∷ codes "source" ∷ []) (kind.Look look.Source) []
+    ∷ row (codes "info" ∷ codes "line" ∷ []) (kind.Look look.Here) []
+    ∷ row (codes "info" ∷ codes "program" ∷ []) (kind.Look look.Here) []
+    ∷ row (codes "start" ∷ []) (kind.Look look.Here) []
+    ∷ row (codes "help" ∷ []) (kind.Look look.Help) []
+    ∷ row (codes "h" ∷ []) (kind.Look look.Help) []
+    ∷ []
+
+-- a text without the blanks at its beginning
+abbrev pub unblanked : List ℕ → List ℕ
+unblanked text = drop (prefix_len is_blank text) text
+
+-- whether a word ends before this text
+abbrev pub ends_word : List ℕ → Bool
+ends_word [] = true
+ends_word (byte ∷ bytes) = is_blank byte || is_mark byte
+
+-- what follows a word, where the word ends there
+abbrev pub if_ended : Option (List ℕ) → Option (List ℕ)
+if_ended None = None
+if_ended (Some rest) = if ends_word rest then Some rest else None
+
+-- what follows a word that a text begins with, behind blanks
+abbrev pub behind_word : Word → List ℕ → Option (List ℕ)
+behind_word word text = if_ended (behind word (unblanked text))
+
+-- what follows words that a text begins with
+abbrev pub behind_words : List Word → List ℕ → Option (List ℕ)
+behind_words [] text = Some text
+behind_words (word ∷ words) text = option_and_then (behind_words words) (behind_word word text)
+
+-- what is held of a command line: one of more than 256 bytes spells no command, whatever follows
+abbrev pub held_text : List ℕ → List ℕ
+held_text text = take 257 text
+
+-- a line that begins with the words of a row, else another reading
+abbrev pub row_or : Option (List ℕ) → Row → Spelled → Spelled
+row_or None row other = other
+row_or (Some rest) row other = record { kind = row.kind; text = held_text (row.own ++ 32 ∷ rest) }
+
+-- a text by a table: the first row whose words it begins with, else the debugger's own words
+abbrev pub spelled_by : List Row → List ℕ → Spelled
+spelled_by [] text = record { kind = kind.Own; text = held_text text }
+spelled_by (row ∷ rows) text = row_or (behind_words row.words text) row (spelled_by rows text)
+
+-- a text that has no blank at its beginning
+abbrev pub text_spelled : List ℕ → Spelled
+text_spelled [] = record { kind = kind.Again; text = [] }
+text_spelled (byte ∷ bytes) = spelled_by rows (byte ∷ bytes)
+
+-- what a line stands for, its LF not included
+abbrev pub line_of : List ℕ → Spelled
+line_of line = text_spelled (unblanked line)
+
+-- one word alone
+abbrev pub is_one : List Word → Bool
+is_one [] = false
+is_one (word ∷ []) = true
+is_one (word ∷ other ∷ words) = false
+
+-- whether a command line is one word alone
+abbrev pub is_alone : List ℕ → Bool
+is_alone text = is_one (words_of_line is_mark text)

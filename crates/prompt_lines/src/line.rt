@@ -1,0 +1,64 @@
+//! What a line of the prompt stands for.
+use arrayvec::ArrayVec;
+
+/// How many bytes of a command line are held. One of more than 256 bytes spells no command, whatever they are.
+pub const HELD: usize = 257;
+
+/// A command line of the debugger, or the front of one that is too long.
+pub type Text = ArrayVec<u8, HELD>;
+
+/// What is looked at: nothing is done, and nothing changes in the debugger.
+#[derive(Clone, Copy, Debug, PartialEq, Eq)]
+pub enum Look {
+    /// Lines of the source.
+    List,
+    /// A frame.
+    Frame,
+    /// The frame of the caller.
+    Up,
+    /// The frame that was called.
+    Down,
+    /// The type of a variable.
+    Type,
+    /// The parameters of the function.
+    Arguments,
+    /// What is displayed after each move.
+    Displays,
+    /// How much can be taken back.
+    Recording,
+    /// The watches.
+    Watches,
+    /// The source.
+    Source,
+    /// Where the program stands.
+    Here,
+    /// What commands there are, or what one does.
+    Help,
+}
+
+/// What is done with a command line.
+#[derive(Clone, Copy, Debug, PartialEq, Eq)]
+pub enum Kind {
+    /// A blank line: the last line again, if it repeats.
+    Again,
+    /// The command is done.
+    Own,
+    /// A breakpoint, which goes once it has stopped a move.
+    Temporary,
+    /// The program goes on to a line.
+    Until,
+    /// What is printed is written in hexadecimal digits.
+    Hexadecimal,
+    /// What is printed is printed again after each move.
+    Display,
+    /// What has the number is displayed no more.
+    Undisplay,
+    Look(Look),
+}
+
+/// A command line of the debugger, and what is done with it.
+#[derive(Debug, Drop)]
+pub struct PromptLine {
+    pub kind: Kind,
+    pub text: Text,
+}

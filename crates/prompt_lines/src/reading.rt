@@ -1,0 +1,131 @@
+//! How a line is read.
+ghost use Rattle.std.specs.Prelude.{◌≡◌, ◌≤◌, ◌++◌, ◌∷◌, length, map};
+ghost use Rattle.std.specs.List.{prefix_len};
+ghost use Rattle.gang_model.specs.Texts.CommandText as text;
+ghost use Rattle.gang_model.specs.Texts.Spellings as spelling;
+ghost use Rattle.debug_commands.specs.LineWords.{texts};
+ghost use Rattle.prompt_lines.specs.Readings.{bytes_option, row_view, spelled};
+ghost use Rattle.prompt_lines.specs.Words as spec;
+
+use crate::line::{HELD, Kind, PromptLine, Text};
+use crate::table::{ROWS, Row};
+use debug_words::{Marks, is_blank, next_word};
+
+/// What a line stands for, its line feed not included. It takes no memory and never fails.
+pub fn read_line(line: &[u8]) -> PromptLine
+    ensures { spelled result ≡ spec.line_of line.now }
+{
+    let text = unblanked(line);
+    if text.is_empty() {
+        return PromptLine {
+            kind: Kind::Again,
+            text: Text::new(),
+        };
+    }
+    spelled_by(&ROWS, text)
+}
+
+/// The first row whose words the text begins with, else the debugger's own words.
+fn spelled_by(rows: &[Row], text: &[u8]) -> PromptLine
+    ensures { spelled result ≡ spec.spelled_by (map row_view rows.now) text.now }
+{
+    for Row(words, kind, own) in rows {
+        if let Some(rest) = behind_words(words, text) {
+            return PromptLine {
+                kind: *kind,
+                text: joined(own, rest),
+            };
+        }
+    }
+    PromptLine {
+        kind: Kind::Own,
+        text: held_line(text),
+    }
+}
+
+/// What follows words that the text begins with.
+fn behind_words<'a>(words: &[&[u8]], text: &'a [u8]) -> Option<&'a [u8]>
+    ensures { bytes_option result ≡ spec.behind_words (texts words.now) text.now }
+{
+    let mut rest = text;
+    for word in words {
+        rest = behind_word(word, rest)?;
+    }
+    Some(rest)
+}
+
+/// What follows a word that the text begins with, behind blanks.
+fn behind_word<'a>(word: &[u8], text: &'a [u8]) -> Option<&'a [u8]>
+    ensures { bytes_option result ≡ spec.behind_word word.now text.now }
+{
+    let rest = unblanked(text).strip_prefix(word)?;
+    if ends_word(rest) { Some(rest) } else { None }
+}
+
+/// Whether a word ends before this text.
+fn ends_word(text: &[u8]) -> bool
+    ensures { result ≡ spec.ends_word text.now }
+{
+    match text {
+        [] => true,
+        [first, ..] => is_blank(*first) || matches!(*first, b'[' | b']' | b'='),
+    }
+}
+
+/// How many blanks a text begins with.
+fn blank_len(text: &[u8]) -> usize
+    ensures run { result ≡ prefix_len spelling.is_blank text.now }
+    ensures within { result ≤ length text.now }
+{
+    text.iter().take_while(|byte| is_blank(**byte)).count()
+}
+
+/// A text without the blanks at its beginning.
+fn unblanked(text: &[u8]) -> &[u8]
+    ensures { result.now ≡ spec.unblanked text.now }
+{
+    &text[blank_len(text)..]
+}
+
+/// A command line, as far as it is held.
+pub fn held_line(text: &[u8]) -> Text
+    ensures text { result.items ≡ spec.held_text text.now }
+    ensures few { length result.items ≤ HELD }
+{
+    let mut held = Text::new();
+    hold(&mut held, text);
+    held
+}
+
+/// Words, a blank, and what follows them, as far as they are held.
+fn joined(own: &[u8], rest: &[u8]) -> Text
+    ensures { result.items ≡ spec.held_text (own.now ++ 32 ∷ rest.now) }
+{
+    let mut held = held_line(own);
+    hold(&mut held, b" ");
+    hold(&mut held, rest);
+    held
+}
+
+/// Puts bytes behind what is held, as far as there is room.
+fn hold(held: &mut Text, bytes: &[u8])
+    requires { length held.old.items ≤ HELD }
+    ensures text { held.new.items ≡ spec.held_text (held.old.items ++ bytes.now) }
+    ensures few { length held.new.items ≤ HELD }
+{
+    for byte in bytes {
+        if !held.is_full() {
+            held.push(*byte);
+        }
+    }
+}
+
+/// Whether a command line is one word alone.
+pub fn is_alone(text: &[u8]) -> bool
+    ensures { result ≡ spec.is_alone text.now }
+{
+    let Some((_, rest)) = next_word(Marks::OfCommands, text) else {
+        return false;
+    };
+    next_word(Marks::OfCommands, rest).is_none()
+}

@@ -1,0 +1,23 @@
+//! What a prompt writes: places with their source lines, changed variables, refusals as sentences, and help.
+#![tactic(auto)]
+
+mod answers;
+mod changes;
+mod help;
+mod looks;
+mod page;
+mod parameters;
+mod places;
+mod refusals;
+mod source;
+mod values;
+
+pub use answers::{tell, tell_hexadecimal, tell_move};
+pub use changes::Before;
+pub use looks::{
+    list_lines, show_arguments, show_displayed, show_frame, show_help, show_here, show_marked,
+    show_recording, show_source, show_type, show_watches,
+};
+pub use page::Page;
+pub use refusals::{tell_refused, tell_unknown};
+pub use source::Source;

@@ -1,0 +1,108 @@
+//! Refusals of commands, as sentences with the line and a mark.
+use crate::page::Page;
+use crate::places::put_caret;
+use debug_answers::Refusal;
+use debug_machine::AnswerWriter;
+use debug_words::{Marks, is_blank, next_word};
+use prompt_help::{explanation, topic_of};
+
+/// Writes why a command is refused, and the line with a mark under what it is refused for.
+pub fn tell_refused<O: AnswerWriter + Drop>(refusal: Refusal, line: &[u8], page: &mut Page<O>) {
+    page.put(sentence(refusal));
+    let first = blanks(line);
+    match refusal {
+        Refusal::NoSuchName
+        | Refusal::NoLine
+        | Refusal::OutOfRange
+        | Refusal::Constant
+        | Refusal::NoSuchNumber => {
+            put_marked(line, argument(line).unwrap_or(first), page);
+        }
+        _ => put_marked(line, first, page),
+    }
+}
+
+/// Writes what is wrong with a line that stands for no command: why there is no such command, how one is used, or where help is.
+pub fn tell_unknown<O: AnswerWriter + Drop>(line: &[u8], page: &mut Page<O>) {
+    let first = blanks(line);
+    let text = line.get(first..).unwrap_or(&[]);
+    if let Some(why) = explanation(text) {
+        page.put(why);
+        page.put(b"\n");
+    } else if let Some(topic) = topic_of(text) {
+        page.put(b"C1 BadCommand: the usage is `");
+        page.put(topic.usage);
+        page.put(b"`.\n");
+        put_marked(line, argument(line).unwrap_or(first), page);
+    } else {
+        page.put(b"C1 BadCommand: there is no such command; `help` lists those that there are.\n");
+        put_marked(line, first, page);
+    }
+}
+
+/// Writes a line, and a mark under one of its bytes.
+fn put_marked<O: AnswerWriter + Drop>(line: &[u8], at: usize, page: &mut Page<O>) {
+    page.put(b"    ");
+    for byte in line {
+        page.put(&[visible(*byte)]);
+    }
+    page.put(b"\n    ");
+    put_caret(line, at, page);
+}
+
+/// A byte of a line as it is shown: a terminal would obey a control character.
+fn visible(byte: u8) -> u8 {
+    match byte {
+        b'\t' => byte,
+        0..=31 | 127 => b'?',
+        _ => byte,
+    }
+}
+
+/// How many blanks a line begins with.
+fn blanks(line: &[u8]) -> usize {
+    line.iter().take_while(|byte| is_blank(**byte)).count()
+}
+
+/// Where the last word of a line begins that no mark comes before, behind the first word.
+fn argument(line: &[u8]) -> Option<usize> {
+    let (_, rest) = next_word(Marks::OfCommands, line)?;
+    let (word, behind) = next_word(Marks::OfCommands, rest)?;
+    let mut place = start_of(line, word, behind);
+    if word == b"var".as_slice() || word == b"variable".as_slice() {
+        let (word, behind) = next_word(Marks::OfCommands, behind)?;
+        place = start_of(line, word, behind);
+    }
+    Some(place)
+}
+
+/// Where a word of a line begins, by what follows it.
+fn start_of(line: &[u8], word: &[u8], behind: &[u8]) -> usize {
+    line.len()
+        .saturating_sub(behind.len())
+        .saturating_sub(word.len())
+}
+
+/// A refusal's number, its name and what it means.
+fn sentence(refusal: Refusal) -> &'static [u8] {
+    match refusal {
+        Refusal::BadCommand => b"C1 BadCommand: this is no command.\n",
+        Refusal::NoSuchName =>
+            b"C2 NoSuchName: no variable of this name is in scope or of the file, or it has no such part; only variables of the file are watched.\n",
+        Refusal::NoHistory => b"C3 NoHistory: nothing is kept that could be taken back.\n",
+        Refusal::Ended =>
+            b"C4 Ended: the program has ended; `reverse-step` or `reverse-continue` goes back into it.\n",
+        Refusal::Outermost =>
+            b"C6 Outermost: this is the outermost frame, which no other called.\n",
+        Refusal::NoLine => b"C7 NoLine: no line from there on has a step.\n",
+        Refusal::OutOfRange =>
+            b"C8 OutOfRange: the index is past the end, the type has no such value, or the history limit is above 65536.\n",
+        Refusal::Constant => b"C9 Constant: constants and the indices of foreach are not set.\n",
+        Refusal::NoSuchNumber =>
+            b"C10 NoSuchNumber: no breakpoint or watch has this number; `info breakpoints` lists them.\n",
+        Refusal::TableFull =>
+            b"C11 TableFull: 64 breakpoints and watches are there; `delete N` makes room.\n",
+        Refusal::Memory =>
+            b"C12 Memory: there is no memory for so long a history; the limit is as before.\n",
+    }
+}
