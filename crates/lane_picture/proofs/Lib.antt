@@ -1,0 +1,4 @@
+pub mod SeenColumns
+pub mod Trying
+pub mod Counting
+pub mod Telling

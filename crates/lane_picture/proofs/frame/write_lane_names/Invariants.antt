@@ -1,0 +1,6 @@
+-- the writer works
+use Rattle.std.proofs.Common.{◌≡◌, false}
+use Rattle.lane_picture.proofs.frame.write_lane_names.Given as goal
+
+abbrev pub invariant-loop-lane : goal.invariant-loop-lane
+invariant-loop-lane g l = g.O.AnswerWriter.has_failed l.writer ≡ false

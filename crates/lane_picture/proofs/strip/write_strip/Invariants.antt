@@ -1,0 +1,9 @@
+-- the writer works
+use Rattle.std.proofs.Common.{◌≡◌, false}
+use Rattle.lane_picture.proofs.strip.write_strip.Given as goal
+
+abbrev pub invariant-loop-row : goal.invariant-loop-row
+invariant-loop-row g l = g.O.AnswerWriter.has_failed l.writer ≡ false
+
+abbrev pub invariant-loop-index : goal.invariant-loop-index
+invariant-loop-index g l = g.O.AnswerWriter.has_failed l.writer ≡ false

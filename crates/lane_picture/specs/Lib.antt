@@ -1,0 +1,4 @@
+pub mod Runs
+pub mod Tries
+pub mod Seen
+pub mod Pictures

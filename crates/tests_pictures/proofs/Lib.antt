@@ -1,0 +1,2 @@
+mod RunRows
+mod PageRows

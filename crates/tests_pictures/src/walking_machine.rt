@@ -1,0 +1,142 @@
+//! A machine that goes over some places.
+use debug_machine::{Fault, NamedVariable, NextLocal, Position, RecordedMachine, Shown, StepEnd};
+use gang_types::{IntType, Mask, Place, Rate, VarId};
+use std::alloc::AllocError;
+use undo_log::{NoHistory, Undone};
+
+/// How many places it goes over.
+pub const PLACES: u32 = 5;
+
+/// Goes over a place a line, the fourth one in a call; only lane 1 of 4 does the third. It may fault before a line, counts how often a step was tried,
+/// and its only variable is `x`, which is the number of the place in all lanes.
+#[derive(Drop)]
+pub struct WalkingMachine {
+    at: u32,
+    tries: u32,
+    fault: Option<(u32, Fault)>,
+}
+
+impl WalkingMachine {
+    /// A machine at the first place, which faults before a line, if one is given.
+    pub fn new(fault: Option<(u32, Fault)>) -> Self {
+        WalkingMachine {
+            at: 0,
+            tries: 0,
+            fault,
+        }
+    }
+
+    /// How often a step was tried.
+    pub fn tries(&self) -> u32 {
+        self.tries
+    }
+
+    fn line(&self) -> u32 {
+        self.at.saturating_add(1)
+    }
+}
+
+// It stands for no program, so that only its answers count.
+impl RecordedMachine for WalkingMachine {
+    ghost use Rattle.std.specs.Prelude.{[]};
+
+    ghost stands = { λ _ _ _. ⊥ };
+
+    ghost history = { λ _. record { words = []; past = []; limit = 0; room = 0 } };
+
+    ghost locals_from = { λ _ _ _ _. [] };
+
+    fn step(&mut self) -> StepEnd {
+        self.tries = self.tries.saturating_add(1);
+        if self.at >= PLACES {
+            return StepEnd::Ended;
+        }
+        match self.fault {
+            Some((line, fault)) if line == self.line() => StepEnd::Fault(fault),
+            _ => {
+                self.at = self.at.saturating_add(1);
+                StepEnd::Done
+            }
+        }
+    }
+
+    fn undo(&mut self) -> Result<Undone, NoHistory> {
+        Err(NoHistory)
+    }
+
+    fn poke(&mut self, _shown: Shown, _at: Option<u32>, _word: u64) {}
+
+    fn kept(&self) -> usize {
+        0
+    }
+
+    fn kept_steps(&self) -> usize {
+        0
+    }
+
+    fn limit(&self) -> usize {
+        0
+    }
+
+    fn set_limit(&mut self, _limit: usize) -> Result<(), AllocError> {
+        Err(AllocError)
+    }
+
+    fn position(&self) -> Option<Position<'_>> {
+        if self.at >= PLACES {
+            return None;
+        }
+        Some(Position {
+            place: Place {
+                line: self.line(),
+                col: 1,
+            },
+            function: b"go",
+            depth: if self.at == 3 { 2 } else { 1 },
+            width: 4,
+            lanes: if self.at == 2 {
+                Mask::only::<4>(1)
+            } else {
+                Mask::all::<4>()
+            },
+        })
+    }
+
+    fn call(&self, _depth: usize) -> Option<Position<'_>> {
+        None
+    }
+
+    fn find(&self, name: &[u8]) -> Option<Shown> {
+        if name != b"x".as_slice() {
+            return None;
+        }
+        Some(Shown {
+            id: VarId::File(0),
+            value_type: IntType::Int32,
+            rate: Rate::Varying,
+            is_array: false,
+            is_constant: false,
+            count: 4,
+        })
+    }
+
+    fn find_in_file(&self, _name: &[u8]) -> Option<usize> {
+        None
+    }
+
+    fn file_variable(&self, _number: usize) -> Option<NamedVariable<'_>> {
+        None
+    }
+
+    fn next_local(&self, _from: usize) -> Option<NextLocal<'_>> {
+        None
+    }
+
+    fn word(&self, _shown: Shown, _index: usize) -> u64 {
+        u64::from(self.at)
+    }
+
+    fn line_from(&self, _line: u32) -> Option<u32> {
+        None
+    }
+}
