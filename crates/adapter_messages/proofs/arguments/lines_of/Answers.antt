@@ -1,0 +1,8 @@
+use Rattle.adapter_messages.specs.Arguments.{line_in}
+use Rattle.adapter_messages.proofs.Lists.{each_next}
+use Rattle.adapter_messages.proofs.arguments.lines_of.Goals as goal
+
+pub loop-breakpoint-preserved : goal.loop-breakpoint-preserved
+loop-breakpoint-preserved c =
+    each_next line_in _ c.loop-breakpoint.breakpoint-index c.breakpoint-item.result c.loop-breakpoint.lines.items c.push.new.list.items c.in_ok-line.line
+    c.loop-breakpoint-test.true c.breakpoint-item.is c.loop-breakpoint.invariant c.in_ok-line.ensures c.in_ok-push.ensures

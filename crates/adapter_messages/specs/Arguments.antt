@@ -1,0 +1,107 @@
+-- What a request says.
+use Rattle.std.specs.Prelude.{◌≡◌, ℕ, Bool, false, List, [], ◌∷◌, map, Option, Some, None, codes, option_and_then, option_map, unwrap_or}
+use Rattle.std.specs.Borrow.{Bor}
+use Rattle.serde_json.specs.Data.{Data, Items, item, no_items}
+use Rattle.serde_json.specs.Find.{as_array, as_bool, as_number, as_str, as_u64, get, pointer}
+use Rattle.gang_model.specs.Source.Names.{same_text}
+use Rattle.gang_model.specs.Texts.Text.{Bytes}
+use Rattle.adapter_requests.specs.declared.request.Launch.{Launch}
+use Rattle.adapter_requests.specs.declared.request.Request.{Request}
+use Rattle.adapter_requests.specs.declared.request.Request.TheVariants as request
+use Rattle.adapter_messages.specs.declared.names.Name.{Name}
+use Rattle.adapter_messages.specs.declared.names.Name.TheVariants as name
+use Rattle.adapter_messages.specs.Names.{named}
+
+-- a text, a number or a truth value at a place of a message
+abbrev pub text_at : (path : Bytes) → Data → Option Bytes
+text_at path message = option_and_then as_str (pointer path message)
+
+abbrev pub number_at : (path : Bytes) → Data → Option ℕ
+number_at path message = option_and_then as_u64 (option_and_then as_number (pointer path message))
+
+abbrev pub flag_at : (path : Bytes) → Data → Option Bool
+flag_at path message = option_and_then as_bool (pointer path message)
+
+-- a text that may be there
+abbrev pub text_of : Option (Bor Bytes) → Option Bytes
+text_of text = option_map (λ t. t.now) text
+
+-- the arguments of a launch
+pub record IsLaunch (message : Data) (launch : Launch) : Type 0 where
+  pub program : text_at (codes "/arguments/program") message ≡ Some launch.program.now
+  pub input : text_at (codes "/arguments/input") message ≡ text_of launch.input
+  pub entry : text_at (codes "/arguments/entry") message ≡ text_of launch.entry
+  pub width : number_at (codes "/arguments/width") message ≡ launch.width
+  pub history : number_at (codes "/arguments/history") message ≡ launch.history
+  pub steps : number_at (codes "/arguments/steps") message ≡ launch.steps
+
+-- whether an expression stands in the console
+abbrev pub in_console : Option Bytes → Bool
+in_console None = false
+in_console (Some context) = same_text context (codes "repl")
+
+-- a value in front of others, if each is there
+abbrev pub in_front : {A : Type 0} → Option A → Option (List A) → Option (List A)
+in_front None others = None
+in_front (Some x) None = None
+in_front (Some x) (Some xs) = Some (x ∷ xs)
+
+-- the line of a breakpoint
+abbrev pub line_in : Data → Option ℕ
+line_in d = option_and_then as_u64 (option_and_then as_number (get (codes "line") d))
+
+-- the target of a watch
+abbrev pub target_in : Data → Option Bytes
+target_in d = option_and_then as_str (get (codes "dataId") d)
+
+-- what is read of each of a list, if it can be read of each
+abbrev pub each_in : {A : Type 0} → (Data → Option A) → Items → Option (List A)
+each_in read no_items = Some []
+each_in read (item d ds) = in_front (read d) (each_in read ds)
+
+-- the line of each breakpoint of a list, if each has one
+abbrev pub lines_in : Items → Option (List ℕ)
+lines_in items = each_in line_in items
+
+-- the target of each watch of a list, if each has one
+abbrev pub targets_in : Items → Option (List Bytes)
+targets_in items = each_in target_in items
+
+-- the breakpoints that a message lists; none where it has no list
+abbrev pub breakpoints_of : Data → Items
+breakpoints_of message = unwrap_or (option_and_then as_array (pointer (codes "/arguments/breakpoints") message)) no_items
+
+-- a message is a request of a name
+abbrev pub IsRequestNamed : Name → Data → Request → Type 0
+IsRequestNamed name.Initialize message request.Initialize = Unit {0}
+IsRequestNamed name.Launch message (request.Launch launch) = IsLaunch message launch
+IsRequestNamed name.SetBreakpoints message (request.SetBreakpoints source lines) = (text_at (codes "/arguments/source/path") message ≡ text_of source) × (lines_in (breakpoints_of message) ≡ Some lines.items)
+IsRequestNamed name.SetExceptionBreakpoints message request.SetExceptionBreakpoints = Unit {0}
+IsRequestNamed name.DataBreakpointInfo message (request.DataBreakpointInfo text) = text_at (codes "/arguments/name") message ≡ Some text.now
+IsRequestNamed name.SetDataBreakpoints message (request.SetDataBreakpoints targets) = targets_in (breakpoints_of message) ≡ Some (map (λ target. target.now) targets.items)
+IsRequestNamed name.ConfigurationDone message request.ConfigurationDone = Unit {0}
+IsRequestNamed name.Threads message request.Threads = Unit {0}
+IsRequestNamed name.StackTrace message request.StackTrace = Unit {0}
+IsRequestNamed name.Scopes message request.Scopes = Unit {0}
+IsRequestNamed name.Variables message (request.Variables reference) = number_at (codes "/arguments/variablesReference") message ≡ Some reference
+IsRequestNamed name.SetVariable message (request.SetVariable text value) = (text_at (codes "/arguments/name") message ≡ Some text.now) × (text_at (codes "/arguments/value") message ≡ Some value.now)
+IsRequestNamed name.Evaluate message (request.Evaluate expression is_console) = (text_at (codes "/arguments/expression") message ≡ Some expression.now) × (is_console ≡ in_console (text_at (codes "/arguments/context") message))
+IsRequestNamed name.Next message request.Next = Unit {0}
+IsRequestNamed name.StepIn message request.StepIn = Unit {0}
+IsRequestNamed name.StepOut message request.StepOut = Unit {0}
+IsRequestNamed name.Continue message request.Continue = Unit {0}
+IsRequestNamed name.StepBack message request.StepBack = Unit {0}
+IsRequestNamed name.ReverseContinue message request.ReverseContinue = Unit {0}
+IsRequestNamed name.Restart message request.Restart = Unit {0}
+IsRequestNamed name.Disconnect message request.Disconnect = Unit {0}
+IsRequestNamed name message request = ⊥
+
+-- a message is a request of a name that is known, or of another one
+abbrev pub IsRequestOf : Option Name → (command : Bytes) → Data → Request → Type 0
+IsRequestOf None command message (request.Unknown text) = text.now ≡ command
+IsRequestOf None command message request = ⊥
+IsRequestOf (Some name) command message request = IsRequestNamed name message request
+
+-- a message with a command is a request
+abbrev pub IsRequest : (command : Bytes) → Data → Request → Type 0
+IsRequest command message request = IsRequestOf (named command) command message request

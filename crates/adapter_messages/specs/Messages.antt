@@ -1,0 +1,52 @@
+-- The messages of the protocol.
+use Rattle.std.specs.Prelude.{ℕ, true, false, codes}
+use Rattle.serde_json.specs.Data.{Data, boolean, member, no_members, number, object, string, unsigned}
+use Rattle.gang_model.specs.Texts.Text.{Bytes}
+use Rattle.adapter_requests.specs.declared.reply.StopReason.{StopReason}
+use Rattle.adapter_requests.specs.declared.reply.StopReason.TheVariants as reason
+
+-- a number
+abbrev pub natural : ℕ → Data
+natural n = number (unsigned n)
+
+-- the reply to a request that is done; members stand in the order of their keys
+abbrev pub response : (seq request : ℕ) → (command : Bytes) → (body : Data) → Data
+response seq request command body = object
+    (member (codes "body") body
+    (member (codes "command") (string command)
+    (member (codes "request_seq") (natural request)
+    (member (codes "seq") (natural seq)
+    (member (codes "success") (boolean true)
+    (member (codes "type") (string (codes "response")) no_members))))))
+
+-- what a refused request is told
+abbrev pub error_body : (text : Bytes) → Data
+error_body text = object (member (codes "error") (object (member (codes "format") (string text) (member (codes "id") (natural 1) no_members))) no_members)
+
+-- the reply to a request that is refused
+abbrev pub failure : (seq request : ℕ) → (command text : Bytes) → Data
+failure seq request command text = object
+    (member (codes "body") (error_body text)
+    (member (codes "command") (string command)
+    (member (codes "message") (string text)
+    (member (codes "request_seq") (natural request)
+    (member (codes "seq") (natural seq)
+    (member (codes "success") (boolean false)
+    (member (codes "type") (string (codes "response")) no_members)))))))
+
+-- an event
+abbrev pub event : (seq : ℕ) → (name : Bytes) → (body : Data) → Data
+event seq name body = object
+    (member (codes "body") body
+    (member (codes "event") (string name)
+    (member (codes "seq") (natural seq)
+    (member (codes "type") (string (codes "event")) no_members))))
+
+-- the protocol's word for why a program stands still
+abbrev pub reason_text : StopReason → Bytes
+reason_text reason.Entry = codes "entry"
+reason_text reason.Step = codes "step"
+reason_text (reason.Breakpoint n) = codes "breakpoint"
+reason_text (reason.DataBreakpoint n) = codes "data breakpoint"
+reason_text reason.Exception = codes "exception"
+reason_text reason.Pause = codes "pause"

@@ -1,0 +1,11 @@
+//! The messages of the Debug Adapter Protocol: requests from JSON, and replies and events as JSON.
+#![tactic(auto)]
+
+mod arguments;
+mod bodies;
+mod names;
+mod replies;
+mod requests;
+
+pub use replies::{event_message, failure_message, output_body, reply_message, stop_body};
+pub use requests::{Head, RequestFault, read_head, read_request};

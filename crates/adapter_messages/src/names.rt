@@ -1,0 +1,76 @@
+//! The names of the requests that are known.
+ghost use Rattle.std.specs.Prelude.{◌≡◌, map};
+ghost use Rattle.adapter_messages.specs.Names.{find_named, named, pair_view};
+
+use debug_words::is_same;
+
+/// A request that is known.
+#[derive(Clone, Copy, Debug, PartialEq, Eq)]
+pub(crate) enum Name {
+    Initialize,
+    Launch,
+    SetBreakpoints,
+    SetExceptionBreakpoints,
+    DataBreakpointInfo,
+    SetDataBreakpoints,
+    ConfigurationDone,
+    Threads,
+    StackTrace,
+    Scopes,
+    Variables,
+    SetVariable,
+    Evaluate,
+    Next,
+    StepIn,
+    StepOut,
+    Continue,
+    StepBack,
+    ReverseContinue,
+    Restart,
+    Disconnect,
+}
+
+/// The requests that are known, by their commands.
+const NAMES: [(&str, Name); 22] = [
+    ("initialize", Name::Initialize),
+    ("launch", Name::Launch),
+    ("setBreakpoints", Name::SetBreakpoints),
+    ("setExceptionBreakpoints", Name::SetExceptionBreakpoints),
+    ("dataBreakpointInfo", Name::DataBreakpointInfo),
+    ("setDataBreakpoints", Name::SetDataBreakpoints),
+    ("configurationDone", Name::ConfigurationDone),
+    ("threads", Name::Threads),
+    ("stackTrace", Name::StackTrace),
+    ("scopes", Name::Scopes),
+    ("variables", Name::Variables),
+    ("setVariable", Name::SetVariable),
+    ("evaluate", Name::Evaluate),
+    ("next", Name::Next),
+    ("stepIn", Name::StepIn),
+    ("stepOut", Name::StepOut),
+    ("continue", Name::Continue),
+    ("stepBack", Name::StepBack),
+    ("reverseContinue", Name::ReverseContinue),
+    ("restart", Name::Restart),
+    ("disconnect", Name::Disconnect),
+    ("terminate", Name::Disconnect),
+];
+
+/// The request of a command, if it is known.
+pub(crate) fn named(command: &str) -> Option<Name>
+    ensures { result ≡ named command.now }
+{
+    find(&NAMES, command)
+}
+
+/// The first request of a command in a list.
+fn find(names: &[(&str, Name)], command: &str) -> Option<Name>
+    ensures { result ≡ find_named (map pair_view names.now) command.now }
+{
+    for (text, name) in names {
+        if is_same(text.as_bytes(), command.as_bytes()) {
+            return Some(*name);
+        }
+    }
+    None
+}

@@ -1,0 +1,133 @@
+//! Replies and events as JSON.
+ghost use Rattle.std.specs.Prelude.{◌≡◌, IfOk, codes, string_bytes};
+ghost use Rattle.serde_json.specs.View.{view};
+ghost use Rattle.adapter_messages.specs.Messages.{event, failure, reason_text, response};
+
+use crate::bodies::body_of;
+use crate::requests::Head;
+use adapter_requests::{Reply, StopReason};
+use serde_json::{Value, json};
+use std::alloc::{AllocError, Global};
+
+/// The reply to a request, as the message of a number; the program's source has this path.
+///
+/// # Errors
+///
+/// Out of memory.
+pub fn reply_message(
+    alloc: Global,
+    number: u64,
+    head: Head<'_>,
+    program: &str,
+    reply: &Reply,
+) -> Result<Value, AllocError> {
+    match reply {
+        Reply::Refused(text) => failure_message(alloc, number, head, text.as_str()),
+        Reply::OutOfMemory => failure_message(alloc, number, head, "out of memory"),
+        _ => {
+            let body = body_of(alloc, program, reply)?;
+            response_message(alloc, number, head, body)
+        }
+    }
+}
+
+/// The reply to a request that is done, with what it tells.
+fn response_message(
+    alloc: Global,
+    number: u64,
+    head: Head<'_>,
+    body: Value,
+) -> Result<Value, AllocError>
+    ensures { IfOk result (λ v. view v ≡ response number head.entry.number head.entry.command.now (view body)) }
+{
+    let request = head.number;
+    let command = head.command;
+    json!(in alloc; {
+        "seq": number,
+        "type": "response",
+        "request_seq": request,
+        "success": true,
+        "command": command,
+        "body": body
+    })
+}
+
+/// The reply to a request that is refused, with the reason.
+pub fn failure_message(
+    alloc: Global,
+    number: u64,
+    head: Head<'_>,
+    text: &str,
+) -> Result<Value, AllocError>
+    ensures { IfOk result (λ v. view v ≡ failure number head.entry.number head.entry.command.now text.now) }
+{
+    let request = head.number;
+    let command = head.command;
+    json!(in alloc; {
+        "seq": number,
+        "type": "response",
+        "request_seq": request,
+        "success": false,
+        "command": command,
+        "message": text,
+        "body": {"error": {"id": 1u64, "format": text}}
+    })
+}
+
+/// An event of this name, with what it tells.
+pub fn event_message(
+    alloc: Global,
+    number: u64,
+    name: &str,
+    body: Value,
+) -> Result<Value, AllocError>
+    ensures { IfOk result (λ v. view v ≡ event number name.now (view body)) }
+{
+    json!(in alloc; {
+        "seq": number,
+        "type": "event",
+        "event": name,
+        "body": body
+    })
+}
+
+/// What the event of a stop tells: why the program stands still, and the debugger's text of it.
+pub fn stop_body(alloc: Global, reason: StopReason, text: &str) -> Result<Value, AllocError> {
+    let why = reason_text(reason);
+    match reason {
+        StopReason::Breakpoint(id) | StopReason::DataBreakpoint(id) => json!(in alloc; {
+            "reason": why,
+            "description": text,
+            "text": text,
+            "threadId": 1u64,
+            "allThreadsStopped": true,
+            "hitBreakpointIds": [id]
+        }),
+        _ => json!(in alloc; {
+            "reason": why,
+            "description": text,
+            "text": text,
+            "threadId": 1u64,
+            "allThreadsStopped": true
+        }),
+    }
+}
+
+/// The protocol's word for why a program stands still.
+fn reason_text(reason: StopReason) -> &'static str
+    ensures { result.now ≡ reason_text reason }
+{
+    match reason {
+        StopReason::Entry => "entry",
+        StopReason::Step => "step",
+        StopReason::Breakpoint(_) => "breakpoint",
+        StopReason::DataBreakpoint(_) => "data breakpoint",
+        StopReason::Exception => "exception",
+        StopReason::Pause => "pause",
+    }
+}
+
+/// What the event of an output tells: a text for the console.
+pub fn output_body(alloc: Global, text: &str) -> Result<Value, AllocError> {
+    json!(in alloc; {"category": "console", "output": text})
+}

@@ -1,0 +1,174 @@
+//! Requests from JSON.
+ghost use Rattle.std.specs.Prelude.{◌≡◌, IfOk, IfSome, Some, codes, option_and_then};
+ghost use Rattle.serde_json.specs.Find.{as_number, as_str, as_u64, get};
+ghost use Rattle.serde_json.specs.View.{view};
+ghost use Rattle.adapter_messages.specs.Arguments.{IsRequest, IsRequestNamed, text_of};
+
+use crate::arguments::{flag_at, lines_of, number_at, targets_of, text_at};
+use crate::names::{Name, named};
+use adapter_requests::{Launch, Request};
+use debug_words::is_same;
+use serde_json::Value;
+use std::alloc::{AllocError, Global};
+use thiserror::Error;
+
+/// Why a message is not taken as a request.
+#[derive(Clone, Copy, Debug, PartialEq, Eq, Error)]
+pub enum RequestFault {
+    /// An argument is not there, or is of another type.
+    #[error("the argument `{0}` is missing or of a wrong type")]
+    Argument(&'static str),
+    #[error("out of memory")]
+    Memory,
+}
+
+impl From<AllocError> for RequestFault {
+    fn from(_: AllocError) -> Self {
+        RequestFault::Memory
+    }
+}
+
+/// The number and the command of a request.
+#[derive(Clone, Copy)]
+pub struct Head<'a> {
+    pub number: u64,
+    pub command: &'a str,
+}
+
+/// The number and the command of a message, if it has both.
+pub fn read_head(message: &Value) -> Option<Head<'_>>
+    ensures { IfSome result (λ head.
+        (option_and_then as_u64 (option_and_then as_number (get (codes "seq") (view message.now))) ≡ Some head.number)
+        × (option_and_then as_str (get (codes "command") (view message.now)) ≡ Some head.command.now)) }
+{
+    let number = message.get("seq").and_then(Value::as_u64)?;
+    let command = message.get("command").and_then(Value::as_str)?;
+    Some(Head { number, command })
+}
+
+/// The request that a message with a command is.
+///
+/// # Errors
+///
+/// An argument that the request needs is missing or of a wrong type; or out of memory.
+pub fn read_request<'a>(
+    alloc: Global,
+    command: &'a str,
+    message: &'a Value,
+) -> Result<Request<'a>, RequestFault>
+    ensures { IfOk result (λ request. IsRequest command.now (view message.now) request) }
+{
+    let Some(name) = named(command) else {
+        return Ok(Request::Unknown(command));
+    };
+    match name {
+        Name::Initialize => Ok(Request::Initialize),
+        Name::Launch => read_launch(message),
+        Name::SetBreakpoints => read_breakpoints(alloc, message),
+        Name::SetExceptionBreakpoints => Ok(Request::SetExceptionBreakpoints),
+        Name::DataBreakpointInfo => read_information(message),
+        Name::SetDataBreakpoints => read_watches(alloc, message),
+        Name::ConfigurationDone => Ok(Request::ConfigurationDone),
+        Name::Threads => Ok(Request::Threads),
+        Name::StackTrace => Ok(Request::StackTrace),
+        Name::Scopes => Ok(Request::Scopes),
+        Name::Variables => read_variables(message),
+        Name::SetVariable => read_set_variable(message),
+        Name::Evaluate => read_evaluate(message),
+        Name::Next => Ok(Request::Next),
+        Name::StepIn => Ok(Request::StepIn),
+        Name::StepOut => Ok(Request::StepOut),
+        Name::Continue => Ok(Request::Continue),
+        Name::StepBack => Ok(Request::StepBack),
+        Name::ReverseContinue => Ok(Request::ReverseContinue),
+        Name::Restart => Ok(Request::Restart),
+        Name::Disconnect => Ok(Request::Disconnect),
+    }
+}
+
+/// A launch.
+fn read_launch(message: &Value) -> Result<Request<'_>, RequestFault>
+    ensures { IfOk result (λ request. IsRequestNamed Name.Launch (view message.now) request) }
+{
+    let program = needed(text_at(message, "/arguments/program"), "program")?;
+    Ok(Request::Launch(Launch {
+        program,
+        input: text_at(message, "/arguments/input"),
+        entry: text_at(message, "/arguments/entry"),
+        width: number_at(message, "/arguments/width"),
+        history: number_at(message, "/arguments/history"),
+        steps: number_at(message, "/arguments/steps"),
+        stops_on_entry: flag_at(message, "/arguments/stopOnEntry").unwrap_or(true),
+    }))
+}
+
+/// The breakpoints of a source.
+fn read_breakpoints(alloc: Global, message: &Value) -> Result<Request<'_>, RequestFault>
+    ensures { IfOk result (λ request. IsRequestNamed Name.SetBreakpoints (view message.now) request) }
+{
+    let lines = lines_of(alloc, message)?;
+    Ok(Request::SetBreakpoints {
+        source: text_at(message, "/arguments/source/path"),
+        lines,
+    })
+}
+
+/// Whether a variable can be watched.
+fn read_information(message: &Value) -> Result<Request<'_>, RequestFault>
+    ensures { IfOk result (λ request. IsRequestNamed Name.DataBreakpointInfo (view message.now) request) }
+{
+    let name = needed(text_at(message, "/arguments/name"), "name")?;
+    Ok(Request::DataBreakpointInfo { name })
+}
+
+/// The watches.
+fn read_watches(alloc: Global, message: &Value) -> Result<Request<'_>, RequestFault>
+    ensures { IfOk result (λ request. IsRequestNamed Name.SetDataBreakpoints (view message.now) request) }
+{
+    let targets = targets_of(alloc, message)?;
+    Ok(Request::SetDataBreakpoints { targets })
+}
+
+/// The variables of a reference.
+fn read_variables(message: &Value) -> Result<Request<'_>, RequestFault>
+    ensures { IfOk result (λ request. IsRequestNamed Name.Variables (view message.now) request) }
+{
+    match number_at(message, "/arguments/variablesReference") {
+        Some(reference) => Ok(Request::Variables { reference }),
+        None => Err(RequestFault::Argument("variablesReference")),
+    }
+}
+
+/// A variable that is set.
+fn read_set_variable(message: &Value) -> Result<Request<'_>, RequestFault>
+    ensures { IfOk result (λ request. IsRequestNamed Name.SetVariable (view message.now) request) }
+{
+    let name = needed(text_at(message, "/arguments/name"), "name")?;
+    let value = needed(text_at(message, "/arguments/value"), "value")?;
+    Ok(Request::SetVariable { name, value })
+}
+
+/// An expression that is evaluated.
+fn read_evaluate(message: &Value) -> Result<Request<'_>, RequestFault>
+    ensures { IfOk result (λ request. IsRequestNamed Name.Evaluate (view message.now) request) }
+{
+    let expression = needed(text_at(message, "/arguments/expression"), "expression")?;
+    let is_console = match text_at(message, "/arguments/context") {
+        Some(context) => is_same(context.as_bytes(), b"repl"),
+        None => false,
+    };
+    Ok(Request::Evaluate {
+        expression,
+        is_console,
+    })
+}
+
+/// An argument that must be there.
+fn needed<'a>(text: Option<&'a str>, argument: &'static str) -> Result<&'a str, RequestFault>
+    ensures { IfOk result (λ given. text_of text.entry ≡ Some given.now) }
+{
+    match text {
+        Some(given) => Ok(given),
+        None => Err(RequestFault::Argument(argument)),
+    }
+}

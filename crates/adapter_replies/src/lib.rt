@@ -1,0 +1,13 @@
+//! What the requests of an editor are told, from where a debugger stands after them.
+#![tactic(auto)]
+
+mod frames;
+mod places;
+mod replies;
+mod scopes;
+mod stops;
+mod texts;
+
+pub use replies::reply_to;
+pub use stops::stop_of;
+pub use texts::answer_text;

@@ -1,0 +1,253 @@
+//! What a request is told.
+ghost use Rattle.std.specs.Prelude.{◌≡◌};
+
+use crate::frames::frames;
+use crate::scopes::variables;
+use crate::stops::stop_of;
+use crate::texts::{answer_text, behind_equals};
+use adapter_requests::{Breakpoint, Reply, Request, Stop, StopReason};
+use debug_answers::{Answer, NumberedStop, Refusal, Stop as Kept};
+use debug_commands::{Command, Target, read_command};
+use debug_machine::{RecordedMachine, Shown};
+use gang_types::Rate;
+use std::alloc::{AllocError, Global};
+
+/// What a request is told once its commands are done, by the machine, the breakpoints and watches, and the last answer.
+///
+/// # Errors
+///
+/// Out of memory.
+pub fn reply_to<M: RecordedMachine>(
+    alloc: Global,
+    machine: &M,
+    stops: &[NumberedStop],
+    request: &Request<'_>,
+    is_program: bool,
+    last: Option<Answer<'_>>,
+) -> Result<Reply, AllocError> {
+    match request {
+        Request::SetBreakpoints { source: _, lines } => {
+            let made = breakpoints(alloc, machine, stops, lines, is_program)?;
+            Ok(Reply::Breakpoints(made))
+        }
+        Request::SetDataBreakpoints { targets } => {
+            Ok(Reply::Breakpoints(watches(alloc, machine, stops, targets)?))
+        }
+        Request::DataBreakpointInfo { name } => watchable(alloc, machine, name),
+        Request::SetVariable { .. } => set(alloc, machine, stops, last),
+        Request::Evaluate { is_console, .. } => {
+            evaluated(alloc, machine, stops, *is_console, last)
+        }
+        Request::Next
+        | Request::StepIn
+        | Request::StepOut
+        | Request::Continue
+        | Request::StepBack
+        | Request::ReverseContinue => moved(alloc, machine, stops, last),
+        Request::StackTrace => Ok(Reply::Frames(frames(alloc, machine)?)),
+        Request::Variables { reference } => {
+            Ok(Reply::Variables(variables(alloc, machine, *reference)?))
+        }
+        Request::Scopes => Ok(Reply::Scopes),
+        Request::Threads => Ok(Reply::Threads),
+        Request::Initialize => Ok(Reply::Capabilities),
+        Request::SetExceptionBreakpoints | Request::ConfigurationDone | Request::Disconnect => {
+            Ok(Reply::Done)
+        }
+        Request::Launch(_) | Request::Restart => refused(alloc, "the program is launched already"),
+        Request::Unknown(name) => unknown(alloc, name),
+    }
+}
+
+/// The refusal of a request that is not known.
+fn unknown(alloc: Global, name: &str) -> Result<Reply, AllocError> {
+    Ok(Reply::Refused(format!(in alloc; "no request {name}")?))
+}
+
+/// A refusal by this text.
+fn refused(alloc: Global, text: &str) -> Result<Reply, AllocError> {
+    Ok(Reply::Refused(String::from_str(alloc, text)?))
+}
+
+/// Where a command that moves has led, or why it was refused.
+fn moved<M: RecordedMachine>(
+    alloc: Global,
+    machine: &M,
+    stops: &[NumberedStop],
+    last: Option<Answer<'_>>,
+) -> Result<Reply, AllocError> {
+    let Some(answer) = last else {
+        return Ok(Reply::Done);
+    };
+    if let Answer::Refused(Refusal::Ended) = answer {
+        return Ok(Reply::Ended);
+    }
+    let text = answer_text(alloc, &answer, machine, stops)?;
+    Ok(told(text, stop_of(&answer)))
+}
+
+/// A stop, or a refusal where nothing moved.
+fn told(text: String, reason: Option<StopReason>) -> Reply {
+    match reason {
+        Some(reason) => Reply::Moved(Stop { reason, text }),
+        None => Reply::Refused(text),
+    }
+}
+
+/// The value that a variable was given, or why it was not.
+fn set<M: RecordedMachine>(
+    alloc: Global,
+    machine: &M,
+    stops: &[NumberedStop],
+    last: Option<Answer<'_>>,
+) -> Result<Reply, AllocError> {
+    let Some(answer) = last else {
+        return Ok(Reply::Done);
+    };
+    let text = answer_text(alloc, &answer, machine, stops)?;
+    match answer {
+        Answer::Refused(_) => Ok(Reply::Refused(text)),
+        _ => Ok(Reply::Set(behind_equals(alloc, text.as_str())?)),
+    }
+}
+
+/// The value of an expression, or the answer to a line of the console; or why there is none.
+fn evaluated<M: RecordedMachine>(
+    alloc: Global,
+    machine: &M,
+    stops: &[NumberedStop],
+    is_console: bool,
+    last: Option<Answer<'_>>,
+) -> Result<Reply, AllocError> {
+    let Some(answer) = last else {
+        return Ok(Reply::Done);
+    };
+    let text = answer_text(alloc, &answer, machine, stops)?;
+    let reason = stop_of(&answer);
+    match answer {
+        Answer::Refused(_) => Ok(Reply::Refused(text)),
+        Answer::Shows { .. } if !is_console => Ok(Reply::Evaluated {
+            text: behind_equals(alloc, text.as_str())?,
+            reason,
+        }),
+        _ => Ok(Reply::Evaluated { text, reason }),
+    }
+}
+
+/// The breakpoints on lines: each stands on the first line from there on that has a place.
+fn breakpoints<M: RecordedMachine>(
+    alloc: Global,
+    machine: &M,
+    stops: &[NumberedStop],
+    lines: &[u32],
+    is_program: bool,
+) -> Result<Vec<Breakpoint>, AllocError> {
+    let mut made = Vec::new(alloc);
+    for line in lines {
+        let found = if is_program {
+            machine.line_from(*line)
+        } else {
+            None
+        };
+        made.push(breakpoint_on(stops, found))?;
+    }
+    Ok(made)
+}
+
+/// The breakpoint on a line, if there is one.
+fn breakpoint_on(stops: &[NumberedStop], line: Option<u32>) -> Breakpoint {
+    let number = match line {
+        Some(line) => number_of(stops, Kept::Line(line)),
+        None => None,
+    };
+    Breakpoint { number, line }
+}
+
+/// The number of a breakpoint or watch, if it is there.
+fn number_of(stops: &[NumberedStop], stop: Kept) -> Option<u32> {
+    for entry in stops {
+        if entry.stop == stop {
+            return Some(entry.number);
+        }
+    }
+    None
+}
+
+/// The watches of targets.
+fn watches<M: RecordedMachine>(
+    alloc: Global,
+    machine: &M,
+    stops: &[NumberedStop],
+    targets: &[&str],
+) -> Result<Vec<Breakpoint>, AllocError> {
+    let mut made = Vec::new(alloc);
+    for target in targets {
+        made.push(watch_on(alloc, machine, stops, target)?)?;
+    }
+    Ok(made)
+}
+
+/// The watch of a target, if there is one.
+fn watch_on<M: RecordedMachine>(
+    alloc: Global,
+    machine: &M,
+    stops: &[NumberedStop],
+    target: &str,
+) -> Result<Breakpoint, AllocError> {
+    let line = format!(in alloc; "watch {target}")?;
+    let number = match watched(machine, line.as_bytes()) {
+        Some(stop) => number_of(stops, stop),
+        None => None,
+    };
+    Ok(Breakpoint { number, line: None })
+}
+
+/// What a line watches, if it does.
+fn watched<M: RecordedMachine>(machine: &M, line: &[u8]) -> Option<Kept> {
+    match read_command(line) {
+        Some(Command::Watch(target)) => watch_of(machine, target),
+        _ => None,
+    }
+}
+
+/// The watch of a target, if it is one of a variable of the file.
+fn watch_of<M: RecordedMachine>(machine: &M, target: Target<'_>) -> Option<Kept> {
+    let variable = machine.find_in_file(target.name)?;
+    Some(Kept::Watch {
+        variable,
+        at: target.at,
+    })
+}
+
+/// Whether a variable can be watched: a scalar of the file, a lane of one or an element.
+fn watchable<M: RecordedMachine>(
+    alloc: Global,
+    machine: &M,
+    name: &str,
+) -> Result<Reply, AllocError> {
+    let line = format!(in alloc; "watch {name}")?;
+    match watched(machine, line.as_bytes()) {
+        Some(stop) if has_words(machine, stop) => {
+            Ok(Reply::Watchable(String::from_str(alloc, name)?))
+        }
+        _ => Ok(Reply::NotWatchable),
+    }
+}
+
+/// Whether a watch is of a whole scalar or of a lane or an element that is there.
+fn has_words<M: RecordedMachine>(machine: &M, stop: Kept) -> bool {
+    let Kept::Watch { variable, at } = stop else {
+        return false;
+    };
+    match (machine.file_variable(variable), at) {
+        (None, _) => false,
+        (Some(named), None) => !named.shown.is_array,
+        (Some(named), Some(index)) => has_parts(named.shown)
+            && (index as usize) < named.shown.count,
+    }
+}
+
+/// Whether a variable has lanes or elements.
+fn has_parts(shown: Shown) -> bool {
+    shown.is_array || shown.rate == Rate::Varying
+}

@@ -1,0 +1,88 @@
+//! The texts of answers.
+ghost use Rattle.std.specs.Prelude.{◌≡◌, [], false, Some, IfOk, string_bytes};
+ghost use Rattle.gang_model.specs.Debugger.Debugger as model;
+ghost use Rattle.gang_model.specs.Debugger.Debugger.{Debugger, Setting};
+ghost use Rattle.gang_model.specs.Texts.Text.{text};
+ghost use Rattle.debug_answers.specs.Meanings.{AreStops, Means};
+ghost use Rattle.adapter_replies.specs.Shown.{shown_text, without_end};
+
+use debug_answers::{Answer, NumberedStop};
+use debug_commands::Target;
+use debug_machine::{AnswerWriter, RecordedMachine, Shown, WriteFault};
+use debug_texts::write_answer;
+use std::alloc::{AllocError, Global};
+
+/// Takes what is written. It fails where there is no memory.
+#[derive(Drop)]
+struct TextWriter {
+    bytes: Vec<u8>,
+    has_failed: bool,
+}
+
+impl AnswerWriter for TextWriter {
+    ghost written = { λ w. Some (w.bytes.items) };
+
+    ghost has_failed = { λ w. w.has_failed };
+
+    fn write(&mut self, bytes: &[u8]) -> Result<usize, WriteFault> {
+        if self.bytes.extend_from_slice(bytes).is_err() {
+            self.has_failed = true;
+            return Err(WriteFault);
+        }
+        self.has_failed = false;
+        Ok(bytes.len())
+    }
+}
+
+/// The text of an answer, without the end of its last line.
+///
+/// # Errors
+///
+/// Out of memory.
+pub fn answer_text<M: RecordedMachine>(
+    alloc: Global,
+    answer: &Answer<'_>,
+    machine: &M,
+    stops: &[NumberedStop],
+) -> Result<String, AllocError>
+    ensures { (s : Setting) (at d : Debugger) (meant : model.Answer) → M.stands machine.now s at → at.events ≡ d.events
+        → AreStops s stops.now d.stops → Means s d answer.now meant → IfOk result (λ told. string_bytes told ≡ shown_text (text s meant d)) }
+{
+    let mut writer = TextWriter {
+        bytes: Vec::new(alloc),
+        has_failed: false,
+    };
+    if write_answer(answer, machine, stops, &mut writer).is_err() {
+        return Err(AllocError);
+    }
+    String::from_utf8_lossy(alloc, without_end(writer.bytes.as_slice()))
+}
+
+/// The bytes but the last one.
+fn without_end(bytes: &[u8]) -> &[u8]
+    ensures { result.now ≡ without_end bytes.now }
+{
+    match bytes {
+        [front @ .., _] => front,
+        [] => bytes,
+    }
+}
+
+/// The values of a variable, or of a part of it.
+pub(crate) fn value_text<M: RecordedMachine>(
+    alloc: Global,
+    target: Target<'_>,
+    shown: Shown,
+    machine: &M,
+) -> Result<String, AllocError> {
+    let text = answer_text(alloc, &Answer::Shows { target, shown }, machine, &[])?;
+    behind_equals(alloc, text.as_str())
+}
+
+/// What stands behind the equals sign of a line.
+pub(crate) fn behind_equals(alloc: Global, text: &str) -> Result<String, AllocError> {
+    match text.split_once(" = ") {
+        Some((_, values)) => String::from_str(alloc, values),
+        None => Ok(String::new(alloc)),
+    }
+}

@@ -1,0 +1,8 @@
+//! What an editor asks of a debugger by the Debug Adapter Protocol, and what it is told.
+#![tactic(auto)]
+
+mod reply;
+mod request;
+
+pub use reply::{Breakpoint, Frame, Reply, Stop, StopReason, Variable};
+pub use request::{Launch, Request};

@@ -1,0 +1,67 @@
+//! Requests.
+
+/// How a program is to be run.
+#[derive(Clone, Copy)]
+pub struct Launch<'a> {
+    /// The path of the source.
+    pub program: &'a str,
+    /// The path of the input, an empty one where there is none.
+    pub input: Option<&'a str>,
+    /// The name of the exported function that is run, the first one where there is none.
+    pub entry: Option<&'a str>,
+    /// How many lanes the gang has.
+    pub width: Option<u64>,
+    /// How many events can be taken back.
+    pub history: Option<u64>,
+    /// The most moves of one forward command.
+    pub steps: Option<u64>,
+    /// Whether the program stops before its first step; else it runs to the first breakpoint.
+    pub stops_on_entry: bool,
+}
+
+/// A request, with those of its arguments that mean something here.
+#[derive(Drop)]
+pub enum Request<'a> {
+    Initialize,
+    Launch(Launch<'a>),
+    /// The breakpoints of a source, in place of those that it had.
+    SetBreakpoints {
+        source: Option<&'a str>,
+        lines: Vec<u32>,
+    },
+    SetExceptionBreakpoints,
+    /// Whether a variable can be watched: one of the variables of this reference, or any where there is none.
+    DataBreakpointInfo {
+        name: &'a str,
+    },
+    /// The watches, in place of those that there were.
+    SetDataBreakpoints {
+        targets: Vec<&'a str>,
+    },
+    ConfigurationDone,
+    Threads,
+    StackTrace,
+    Scopes,
+    /// The variables of this reference.
+    Variables {
+        reference: u64,
+    },
+    SetVariable {
+        name: &'a str,
+        value: &'a str,
+    },
+    Evaluate {
+        expression: &'a str,
+        is_console: bool,
+    },
+    Next,
+    StepIn,
+    StepOut,
+    Continue,
+    StepBack,
+    ReverseContinue,
+    Restart,
+    Disconnect,
+    /// A request of another name.
+    Unknown(&'a str),
+}

@@ -1,0 +1,155 @@
+//! A connection to an editor: the messages that it sends, and what it is told.
+use adapter_frames::{FrameFault, FrameReader, write_frame};
+use adapter_messages::{
+    Head, event_message, failure_message, output_body, reply_message, stop_body,
+};
+use adapter_requests::{Reply, StopReason};
+use serde_json::{Error as JsonError, Map, Value};
+use std::alloc::{AllocError, Global};
+use std::io::{Read, Write};
+use thiserror::Error;
+
+/// How a connection ended.
+#[derive(Clone, Copy, Debug, PartialEq, Eq, Error)]
+pub enum Ended {
+    #[error("the editor has disconnected")]
+    Disconnected,
+    #[error("the input has ended")]
+    EndOfInput,
+    #[error("read fault")]
+    ReadFault,
+    #[error("write fault")]
+    WriteFault,
+    #[error("memory")]
+    Memory,
+}
+
+impl From<AllocError> for Ended {
+    fn from(_: AllocError) -> Self {
+        Ended::Memory
+    }
+}
+
+/// A connection to an editor.
+#[derive(Drop)]
+pub struct Connection<R, O> {
+    pub(crate) alloc: Global,
+    messages: FrameReader<R>,
+    writer: O,
+    /// The number of the next message.
+    next: u64,
+    /// The number of the request to restart that is not answered yet.
+    pub(crate) restart: u64,
+}
+
+impl<R: Read, O: Write> Connection<R, O> {
+    /// A connection by a reader and a writer.
+    pub fn new(alloc: Global, reader: R, writer: O) -> Self {
+        Connection {
+            alloc,
+            messages: FrameReader::new(alloc, reader),
+            writer,
+            next: 1,
+            restart: 0,
+        }
+    }
+
+    /// The next message that is JSON. What comes before it is refused, and the console is told why.
+    pub(crate) fn next_value(&mut self) -> Result<Value, Ended> {
+        for _ in 0..u64::MAX {
+            let message = self.next_message()?;
+            match Value::from_slice(self.alloc, message.as_slice()) {
+                Ok(value) => return Ok(value),
+                Err(fault) => self.refuse_text(&fault)?,
+            }
+        }
+        Err(Ended::EndOfInput)
+    }
+
+    /// Tells that a message is no JSON.
+    fn refuse_text(&mut self, fault: &JsonError) -> Result<(), Ended> {
+        if fault.is_memory() {
+            return Err(Ended::Memory);
+        }
+        self.tell_console("a message is refused: NoJson\n")
+    }
+
+    /// The next message. Frames that come before it are refused, and the console is told why.
+    fn next_message(&mut self) -> Result<Vec<u8>, Ended> {
+        for _ in 0..u64::MAX {
+            match self.messages.next_message(self.alloc) {
+                Ok(Some(message)) => return Ok(message),
+                Ok(None) => return Err(Ended::EndOfInput),
+                Err(FrameFault::Read) => return Err(Ended::ReadFault),
+                Err(FrameFault::Memory) => return Err(Ended::Memory),
+                Err(FrameFault::Unfinished) => {
+                    self.tell_console("a message is refused: Unfinished\n")?;
+                    return Err(Ended::EndOfInput);
+                }
+                Err(FrameFault::Head(fault)) => {
+                    let text = format!(in self.alloc; "a message is refused: {fault}\n")?;
+                    self.tell_console(text.as_str())?;
+                }
+            }
+        }
+        Err(Ended::EndOfInput)
+    }
+
+    /// Answers a request.
+    pub(crate) fn reply(
+        &mut self,
+        head: Head<'_>,
+        program: &str,
+        reply: &Reply,
+    ) -> Result<(), Ended> {
+        let number = self.number();
+        let message = reply_message(self.alloc, number, head, program, reply)?;
+        self.send(&message)
+    }
+
+    /// Refuses a request.
+    pub(crate) fn refuse(&mut self, head: Head<'_>, text: &str) -> Result<(), Ended> {
+        let number = self.number();
+        let message = failure_message(self.alloc, number, head, text)?;
+        self.send(&message)
+    }
+
+    /// Tells of an event that has nothing to tell but its name.
+    pub(crate) fn tell(&mut self, name: &str) -> Result<(), Ended> {
+        let body = Value::Object(Map::new(self.alloc));
+        self.tell_with(name, body)
+    }
+
+    /// Tells where and why the program stands still.
+    pub(crate) fn tell_stop(&mut self, reason: StopReason, text: &str) -> Result<(), Ended> {
+        let body = stop_body(self.alloc, reason, text)?;
+        self.tell_with("stopped", body)
+    }
+
+    /// Puts a text on the editor's console.
+    pub(crate) fn tell_console(&mut self, text: &str) -> Result<(), Ended> {
+        let body = output_body(self.alloc, text)?;
+        self.tell_with("output", body)
+    }
+
+    fn tell_with(&mut self, name: &str, body: Value) -> Result<(), Ended> {
+        let number = self.number();
+        let message = event_message(self.alloc, number, name, body)?;
+        self.send(&message)
+    }
+
+    /// The number of a new message.
+    fn number(&mut self) -> u64 {
+        let number = self.next;
+        self.next = number.saturating_add(1);
+        number
+    }
+
+    fn send(&mut self, message: &Value) -> Result<(), Ended> {
+        let text = message.to_string(self.alloc)?;
+        match write_frame(self.alloc, &mut self.writer, text.as_bytes()) {
+            Ok(()) => Ok(()),
+            Err(_) => Err(Ended::WriteFault),
+        }
+    }
+}

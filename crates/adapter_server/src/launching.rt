@@ -1,0 +1,112 @@
+//! What comes before a launch.
+use crate::connection::{Connection, Ended};
+use adapter_messages::{Head, read_head, read_request};
+use adapter_requests::{Launch, Reply, Request};
+use serde_json::Value;
+use std::alloc::Global;
+use std::io::{Read, Write};
+
+/// A request to launch a program.
+#[derive(Drop)]
+pub struct LaunchMessage {
+    alloc: Global,
+    message: Value,
+}
+
+impl LaunchMessage {
+    /// How the program is to be run; none where memory is wanting.
+    pub fn launch(&self) -> Option<Launch<'_>> {
+        match read_request(self.alloc, "launch", &self.message) {
+            Ok(Request::Launch(launch)) => Some(launch),
+            _ => None,
+        }
+    }
+
+    /// The number and the command of the request.
+    pub(crate) fn head(&self) -> Head<'_> {
+        match read_head(&self.message) {
+            Some(head) => head,
+            None => Head {
+                number: 0,
+                command: "launch",
+            },
+        }
+    }
+}
+
+/// What a message before a launch leads to.
+#[derive(Clone, Copy, Debug, PartialEq, Eq)]
+enum Before {
+    Goes,
+    Launches,
+    Disconnects,
+}
+
+impl<R: Read, O: Write> Connection<R, O> {
+    /// Answers what comes before a launch, and gives the launch, which is not answered yet.
+    ///
+    /// # Errors
+    ///
+    /// How the connection ended before a launch came.
+    pub fn await_launch(&mut self) -> Result<LaunchMessage, Ended> {
+        for _ in 0..u64::MAX {
+            let message = self.next_value()?;
+            match self.answer_before(&message)? {
+                Before::Goes => {}
+                Before::Disconnects => return Err(Ended::Disconnected),
+                Before::Launches => {
+                    let alloc = self.alloc;
+                    return Ok(LaunchMessage { alloc, message });
+                }
+            }
+        }
+        Err(Ended::EndOfInput)
+    }
+
+    /// Refuses a launch, with the reason.
+    ///
+    /// # Errors
+    ///
+    /// The writer fails, or out of memory.
+    pub fn refuse_launch(&mut self, launch: &LaunchMessage, text: &str) -> Result<(), Ended> {
+        self.refuse(launch.head(), text)
+    }
+
+    /// Answers a message before a launch, unless it launches.
+    fn answer_before(&mut self, message: &Value) -> Result<Before, Ended> {
+        let Some(head) = read_head(message) else {
+            self.tell_console("a message is refused: NoRequest\n")?;
+            return Ok(Before::Goes);
+        };
+        match read_request(self.alloc, head.command, message) {
+            Err(fault) => {
+                let text = format!(in self.alloc; "{fault}")?;
+                self.refuse(head, text.as_str())?;
+                Ok(Before::Goes)
+            }
+            Ok(request) => self.answer_request_before(head, &request),
+        }
+    }
+
+    /// Answers a request before a launch, unless it launches.
+    fn answer_request_before(
+        &mut self,
+        head: Head<'_>,
+        request: &Request<'_>,
+    ) -> Result<Before, Ended> {
+        match request {
+            Request::Launch(_) => return Ok(Before::Launches),
+            Request::Initialize => self.reply(head, "", &Reply::Capabilities)?,
+            Request::Disconnect => {
+                self.reply(head, "", &Reply::Done)?;
+                return Ok(Before::Disconnects);
+            }
+            Request::Unknown(name) => {
+                let text = format!(in self.alloc; "no request {name}")?;
+                self.refuse(head, text.as_str())?;
+            }
+            _ => self.refuse(head, "no program is launched")?,
+        }
+        Ok(Before::Goes)
+    }
+}

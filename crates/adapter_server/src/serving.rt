@@ -1,0 +1,185 @@
+//! The requests for a program that is launched.
+use crate::connection::{Connection, Ended};
+use crate::launching::LaunchMessage;
+use adapter_messages::{Head, read_head, read_request};
+use adapter_replies::answer_text;
+use adapter_requests::{Launch, Reply, Request, StopReason};
+use adapter_session::{answer_request, restore_stops};
+use debug_answers::Answer;
+use debug_machine::RecordedMachine;
+use debug_session::Session;
+use serde_json::Value;
+use std::io::{Read, Write};
+
+/// What the requests for a program led to.
+#[derive(Clone, Copy, Debug, PartialEq, Eq)]
+pub enum Served {
+    /// The program is to be run anew; the request is not answered yet.
+    Restarts,
+    Disconnected,
+}
+
+/// What a request led to.
+#[derive(Clone, Copy, Debug, PartialEq, Eq)]
+enum Turn {
+    Goes,
+    Restarts,
+    Disconnects,
+}
+
+impl<R: Read, O: Write> Connection<R, O> {
+    /// Answers a launch whose program a session runs, and every request until the editor disconnects or restarts it.
+    ///
+    /// # Errors
+    ///
+    /// How the connection ended before that.
+    pub fn serve<M: RecordedMachine>(
+        &mut self,
+        launch: &LaunchMessage,
+        session: &mut Session<M>,
+    ) -> Result<Served, Ended> {
+        self.reply(launch.head(), "", &Reply::Done)?;
+        self.tell("initialized")?;
+        self.go_on(launch, session)
+    }
+
+    /// Answers a request to restart, once the program is run anew by a session: it gets the breakpoints and watches of the
+    /// old one, and its requests are answered until the editor disconnects or restarts it.
+    ///
+    /// # Errors
+    ///
+    /// How the connection ended before that.
+    pub fn restart<M: RecordedMachine>(
+        &mut self,
+        launch: &LaunchMessage,
+        old: &Session<M>,
+        session: &mut Session<M>,
+    ) -> Result<Served, Ended> {
+        restore_stops(self.alloc, old, session)?;
+        self.reply(self.restarting(), "", &Reply::Done)?;
+        let Some(asked) = launch.launch() else {
+            return Err(Ended::Memory);
+        };
+        self.begin(&asked, session)?;
+        self.go_on(launch, session)
+    }
+
+    /// Refuses a request to restart, with the reason.
+    ///
+    /// # Errors
+    ///
+    /// The writer fails, or out of memory.
+    pub fn refuse_restart(&mut self, text: &str) -> Result<(), Ended> {
+        self.refuse(self.restarting(), text)
+    }
+
+    /// The request to restart that is not answered yet.
+    fn restarting(&self) -> Head<'static> {
+        Head {
+            number: self.restart,
+            command: "restart",
+        }
+    }
+
+    /// Answers every request until the editor disconnects or restarts the program.
+    ///
+    /// # Errors
+    ///
+    /// How the connection ended before that.
+    pub fn go_on<M: RecordedMachine>(
+        &mut self,
+        launch: &LaunchMessage,
+        session: &mut Session<M>,
+    ) -> Result<Served, Ended> {
+        let Some(asked) = launch.launch() else {
+            return Err(Ended::Memory);
+        };
+        for _ in 0..u64::MAX {
+            let message = self.next_value()?;
+            match self.answer(&asked, session, &message)? {
+                Turn::Goes => {}
+                Turn::Restarts => return Ok(Served::Restarts),
+                Turn::Disconnects => return Ok(Served::Disconnected),
+            }
+        }
+        Err(Ended::EndOfInput)
+    }
+
+    /// Answers a message.
+    fn answer<M: RecordedMachine>(
+        &mut self,
+        launch: &Launch<'_>,
+        session: &mut Session<M>,
+        message: &Value,
+    ) -> Result<Turn, Ended> {
+        let Some(head) = read_head(message) else {
+            self.tell_console("a message is refused: NoRequest\n")?;
+            return Ok(Turn::Goes);
+        };
+        match read_request(self.alloc, head.command, message) {
+            Err(fault) => {
+                let text = format!(in self.alloc; "{fault}")?;
+                self.refuse(head, text.as_str())?;
+                Ok(Turn::Goes)
+            }
+            Ok(request) => self.do_request(launch, session, head, &request),
+        }
+    }
+
+    /// Does a request and answers it, and tells what came of it; a restart is not answered.
+    fn do_request<M: RecordedMachine>(
+        &mut self,
+        launch: &Launch<'_>,
+        session: &mut Session<M>,
+        head: Head<'_>,
+        request: &Request<'_>,
+    ) -> Result<Turn, Ended> {
+        if let Request::Restart = request {
+            self.restart = head.number;
+            return Ok(Turn::Restarts);
+        }
+        let reply = answer_request(self.alloc, launch.program, session, request)?;
+        self.reply(head, launch.program, &reply)?;
+        self.tell_of(&reply)?;
+        match request {
+            Request::ConfigurationDone => {
+                self.begin(launch, session)?;
+                Ok(Turn::Goes)
+            }
+            Request::Disconnect => Ok(Turn::Disconnects),
+            _ => Ok(Turn::Goes),
+        }
+    }
+
+    /// Tells of what a reply leads to: a stop, or the end.
+    fn tell_of(&mut self, reply: &Reply) -> Result<(), Ended> {
+        match reply {
+            Reply::Moved(stop) => self.tell_stop(stop.reason, stop.text.as_str()),
+            Reply::Evaluated {
+                text,
+                reason: Some(reason),
+            } => self.tell_stop(*reason, text.as_str()),
+            Reply::Ended => self.tell("terminated"),
+            _ => Ok(()),
+        }
+    }
+
+    /// Begins the run: the program stops before its first step, or runs to where it stops by itself.
+    fn begin<M: RecordedMachine>(
+        &mut self,
+        launch: &Launch<'_>,
+        session: &mut Session<M>,
+    ) -> Result<(), Ended> {
+        if launch.stops_on_entry {
+            let text = answer_text(
+                self.alloc,
+                &Answer::Here,
+                session.machine(),
+                session.stops(),
+            )?;
+            return self.tell_stop(StopReason::Entry, text.as_str());
+        }
+        let reply = answer_request(self.alloc, launch.program, session, &Request::Continue)?;
+        self.tell_of(&reply)
+    }
+}

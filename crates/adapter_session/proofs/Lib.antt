@@ -1,0 +1,3 @@
+mod Appending
+mod DoneLines
+pub mod StopNumbers

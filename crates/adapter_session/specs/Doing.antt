@@ -1,0 +1,31 @@
+-- What command lines do to a session, and what they are answered.
+use Rattle.std.specs.Prelude.{◌≡◌, List, [], ◌++◌, Option, Some, None}
+use Rattle.gang_model.specs.Debugger.Debugger.{Debugger, Reply, Setting}
+use Rattle.gang_model.specs.Texts.CommandText.{command_of}
+use Rattle.gang_model.specs.Texts.Text.{Bytes}
+use Rattle.gang_model.specs.Texts.Transcript.{IsReplyTo}
+use Rattle.debug_answers.specs.declared.answer.Answer.{Answer}
+use Rattle.debug_session.specs.declared.session.Session.{Session}
+use Rattle.debug_session.specs.Sessions.{Replied, StandsFor}
+use Rattle.command_lists.specs.Lists.{Leads}
+use Rattle.adapter_session.specs.Requested.{only, spelled}
+
+-- a session stands as after a reply to a line, and the answer is the reply's
+pub record Does {M : Type 0} (stands : M → Setting → Debugger → Type 0) (s : Setting) (line : Bytes) (d : Debugger) (given : Answer) (new : Session M) : Type 0 where
+  pub reply : Reply
+  pub is_reply : IsReplyTo s (command_of line) d reply
+  pub replied : Replied stands s reply given new
+
+-- the last of some lines was done where those before it lead
+pub record DoesLast {M : Type 0} (stands : M → Setting → Debugger → Type 0) (s : Setting) (lines : List Bytes) (d : Debugger) (given : Answer) (new : Session M) : Type 0 where
+  pub front : List Bytes
+  pub line : Bytes
+  pub are : lines ≡ front ++ only line
+  pub middle : Debugger
+  pub leads : Leads s (spelled front) d middle
+  pub does : Does stands s line middle given new
+
+-- lines were done one after another, and the answer is the last one's; where there is no line, nothing was done
+abbrev pub DoesLines : {M : Type 0} → (M → Setting → Debugger → Type 0) → Setting → (lines : List Bytes) → Debugger → Option Answer → Session M → Type 0
+DoesLines stands s lines d None new = (lines ≡ []) × StandsFor stands new s d
+DoesLines stands s lines d (Some given) new = DoesLast stands s lines d given new

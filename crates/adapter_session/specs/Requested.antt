@@ -1,0 +1,93 @@
+-- The commands that a request is: each is a line of the debugger.
+use Rattle.std.specs.Prelude.{ℕ, Bool, true, false, List, [], ◌∷◌, ◌++◌, flat_map, map, Option, Some, None, codes, decimal, is_some, ◌&&◌, if◌then◌else◌}
+use Rattle.gang_model.specs.Source.Names.{same_text}
+use Rattle.gang_model.specs.Debugger.Debugger.{Command, Stop, Line, Watch}
+use Rattle.gang_model.specs.Texts.CommandText.{command_of}
+use Rattle.gang_model.specs.Texts.Text.{Bytes}
+use Rattle.adapter_requests.specs.declared.request.Request.{Request}
+use Rattle.adapter_requests.specs.declared.request.Request.TheVariants as request
+use Rattle.std.specs.Borrow.{Bor}
+
+-- whether a stop is a breakpoint
+abbrev pub is_breakpoint : Stop → Bool
+is_breakpoint (Line line) = true
+is_breakpoint (Watch target v) = false
+
+-- whether a stop is a watch
+abbrev pub is_watch : Stop → Bool
+is_watch (Line line) = false
+is_watch (Watch target v) = true
+
+-- the numbers of the stops that pass a test
+abbrev pub numbers_of : (Stop → Bool) → List (ℕ × Stop) → List ℕ
+numbers_of test [] = []
+numbers_of test (entry ∷ stops) = if test entry.1 then entry.0 ∷ numbers_of test stops else numbers_of test stops
+
+-- the line that deletes a stop
+abbrev pub delete_line : ℕ → Bytes
+delete_line n = codes "delete " ++ decimal n
+
+-- the line that makes a breakpoint
+abbrev pub break_line : ℕ → Bytes
+break_line n = codes "break " ++ decimal n
+
+-- the line that makes a watch
+abbrev pub watch_line : Bytes → Bytes
+watch_line target = codes "watch " ++ target
+
+-- the line that shows a target
+abbrev pub print_line : Bytes → Bytes
+print_line target = codes "print " ++ target
+
+-- the line that sets a target
+abbrev pub set_line : (target value : Bytes) → Bytes
+set_line target value = codes "set var " ++ (target ++ (codes " = " ++ value))
+
+-- the line of an expression: in the console the line itself, where it spells a command; else that which shows it
+abbrev pub evaluated : (is_console : Bool) → Bytes → Bytes
+evaluated is_console text = if is_console && is_some (command_of text) then text else print_line text
+
+-- whether a source is the program's
+abbrev pub is_program : (program : Bytes) → Option (Bor Bytes) → Bool
+is_program program None = false
+is_program program (Some source) = same_text source.now program
+
+-- the lines that put breakpoints on lines of a source, in place of those that there are; another source has none
+abbrev pub break_lines : (is_program : Bool) → List (ℕ × Stop) → List ℕ → List Bytes
+break_lines false stops lines = []
+break_lines true stops lines = map delete_line (numbers_of is_breakpoint stops) ++ map break_line lines
+
+-- the lines that watch targets, in place of those that are watched
+abbrev pub watch_lines : List (ℕ × Stop) → List (Bor Bytes) → List Bytes
+watch_lines stops targets = map delete_line (numbers_of is_watch stops) ++ map (λ target. watch_line target.now) targets
+
+-- a line alone
+abbrev pub only : Bytes → List Bytes
+only line = line ∷ []
+
+-- the lines that a request is, given the program's path and the breakpoints and watches
+abbrev pub lines_of : (program : Bytes) → List (ℕ × Stop) → Request → List Bytes
+lines_of program stops request.Next = only (codes "next")
+lines_of program stops request.StepIn = only (codes "step")
+lines_of program stops request.StepOut = only (codes "finish")
+lines_of program stops request.Continue = only (codes "continue")
+lines_of program stops request.StepBack = only (codes "reverse-step")
+lines_of program stops request.ReverseContinue = only (codes "reverse-continue")
+lines_of program stops (request.SetBreakpoints source lines) = break_lines (is_program program source) stops lines.items
+lines_of program stops (request.SetDataBreakpoints targets) = watch_lines stops targets.items
+lines_of program stops (request.SetVariable name value) = only (set_line name.now value.now)
+lines_of program stops (request.Evaluate expression is_console) = only (evaluated is_console expression.now)
+lines_of program stops other = []
+
+-- the command of a line, where it spells one
+abbrev pub command_list : Option Command → List Command
+command_list None = []
+command_list (Some command) = command ∷ []
+
+-- the commands that lines spell
+abbrev pub spelled : List Bytes → List Command
+spelled lines = flat_map (λ line. command_list (command_of line)) lines
+
+-- the commands that a request is
+abbrev pub commands_of : (program : Bytes) → List (ℕ × Stop) → Request → List Command
+commands_of program stops request = spelled (lines_of program stops request)

@@ -1,0 +1,12 @@
+//! What the requests of an editor do to a debugger, and what they are told.
+#![tactic(auto)]
+
+mod answering;
+mod doing;
+mod lines;
+mod restoring;
+
+pub use answering::answer_request;
+pub use doing::do_lines;
+pub use lines::command_lines;
+pub use restoring::restore_stops;

@@ -1,0 +1,169 @@
+//! The command lines that a request is.
+ghost use Rattle.std.specs.Prelude.{◌≡◌, ℕ, List, [], ◌∷◌, ◌++◌, map, codes, decimal, string_bytes, IfOk};
+ghost use Rattle.gang_model.specs.Debugger.Debugger as model;
+ghost use Rattle.gang_model.specs.Debugger.Debugger.{Setting};
+ghost use Rattle.debug_answers.specs.Meanings.{AreStops};
+ghost use Rattle.adapter_session.specs.Given.{given_numbers, is_of};
+ghost use Rattle.adapter_session.specs.Requested.{break_line, delete_line, evaluated, is_program, lines_of, only, set_line, watch_line};
+
+use adapter_requests::Request;
+use debug_answers::{NumberedStop, Stop};
+use debug_commands::read_command;
+use debug_words::is_same;
+use std::alloc::{AllocError, Global};
+
+/// Breakpoints, or watches.
+#[derive(Clone, Copy, Debug)]
+pub(crate) enum Kind {
+    Breakpoints,
+    Watches,
+}
+
+/// The command lines that a request is, where the program's source has this path, with these breakpoints and watches.
+///
+/// # Errors
+///
+/// Out of memory.
+#[tactic(auto, using(crate::proofs::StopNumbers::numbers_are))]
+pub fn command_lines(
+    alloc: Global,
+    program: &str,
+    request: &Request<'_>,
+    stops: &[NumberedStop],
+) -> Result<Vec<String>, AllocError>
+    ensures { IfOk result (λ lines. (s : Setting) (meant : List (ℕ × model.Stop)) → AreStops s stops.now meant
+        → map string_bytes lines.items ≡ lines_of program.now meant request.now) }
+{
+    match request {
+        Request::Next => alone(alloc, "next"),
+        Request::StepIn => alone(alloc, "step"),
+        Request::StepOut => alone(alloc, "finish"),
+        Request::Continue => alone(alloc, "continue"),
+        Request::StepBack => alone(alloc, "reverse-step"),
+        Request::ReverseContinue => alone(alloc, "reverse-continue"),
+        Request::SetBreakpoints { source, lines } => {
+            if is_program(program, *source) {
+                break_lines(alloc, stops, lines)
+            } else {
+                Ok(Vec::new(alloc))
+            }
+        }
+        Request::SetDataBreakpoints { targets } => watch_lines(alloc, stops, targets),
+        Request::SetVariable { name, value } => set_line(alloc, name, value),
+        Request::Evaluate {
+            expression,
+            is_console,
+        } => evaluated(alloc, expression, *is_console),
+        Request::Initialize
+        | Request::Launch(_)
+        | Request::SetExceptionBreakpoints
+        | Request::DataBreakpointInfo { .. }
+        | Request::ConfigurationDone
+        | Request::Threads
+        | Request::StackTrace
+        | Request::Scopes
+        | Request::Variables { .. }
+        | Request::Restart
+        | Request::Disconnect
+        | Request::Unknown(_) => Ok(Vec::new(alloc)),
+    }
+}
+
+/// A line alone.
+fn alone(alloc: Global, line: &str) -> Result<Vec<String>, AllocError>
+    ensures { IfOk result (λ lines. map string_bytes lines.items ≡ only line.now) }
+{
+    let mut lines = Vec::new(alloc);
+    lines.push(String::from_str(alloc, line)?)?;
+    Ok(lines)
+}
+
+/// The line that sets a target.
+fn set_line(alloc: Global, target: &str, value: &str) -> Result<Vec<String>, AllocError>
+    ensures { IfOk result (λ lines. map string_bytes lines.items ≡ only (set_line target.now value.now)) }
+{
+    let line = format!(in alloc; "set var {target} = {value}")?;
+    alone(alloc, line.as_str())
+}
+
+/// Whether a source is the program's.
+pub(crate) fn is_program(program: &str, source: Option<&str>) -> bool
+    ensures { result ≡ is_program program.now source.entry }
+{
+    match source {
+        None => false,
+        Some(source) => is_same(source.as_bytes(), program.as_bytes()),
+    }
+}
+
+/// The line of an expression: in the console the line itself, where it spells a command; else that which shows it.
+fn evaluated(alloc: Global, expression: &str, is_console: bool) -> Result<Vec<String>, AllocError>
+    ensures { IfOk result (λ lines. map string_bytes lines.items ≡ only (evaluated is_console expression.now)) }
+{
+    if is_console && read_command(expression.as_bytes()).is_some() {
+        alone(alloc, expression)
+    } else {
+        let line = format!(in alloc; "print {expression}")?;
+        alone(alloc, line.as_str())
+    }
+}
+
+/// The lines that put breakpoints in place of those that there are.
+fn break_lines(
+    alloc: Global,
+    stops: &[NumberedStop],
+    lines: &[u32],
+) -> Result<Vec<String>, AllocError>
+    ensures { IfOk result (λ all. map string_bytes all.items
+        ≡ map delete_line (given_numbers Kind.Breakpoints stops.now) ++ map break_line lines.now) }
+{
+    let mut all = delete_lines(alloc, stops, Kind::Breakpoints)?;
+    for line in lines {
+        all.push(format!(in alloc; "break {line}")?)?;
+    }
+    Ok(all)
+}
+
+/// The lines that watch targets, in place of those that are watched.
+fn watch_lines(
+    alloc: Global,
+    stops: &[NumberedStop],
+    targets: &[&str],
+) -> Result<Vec<String>, AllocError>
+    ensures { IfOk result (λ all. map string_bytes all.items
+        ≡ map delete_line (given_numbers Kind.Watches stops.now) ++ map (λ target. watch_line target.now) targets.now) }
+{
+    let mut all = delete_lines(alloc, stops, Kind::Watches)?;
+    for target in targets {
+        all.push(format!(in alloc; "watch {target}")?)?;
+    }
+    Ok(all)
+}
+
+/// The lines that delete the breakpoints, or the watches.
+fn delete_lines(
+    alloc: Global,
+    stops: &[NumberedStop],
+    kind: Kind,
+) -> Result<Vec<String>, AllocError>
+    ensures { IfOk result (λ lines. map string_bytes lines.items ≡ map delete_line (given_numbers kind stops.now)) }
+{
+    let mut lines = Vec::new(alloc);
+    for entry in stops {
+        if is_of(kind, entry.stop) {
+            let number = entry.number;
+            lines.push(format!(in alloc; "delete {number}")?)?;
+        }
+    }
+    Ok(lines)
+}
+
+/// Whether a stop is of a kind.
+fn is_of(kind: Kind, stop: Stop) -> bool
+    ensures { result ≡ is_of kind stop }
+{
+    match (kind, stop) {
+        (Kind::Breakpoints, Stop::Line(_)) | (Kind::Watches, Stop::Watch { .. }) => true,
+        (Kind::Breakpoints, Stop::Watch { .. }) | (Kind::Watches, Stop::Line(_)) => false,
+    }
+}
