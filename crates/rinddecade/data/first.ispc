@@ -1,0 +1,4 @@
+export void go() {
+    int x = programIndex * 3;
+    x += 1;
+}

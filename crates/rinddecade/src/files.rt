@@ -1,0 +1,50 @@
+//! Files, and the fronts of them that are read.
+use crate::refusing::refuse;
+use debug_inputs::MOST_BYTES as MOST_INPUT;
+use ispc_refusals::Refusal;
+use ispc_script::MOST_BYTES;
+use std::io::Read;
+use std::process::ExitCode;
+use std::{fs, io};
+
+/// The front of a file, up to one byte more than there may be; or the status where it cannot be read, which standard error is
+/// told.
+pub(crate) fn read_file(rt: &HostRuntime, path: &str, most: usize) -> Result<Vec<u8>, ExitCode> {
+    match file_front(rt, path, most) {
+        Ok(text) => Ok(text),
+        Err(fault) if fault.kind() == io::ErrorKind::OutOfMemory => {
+            Err(refuse(rt, &Refusal::Memory, None))
+        }
+        Err(_) => {
+            let _ = eprintln!(rt; "cannot read {path}");
+            Err(ExitCode::from(2))
+        }
+    }
+}
+
+pub(crate) fn file_front(rt: &HostRuntime, path: &str, most: usize) -> io::Result<Vec<u8>> {
+    let file = fs::File::open(rt, path)?;
+    let mut text = Vec::new(rt.alloc());
+    let most = (most as u64).saturating_add(1);
+    file.take(most).read_to_end(&mut text)?;
+    Ok(text)
+}
+
+/// A source, and the input if one is named, or the status where one of them cannot be read.
+pub(crate) fn read_texts(
+    rt: &HostRuntime,
+    source: &str,
+    input: Option<&str>,
+) -> Result<(Vec<u8>, Vec<u8>), ExitCode> {
+    let text = match read_file(rt, source, MOST_BYTES) {
+        Ok(text) => text,
+        Err(status) => return Err(status),
+    };
+    match input {
+        None => Ok((text, Vec::new(rt.alloc()))),
+        Some(path) => match read_file(rt, path, MOST_INPUT) {
+            Ok(input) => Ok((text, input)),
+            Err(status) => Err(status),
+        },
+    }
+}

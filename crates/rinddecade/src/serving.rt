@@ -1,0 +1,187 @@
+//! An editor's requests, on the standard streams.
+ghost use Rattle.std.specs.Prelude.{◌≡◌, ◌≤◌, IfSome};
+ghost use Rattle.ispc_options.specs.Ranges.{AreInRange};
+ghost use Rattle.ispc_debugger.specs.Runs.{lanes_of};
+
+use crate::files::file_front;
+use adapter_requests::Launch;
+use adapter_server::{Connection, Ended, LaunchMessage, Served};
+use debug_inputs::MOST_BYTES as MOST_INPUT;
+use debug_streams::StreamWriter;
+use ispc_debugger::{ProgramSession, open_session};
+use ispc_options::{Options, Width};
+use ispc_refusals::{Refusal, write_refusal};
+use ispc_script::MOST_BYTES;
+use std::alloc::AllocError;
+use std::io::{Read, Write};
+use std::process::ExitCode;
+
+/// The history limit, and the most moves of one command, where a launch has none.
+const HISTORY: u32 = 65_536;
+
+const STEPS: u32 = 1_000_000;
+
+/// Serves the editor that is at standard input and output.
+pub(crate) fn adapt(rt: &HostRuntime) -> ExitCode {
+    let mut connection = Connection::new(rt.alloc(), rt.stdin(), rt.stdout());
+    match serve_launches(rt, &mut connection) {
+        Ended::Disconnected | Ended::EndOfInput => ExitCode::SUCCESS,
+        Ended::Memory => ExitCode::from(2),
+        Ended::ReadFault => ExitCode::from(3),
+        Ended::WriteFault => ExitCode::from(4),
+    }
+}
+
+/// Serves one launch after another, until the connection ends.
+fn serve_launches<R: Read + Drop, O: Write + Drop>(
+    rt: &HostRuntime,
+    connection: &mut Connection<R, O>,
+) -> Ended {
+    for _ in 0..u64::MAX {
+        match serve_next(rt, connection) {
+            Ok(Served::Restarts) => {}
+            Ok(Served::Disconnected) => return Ended::Disconnected,
+            Err(ended) => return ended,
+        }
+    }
+    Ended::EndOfInput
+}
+
+/// Serves the next launch. A refused one is followed by another.
+fn serve_next<R: Read + Drop, O: Write + Drop>(
+    rt: &HostRuntime,
+    connection: &mut Connection<R, O>,
+) -> Result<Served, Ended> {
+    let message = connection.await_launch()?;
+    let Some(launch) = message.launch() else {
+        return Err(Ended::Memory);
+    };
+    let Some(options) = options_of(&launch) else {
+        connection.refuse_launch(
+            &message,
+            "width is 4, 8 or 16, history 1 to 65536, steps 1 to 10000000",
+        )?;
+        return Ok(Served::Restarts);
+    };
+    let source = file_front(rt, launch.program, MOST_BYTES);
+    let input = match launch.input {
+        None => Ok(Vec::new(rt.alloc())),
+        Some(path) => file_front(rt, path, MOST_INPUT),
+    };
+    let (Ok(source), Ok(input)) = (source, input) else {
+        connection.refuse_launch(&message, "the program or its input cannot be read")?;
+        return Ok(Served::Restarts);
+    };
+    let program = Program {
+        source: source.as_slice(),
+        input: input.as_slice(),
+    };
+    match options.width {
+        Width::Four => serve_wide::<4, R, O>(rt, connection, &message, program, &options),
+        Width::Eight => serve_wide::<8, R, O>(rt, connection, &message, program, &options),
+        Width::Sixteen => serve_wide::<16, R, O>(rt, connection, &message, program, &options),
+    }
+}
+
+/// The texts of a program that is launched.
+#[derive(Clone, Copy)]
+struct Program<'a> {
+    source: &'a [u8],
+    input: &'a [u8],
+}
+
+/// The options of a launch, if its numbers are in their ranges.
+fn options_of<'a>(launch: &Launch<'a>) -> Option<Options<'a>>
+    ensures { IfSome result AreInRange }
+{
+    let width = match launch.width {
+        None | Some(4) => Width::Four,
+        Some(8) => Width::Eight,
+        Some(16) => Width::Sixteen,
+        Some(_) => return None,
+    };
+    let history = number_within(launch.history, HISTORY, HISTORY)?;
+    let steps = number_within(launch.steps, STEPS, 10_000_000)?;
+    Some(Options {
+        width,
+        history,
+        steps,
+        entry: launch.entry,
+        lane_pure: false,
+    })
+}
+
+/// A number from 1 to the most, or another one where none is given.
+fn number_within(number: Option<u64>, other: u32, most: u32) -> Option<u32>
+    requires least { 1 ≤ other }
+    requires within { other ≤ most }
+    ensures { IfSome result (λ n. (1 ≤ n) × (n ≤ most)) }
+{
+    match number {
+        None => Some(other),
+        Some(number) if 1 <= number && number <= u64::from(most) => Some(number as u32),
+        Some(_) => None,
+    }
+}
+
+/// Opens a program at a width, and serves the editor until it disconnects.
+fn serve_wide<const W: usize, R: Read + Drop, O: Write + Drop>(
+    rt: &HostRuntime,
+    connection: &mut Connection<R, O>,
+    message: &LaunchMessage,
+    program: Program<'_>,
+    options: &Options<'_>,
+) -> Result<Served, Ended>
+    requires width { W ≡ lanes_of options.now.width }
+    requires range { AreInRange options.now }
+{
+    match open_session::<W>(rt.alloc(), program.source, program.input, options) {
+        Err(refusal) => {
+            let text = text_of(rt, &refusal)?;
+            connection.refuse_launch(message, text.as_str())?;
+            Ok(Served::Restarts)
+        }
+        Ok(session) => serve_session::<W, R, O>(rt, connection, message, program, options, session),
+    }
+}
+
+/// Serves a session, and those that are opened anew for it, until the editor disconnects.
+fn serve_session<const W: usize, R: Read + Drop, O: Write + Drop>(
+    rt: &HostRuntime,
+    connection: &mut Connection<R, O>,
+    message: &LaunchMessage,
+    program: Program<'_>,
+    options: &Options<'_>,
+    session: ProgramSession<W>,
+) -> Result<Served, Ended>
+    requires width { W ≡ lanes_of options.now.width }
+    requires range { AreInRange options.now }
+{
+    let mut session = session;
+    let mut served = connection.serve(message, &mut session)?;
+    for _ in 0..u64::MAX {
+        if served == Served::Disconnected {
+            break;
+        }
+        match open_session::<W>(rt.alloc(), program.source, program.input, options) {
+            Err(refusal) => {
+                let text = text_of(rt, &refusal)?;
+                connection.refuse_restart(text.as_str())?;
+                served = connection.go_on(message, &mut session)?;
+            }
+            Ok(mut next) => {
+                served = connection.restart(message, &session, &mut next)?;
+                session = next;
+            }
+        }
+    }
+    Ok(Served::Disconnected)
+}
+
+/// The line that tells a refusal, without its line feed.
+fn text_of(rt: &HostRuntime, refusal: &Refusal) -> Result<String, AllocError> {
+    let mut bytes = Vec::new(rt.alloc());
+    let _ = write_refusal(refusal, &mut StreamWriter::new(&mut bytes));
+    let text = String::from_utf8_lossy(rt.alloc(), bytes.as_slice())?;
+    String::from_str(rt.alloc(), text.trim_end())
+}
