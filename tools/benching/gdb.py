@@ -1,4 +1,4 @@
-"""The same works under gdb's `record full`, timed by gdb itself: the seconds of one thing that a work does."""
+"""The same works under gdb's `record full`: the processor's seconds of one thing that a work does, gdb's own and those of the program under it."""
 
 import pathlib
 import shutil
@@ -46,19 +46,26 @@ def back():
 
 
 SCRIPT = """
+import os
 import time
+
+def spent():
+    with open("/proc/%d/stat" % gdb.selected_inferior().pid) as file:
+        fields = file.read().rsplit(")", 1)[1].split()
+    return time.process_time() + (int(fields[11]) + int(fields[12])) / os.sysconf("SC_CLK_TCK")
+
 gdb.execute("set confirm off")
 gdb.execute("set pagination off")
 gdb.execute("set record full insn-number-max 0")
 gdb.execute("break main")
 gdb.execute("run")
 gdb.execute("record full")
-for line in {first!r}:
+for line in FIRST:
     gdb.execute(line, to_string=True)
-before = time.perf_counter()
-for line in {measured!r}:
+before = spent()
+for line in MEASURED:
     gdb.execute(line, to_string=True)
-print("taken", time.perf_counter() - before)
+print("taken", spent() - before)
 gdb.execute("kill")
 """
 
@@ -68,7 +75,7 @@ def seconds_each(work):
     with tempfile.TemporaryDirectory(prefix="bench-gdb-") as folder:
         source, program, script = (pathlib.Path(folder, name) for name in ("work.c", "work", "work.py"))
         source.write_text(work.text)
-        script.write_text(SCRIPT.format(first=work.first, measured=work.measured))
+        script.write_text(SCRIPT.replace("FIRST", repr(work.first)).replace("MEASURED", repr(work.measured)))
         subprocess.run(["gcc", "-O0", "-g", "-fcf-protection=none", "-no-pie", "-static", "-o", program, source], check=True)
         taken = [it for it in (once(program, script) for _ in range(work.rounds)) if it is not None]
     return min(taken) / work.count if taken else None

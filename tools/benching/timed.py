@@ -1,41 +1,50 @@
-"""The time of commands: that of a run less that of the same run without them, each the least of some rounds."""
+"""The time of commands: that of a run less that of the same run without them, each the least of some rounds.
 
+It is the processor's, so that others who use the machine count little.
+"""
+
+import resource
 import subprocess
-import time
+import tempfile
 
 ROUNDS = 3
 LEAST = 0.1  # seconds that commands have to take, and this share of the run without them
 REPEATS = (1, 4, 16, 64, 256)
-MOST_BYTES = 1_048_576  # of a script
 
 
 class NotRun(Exception):
     """The program did not end as it should."""
 
 
-def script_of(work, times):
-    """The source and the commands, with the measured ones so often."""
-    commands = work.first + work.measured * times
-    return (work.text + "%%\n" + "".join(f"{line}\n" for line in commands)).encode()
+def ended(before, program, work, times):
+    """A run of a work that has ended, with the measured commands done so often: the words stand before the program's own."""
+    commands = "".join(f"{line}\n" for line in work.first + work.measured * times).encode()
+    with tempfile.NamedTemporaryFile("w", suffix=".ispc") as source:
+        source.write(work.text)
+        source.flush()
+        words = [*before, program, source.name, "--history", str(work.history), "--width", str(work.width)]
+        return subprocess.run(words, input=commands, stdout=subprocess.DEVNULL, stderr=subprocess.PIPE)
+
+
+def spent():
+    """The processor's seconds of the programs that have ended."""
+    used = resource.getrusage(resource.RUSAGE_CHILDREN)
+    return used.ru_utime + used.ru_stime
 
 
 def once(program, work, times):
     """The seconds of one run of a work."""
-    script = script_of(work, times)
-    words = [program, "--history", str(work.history), "--width", str(work.width)]
-    before = time.perf_counter()
-    ended = subprocess.run(words, input=script, stdout=subprocess.DEVNULL, stderr=subprocess.PIPE, env={})
-    taken = time.perf_counter() - before
-    if ended.returncode:
-        raise NotRun(f"status {ended.returncode} {ended.stderr.decode(errors='replace').strip()}")
+    before = spent()
+    run = ended([], program, work, times)
+    taken = spent() - before
+    if run.returncode:
+        raise NotRun(f"status {run.returncode} {run.stderr.decode(errors='replace').strip()}")
     return taken
 
 
 def enough(program, work):
     """How often the measured commands are done for a time that can be told from chance, or None."""
     for times in REPEATS:
-        if len(script_of(work, times)) > MOST_BYTES:
-            return None
         before = once(program, work, 0)
         if once(program, work, times) - before >= LEAST * max(1, before):
             return times

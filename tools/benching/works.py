@@ -35,12 +35,15 @@ def steps_of_loop(turns):
     return 2 + 5 * turns + 2
 
 
-def elements(length, turns=TURNS):
-    """A loop whose turns gather elements of an array of so many, a power of 2, and scatter them back."""
-    changed = f"a[(i * 5 + programIndex * 3) & {length - 1}] += i;\ni += 1;\n"
-    text = f"uniform int a[{length}];\nexport void go() {{\nint i = 0;\nwhile (i < {turns}) {{\n{changed}}}\n}}\n"
-    steps = 1 + 3 * turns + 1
+def elements(length, statement="a[{}] += i;", turns=TURNS):
+    """A loop whose turns gather elements of an array of so many, a power of 2, scatter them, or do both in one statement."""
+    changed = statement.format(f"(i * 5 + programIndex * 3) & {length - 1}")
+    text = f"uniform int a[{length}];\nexport void go() {{\nint i = 0;\nint x = 0;\nwhile (i < {turns}) {{\n{changed}\ni += 1;\n}}\n}}\n"
+    steps = 2 + 3 * turns + 1
     return both_ways(text, steps, 1, steps)
+
+
+GATHER, SCATTER = "x = a[{}];", "a[{}] = i;"
 
 
 def rounds(indices, count=1_000):

@@ -44,18 +44,26 @@ def weight(crate, listed):
     return sum(by_name[name].size for name in seen)
 
 
+def unnamed(crate, told):
+    """The files of lemmas that a crate's README does not name; `Name..` there names all that begin so. The rows of tests are not named."""
+    files = [] if crate.name.startswith("tests_") else sorted((crate.folder / "proofs").glob("*.antt"))
+    fronts = tuple(re.findall(r"`(\w+)\.\.`", told))
+    return [it.stem for it in files if it.stem != "Lib" and not re.search(rf"\b{it.stem}\b", told) and not it.stem.startswith(fronts or (" ",))]
+
+
 def faults(crate):
-    """What is wrong with a line of crates.txt."""
+    """What is wrong with a line of crates.txt, or with the crate's README."""
     why = [] if crate.heading else ["no heading stands above its line"]
     if not (crate.folder / "src").is_dir():
         return why + ["it has no folder crates/NAME/src"]
     readme = crate.folder / "README.md"
     if not readme.is_file():
         return why + ["it has no README.md"]
-    lines = len(readme.read_text(encoding="utf-8").splitlines())
+    told = readme.read_text(encoding="utf-8")
+    lines = len(told.splitlines())
     if lines not in LINES_OF_README:
         why.append(f"its README.md has {lines} lines, and not {LINES_OF_README[0]} to {LINES_OF_README[-1]}")
-    return why
+    return why + [f"its README.md does not name proofs/{it}" for it in unnamed(crate, told)]
 
 
 def check(root, listed):

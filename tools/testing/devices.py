@@ -40,12 +40,19 @@ def writing(built):
         results.append(result(built, Run("a device that is full", script, [], b"", WRITE_FAULT, 4), stdout=full))
         report = Run("a report to a device that is full", script, ["--lane-pure"], b"", WRITE_FAULT, 4)
         results.append(result(built, report, stdout=full))
+        results.append(result(built, helped("to a device that is full"), stdout=full))
         refused = Run("a refusal to a device that is full", program.script(program.RATE), [], b"", None, 2)
-        results.append(result(built, refused, stderr=full))
+        wrong = Run("wrong arguments, to a device that is full", script, ["--width", "5"], b"", None, 2)
+        results += [result(built, it, stderr=full) for it in (refused, wrong)]
     pipe = unread_pipe()
     results.append(result(built, Run("a pipe that nobody reads", script, [], b"", WRITE_FAULT, 4), stdout=pipe))
+    results.append(result(built, helped("to a pipe that nobody reads"), stdout=pipe))
     os.close(pipe)
     return results
+
+
+def helped(where):
+    return Run(f"help {where}", b"", ["--help"], b"", WRITE_FAULT, 4)
 
 
 def reading(built):
@@ -69,21 +76,23 @@ def reading(built):
 def closed(built):
     """Streams that are closed when the program begins: what is closed fails where it is used, and nowhere else."""
     answer = b"at 3:5 go depth 1 lanes 1111\n"
+    commands = ["first.ispc"]
     ends = (
-        ((0,), (3, b"", READ_FAULT)),
-        ((1,), (4, b"", WRITE_FAULT)),
-        ((2,), (0, answer, b"")),
-        ((0, 2), (3, b"", b"")),
-        ((1, 2), (4, b"", b"")),
+        (commands, (0,), (3, b"", READ_FAULT)),
+        (commands, (1,), (4, b"", WRITE_FAULT)),
+        (commands, (2,), (0, answer, b"")),
+        (commands, (0, 2), (3, b"", b"")),
+        (commands, (1, 2), (4, b"", b"")),
+        (["--help"], (1,), (4, b"", WRITE_FAULT)),
     )
     results = []
     with tempfile.TemporaryDirectory(prefix="closed-") as folder:
         pathlib.Path(folder, "first.ispc").write_bytes(program.FIRST)
-        for streams, wanted in ends:
+        for words, streams, wanted in ends:
             close = lambda streams=streams: [os.close(it) for it in streams]
-            ran = subprocess.run([built, "first.ispc"], cwd=folder, env={}, input=b"step\n", capture_output=True, preexec_fn=close)
+            ran = subprocess.run([built, *words], cwd=folder, env={}, input=b"step\n", capture_output=True, preexec_fn=close)
             came = (ran.returncode, ran.stdout, ran.stderr)
-            results.append(Result(f"closed streams {streams}", came == wanted, [f"{came!r}, and not {wanted!r}"]))
+            results.append(Result(f"closed streams {streams}: {words[0]}", came == wanted, [f"{came!r}, and not {wanted!r}"]))
     return results
 
 
@@ -97,11 +106,16 @@ def endless(built):
             return [Result("standard input without end", False, ["cc does not make the library that gives it"])]
         for words, what, wanted in (([], "script", (2, b"", NO_SCRIPT)), (["first.ispc"], "commands", (3, b"", READ_FAULT))):
             for byte in BLANKS:
-                case = hostile.Case(f"{bytes([byte])!r} for ever", folder, words, b"", built, failing)
+                case = hostile.Case(Run(f"{bytes([byte])!r} for ever", b"", words), folder, built, failing)
                 came = case.ended(ENDLESS_BYTE=byte, SINGLE_BYTES=1)
                 results.append(case.result(f"as the {what}", [] if came == wanted else [f"{came!r}"]))
     return results
 
 
+def of_any_build(built):
+    """What a program that is built with checks is tried with too."""
+    return writing(built) + reading(built) + closed(built)
+
+
 def results(built):
-    return writing(built) + reading(built) + closed(built) + endless(built)
+    return of_any_build(built) + endless(built)

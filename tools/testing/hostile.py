@@ -1,7 +1,7 @@
 """The built program where things fail: each of its allocations is refused, its devices fail after each byte, its sources are damaged.
 
-Each is a run of an example; its devices also fail in the session with an answer of each kind. Whatever fails, the program says so in the words
-of its pages, and nothing that it wrote before is wrong.
+Each is a run of an example or of a worked row; its devices also fail in the session with an answer of each kind. Whatever fails, the program
+says so in the words of its pages, and nothing that it wrote before is wrong.
 """
 
 import os
@@ -10,27 +10,36 @@ import re
 import subprocess
 import tempfile
 
-from . import examples, kinds
-from .tried import Result
+from . import examples, kinds, worked_rows
+from .tried import Result, Run, laid
 
 LIBRARY = pathlib.Path(__file__).with_name("failing.c")
 MEMORY = (2, b"", b"memory\n")
 LEAST = 50  # how often a run of the least example says so
+PIECES = 3  # of a run at most so many allocations are done without, where a file is read in smaller pieces
 READ_FAULT, WRITE_FAULT = b"read fault\n", b"write fault\n"
 DAMAGE = b"\0\xff(}"
 GROWING = b"export void go() {\n    int x = 0;\n    x++;\n    x++;\n    x++;\n    x++;\n}\n"
 STEPS, GROWTH, BACK = b"step 3\n", b"set record full insn-number-max 6\n", b"step 2\nreverse-step 5\n"
 GROWN = b"at 5:5 go depth 1 lanes 1111\nhistory 6\nat 7:1 go depth 1 lanes 1111\nhistory end: at 3:5 go depth 1 lanes 1111\n"
 REFUSED = b"at 5:5 go depth 1 lanes 1111\nC12 Memory\nat 7:1 go depth 1 lanes 1111\nhistory end: at 5:5 go depth 1 lanes 1111\n"
+GROWTHS = re.compile(rb"set record full insn-number-max \d+\n")
 REFUSAL = re.compile(rb"(\d+):\d+: S\d+ [A-Z]\w+\n|entry: E1 NoEntry\n|input( \d+)?: I\d [A-Z]\w+( \w+)?\n")
+NO_END = re.compile(rb"\d+:\d+: S3 Unexpected\n")
+NO_ENTRY = b"entry: E1 NoEntry\n"
+# Worked rows: with breakpoints and watches; with calls across lanes, at width 8; and with an input.
+ROWS = ("BreakpointsAndWatches", "LibraryAcrossLanes", "EntryArray")
+DAMAGED_ROWS = ("BreakAndContinue", "Recursion", "LibraryAcrossLanes")
 
 
 class Case:
-    """A run of the program: its arguments and its commands, in a folder that has its files, with variables of the library."""
+    """A run of the program in a folder that has its files, with variables of the library that makes things fail."""
 
-    def __init__(self, name, folder, arguments, commands, program, failing):
-        self.name, self.folder, self.program, self.failing = name, folder, program, failing
-        self.arguments, self.commands, self.variables = arguments, commands, {}
+    def __init__(self, run, folder, program, failing):
+        self.name, self.folder, self.program, self.failing = run.name, folder, program, failing
+        self.arguments, self.commands, self.variables, self.data = run.arguments, run.stdin, {}, run.data
+        for name, file in run.data.items():
+            laid(file if isinstance(file, bytes) else file.read_bytes(), folder, name)
 
     def ended(self, commands=None, **variables):
         """The status, the output and the errors of the run, with these variables of the library that makes things fail."""
@@ -48,14 +57,23 @@ class Case:
     def result(self, what, why):
         return Result(f"{self.name}: {what}", not why, why)
 
+    def refusals(self):
+        """How the run ends where nothing is refused, and with each of its allocations refused in turn."""
+        whole, count = self.counted()
+        return whole, [self.ended(REFUSED_ALLOCATION=number) for number in range(1, count + 1)]
+
     def memory(self):
         """All memory is taken before the first command; or the run goes on without, as where a file is read in smaller pieces."""
-        whole, count = self.counted()
-        given = [self.ended(REFUSED_ALLOCATION=number) for number in range(1, count + 1)]
+        whole, given = self.refusals()
         why = [f"allocation {at}: {it!r}" for at, it in enumerate(given, 1) if it not in (MEMORY, whole)]
-        if whole[0] != 0 or given.count(MEMORY) < LEAST:
-            why.append(f"it ends with {whole[0]}, and says `memory` {given.count(MEMORY)} times")
-        return self.result(f"each of {count} allocations refused", why)
+        if whole[0] != 0 or given.count(MEMORY) < LEAST or given.count(whole) > PIECES:
+            why.append(f"it ends with {whole[0]}, says `memory` {given.count(MEMORY)} times, and goes on {given.count(whole)} times")
+        return self.result(f"each of {len(given)} allocations refused", why)
+
+    def commands_without_memory(self):
+        """No command takes memory but the growth of the history limit: a run without commands makes as many allocations."""
+        (_, none), (_, all_of_them) = self.counted(b""), self.counted(GROWTHS.sub(b"", self.commands))
+        return self.result("commands take no memory", [] if none == all_of_them else [f"{all_of_them - none} allocations"])
 
     def writes(self):
         """Standard output fails after each byte: what it took is what it takes of a whole run."""
@@ -86,66 +104,68 @@ class Case:
     def devices(self):
         return [self.writes(), self.reads(), self.single_bytes()]
 
+    def is_report(self):
+        return "--lane-pure" in self.arguments
 
-class Example(Case):
-    """A run of an example."""
+    def source(self):
+        content = self.data[self.arguments[0]]
+        return content if isinstance(content, bytes) else content.read_bytes()
 
-    def __init__(self, root, name, program, failing):
-        words, self.data = examples.with_input(name, examples.input_of(root, name))
-        arguments, folder = [f"{name}.ispc", *examples.arguments(root, name), *words], root / "examples"
-        super().__init__(name, folder, arguments, (folder / f"{name}.commands").read_bytes(), program, failing)
-        self.is_report = "--lane-pure" in arguments
+    def of_source(self, text):
+        """How a run of another source ends, after one step."""
+        pathlib.Path(self.folder, self.arguments[0]).write_bytes(text)
+        ran = subprocess.run([self.program, *self.arguments], cwd=self.folder, env={}, input=b"step\n", capture_output=True)
+        return ran.returncode, ran.stdout, ran.stderr
 
     def damaged(self):
         """Each front of the source, and the source with each byte changed: a run, or a refusal that has a place in the text."""
-        source = (self.folder / f"{self.name}.ispc").read_bytes()
+        source = self.source()
         texts = [source[:at] for at in range(len(source))]
         texts += [source[:at] + bytes([byte]) + source[at + 1 :] for at in range(len(source)) for byte in DAMAGE]
-        why = []
-        with tempfile.TemporaryDirectory(prefix="damaged-") as folder:
-            for name, content in self.data.items():
-                pathlib.Path(folder, name).write_bytes(content)
-            file = pathlib.Path(folder, f"{self.name}.ispc")
-            for text in texts:
-                file.write_bytes(text)
-                ran = subprocess.run([self.program, *self.arguments], cwd=folder, env={}, input=b"step\n", capture_output=True)
-                if not self.is_judged(text, ran.returncode, ran.stdout, ran.stderr):
-                    why.append(f"{text!r}: status {ran.returncode}, {ran.stdout!r}, {ran.stderr!r}")
+        ends = [(text, self.of_source(text)) for text in texts]
+        self.of_source(source)
+        why = [f"{text!r}: status {end[0]}, {end[1]!r}, {end[2]!r}" for text, end in ends if not self.is_judged(text, *end)]
         return self.result(f"{len(texts)} damaged sources", why)
 
     def is_judged(self, text, status, output, errors):
         """Whether it is an answer, or a report, and no refusal; or a refusal alone, at a line of the text or just past its last one."""
         if status == 0:
-            return errors == b"" and (output != b"" or self.is_report)
+            return errors == b"" and (output != b"" or self.is_report())
         said = REFUSAL.fullmatch(errors)
         if status != 2 or output or not said:
             return False
         return said[1] is None or int(said[1]) <= text.count(b"\n") + 2
 
-    def results(self):
-        return [self.memory(), *([] if self.is_report else self.devices()), self.damaged()]
+    def fronts(self):
+        """Each front of the source without its last brace: the empty one has no entry, and any other breaks off where something has to follow."""
+        source, why = self.source(), []
+        for at in range(source.rindex(b"}") + 1):
+            status, output, errors = self.of_source(source[:at])
+            is_wanted = NO_END.fullmatch(errors) if at else errors == NO_ENTRY
+            if (status, output) != (2, b"") or not is_wanted:
+                why.append(f"{source[:at]!r}: status {status}, {output!r}, {errors!r}")
+        self.of_source(source)
+        return self.result("each front of the source", why)
 
 
 def every_kind(root, program, failing):
     """The session with an answer of each kind, in which the last growth of the history limit is refused."""
     session = kinds.session(root)
     with tempfile.TemporaryDirectory(prefix="kinds-") as folder:
-        pathlib.Path(folder, session.source_name).write_bytes(session.source)
-        arguments = [session.source_name, *session.options]
-        case = Case("an answer of each kind", folder, arguments, session.commands, program, failing)
+        case = Case(session.run(), folder, program, failing)
         _, before = case.counted(session.commands[: session.commands.index(kinds.GROWTH)])
+        without = case.commands_without_memory()
         case.variables = {"REFUSED_ALLOCATION": before + 1}
         came, wanted = case.ended(), (0, session.answers.replace(kinds.GROWN, kinds.REFUSED), b"")
         why = [] if came == wanted and kinds.REFUSED in came[1] else [f"{came!r}"]
-        return [case.result("with a growth refused", why), *case.devices()]
+        return [case.result("with a growth refused", why), without, *case.devices()]
 
 
 def growth(program, failing):
     """A history limit that grows from 2 to 6: where its memory is refused, two steps are kept as before, and else four."""
-
+    run = Run("growing", STEPS + GROWTH + BACK, ["growing.ispc", "--history", "2"], data={"growing.ispc": GROWING})
     with tempfile.TemporaryDirectory(prefix="growing-") as folder:
-        pathlib.Path(folder, "growing.ispc").write_bytes(GROWING)
-        case = Case("growing", folder, ["growing.ispc", "--history", "2"], STEPS + GROWTH + BACK, program, failing)
+        case = Case(run, folder, program, failing)
         (_, before), (whole, count) = case.counted(STEPS + BACK), case.counted()
         why = [] if whole == (0, GROWN, b"") and before < count else [f"a whole run: {whole!r}, {before} and {count} allocations"]
         for number in range(before + 1, count + 1):
@@ -164,10 +184,35 @@ def library(folder):
     return made if compiled.returncode == 0 else None
 
 
+def of_examples(root):
+    """A run of each example, and what is tried with it."""
+    for run in examples.runs(root):
+        if run.arguments and run.arguments[0] in run.data:
+            is_report = "--lane-pure" in run.arguments
+            yield run, (Case.memory, *([] if is_report else [Case.commands_without_memory, Case.devices]), Case.damaged)
+
+
+def of_rows(root):
+    """A run of some worked rows, and what is tried with each."""
+    for row in worked_rows.rows(root):
+        source, given = row.parts[0]
+        tried = [Case.memory, Case.commands_without_memory, Case.devices] if row.name in ROWS else []
+        tried += [Case.damaged] if row.name in DAMAGED_ROWS else []
+        tried += [Case.fronts] if row.name == "StepAndBack" else []
+        if tried:
+            yield worked_rows.run_of(f"row {row.name}", source, given[0]), tried
+
+
 def results(root, program):
-    with tempfile.TemporaryDirectory(prefix="failing-") as folder:
-        failing = library(folder)
+    with tempfile.TemporaryDirectory(prefix="failing-") as made:
+        failing = library(made)
         if failing is None:
             return [Result("a library that makes things fail", False, ["cc does not make it"])]
-        found = [result for name in examples.names(root) for result in Example(root, name, program, failing).results()]
+        found = []
+        for run, tried in [*of_examples(root), *of_rows(root)]:
+            with tempfile.TemporaryDirectory(prefix="stored-") as folder:
+                case = Case(run, folder, program, failing)
+                for it in tried:
+                    come = it(case)
+                    found += come if isinstance(come, list) else [come]
         return [*found, growth(program, failing), *every_kind(root, program, failing)]

@@ -1,9 +1,9 @@
 """The pages: README.md, those of docs/ and those that list crates and examples. What they name is there, and no paragraph is long."""
 
-import importlib.machinery
-import importlib.util
 import re
 
+from . import finding
+from .tool import tool
 from .tried import Result
 
 LISTS = ("crates/README.md", "examples/README.md")
@@ -12,8 +12,8 @@ DEFINITIONS = "docs/DEFINITIONS.md"
 # The most characters of a paragraph or an item of a list. Rows of tables are not counted.
 MOST = 500
 
-# What stands in a path for any name, or is made when the program is built or proved.
-MADE_OR_ANY = re.compile(r"\b(NAME|CRATE|F|PATH)\b|\.\.$|\bout/|^~|\*")
+# What stands in a path for any name, or is made when the program is built or proved; files of an editor; and a format behind GDB's `print` or `x`.
+MADE_OR_ANY = re.compile(r"\b(NAME|CRATE|F|PATH)\b|\.\.$|\bout/|^~|\*|^\.vscode/|^(?:p|print|x)/\w+$")
 CODE = re.compile(r"`([^`\n]+)`")
 LINK = re.compile(r"\]\(([^)#\s]+)[^)]*\)")
 PATH = re.compile(r"(?:[\w.~*+-]*\w[\w.~*+-]*/)+[\w.*+-]*|[\w-]+\.(?:antt|rt|py|md|txt|edit|session)")
@@ -92,14 +92,6 @@ def rows_of_definitions(root):
             yield number, CODE.findall(cells[0]), [place / f"{it.strip()}.antt" for it in files.split(",")]
 
 
-def tool(root, name):
-    """A tool as a module."""
-    loader = importlib.machinery.SourceFileLoader(name, str(root / "tools" / name))
-    module = importlib.util.module_from_spec(importlib.util.spec_from_loader(name, loader))
-    loader.exec_module(module)
-    return module
-
-
 def undefined(root):
     """What a table of definitions and laws says of a file in which `tools/where` finds no such one."""
     where = tool(root, "where")
@@ -112,10 +104,10 @@ def undefined(root):
 
 
 def check(root):
-    """A result for each page: it is there, with what it names, and its paragraphs are short; and one for the files of the definitions."""
+    """A result for each page: it is there, with what it names, and its paragraphs are short; and for the names of definitions and rules."""
     results = []
     for page in pages(root):
         why = missing(root, page) + long_ones(page) if page.is_file() else ["it is not there"]
         results.append(Result(page.relative_to(root).as_posix(), not why, why))
     why = list(undefined(root))
-    return [*results, Result("the files of the definitions", not why, why)]
+    return [*results, Result("the files of the definitions", not why, why), *finding.check(root)]

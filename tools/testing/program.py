@@ -47,11 +47,9 @@ def runs_of_scripts():
         answered("a second line %% is a command", script(FIRST, b"%%"), b"C1 BadCommand\n"),
         answered("lines that end in CR and LF", script(FIRST, b"step\r", b"s\r"), at_start + at_end),
         answered("blanks behind a command", script(FIRST, b" \t", b"step  ", b"print \t x ", b" step"), at_start + b"x = 0 3 6 9\nC1 BadCommand\n"),
-        answered("lines of 256 and 257 bytes", script(FIRST, b"step".ljust(257), b"step".ljust(256)), b"C1 BadCommand\n" + at_start),
         refused("no line %%", FIRST, b"script: E2 NoScript\n"),
         refused("a line %% with a blank", FIRST + b"%% \nstep\n", b"script: E2 NoScript\n"),
         refused("nothing on standard input", b"", b"script: E2 NoScript\n"),
-        refused("more bytes than the limit", script(FIRST).ljust(MOST_BYTES + 1, b"\n"), b"script: E2 NoScript\n"),
         refused("a source with a fault", script(RATE, b"step"), b"2:21: S7 Rate\n"),
         refused("a source without an entry", script(HIDDEN, b"step"), b"entry: E1 NoEntry\n"),
         refused("an entry that is not there", script(FIRST, b"step"), b"entry: E1 NoEntry\n", ["--entry", "stop"]),
@@ -104,20 +102,13 @@ def runs_of_options():
         ["--nothing"],
         ["--width", "5"],
         ["--width"],
-        ["--history", "0"],
-        ["--history", "65537"],
         ["--history", "many"],
-        ["--steps", "0"],
-        ["--steps", "10000001"],
         ["first.ispc", "second.ispc"],
         ["--lane-pure", "--lane-pure"],
     ]
     helped = has_words(b"Usage: ispc_cli", b"--input", b"--entry", b"--width", b"--history", b"--steps", b"--lane-pure")
-    history = b"at 4:1 go depth 1 lanes 1111\nhistory end: at 3:5 go depth 1 lanes 1111\n"
     return [
         answered("--width 8", script(FIRST, *two), ended, ["--width", "8"]),
-        answered("--history 1", script(FIRST, b"step 2", b"rs 2"), history, ["--history", "1"]),
-        answered("--steps 1", script(FIRST, b"step 2"), b"step limit: at 3:5 go depth 1 lanes 1111\n", ["--steps", "1"]),
         answered("--lane-pure", script(FIRST, b"step"), b"lane-pure 1:13 go: yes\n", ["--lane-pure"]),
         answered("--lane-pure without an entry", script(HIDDEN), b"lane-pure 1:6 go: yes\n", ["--lane-pure"]),
         refused("--lane-pure without a line %%", FIRST, b"script: E2 NoScript\n", ["--lane-pure"]),
@@ -128,48 +119,17 @@ def runs_of_options():
     ]
 
 
-def long_sum(operators):
-    """A function of one declaration, whose value is a sum of so many ones and one more."""
-    return b"export void go() { int x = 1" + b" + 1" * operators + b"; }\n"
-
-
-def declarations(count):
-    """A function that declares so many variables, each in a line of its own."""
-    return b"export void go() {\n" + b"".join(b"int v%d;\n" % number for number in range(1, count + 1)) + b"}\n"
-
-
-def labels(count):
-    """A function whose `switch` has so many labels, and where the last one stands."""
-    before = b"void f(int a) { switch (a) { " + b"".join(b"case %d: " % label for label in range(count - 1))
-    return before + b"default: ; } }\n", len(before) + 1
-
-
-def runs_at_limits():
-    """Sources at a limit and past it, and entries that are none."""
+def runs_of_entries():
+    """Entries that are none."""
     functions = b"void a() { }\nexport void b() { int x = 1; }\nexport void c() { }\n"
-    deep = b"export void go() { int x = " + b"(" * 64 + b"1; }\n"
-    sum_is = b"at 1:1055 go depth 1 lanes 1111\nx = 257 257 257 257\n"
-    last_is = b"at 258:1 go depth 1 lanes 1111\nv256 = 0 0 0 0\n"
-    (most_labels, _), (many_labels, last_at) = labels(256), labels(257)
-    report = ["--lane-pure"]
     return [
-        answered("256 labels", script(most_labels), b"lane-pure 1:6 f: yes\n", report),
-        refused("257 labels", script(many_labels), b"1:%d: S13 Limit\n" % last_at, report),
-        refused("a source of 65,537 bytes", b" " * 65_536 + b"\n%%\nstep\n", b"1:1: S13 Limit\n"),
-        refused("65 nestings", script(deep, b"step"), b"1:91: S4 TooDeep\n"),
-        refused("257 operators", script(long_sum(257), b"step"), b"1:1054: S13 Limit\n"),
-        answered("256 operators", script(long_sum(256), b"step", b"print x"), sum_is),
-        refused("257 variables", script(declarations(257), b"step"), b"258:5: S13 Limit\n"),
-        answered("256 variables", script(declarations(256), b"step 256", b"print v256"), last_is),
-        *[
-            refused(f"the entry {name!r}", script(functions, b"step"), b"entry: E1 NoEntry\n", ["--entry", name])
-            for name in ("a", "d", "bb", "x", "go")
-        ],
+        refused(f"the entry {name!r}", script(functions, b"step"), b"entry: E1 NoEntry\n", ["--entry", name])
+        for name in ("a", "d", "bb", "x", "go")
     ]
 
 
 def runs():
-    return runs_of_scripts() + runs_of_files() + runs_of_inputs() + runs_of_options() + runs_at_limits()
+    return runs_of_scripts() + runs_of_files() + runs_of_inputs() + runs_of_options() + runs_of_entries()
 
 
 def runs_of_bytes():

@@ -1,9 +1,11 @@
 """Random programs with random commands: what the program answers is what tools/meaning works out.
 
-Their statements are of every form: loops, `switch`, the foreach forms in one another, calls and recursion, arrays, and values that may fault.
+Their statements are of every form: loops, `switch`, the foreach forms in one another, calls and recursion, arrays and parts of them, packed
+calls, `assert`, and values with every call of the library, which may fault.
 """
 
 import random
+import re
 
 from .meant import Debugger
 from .tried import Run
@@ -14,16 +16,32 @@ OPERATORS = ("+", "-", "*", "&", "|", "^", "<", "<=", "==", "!=", ">", "<<", ">>
 LABELS = ("case 0", "case 1", "case 2", "case 3", "case -1", "default")
 STEPS = 2000
 
+# Calls of the library by their rate: {v} stands for a varying value, {u} for a uniform one, {i} for the number of a lane, which is mostly there.
+UNIFORM_CALLS = ("any({v})", "all({v})", "none({v})", "reduce_add({v})", "reduce_min({v})", "reduce_max({v})", "reduce_equal({v})", "lanemask()")
+UNIFORM_CALLS += ("popcnt({v} > 1)", "packmask({v})", "extract({v}, {i})", "min({u}, {u})", "clamp({u}, {u}, {u})", "abs({u})", "select({u}, {u}, {u})")
+VARYING_CALLS = ("broadcast({v}, {i})", "insert({v}, {i}, {u})", "rotate({v}, {u})", "shift({v}, {u})", "shuffle({v}, {j})", "shuffle({v}, {v}, {j})")
+VARYING_CALLS += ("exclusive_scan_add({v})", "exclusive_scan_and({v})", "exclusive_scan_or({v})", "min({v}, {u})", "max({v}, {v})", "clamp({v}, {u}, {v})")
+VARYING_CALLS += ("abs({v})", "select({v}, {u}, {v})", "popcnt((uint16)({v}))")
+HOLE = re.compile(r"\{([vuij])\}")
+PART = """int q(uniform {type} v[], int a, uniform int n) {{
+v[(a + n) & 3] += a;
+if (n > 0 && n < 3) return q(&v[1], a, n - 1);
+n = packed_store_active(v, a);
+return v[0];
+}}"""
+
 
 class Written:
     """A random source."""
 
     def __init__(self, chance):
         self.chance, self.lines, self.names = chance, [], 0
-        self.uniform, self.varying = ["gu", "gt"], ["gv", "gw"]
+        self.uniform, self.varying = ["gu", "gt"], ["gv", "gw", "gx"]
+        element = self.pick(TYPES[:-1])
         self.lines += [f"uniform {self.pick(TYPES[:-1])} gu = 3;", "uniform int gt;", f"{self.pick(TYPES)} gv = 1;", "int gw;"]
-        self.lines += [f"uniform {self.pick(TYPES[:-1])} ga[8];", "uniform int gb[5];"]
+        self.lines += [f"uniform {element} ga[8];", "uniform int gb[5];", f"{element} gx;"]
         self.functions()
+        self.lines += PART.format(type=element).split("\n")
         self.lines.append("export void go() {")
         self.statements(5, Place())
         self.lines.append("}")
@@ -62,17 +80,21 @@ class Written:
             return f"ga[({self.value(rate, depth - 1)}) & 7]"
         if kind == 1:
             return f"({self.value(rate, depth - 1)} ? {self.value(rate, depth - 1)} : {self.value(rate, depth - 1)})"
-        if kind == 2 and self.is_in(50):
-            call = self.pick(("reduce_add", "reduce_max", "any", "popcnt", "reduce_min"))
-            return f"{call}({self.value('varying', depth - 1)})" if call != "popcnt" else f"popcnt({self.value('varying', depth - 1)} > 1)"
+        if kind in (2, 5):
+            return self.library(self.pick(UNIFORM_CALLS if rate == "uniform" or self.is_in(30) else VARYING_CALLS), depth - 1)
         if kind == 3:
             return f"{self.pick('-~!')}({self.value(rate, depth - 1)})"
         if kind == 4:
             return f"({self.pick(TYPES)})({self.value(rate, depth - 1)})"
-        if kind == 5 and rate == "varying":
-            return f"exclusive_scan_add({self.value(rate, depth - 1)})"
         operator = self.pick(OPERATORS[:-2] if self.is_in(97) else OPERATORS)
         return f"({self.value(rate, depth - 1)} {operator} {self.value(rate, depth - 1)})"
+
+    def library(self, call, depth):
+        """A call of the library; a lane that it names is mostly there."""
+        lane = lambda rate: f"(({self.value(rate, depth)}) & 3)" if self.is_in(97) else self.value(rate, depth)
+        holes = {"v": lambda: self.value("varying", depth), "u": lambda: self.value("uniform", depth)}
+        holes |= {"i": lambda: lane("uniform"), "j": lambda: lane("varying")}
+        return HOLE.sub(lambda found: holes[found[1]](), call)
 
     # statements
 
@@ -88,7 +110,7 @@ class Written:
             self.statement(depth, place)
 
     def statement(self, depth, place):
-        plain = [self.assignment, self.assignment, self.element, self.declaration, self.leaving, self.call]
+        plain = [self.assignment, self.assignment, self.element, self.declaration, self.leaving, self.call, self.packed, self.check]
         nested = [self.branch, self.loop, self.loop, self.switch, self.domain, self.domain, self.lane, self.each_value]
         self.pick(plain if depth == 0 or self.is_in(45) else nested)(depth, place)
 
@@ -124,7 +146,20 @@ class Written:
         if not place.calls:
             return self.assignment(depth, place)
         value = self.value("varying", 1)
-        return self.lines.append(self.pick((f"gv = f({value}, {self.chance.randrange(4)});", f"gu = u({self.value('uniform', 1)});", f"p({value});")))
+        part = self.pick(("ga", f"&ga[({self.value('uniform', 1)}) & 3]"))
+        calls = (f"gv = f({value}, {self.chance.randrange(4)});", f"gu = u({self.value('uniform', 1)});", f"p({value});")
+        return self.lines.append(self.pick((*calls, f"gv = q({part}, {value}, {self.chance.randrange(3)});")))
+
+    def packed(self, depth, place):
+        """A packed call, by few lanes where it is to find its elements."""
+        array = self.pick(("ga", f"&ga[({self.value('uniform', 1)}) & 3]"))
+        call = self.pick((f"packed_store_active({array}, {self.value('varying', 1)})", f"packed_load_active({array}, &gx)"))
+        test = f"if (({self.value('varying', 1)}) != 1 && programIndex % 4 == {self.chance.randrange(4)}) " if self.is_in(90) else ""
+        return self.lines.append(f"{test}{self.pick(('gu = ', 'gt = ', 'gv = ', ''))}{call};")
+
+    def check(self, depth, place):
+        value = self.value("varying", 1)
+        return self.lines.append(f"assert({value});" if self.is_in(3) else f"assert(programIndex < {self.chance.randrange(15, 17)} || {value});")
 
     def branch(self, depth, place):
         self.lines.append(f"if ({self.value('varying')})")
@@ -210,7 +245,7 @@ def run_of(number):
     """The random program of this number, with its answers."""
     chance = random.Random(f"{SEED} {number}")
     source = Written(chance).lines
-    lines = commands(chance, ("gu", "gt", "gv", "gw", "ga", "gb", "x9", "a", "n"), len(source))
+    lines = commands(chance, ("gu", "gt", "gv", "gw", "gx", "ga", "gb", "x9", "a", "n"), len(source))
     width, history = chance.choice((4, 8, 16)), chance.choice((3, 64, 500))
     debugger = Debugger("\n".join(source) + "\n", width, history, STEPS)
     answers = "".join(f"{line}\n" for answer in debugger.answers(lines) for line in answer)

@@ -72,7 +72,7 @@ def results(root, program):
         space = lambda name, words, commands: Space(name, program, failing, folder, words, commands)
         pathlib.Path(folder, "growing.ispc").write_bytes(hostile.GROWING)
         found.append(space("a history limit that grows", ["growing.ispc", "--width", "16"], GROWTH).result(REFUSED_GROWTH))
-        for name, text in large.shapes():
+        for name, text, _ in large.shapes():
             if name in LARGE:
                 pathlib.Path(folder, "large.ispc").write_text(text)
                 found.append(space(f"{len(text)} bytes of {name}", ["large.ispc"], b"step\n").result())

@@ -1,0 +1,402 @@
+"""A client of the debug adapter that checks each field of what it is told.
+
+`python3 -m testing.adapter_client COMMAND..` (in tools/) speaks with a program that serves the Debug Adapter Protocol on its standard
+streams, as `rinddecade adapter`. Every message must have the members that the protocol gives it, of their types, and the values are those
+that docs/COMMANDS.md and README.md give for the examples.
+"""
+
+import json
+import pathlib
+import subprocess
+import sys
+import threading
+
+from .tried import Result
+
+# How long a check may take.
+SECONDS = 60
+
+TEXT, NUMBER, TRUTH, LIST, MEMBERS = str, int, bool, list, dict
+
+# The members that each body must have, and those that it may have, with their types.
+BODIES = {
+    "initialize": ({}, {}),
+    "launch": ({}, {}),
+    "setBreakpoints": ({"breakpoints": LIST}, {}),
+    "setExceptionBreakpoints": ({}, {}),
+    "dataBreakpointInfo": ({"description": TEXT}, {"dataId": (TEXT, type(None)), "accessTypes": LIST, "canPersist": TRUTH}),
+    "setDataBreakpoints": ({"breakpoints": LIST}, {}),
+    "configurationDone": ({}, {}),
+    "threads": ({"threads": LIST}, {}),
+    "stackTrace": ({"stackFrames": LIST}, {"totalFrames": NUMBER}),
+    "scopes": ({"scopes": LIST}, {}),
+    "variables": ({"variables": LIST}, {}),
+    "setVariable": ({"value": TEXT}, {}),
+    "evaluate": ({"result": TEXT, "variablesReference": NUMBER}, {}),
+    "next": ({}, {"allThreadsContinued": TRUTH}),
+    "stepIn": ({}, {"allThreadsContinued": TRUTH}),
+    "stepOut": ({}, {"allThreadsContinued": TRUTH}),
+    "stepBack": ({}, {"allThreadsContinued": TRUTH}),
+    "reverseContinue": ({}, {"allThreadsContinued": TRUTH}),
+    "continue": ({"allThreadsContinued": TRUTH}, {}),
+    "restart": ({}, {}),
+    "disconnect": ({}, {}),
+}
+CAPABILITIES = [
+    "supportsConfigurationDoneRequest",
+    "supportsDataBreakpoints",
+    "supportsEvaluateForHovers",
+    "supportsRestartRequest",
+    "supportsSetVariable",
+    "supportsStepBack",
+]
+EVENTS = {
+    "initialized": ({}, {}),
+    "terminated": ({}, {}),
+    "output": ({"output": TEXT}, {"category": TEXT}),
+    "stopped": (
+        {"reason": TEXT},
+        {"description": TEXT, "text": TEXT, "threadId": NUMBER, "allThreadsStopped": TRUTH, "hitBreakpointIds": LIST},
+    ),
+}
+ITEMS = {
+    "breakpoints": ({"verified": TRUTH}, {"id": NUMBER, "line": NUMBER, "message": TEXT}),
+    "threads": ({"id": NUMBER, "name": TEXT}, {}),
+    "stackFrames": ({"id": NUMBER, "name": TEXT, "line": NUMBER, "column": NUMBER}, {"source": MEMBERS}),
+    "scopes": ({"name": TEXT, "variablesReference": NUMBER, "expensive": TRUTH}, {"presentationHint": TEXT}),
+    "variables": ({"name": TEXT, "value": TEXT, "variablesReference": NUMBER}, {"type": TEXT, "evaluateName": TEXT}),
+}
+
+
+class Wrong(Exception):
+    pass
+
+
+def need(holds, why):
+    if not holds:
+        raise Wrong(why)
+
+
+def need_members(what, given, needed, allowed):
+    """An object has all the members that it needs and no others than it may have, each of its type."""
+    need(isinstance(given, dict), f"{what} is {given!r} and no object")
+    for name, kind in needed.items():
+        need(name in given, f"{what} has no member {name}: {given}")
+    for name, value in given.items():
+        kind = needed.get(name) or allowed.get(name)
+        need(kind is not None, f"{what} has a member {name}: {given}")
+        is_truth_for_number = kind is NUMBER and isinstance(value, bool)
+        need(isinstance(value, kind) and not is_truth_for_number, f"the member {name} of {what} is {value!r}")
+
+
+class Client:
+    def __init__(self, command):
+        self.process = subprocess.Popen(command, stdin=subprocess.PIPE, stdout=subprocess.PIPE, stderr=subprocess.PIPE)
+        self.sent, self.told, self.events = 0, 0, []
+
+    # ---- frames
+
+    def write(self, raw):
+        self.process.stdin.write(raw)
+        self.process.stdin.flush()
+
+    def write_message(self, message):
+        text = json.dumps(message).encode()
+        self.write(b"Content-Length: %d\r\n\r\n%s" % (len(text), text))
+
+    def read_message(self):
+        head = b""
+        while not head.endswith(b"\r\n\r\n"):
+            byte = self.process.stdout.read(1)
+            if not byte:
+                raise Wrong(f"the adapter has ended: {self.process.stderr.read().decode()}")
+            head += byte
+        lines = head[:-4].split(b"\r\n")
+        need(len(lines) == 1 and lines[0].startswith(b"Content-Length: "), f"the head is {head!r}")
+        message = json.loads(self.process.stdout.read(int(lines[0][16:])))
+        self.told += 1
+        need(message.get("seq") == self.told, f"the message has not the number {self.told}: {message}")
+        return message
+
+    # ---- messages
+
+    def take_event(self, message):
+        name = message.get("event")
+        need(name in EVENTS, f"an event {name}")
+        need_members(f"the event {name}", message, {"seq": NUMBER, "type": TEXT, "event": TEXT, "body": MEMBERS}, {})
+        need_members(f"the body of {name}", message["body"], *EVENTS[name])
+        self.events.append((name, message["body"]))
+
+    def event(self, name):
+        """The next event, which must have this name."""
+        if not self.events:
+            message = self.read_message()
+            need(message.get("type") == "event", f"not the event {name}: {message}")
+            self.take_event(message)
+        found, body = self.events.pop(0)
+        need(found == name, f"the event is {found} and not {name}: {body}")
+        return body
+
+    def answer(self, command, arguments=None):
+        """The response to a request, whatever it says."""
+        self.sent += 1
+        message = {"seq": self.sent, "type": "request", "command": command}
+        if arguments is not None:
+            message["arguments"] = arguments
+        self.write_message(message)
+        while True:
+            message = self.read_message()
+            if message.get("type") == "event":
+                self.take_event(message)
+                continue
+            needed = {"seq": NUMBER, "type": TEXT, "request_seq": NUMBER, "success": TRUTH, "command": TEXT}
+            need_members(f"the response to {command}", message, needed, {"body": MEMBERS, "message": TEXT})
+            need(message["type"] == "response", f"the type is {message['type']}")
+            need(message["request_seq"] == self.sent and message["command"] == command, f"not the response to {command}: {message}")
+            return message
+
+    def ask(self, command, **arguments):
+        """The body of the response to a request, which must succeed."""
+        message = self.answer(command, arguments)
+        need(message["success"], f"{command} is refused: {message}")
+        body = message.get("body", {})
+        if command == "initialize":
+            need(sorted(body) == CAPABILITIES and all(body.values()), f"the capabilities are {body}")
+            return body
+        need_members(f"the body of {command}", body, *BODIES[command])
+        for name, items in body.items():
+            for item in items if name in ITEMS else []:
+                need_members(f"an item of {name}", item, *ITEMS[name])
+        return body
+
+    def refused(self, command, **arguments):
+        """The text by which a request is refused."""
+        message = self.answer(command, arguments)
+        need(not message["success"] and "message" in message, f"{command} is not refused: {message}")
+        error = message["body"]["error"]
+        need_members("the error", error, {"id": NUMBER, "format": TEXT}, {})
+        need(error["format"] == message["message"], f"two texts: {message}")
+        return message["message"]
+
+    def launch(self, source, **arguments):
+        self.ask("initialize", adapterID="rinddecade")
+        self.ask("launch", **{"program": str(source), "history": 1000, **arguments})
+        self.event("initialized")
+        self.source = str(source)
+
+    def begin(self):
+        self.ask("configurationDone")
+        return self.event("stopped")
+
+    def move(self, command):
+        self.ask(command, threadId=1)
+        return self.event("stopped")
+
+    def breakpoints(self, *lines):
+        body = self.ask("setBreakpoints", source={"path": self.source}, breakpoints=[{"line": it} for it in lines])
+        return body["breakpoints"]
+
+    def place(self):
+        frames = self.ask("stackTrace", threadId=1)["stackFrames"]
+        return [(it["line"], it["column"], it["name"]) for it in frames]
+
+    def variables(self, reference):
+        return {it["name"]: it for it in self.ask("variables", variablesReference=reference)["variables"]}
+
+    def end(self):
+        self.ask("disconnect")
+        self.process.stdin.close()
+        need(self.process.wait(10) == 0, "the status is not 0")
+
+
+# ---- what is checked
+
+
+def same(found, wanted):
+    need(found == wanted, f"{found!r} and not {wanted!r}")
+
+
+def steps_and_back(client, examples):
+    """The session of README.md."""
+    client.launch(examples / "first.ispc")
+    same(client.begin()["reason"], "entry")
+    same(client.ask("threads")["threads"], [{"id": 1, "name": "gang"}])
+    same(client.place(), [(2, 5, "go [1111]")])
+    same(client.move("stepIn")["text"], "at 3:5 go depth 1 lanes 1111")
+    same(client.move("next")["text"], "at 4:1 go depth 1 lanes 1111")
+    same(client.ask("evaluate", expression="x", context="hover")["result"], "1 4 7 10")
+    same(client.move("stepBack"), {
+        "reason": "step", "description": "at 3:5 go depth 1 lanes 1111", "text": "at 3:5 go depth 1 lanes 1111", "threadId": 1,
+        "allThreadsStopped": True,
+    })
+    same(client.ask("evaluate", expression="x", context="watch")["result"], "0 3 6 9")
+    same(client.ask("evaluate", expression="x[2]")["result"], "6")
+    same(client.ask("evaluate", expression="print x", context="repl")["result"], "x = 0 3 6 9")
+    same(client.ask("evaluate", expression="x", context="repl")["result"], "x = 0 3 6 9")
+    same(client.refused("evaluate", expression="y", context="hover"), "C2 NoSuchName")
+    same(client.refused("evaluate", expression="x + 1", context="hover"), "C1 BadCommand")
+    client.end()
+
+
+def watches(client, examples):
+    """Which statement spoiled a value: the second session of README.md."""
+    client.launch(examples / "total.ispc")
+    client.begin()
+    same(client.move("continue")["text"], "ended")
+    same(client.place(), [])
+    same(client.ask("evaluate", expression="total")["result"], "-15")
+    found = client.ask("dataBreakpointInfo", name="total", variablesReference=2)
+    same(found["dataId"], "total")
+    made = client.ask("setDataBreakpoints", breakpoints=[{"dataId": found["dataId"]}])["breakpoints"]
+    same(made, [{"id": 1, "verified": True}])
+    stop = client.move("reverseContinue")
+    same((stop["reason"], stop["hitBreakpointIds"], stop["text"]), ("data breakpoint", [1], "watch 1: at 7:5 go depth 1 lanes 1111"))
+    same(client.ask("evaluate", expression="total")["result"], "10")
+    same(client.ask("setDataBreakpoints", breakpoints=[])["breakpoints"], [])
+    same(client.ask("evaluate", expression="info breakpoints", context="repl")["result"], "none")
+    same(client.ask("dataBreakpointInfo", name="x")["dataId"], None)
+    same(client.ask("dataBreakpointInfo", name="total[0]")["dataId"], None)
+    client.end()
+
+
+def breaks(client, examples):
+    """Breakpoints: those of a list take the place of those before, and another source has none."""
+    client.launch(examples / "lanes.ispc", stopOnEntry=False)
+    same([it["line"] for it in client.breakpoints(1, 5)], [2, 5])
+    made = client.breakpoints(5)
+    same([(it["verified"], it["line"]) for it in made], [(True, 5)])
+    other = client.ask("setBreakpoints", source={"path": "/another.ispc"}, breakpoints=[{"line": 2}])["breakpoints"]
+    same([it["verified"] for it in other], [False])
+    same([it["verified"] for it in client.breakpoints(5, 100)], [True, False])
+    listed = client.ask("evaluate", expression="info breakpoints", context="repl")["result"]
+    same(len(listed.splitlines()), 1)
+    client.ask("setExceptionBreakpoints", filters=[])
+    stop = client.begin()
+    same((stop["reason"], client.place()[0][0]), ("breakpoint", 5))
+    client.end()
+
+
+def variables(client, examples):
+    """Locals, lanes and a variable that is set."""
+    client.launch(examples / "first.ispc")
+    client.begin()
+    client.move("next")
+    scopes = client.ask("scopes", frameId=1)["scopes"]
+    same([it["name"] for it in scopes], ["Locals", "File"])
+    local = client.variables(scopes[0]["variablesReference"])
+    same({name: (it["value"], it["type"]) for name, it in local.items()}, {"x": ("0 3 6 9", "varying int32")})
+    lanes = client.variables(local["x"]["variablesReference"])
+    same([(name, it["value"]) for name, it in lanes.items()], [("x[0]", "0"), ("x[1]", "3"), ("x[2]", "6"), ("x[3]", "9")])
+    same(client.ask("setVariable", variablesReference=local["x"]["variablesReference"], name="x[1]", value="7")["value"], "7")
+    same(client.ask("evaluate", expression="x", context="hover")["result"], "0 7 6 9")
+    same(client.ask("setVariable", variablesReference=1, name="x", value="-2")["value"], "-2 -2 -2 -2")
+    same(client.refused("setVariable", variablesReference=1, name="x", value="3000000000"), "C8 OutOfRange")
+    same(client.ask("evaluate", expression="undo", context="repl")["result"], "undone poke: at 3:5 go depth 1 lanes 1111")
+    same(client.event("stopped")["reason"], "step")
+    same(client.ask("evaluate", expression="x", context="hover")["result"], "0 7 6 9")
+    client.end()
+
+
+def frames(client, examples):
+    """Calls: into them, over them and out of them, with the frames of a recursion."""
+    client.launch(examples / "recursion.ispc")
+    client.begin()
+    same(client.move("next")["text"].split(" depth ")[0], "at 8:5 go")
+    client.move("stepBack")
+    client.ask("evaluate", expression="reverse-continue", context="repl")
+    client.event("stopped")
+    same(client.place()[0][:2], (7, 5))
+    client.move("stepIn")
+    same(len(client.place()), 2)
+    same([it[2].split()[0] for it in client.place()], ["f", "go"])
+    client.move("stepOut")
+    same(len(client.place()), 1)
+    client.end()
+
+
+def faults(client, examples):
+    """A fault is an exception, and a step before it can be taken back."""
+    client.launch(examples / "divide.ispc", entry="go")
+    client.begin()
+    stop = client.move("continue")
+    same((stop["reason"], stop["text"]), ("exception", "fault F1 DivideByZero lane 1: at 8:5 go depth 1 lanes 1111"))
+    same(client.move("stepBack")["text"], "at 7:5 go depth 1 lanes 1111")
+    client.end()
+
+
+def the_end(client, examples):
+    """The end is a stop, from which the program can go back; a further move ends the session, and a restart begins it anew."""
+    client.launch(examples / "first.ispc", width=8)
+    client.breakpoints(3)
+    client.begin()
+    same(client.move("continue")["reason"], "breakpoint")
+    same(client.move("continue")["text"], "ended")
+    client.ask("next", threadId=1)
+    client.event("terminated")
+    client.ask("restart")
+    same(client.event("stopped")["reason"], "entry")
+    same(client.place(), [(2, 5, "go [11111111]")])
+    same(client.refused("stepBack", threadId=1), "C3 NoHistory")
+    same(client.move("continue")["reason"], "breakpoint")
+    client.end()
+
+
+def wrong_requests(client, examples):
+    """Wrong and unknown requests are answered, and a message of any bytes is refused by name."""
+    same(client.refused("next", threadId=1), "no program is launched")
+    same(client.refused("launch"), "the argument `program` is missing or of a wrong type")
+    need(client.refused("launch", program="/nowhere/at.all") != "", "no reason")
+    same(client.refused("launch", program=str(examples / "first.ispc"), width=5), "width is 4, 8 or 16, history 1 to 65536, steps 1 to 10000000")
+    client.launch(examples / "first.ispc")
+    client.begin()
+    same(client.refused("gotoTargets", line=3), "no request gotoTargets")
+    same(client.refused("evaluate"), "the argument `expression` is missing or of a wrong type")
+    same(client.refused("setBreakpoints", source={}, breakpoints=[{"line": -1}]), "the argument `line` is missing or of a wrong type")
+    for raw, name in [
+        (b"Content-Length: 3\r\n\r\n\xff{]", "NoJson"),
+        (b"Content-Length: 2\r\n\r\n{}", "NoRequest"),
+        (b"Content-Length: x\r\n\r\n", "BadLength"),
+        (b"Length\r\n\r\n", "BadHeader"),
+        (b"Content-Type: json\r\n\r\n", "NoLength"),
+        (b"Content-Length: 1\r\nContent-Length: 1\r\n\r\n", "TwoLengths"),
+        (b"Content-Length: 99999999999999999999999\r\n\r\n", "TooLong"),
+        (b"x" * 5000, "HeadTooLong"),
+    ]:
+        client.write(raw)
+        need(f": {name}" in client.event("output")["output"], f"not {name}")
+    same(client.place(), [(2, 5, "go [1111]")])
+    client.end()
+
+
+CHECKS = [steps_and_back, watches, breaks, variables, frames, faults, the_end, wrong_requests]
+
+
+def check(root, command):
+    """A result for each of the checks, by the adapter that this command starts."""
+    return [tried(it, root, command) for it in CHECKS]
+
+
+def tried(it, root, command):
+    client = Client(command)
+    late = threading.Timer(SECONDS, client.process.kill)
+    late.start()
+    try:
+        it(client, (root / "examples").resolve())
+        return Result(f"adapter: {it.__name__}", True, [])
+    except (Wrong, OSError) as wrong:
+        return Result(f"adapter: {it.__name__}", False, [str(wrong)])
+    finally:
+        late.cancel()
+        client.process.kill()
+        client.process.wait()
+
+
+def main():
+    results = check(pathlib.Path(__file__).resolve().parents[2], sys.argv[1:])
+    for result in results:
+        print(result.name, "passed" if result.passed else "failed", *result.why, sep=": ")
+    sys.exit(not all(it.passed for it in results))
+
+
+if __name__ == "__main__":
+    main()

@@ -1,0 +1,57 @@
+"""The built program without memory in each of its phases: runs that end in one phase after another, each allocation refused in turn.
+
+So each call that takes memory is the last one of some run: what it says where it finds none, and that it answers as ever where it does.
+"""
+
+import tempfile
+
+from .hostile import MEMORY, Case, library
+from .limits import declarations
+from .program import FIRST, HIDDEN, RATE
+from .tried import Result, Run
+
+
+def runs_of_phases():
+    """Runs that end in one phase after another, each with the errors that it is refused with."""
+    source = b"uniform int t[2];\nexport void go(uniform int n, uniform int a[]) {\nt[0] = n + a[1];\n}\n"
+    with_input = lambda text: {"sum.ispc": source, "sum.input": text}
+    of = lambda name, text, words=(): Run(name, b"step\n", ["it.ispc", *words], data={"it.ispc": text})
+    of_input = lambda name, text: Run(name, b"step\n", ["sum.ispc", "--input", "sum.input"], data=with_input(text))
+    return [
+        (Run("arguments", b"", ["--width", "5"]), b"error: "),
+        (Run("help", b"", ["--help"]), b""),
+        (Run("a script", FIRST), b"script: E2"),
+        (of("tokens", FIRST + b"`"), b"5:1: S1"),
+        (of("the tree", FIRST + b"("), b"5:1: S3"),
+        (of("names", FIRST.replace(b"x += 1", b"y += 1")), b"3:5: S5"),
+        (of("types", RATE), b"2:21: S7"),
+        (of("limits", declarations(257)), b"258:5: S13"),
+        (of("an entry", HIDDEN), b"entry: E1"),
+        (of_input("a bad line of an input", b"n = 5\nz = 1\n"), b"input 2: I1"),
+        (of_input("a missing line of an input", b"n = 5\n"), b"input: I2"),
+        (of_input("a value of an input", b"n = 5\na = 1 2 3000000000\n"), b"input 2: I3"),
+        (of_input("a large input", b"n = 5\nt = 1 2 3\n"), b"input 2: I4"),
+        (of("a report", FIRST, ["--lane-pure"]), b""),
+    ]
+
+
+def phases(program, failing):
+    """Each allocation refused of runs that end in each phase: `memory`, or what the whole run says."""
+    results = []
+    for run, errors in runs_of_phases():
+        with tempfile.TemporaryDirectory(prefix="phases-") as folder:
+            case = Case(run, folder, program, failing)
+            whole, given = case.refusals()
+            why = [f"allocation {at}: {it!r}" for at, it in enumerate(given, 1) if it not in (MEMORY, whole)]
+            why += [] if whole[2].startswith(errors) and (whole[0] == 2) == bool(errors) else [f"a whole run: {whole!r}"]
+            why += [] if given.count(MEMORY) > len(given) / 2 else [f"it says `memory` {given.count(MEMORY)} of {len(given)} times"]
+            results.append(case.result(f"each of {len(given)} allocations refused up to there, {given.count(MEMORY)} with `memory`", why))
+    return results
+
+
+def results(program):
+    with tempfile.TemporaryDirectory(prefix="phases-") as made:
+        failing = library(made)
+        if failing is None:
+            return [Result("each phase without memory", False, ["cc does not make the library that refuses it"])]
+        return phases(program, failing)
