@@ -1,6 +1,6 @@
 # The work of the repository, from a clone with the toolchain's `rt` on the path.
 
-.PHONY: demo test prove gate build bench
+.PHONY: demo quick test test-editors prove gate build bench
 
 # Builds the program without its proofs, and runs it on the first example and its commands.
 demo:
@@ -8,9 +8,18 @@ demo:
 	@cat examples/first.ispc
 	@(cat examples/first.ispc; echo '%%'; cat examples/first.commands) | (cd crates/ispc_cli && rt try)
 
+# Builds the programs that people call without their proofs: crates/ispc_cli/out/quick and its like.
+quick:
+	tools/quick_build
+
 # Every test and every stored run, without proofs.
 test:
 	tools/run_tests
+
+# Emacs with dap-mode speaks with the adapter of the quick build. Both are installed from Debian's packages.
+test-editors:
+	apt-get install -y --no-install-recommends emacs-nox elpa-dap-mode
+	emacs --batch -l tools/testing/adapter_dap_mode.el examples/lanes.ispc crates/rinddecade/out/quick adapter
 
 # Proves what is not proved yet.
 prove:
@@ -22,12 +31,13 @@ gate:
 
 # Proves the program and builds it, and runs it once, on its stored run.
 build:
-	cd crates/ispc_cli && rt run -- $$(cat args) < stdin
+	cd crates/ispc_cli && rt run < stdin
 	@echo "The proved program is crates/ispc_cli/out/ispc_cli"
 
-# Times of the lane kernels and of an expression's code beside their plain loops, as ratios; and of the built program: steps, prints
-# and moves a second, and ratios, also to gdb where it is on the path.
+# Times of the lane kernels and of an expression's code beside their plain loops, as ratios; of the two records of old words; and of the
+# built program: steps, prints and moves a second, and ratios, also to gdb where it is on the path.
 bench:
 	cd crates/kernel_bench && rt run -- signed && rt run -- unsigned
 	cd crates/expression_bench && rt run -- 1000000
+	cd crates/record_bench && rt run -- 100000
 	tools/bench_program
