@@ -8,12 +8,15 @@ use undo_log::{NoHistory, Undone};
 pub const PLACES: u32 = 5;
 
 /// Goes over a place a line, the fourth one in a call; only lane 1 of 4 does the third. It may fault before a line, counts how often a step was tried,
-/// and its only variable is `x`, which is the number of the place in all lanes.
+/// and its only variable is `x`, which is the number of the place in all lanes. It keeps
+/// one event, and goes back to no place.
 #[derive(Drop)]
 pub struct WalkingMachine {
     at: u32,
     tries: u32,
     fault: Option<(u32, Fault)>,
+    keeps_step: bool,
+    keeps_poke: bool,
 }
 
 impl WalkingMachine {
@@ -23,6 +26,8 @@ impl WalkingMachine {
             at: 0,
             tries: 0,
             fault,
+            keeps_step: false,
+            keeps_poke: false,
         }
     }
 
@@ -38,13 +43,17 @@ impl WalkingMachine {
 
 // It stands for no program, so that only its answers count.
 impl RecordedMachine for WalkingMachine {
-    ghost use Rattle.std.specs.Prelude.{[]};
+    ghost use Rattle.std.specs.Prelude.{[], ◌∷◌, if◌then◌else◌};
+    ghost use Rattle.undo_log.specs.declared.timeline.Undone.TheVariants.{Poke, Step};
+    ghost use Rattle.undo_log.specs.History.{moment};
 
     ghost stands = { λ _ _ _. ⊥ };
 
-    ghost history = { λ _. record { words = []; past = []; limit = 0; room = 0 } };
+    ghost history = { λ m. record { words = []; past = (if m.keeps_step then (moment Step [] ∷ []) else (if m.keeps_poke then (moment Poke [] ∷ []) else [])); limit = 1; room = 0 } };
 
     ghost locals_from = { λ _ _ _ _. [] };
+
+    ghost parameters_from = { λ _ _ _ _. [] };
 
     fn step(&mut self) -> StepEnd {
         self.tries = self.tries.saturating_add(1);
@@ -55,31 +64,49 @@ impl RecordedMachine for WalkingMachine {
             Some((line, fault)) if line == self.line() => StepEnd::Fault(fault),
             _ => {
                 self.at = self.at.saturating_add(1);
+                self.keeps_step = true;
+                self.keeps_poke = false;
                 StepEnd::Done
             }
         }
     }
 
     fn undo(&mut self) -> Result<Undone, NoHistory> {
+        if self.keeps_step {
+            self.keeps_step = false;
+            self.keeps_poke = false;
+            return Ok(Undone::Step);
+        }
+        if self.keeps_poke {
+            self.keeps_poke = false;
+            return Ok(Undone::Poke);
+        }
         Err(NoHistory)
     }
 
-    fn poke(&mut self, _shown: Shown, _at: Option<u32>, _word: u64) {}
+    fn poke(&mut self, _shown: Shown, _at: Option<u32>, _word: u64) {
+        self.keeps_step = false;
+        self.keeps_poke = true;
+    }
 
     fn kept(&self) -> usize {
-        0
+        if self.keeps_step || self.keeps_poke {
+            1
+        } else {
+            0
+        }
     }
 
     fn kept_steps(&self) -> usize {
-        0
+        if self.keeps_step { 1 } else { 0 }
     }
 
     fn limit(&self) -> usize {
-        0
+        1
     }
 
-    fn set_limit(&mut self, _limit: usize) -> Result<(), AllocError> {
-        Err(AllocError)
+    fn set_limit(&mut self, limit: usize) -> Result<(), AllocError> {
+        if limit > 1 { Err(AllocError) } else { Ok(()) }
     }
 
     fn position(&self) -> Option<Position<'_>> {
@@ -129,6 +156,10 @@ impl RecordedMachine for WalkingMachine {
     }
 
     fn next_local(&self, _from: usize) -> Option<NextLocal<'_>> {
+        None
+    }
+
+    fn next_parameter(&self, _from: usize) -> Option<NextLocal<'_>> {
         None
     }
 
