@@ -56,7 +56,7 @@ impl Looking {
             Look::Up => self.go_up(text, scene, session, page),
             Look::Down => self.go_down(text, scene, session, page),
             Look::Type => show_named_type(text, scene, session, page),
-            Look::Arguments => show_arguments(scene.source, session, page),
+            Look::Arguments => show_arguments(session, page),
             Look::Displays => show_displays(holding, page),
             Look::Recording => show_recording(session, page),
             Look::Watches => show_watches(session, page),

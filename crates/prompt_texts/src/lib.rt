@@ -6,7 +6,6 @@ mod changes;
 mod help;
 mod looks;
 mod page;
-mod parameters;
 mod places;
 mod refusals;
 mod source;

@@ -2,7 +2,6 @@
 use crate::answers::{put_target, put_variable, put_watched};
 use crate::help::{put_help, put_topic};
 use crate::page::Page;
-use crate::parameters::{next_parameter, parameters_of};
 use crate::places::{put_around, put_line, put_mark, put_place};
 use crate::source::Source;
 use debug_answers::Stop;
@@ -10,6 +9,9 @@ use debug_commands::Target;
 use debug_machine::{AnswerWriter, RecordedMachine, Shown};
 use debug_session::Session;
 use gang_types::{IntType, Rate};
+
+/// The most parameters of a function.
+const PARAMETERS: u32 = 8;
 
 /// Writes lines of the source from one on, that of the place with a mark, and says which line comes next.
 pub fn list_lines<M: RecordedMachine, O: AnswerWriter + Drop>(
@@ -86,26 +88,27 @@ pub fn show_here<M: RecordedMachine, O: AnswerWriter + Drop>(
 
 /// Writes the parameters of the function where the program stands, with their values.
 pub fn show_arguments<M: RecordedMachine, O: AnswerWriter + Drop>(
-    source: Source<'_>,
     session: &Session<M>,
     page: &mut Page<O>,
 ) {
-    let Some(position) = session.machine().position() else {
+    let machine = session.machine();
+    if machine.position().is_none() {
         page.put(b"the program has ended: no parameters\n");
         return;
-    };
-    let mut rest = parameters_of(source.text, position.function, position.place.line).unwrap_or(
-        &[],
-    );
-    if next_parameter(rest).is_none() {
+    }
+    if machine.next_parameter(0).is_none() {
         page.put(b"no parameters\n");
     }
-    for _ in 0..8u32 {
-        if let Some((name, behind)) = next_parameter(rest) {
-            rest = behind;
-            if let Some(shown) = session.machine().find(name) {
-                put_variable(name, shown, session.machine(), page);
-            }
+    let mut place = 0;
+    for _ in 0..PARAMETERS {
+        if let Some(parameter) = machine.next_parameter(place) {
+            put_variable(
+                parameter.variable.name,
+                parameter.variable.shown,
+                machine,
+                page,
+            );
+            place = parameter.next;
         }
     }
 }
