@@ -282,7 +282,7 @@ def variables(client, examples):
     client.begin()
     client.move("next")
     scopes = client.ask("scopes", frameId=1)["scopes"]
-    same([it["name"] for it in scopes], ["Locals", "File"])
+    same([it["name"] for it in scopes], ["Locals", "Arguments", "File"])
     local = client.variables(scopes[0]["variablesReference"])
     same({name: (it["value"], it["type"]) for name, it in local.items()}, {"x": ("0 3 6 9", "varying int32")})
     lanes = client.variables(local["x"]["variablesReference"])
@@ -309,6 +309,9 @@ def frames(client, examples):
     client.move("stepIn")
     same(len(client.place()), 2)
     same([it[2].split()[0] for it in client.place()], ["f", "go"])
+    arguments = client.variables(client.ask("scopes", frameId=1)["scopes"][1]["variablesReference"])
+    same({name: (it["value"], it["type"]) for name, it in arguments.items()}, {"k": ("0 1 2 3", "varying int32")})
+    same(client.variables(arguments["k"]["variablesReference"])["k[3]"]["value"], "3")
     client.move("stepOut")
     same(len(client.place()), 1)
     client.end()

@@ -108,6 +108,7 @@ fn source_value(alloc: Global, program: &str) -> Result<Value, AllocError> {
 fn scopes(alloc: Global) -> Result<Value, AllocError> {
     json!(in alloc; {"scopes": [
         {"expensive": false, "name": "Locals", "presentationHint": "locals", "variablesReference": 1u64},
+        {"expensive": false, "name": "Arguments", "presentationHint": "arguments", "variablesReference": 3u64},
         {"expensive": false, "name": "File", "variablesReference": 2u64}
     ]})
 }

@@ -1,7 +1,7 @@
 //! The variables that an editor shows.
 ghost use Rattle.std.specs.Prelude.{◌≡◌};
 
-use crate::places::{Place, file_reference, local_reference, place_of};
+use crate::places::{Place, argument_reference, file_reference, local_reference, place_of};
 use crate::texts::value_text;
 use adapter_requests::Variable;
 use debug_commands::Target;
@@ -12,6 +12,9 @@ use std::alloc::{AllocError, Global};
 /// The most variables of the file, and the most lanes or elements, that are shown at once.
 const MOST_SHOWN: usize = 1_000;
 
+/// The most parameters of a function.
+const PARAMETERS: u32 = 8;
+
 /// The variables that a reference stands for.
 pub(crate) fn variables<M: RecordedMachine>(
     alloc: Global,
@@ -20,9 +23,14 @@ pub(crate) fn variables<M: RecordedMachine>(
 ) -> Result<Vec<Variable>, AllocError> {
     match place_of(reference) {
         Place::Locals => locals(alloc, machine),
+        Place::Arguments => arguments(alloc, machine),
         Place::File => file_variables(alloc, machine),
         Place::Local(place) => match machine.next_local(place) {
             Some(local) => parts(alloc, machine, local.variable),
+            None => Ok(Vec::new(alloc)),
+        },
+        Place::Argument(place) => match machine.next_parameter(place) {
+            Some(parameter) => parts(alloc, machine, parameter.variable),
             None => Ok(Vec::new(alloc)),
         },
         Place::OfFile(number) => match machine.file_variable(number) {
@@ -42,6 +50,27 @@ fn locals<M: RecordedMachine>(alloc: Global, machine: &M) -> Result<Vec<Variable
             found.push(variable(alloc, machine, local.variable, local_reference(place))?)?;
         }
         place = place_after(local);
+    }
+    Ok(found)
+}
+
+/// The parameters in scope that a name finds.
+fn arguments<M: RecordedMachine>(alloc: Global, machine: &M) -> Result<Vec<Variable>, AllocError> {
+    let mut found = Vec::new(alloc);
+    let mut place = 0;
+    for _ in 0..PARAMETERS {
+        let Some(parameter) = machine.next_parameter(place) else {
+            break;
+        };
+        if is_found(machine, parameter.variable) {
+            found.push(variable(
+                alloc,
+                machine,
+                parameter.variable,
+                argument_reference(place),
+            )?)?;
+        }
+        place = place_after(parameter);
     }
     Ok(found)
 }
