@@ -27,7 +27,7 @@ use Rattle.gang_model.specs.Types.Overloads.{candidates, overload, passed_args}
 use Rattle.gang_model.specs.Types.Calls.{Context, Called, packed, stored_to, takes_elements, library_statement, call_of_kind, call_of, WholeCall, gives_value, whole_call, right_call, result_faults}
 use Rattle.gang_model.specs.Types.TypeFaults.{variable_faults}
 use Rattle.gang_model.specs.Types.Statements.{first_value, declaration, Aimed, target_index, assigned, scalar_target, target_of, rate_of, assigned_type, variable_of, call_for, assigned_by, operand_for, changed, number_one, empty_return, returned_value, returned, value_return, returning, test_of, dimensions, label_word, selector, Made, made, scope_after, index_entries, statement, statements, segments_of}
-use Rattle.expression_machine.specs.Room.{HasRoom}
+use Rattle.expression_runs.specs.Room.{HasRoom}
 use Rattle.expression_code.specs.ProgramRoom.{SomeHasRoom, TargetHasRoom, ArgsHaveRoom, DimensionsHaveRoom, RoundsHaveRoom, HaveRoom}
 use Rattle.expression_code.proofs.RoomOfWeight.{light_has_room}
 use Rattle.expression_code.proofs.LightStatements.{IsLight, IsLightIfAny, AreLightDims, IsLightStmt, AreLightStmts, AreLightSegments}

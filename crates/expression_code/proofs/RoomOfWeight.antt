@@ -24,7 +24,7 @@ use Rattle.gang_model.specs.Types.Signatures.{declared_type}
 use Rattle.gang_model.specs.Types.Conversions.{Typed, typed, joined, promoted, same_type, as_type, as_bool, operation_type, right_operand, infixed, prefixed, chosen_by}
 use Rattle.gang_model.specs.Types.LibraryTable.{LibraryCall, GivesLanes, ReducesTruths, ReducesNumbers, ComparesLanes, Scans, CountsOnes, TakesMagnitude, ComparesTwo, Broadcasts, Extracts, Inserts, Rotates, Shifts, Shuffles, ShufflesTwo, Clamps, Selects, asked_by, library_call, library_value, truths_reduced, number_type}
 use Rattle.gang_model.specs.Types.Typing.{Entry, Scope, entry_of, named_entry, array_of, names_no_value, has_no_value, built_in_value, name_value, element, element_faults, cast_faults, cast_rate, cast_to, var_of, truth_value, Passing, Scalar, View, Reference, or_built_in, referred, passed, viewed, view_index, all_values, one_value, second_parts, rate_faults, typed_or_refused, call_value, called_value, expression, arguments}
-use Rattle.expression_machine.specs.Room.{depth, nesting, HasRoom}
+use Rattle.expression_runs.specs.Room.{depth, nesting, HasRoom}
 use Rattle.expression_code.specs.Accepted.{IsAccepted}
 
 -- an expression finds the room that one of this weight takes

@@ -25,9 +25,9 @@ use Rattle.expression_instructions.specs.declared.code.Joining.TheVariants as jo
 use Rattle.expression_instructions.specs.declared.code.Instruction.{Instruction}
 use Rattle.expression_instructions.specs.declared.code.Instruction.TheVariants.{Push, Element, One, Two, Three, Enter, Join}
 use Rattle.expression_code.specs.Code.{code_of, arm_code}
-use Rattle.expression_machine.specs.Room.{depth, nesting}
+use Rattle.expression_runs.specs.Room.{depth, nesting}
 use Rattle.expression_instructions.specs.Values.{leaf_value, element_value, one_value, two_value, three_value, moved_word, both_value, either_value, chosen_value, where_lanes}
-use Rattle.expression_machine.specs.Machine.{Vectors, Masks, Goes, Jams, Outcome, Faulted, push, give, enter, deeper, follow, exec}
+use Rattle.expression_runs.specs.Machine.{Vectors, Masks, Goes, Jams, Outcome, Faulted, push, give, enter, deeper, follow, exec}
 use Rattle.expression_instructions.proofs.Idle.{idle, zeros}
 use Rattle.expression_code.proofs.Outside.{after_within, bind_same}
 

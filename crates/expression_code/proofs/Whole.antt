@@ -8,8 +8,8 @@ use Rattle.gang_model.specs.Running.Value.{value}
 use Rattle.typed_tree.specs.declared.expressions.Expr.{Expr}
 use Rattle.typed_tree.specs.Views.{expr_view}
 use Rattle.expression_code.specs.Code.{code_of}
-use Rattle.expression_machine.specs.Machine.{exec}
-use Rattle.expression_machine.specs.Correct.{Computes, ended}
+use Rattle.expression_runs.specs.Machine.{exec}
+use Rattle.expression_runs.specs.Correct.{Computes, ended}
 use Rattle.expression_code.proofs.Runs.{after, on_top, lands}
 
 ends : (room nested : ℕ) (state : State) (s : Lanes) (r : Result (List ℕ) Fault) → after r (on_top room nested state [] s [] []) ≡ ended s r

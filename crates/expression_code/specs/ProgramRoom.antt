@@ -1,7 +1,7 @@
 -- Every expression of a statement finds room.
 use Rattle.std.specs.Prelude.{List, [], ◌∷◌, Option, Some, None}
 use Rattle.gang_model.specs.Types.Tree.{Expr, Target, Scalar, ElementOf, Arg, Value, Array, Dimension, RoundsOf, Rows, Tiles, EachLane, EachValue, Stmt, Then, Declare, Assign, Change, If, Loop, BodyFirst, Return, Switch, Segment, ForEach, Call, Check, PackedStore, PackedLoad}
-use Rattle.expression_machine.specs.Room.{HasRoom}
+use Rattle.expression_runs.specs.Room.{HasRoom}
 
 -- an expression, if there is one
 abbrev pub SomeHasRoom : Option Expr → Type 0

@@ -3,8 +3,8 @@ ghost use Rattle.std.specs.Prelude.{◌≡◌, ◌-◌, ◌<◌, [], ◌∷◌, 
 ghost use Rattle.expression_code.specs.Code.{code_of, arm_code, IsOther};
 ghost use Rattle.expression_instructions.specs.declared.code.Instruction.TheVariants.{Enter};
 ghost use Rattle.typed_tree.specs.Views.{expr_view};
-ghost use Rattle.expression_machine.specs.Correct.{Computes};
-ghost use Rattle.expression_machine.specs.Room.{HasRoom};
+ghost use Rattle.expression_runs.specs.Correct.{Computes};
+ghost use Rattle.expression_runs.specs.Room.{HasRoom};
 ghost use Rattle.expression_code.specs.Accepted.{IsAccepted};
 
 use crate::operands::{one_operand, three_operands, two_operands};

@@ -1,4 +1,4 @@
-//! Expressions as flat code for the machine of `expression_machine`.
+//! Expressions as flat code for the machine of `expression_runs`.
 #![tactic(auto)]
 
 mod emission;

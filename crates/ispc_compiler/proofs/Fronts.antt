@@ -1,8 +1,6 @@
 -- What the phases give together.
-use Rattle.std.proofs.Common.{◌≡◌, ◌⊎◌, ℕ, ◌≤◌, List, length, Option, Some, None, refl, sym, ap, ◌∙◌, subst, inl, inr}
+use Rattle.std.proofs.Common.{◌≡◌, ◌⊎◌, ℕ, ◌≤◌, List, length, Option, Some, None, sym, ap, ◌∙◌, subst, inl, inr}
 use Rattle.std.specs.Prelude.{Result, Ok, Err, IfOk}
-use Rattle.gang_model.specs.declared.refusals.RefusalNumber.{RefusalNumber}
-use Rattle.gang_model.specs.declared.refusals.RefusalNumber.TheVariants.{S1, S2, S3, S4, S5, S6, S7, S8, S9, S10, S11, S12, S13}
 use Rattle.gang_model.specs.declared.refusals.SourceRefusal.{SourceRefusal}
 use Rattle.gang_model.specs.Running.Entry.{entry_of}
 use Rattle.gang_model.specs.Source.Lexes.{Lexes, max_source}
@@ -11,16 +9,16 @@ use Rattle.gang_model.specs.Source.Parsed.{Name, ParsedSource}
 use Rattle.gang_model.specs.Types.Resolved.{program_of}
 use Rattle.gang_model.specs.Texts.Run.{source_refusal}
 use Rattle.gang_model.specs.Types.SourceRefusals.{first_refusal, names_refusal, types_refusal}
-use Rattle.gang_model.specs.Source.Sources.{IsProgramOf, IsTreeNumber, ReadsAs}
+use Rattle.gang_model.specs.Source.Sources.{IsProgramOf, ReadsAs}
 use Rattle.gang_model.specs.Source.SpellsSource.{IsTree}
 use Rattle.gang_model.specs.Source.Tokens.{Lexeme}
 use Rattle.source_answers.specs.declared.fault.SourceFault.{SourceFault}
 use Rattle.source_answers.specs.declared.fault.SourceFault.TheVariants.{Memory, Refused}
 use Rattle.ispc_lexer.specs.Refusal.{IsRefusal as IsLexerRefusal}
-use Rattle.ispc_parser_front.specs.Refusals.{IsRefusal as IsParserRefusal}
-use Rattle.ispc_parser_words.specs.Front.{IsParserNumber}
-use Rattle.plain_programs.specs.Sources.{HasVariablesOf}
-use Rattle.plain_programs.proofs.RunnableSources.{entry_text, runnable_text}
+use Rattle.ispc_parser_shared.specs.Refusals.{IsRefusal as IsParserRefusal}
+use Rattle.ispc_parser_words.proofs.TreeNumbers.{tree_number}
+use Rattle.runnable_programs.specs.Sources.{HasVariablesOf}
+use Rattle.runnable_programs.proofs.RunnableSources.{entry_text, runnable_text}
 use Rattle.typed_tree.specs.Views.{program_view}
 use Rattle.ispc_compiler.specs.declared.front.Compiled.{Compiled}
 use Rattle.ispc_compiler.specs.Front.{Compiles, CompilesTree, GivesTree, IsFault, IsRefused}
@@ -47,21 +45,6 @@ pub lexer_right : (text : List ℕ) (fault : SourceFault) → IsLexerRefusal tex
 lexer_right text Memory h = tt
 lexer_right text (Refused r) (inl (many, number, place)) = inl (record { many = many; number = number; place = place })
 lexer_right text (Refused r) (inr (few, only)) = inr (inl (record { few = few; first = only.first; none = only.none }))
-
-tree_number : (n : RefusalNumber) → IsParserNumber n → IsTreeNumber n
-tree_number S1 h = absurd h
-tree_number S2 h = absurd h
-tree_number S3 h = inl refl
-tree_number S4 h = inr (inl refl)
-tree_number S5 h = absurd h
-tree_number S6 h = absurd h
-tree_number S7 h = absurd h
-tree_number S8 h = absurd h
-tree_number S9 h = absurd h
-tree_number S10 h = absurd h
-tree_number S11 h = absurd h
-tree_number S12 h = absurd h
-tree_number S13 h = inr (inr refl)
 
 -- the tree's refusals
 pub parser_right : (text : List ℕ) (tokens : List Lexeme) (fault : SourceFault) → length text ≤ max_source → Lexes text tokens

@@ -2,7 +2,7 @@
 use Rattle.std.specs.Prelude.{◌≡◌, ℕ, List, Option, Some, None, slice_get}
 use Rattle.gang_model.specs.declared.refusals.SourceRefusal.{SourceRefusal}
 use Rattle.gang_model.specs.Running.Entry.{entry_of}
-use Rattle.plain_programs.specs.Sources.{HasVariablesOf}
+use Rattle.runnable_programs.specs.Sources.{HasVariablesOf}
 use Rattle.gang_model.specs.Source.Parsed.{Name, ParsedSource}
 use Rattle.gang_model.specs.Types.Resolved.{program_of}
 use Rattle.gang_model.specs.Types.Tree.{Function, Program as ModelProgram}

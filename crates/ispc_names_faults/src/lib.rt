@@ -7,5 +7,5 @@ mod statements;
 mod whole;
 
 pub use ispc_names_declarations::{functions_of, globals_of};
-pub use ispc_names_parts::{arguments_fault, expression_fault};
+pub use ispc_names_expressions::{arguments_fault, expression_fault};
 pub use whole::names_fault;

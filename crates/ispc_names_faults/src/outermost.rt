@@ -9,7 +9,7 @@ ghost use Rattle.source_tree.specs.Tree.{function_view};
 use crate::statements::body_fault;
 use gang_model::{RefusalNumber, SourceRefusal};
 use ispc_names_declarations::params_fault;
-use ispc_names_parts::in_function;
+use ispc_names_expressions::in_function;
 use ispc_names_scopes::{FunctionNames, Scopes, is_library_name, statement_call};
 use source_answers::{fault_if, least};
 use source_tree::Function;

@@ -8,12 +8,12 @@ ghost use Rattle.gang_model.specs.Names.Scope as scope;
 ghost use Rattle.source_tree.specs.Expressions.{expr_view};
 ghost use Rattle.ispc_names_scopes.specs.Scopes.{site};
 ghost use Rattle.source_tree.specs.Tree.{dim_view, segments_view, stmt_view, stmts_view};
-ghost use Rattle.ispc_names_parts.specs.MayStand.{allowed_view};
+ghost use Rattle.ispc_names_expressions.specs.MayStand.{allowed_view};
 ghost use Rattle.ispc_names_faults.specs.Moved.{moved};
 
 use gang_model::SourceRefusal;
 use gang_types::Place;
-use ispc_names_parts::{
+use ispc_names_expressions::{
     Allowed, domain_head_fault, expression_fault, label_fault, round_head_fault, simple_fault,
     some_expression_fault,
 };

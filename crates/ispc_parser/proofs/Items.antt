@@ -10,7 +10,7 @@ use Rattle.ispc_lexer.specs.declared.token.Token.{Token}
 use Rattle.ispc_lexer.specs.Views.{lexemes_of}
 use Rattle.ispc_lexer.specs.Options.{◌>>=◌}
 use Rattle.ispc_parser_words.specs.Front.{Fails}
-use Rattle.ispc_parser_front.proofs.Fails.{fails_when}
+use Rattle.ispc_parser_shared.proofs.Fails.{fails_when}
 use Rattle.ispc_parser.specs.Source.{is_empty, item_of, items_of}
 
 -- what was read before, and what is still read

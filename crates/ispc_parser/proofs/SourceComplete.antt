@@ -20,11 +20,11 @@ use Rattle.ispc_parser_words.proofs.Tokens.{takes_at, takes_shorter, at_shorter}
 use Rattle.ispc_parser_words.proofs.SpecWords.{words_again, words_begin}
 use Rattle.ispc_parser_words.proofs.Tokens.{take_none}
 use Rattle.ispc_parser_words.proofs.Follows.{not_begins}
-use Rattle.ispc_parser_front.specs.SpecWords.{outer_spec_of}
-use Rattle.ispc_parser_front.proofs.Tokens.{other_first, take_at_again, name_again, number_again}
-use Rattle.ispc_parser_front.proofs.SpecTokens.{spec_again, local_spec_again, word_first}
-use Rattle.ispc_parser_front.proofs.Lengths.{spec_shorter, list_shorter, stmts_shorter}
-use Rattle.ispc_parser_front.proofs.CommaLists.{list_complete}
+use Rattle.ispc_parser_shared.specs.SpecWords.{outer_spec_of}
+use Rattle.ispc_parser_shared.proofs.Tokens.{other_first, take_at_again, name_again, number_again}
+use Rattle.ispc_parser_shared.proofs.SpecTokens.{spec_again, local_spec_again, word_first}
+use Rattle.ispc_parser_shared.proofs.Lengths.{spec_shorter, list_shorter, stmts_shorter}
+use Rattle.ispc_parser_shared.proofs.CommaLists.{list_complete}
 use Rattle.ispc_parser_statements.specs.Statements.{ends_stmts, parsers}
 use Rattle.ispc_parser_statements.proofs.StatementsComplete.{stmts_complete, parsers_complete}
 use Rattle.ispc_parser.specs.Source.{brackets_of, param_of, lone_void, some_params_of, params_of, function_body_of, function_of, literal_of, form_of, global_of, declared_of, item_of, is_empty, items_of, tree_of}

@@ -14,11 +14,11 @@ use Rattle.gang_model.specs.Source.SpellsStatements.{SpellsSpec, SpellsList, Spe
 use Rattle.gang_model.specs.Source.SpellsSource.{max_nesting, max_params, SpellsEmptyBrackets, SpellsParam, SpellsParams, SpellsLiteral, SpellsForm, SpellsItem, IsTree}
 use Rattle.ispc_parser_words.specs.Front.{begins, take}
 use Rattle.ispc_parser_words.proofs.Tokens.{take_takes}
-use Rattle.ispc_parser_front.specs.Front.{take_at, name_of, number_of}
-use Rattle.ispc_parser_front.specs.SpecWords.{local_spec_of, outer_spec_of}
-use Rattle.ispc_parser_front.proofs.Tokens.{take_at_sound, name_sound, number_sound}
-use Rattle.ispc_parser_front.proofs.SpecTokens.{local_spec_sound, outer_spec_sound}
-use Rattle.ispc_parser_front.proofs.CommaLists.{list_sound}
+use Rattle.ispc_parser_shared.specs.Front.{take_at, name_of, number_of}
+use Rattle.ispc_parser_shared.specs.SpecWords.{local_spec_of, outer_spec_of}
+use Rattle.ispc_parser_shared.proofs.Tokens.{take_at_sound, name_sound, number_sound}
+use Rattle.ispc_parser_shared.proofs.SpecTokens.{local_spec_sound, outer_spec_sound}
+use Rattle.ispc_parser_shared.proofs.CommaLists.{list_sound}
 use Rattle.ispc_parser_statements.specs.Statements.{within, parsers}
 use Rattle.ispc_parser_statements.proofs.StatementsSound.{within_sound, parsers_sound}
 use Rattle.ispc_parser.specs.Source.{brackets_of, param_of, some_params_of, lone_void, params_of, Body, function_body_of, function_of, signed, literal_of, form_of, global_of, declared_of, item_of, is_empty, items_of, tree_of}

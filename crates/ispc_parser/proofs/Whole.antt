@@ -7,7 +7,7 @@ use Rattle.gang_model.specs.Source.SpellsSource.{IsTree}
 use Rattle.source_answers.specs.declared.fault.SourceFault.{SourceFault}
 use Rattle.source_answers.specs.declared.fault.SourceFault.TheVariants as faults
 use Rattle.ispc_parser_words.specs.Front.{Gives}
-use Rattle.ispc_parser_front.specs.Refusals.{IsRefusal}
+use Rattle.ispc_parser_shared.specs.Refusals.{IsRefusal}
 use Rattle.ispc_parser.specs.Source.{tree_of}
 use Rattle.ispc_parser.proofs.SourceSound.{tree_sound}
 use Rattle.ispc_parser.proofs.SourceComplete.{tree_complete}

@@ -14,8 +14,8 @@ use Rattle.ispc_lexer.specs.Options.{◌>>=◌, if_some}
 use Rattle.ispc_parser_words.specs.Front.{begins, take}
 use Rattle.ispc_parser.specs.declared.source.Body.{Body as WrittenBody}
 use Rattle.source_tree.specs.Tree.{stmts_view}
-use Rattle.ispc_parser_front.specs.Front.{Reader, take_at, name_of, Digits, number_of, list_of}
-use Rattle.ispc_parser_front.specs.SpecWords.{local_spec_of, outer_spec_of}
+use Rattle.ispc_parser_shared.specs.Front.{Reader, take_at, name_of, Digits, number_of, list_of}
+use Rattle.ispc_parser_shared.specs.SpecWords.{local_spec_of, outer_spec_of}
 use Rattle.ispc_parser_statements.specs.Statements.{within, parsers}
 
 -- ---- functions

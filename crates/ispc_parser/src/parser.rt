@@ -5,13 +5,13 @@ ghost use Rattle.gang_model.specs.Source.SpellsSource.{IsTree};
 ghost use Rattle.ispc_lexer.specs.Views.{lexemes_of};
 ghost use Rattle.ispc_parser_words.specs.Front.{Gives};
 ghost use Rattle.source_tree.specs.Tree.{tree_view};
-ghost use Rattle.ispc_parser_front.specs.Refusals.{IsRefusal};
+ghost use Rattle.ispc_parser_shared.specs.Refusals.{IsRefusal};
 ghost use Rattle.ispc_parser.specs.Source.{tree_of};
 
 use crate::source::items;
 use gang_types::Place;
 use ispc_lexer::Token;
-use ispc_parser_front::Context;
+use ispc_parser_shared::Context;
 use source_answers::SourceFault;
 use source_tree::Tree;
 use std::alloc::Global;

@@ -4,15 +4,15 @@ ghost use Rattle.ispc_lexer.specs.Views.{sort_of, lexemes_of};
 ghost use Rattle.ispc_parser_words.specs.Front.{Gives};
 ghost use Rattle.gang_model.specs.Source.Parsed.{ParsedFunctionItem};
 ghost use Rattle.source_tree.specs.Tree.{param_view, stmts_view, item_view};
-ghost use Rattle.ispc_parser_front.specs.Front.{name_view, digits_view};
-ghost use Rattle.ispc_parser_front.specs.Refusals.{IsRefusal};
+ghost use Rattle.ispc_parser_shared.specs.Front.{name_view, digits_view};
+ghost use Rattle.ispc_parser_shared.specs.Refusals.{IsRefusal};
 ghost use Rattle.ispc_parser.specs.Source as spec;
 ghost use Rattle.ispc_parser.specs.Source.{body_view, function_of, global_of, declared_of};
 
 use gang_model::{GlobalForm, Literal, Mark, RefusalNumber, Spec};
 use gang_types::Place;
 use ispc_lexer::{Number, Token};
-use ispc_parser_front::{
+use ispc_parser_shared::{
     Context, Identifier, Read, local_spec, name, number, outer_spec, refused_at, take_at,
 };
 use ispc_parser_statements::stmts;

@@ -12,11 +12,11 @@ use Rattle.ispc_parser_words.proofs.Tokens.{take_again, begins_again}
 use Rattle.ispc_parser_expressions.proofs.Starts.{starts}
 use Rattle.ispc_parser_words.proofs.Follows.{stops_at}
 use Rattle.ispc_parser_expressions.proofs.Whole.{whole_complete}
-use Rattle.ispc_parser_front.specs.declared.words.Loop.TheVariants as loop
-use Rattle.ispc_parser_front.specs.Front.{name_of, in_parens}
-use Rattle.ispc_parser_front.proofs.Tokens.{other_first, in_parens_again, name_again}
-use Rattle.ispc_parser_front.proofs.SpecTokens.{word_first}
-use Rattle.ispc_parser_front.proofs.CommaLists.{list_complete}
+use Rattle.ispc_parser_shared.specs.declared.words.Loop.TheVariants as loop
+use Rattle.ispc_parser_shared.specs.Front.{name_of, in_parens}
+use Rattle.ispc_parser_shared.proofs.Tokens.{other_first, in_parens_again, name_again}
+use Rattle.ispc_parser_shared.proofs.SpecTokens.{word_first}
+use Rattle.ispc_parser_shared.proofs.CommaLists.{list_complete}
 use Rattle.ispc_parser_parts.specs.Parts.{behind, declaration_of, simple_of}
 use Rattle.ispc_parser_parts.proofs.Beginnings.{BeginsSimple, simple_first, simple_no_word, simple_other, declaration_word}
 use Rattle.ispc_parser_parts.proofs.PartsComplete.{declaration_complete, simple_complete}

@@ -10,9 +10,9 @@ use Rattle.ispc_parser_words.specs.Words.{begins_word}
 use Rattle.ispc_parser_expressions.specs.Parse.{whole_expr}
 use Rattle.ispc_parser_words.proofs.Tokens.{take_takes}
 use Rattle.ispc_parser_expressions.proofs.Whole.{whole_sound}
-use Rattle.ispc_parser_front.specs.Front.{name_of}
-use Rattle.ispc_parser_front.proofs.Tokens.{name_sound}
-use Rattle.ispc_parser_front.proofs.CommaLists.{list_sound}
+use Rattle.ispc_parser_shared.specs.Front.{name_of}
+use Rattle.ispc_parser_shared.proofs.Tokens.{name_sound}
+use Rattle.ispc_parser_shared.proofs.CommaLists.{list_sound}
 use Rattle.ispc_parser_parts.specs.Parts.{behind}
 use Rattle.ispc_parser_parts.proofs.PartsSound.{declaration_sound, simple_sound}
 use Rattle.ispc_parser_heads.specs.Heads.{optional_of, start_of, update_of, ParsedRounds, rounds_of, dim_of, dims_of, ParsedDistinct, distinct_of}

@@ -6,9 +6,9 @@ use Rattle.gang_model.specs.Source.Tokens.{Lexeme}
 use Rattle.ispc_lexer.specs.Options.{◌>>=◌}
 use Rattle.ispc_parser_words.specs.Front.{take}
 use Rattle.ispc_parser_expressions.specs.Parse.{whole_expr}
-use Rattle.ispc_parser_front.specs.declared.words.Loop.{Loop}
-use Rattle.ispc_parser_front.specs.declared.words.Loop.TheVariants as loop
-use Rattle.ispc_parser_front.specs.Front.{Reader, enter, name_of, in_parens}
+use Rattle.ispc_parser_shared.specs.declared.words.Loop.{Loop}
+use Rattle.ispc_parser_shared.specs.declared.words.Loop.TheVariants as loop
+use Rattle.ispc_parser_shared.specs.Front.{Reader, enter, name_of, in_parens}
 use Rattle.ispc_parser_heads.specs.Heads.{rounds_of, dims_of, distinct_of, WhileHead, ForHead, ForEachHead, ActiveHead, UniqueHead, head_of, inside_of}
 
 abbrev followed : {A : Type 0} → A → Option (List Lexeme) → Option (A × List Lexeme)

@@ -8,8 +8,8 @@ use Rattle.gang_model.specs.Source.SpellsStatements.{SpellsSign, SpellsLabel}
 use Rattle.gang_model.specs.Source.Spells.{Takes}
 use Rattle.ispc_parser_words.specs.Front.{begins, take}
 use Rattle.ispc_parser_words.proofs.Tokens.{takes_at, take_takes, take_again, take_none, begins_again}
-use Rattle.ispc_parser_front.specs.Front.{take_at, number_of}
-use Rattle.ispc_parser_front.proofs.Tokens.{other_first, take_at_sound, take_at_again, number_sound, number_again}
+use Rattle.ispc_parser_shared.specs.Front.{take_at, number_of}
+use Rattle.ispc_parser_shared.proofs.Tokens.{other_first, take_at_sound, take_at_again, number_sound, number_again}
 use Rattle.ispc_parser_heads.specs.Labels.{signed_of, whole_of, case_of, default_of, label_of}
 use Rattle.std.proofs.lemmas.Option.{same_Some}
 use Rattle.ispc_lexer.proofs.Runs.{which, bind_some, chosen}

@@ -9,14 +9,14 @@ use Rattle.ispc_parser_words.specs.Front.{begins, take, is_mark}
 use Rattle.ispc_parser_words.specs.Words.{begins_word}
 use Rattle.ispc_parser_expressions.specs.Parse.{whole_expr}
 use Rattle.source_tree.specs.Expressions.{expr_view}
-use Rattle.ispc_parser_front.specs.declared.words.Loop.{Loop}
-use Rattle.ispc_parser_front.specs.declared.words.Loop.TheVariants as loop
+use Rattle.ispc_parser_shared.specs.declared.words.Loop.{Loop}
+use Rattle.ispc_parser_shared.specs.declared.words.Loop.TheVariants as loop
 use Rattle.ispc_parser_heads.specs.declared.heads.Rounds.{Rounds}
 use Rattle.ispc_parser_heads.specs.declared.heads.Distinct.{Distinct}
 use Rattle.ispc_parser_heads.specs.declared.heads.Head.{Head}
 use Rattle.ispc_parser_heads.specs.declared.heads.Head.TheVariants as head
 use Rattle.source_tree.specs.Tree.{dim_view, stmt_view}
-use Rattle.ispc_parser_front.specs.Front.{Reader, name_of, in_parens, list_of}
+use Rattle.ispc_parser_shared.specs.Front.{Reader, name_of, in_parens, list_of}
 use Rattle.ispc_parser_parts.specs.Parts.{behind, declaration_of, simple_of}
 
 -- an expression, which may be missing, before a `;`

@@ -6,7 +6,7 @@ use Rattle.gang_model.specs.declared.forms.Label.{Label}
 use Rattle.gang_model.specs.Source.Tokens.{Lexeme}
 use Rattle.ispc_lexer.specs.Options.{◌>>=◌, if_some}
 use Rattle.ispc_parser_words.specs.Front.{begins, take}
-use Rattle.ispc_parser_front.specs.Front.{Reader, take_at, number_of}
+use Rattle.ispc_parser_shared.specs.Front.{Reader, take_at, number_of}
 
 -- a number behind a minus or none
 unfoldable pub signed_of : (is_negative : Bool) → Reader Label

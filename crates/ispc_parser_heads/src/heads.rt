@@ -5,8 +5,8 @@ ghost use Rattle.source_tree.specs.Expressions.{expr_view};
 ghost use Rattle.ispc_parser_words.specs.Front.{Gives};
 ghost use Rattle.ispc_parser_expressions.specs.Parse.{whole_expr};
 ghost use Rattle.source_tree.specs.Tree.{dim_view, stmt_view};
-ghost use Rattle.ispc_parser_front.specs.Front.{name_view, name_of, in_parens};
-ghost use Rattle.ispc_parser_front.specs.Refusals.{IsRefusal};
+ghost use Rattle.ispc_parser_shared.specs.Front.{name_view, name_of, in_parens};
+ghost use Rattle.ispc_parser_shared.specs.Refusals.{IsRefusal};
 ghost use Rattle.ispc_parser_heads.specs.Heads as spec;
 ghost use Rattle.ispc_parser_heads.specs.Heads.{ForHead, UniqueHead, rounds_view, distinct_view, head_view, completed};
 
@@ -14,8 +14,8 @@ use gang_model::{Mark, RefusalNumber};
 use gang_types::Place;
 use ispc_lexer::{Kind, Token};
 use ispc_parser_expressions::expression;
-use ispc_parser_front::{Context, Identifier, Loop, Read, enter, name, refused_at, with_rest};
 use ispc_parser_parts::{behind, between, declaration, simple};
+use ispc_parser_shared::{Context, Identifier, Loop, Read, enter, name, refused_at, with_rest};
 use ispc_parser_words::{after, begins, begins_word, take, unexpected};
 use source_answers::SourceFault;
 use source_tree::{Dim, Expr, Stmt};
@@ -170,7 +170,7 @@ impl Head {
 ///
 /// S3 at the first token that nothing goes on with there, or at the end; S4 at the token that opens a nesting too many; S13 at the
 /// 257th operator, call or indexing of an expression. Out of memory.
-#[tactic(auto, unfolding(ispc_parser_front::specs::Front::in_parens, ispc_parser_parts::specs::Parts::between))]
+#[tactic(auto, unfolding(ispc_parser_shared::specs::Front::in_parens, ispc_parser_parts::specs::Parts::between))]
 pub fn test(context: Context, depth: u32, tokens: &[Token]) -> Read<'_, Expr>
     ensures { Gives (λ x. (expr_view x.0, lexemes_of x.1.now)) result
         (in_parens whole_expr depth (lexemes_of tokens.now)) }
@@ -351,7 +351,7 @@ fn inside(
 }
 
 /// The same with its parentheses.
-#[tactic(auto, unfolding(ispc_parser_front::specs::Front::in_parens))]
+#[tactic(auto, unfolding(ispc_parser_shared::specs::Front::in_parens))]
 fn parenthesized(
     context: Context,
     depth: u32,

@@ -7,7 +7,7 @@ ghost use Rattle.ispc_parser_heads.specs.Labels as spec;
 use gang_model::{Label, Mark};
 use gang_types::Place;
 use ispc_lexer::Token;
-use ispc_parser_front::{Read, number, take_at};
+use ispc_parser_shared::{Read, number, take_at};
 use ispc_parser_words::{after, begins, take};
 
 /// A number behind a minus.

@@ -16,8 +16,8 @@ use Rattle.ispc_parser_words.proofs.Tokens.{take_again, begins_again}
 use Rattle.ispc_parser_words.proofs.Follows.{stops_at, not_begins}
 use Rattle.ispc_parser_expressions.proofs.Whole.{whole_complete, args_complete}
 use Rattle.ispc_parser_parts.specs.Parts.{behind, between, value_of, declaration_of, index_of, target_of, changed_of, assigned_of, call_of, named_of, incremented_of, simple_of}
-use Rattle.ispc_parser_front.proofs.Tokens.{other_first, begins_at, same_place, differs, enter_again, in_parens_again, name_again}
-use Rattle.ispc_parser_front.proofs.SpecTokens.{local_spec_again}
+use Rattle.ispc_parser_shared.proofs.Tokens.{other_first, begins_at, same_place, differs, enter_again, in_parens_again, name_again}
+use Rattle.ispc_parser_shared.proofs.SpecTokens.{local_spec_again}
 
 no_increment : (m : Mark) (op : BinaryOp) → change_of m ≡ Some op → increment_of m ≡ None
 no_increment mark.PlusPlus op e = absurd cc

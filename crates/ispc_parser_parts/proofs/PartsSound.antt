@@ -14,11 +14,11 @@ use Rattle.ispc_parser_expressions.specs.Parse.{whole_expr, whole_args}
 use Rattle.ispc_parser_words.proofs.Tokens.{take_takes}
 use Rattle.ispc_parser_words.proofs.Tokens.{takes_at}
 use Rattle.ispc_parser_expressions.proofs.Whole.{whole_sound, args_sound}
-use Rattle.ispc_parser_front.specs.Front.{enter, name_of, in_parens}
-use Rattle.ispc_parser_front.specs.SpecWords.{local_spec_of}
+use Rattle.ispc_parser_shared.specs.Front.{enter, name_of, in_parens}
+use Rattle.ispc_parser_shared.specs.SpecWords.{local_spec_of}
 use Rattle.ispc_parser_parts.specs.Parts.{behind, between, value_of, declaration_of, index_of, target_of, changed_of, assigned_of, call_of, named_of, incremented_of, simple_at, simple_of}
-use Rattle.ispc_parser_front.proofs.Tokens.{opens_here, begins_at, first_at, enter_sound, in_parens_sound, name_sound}
-use Rattle.ispc_parser_front.proofs.SpecTokens.{local_spec_sound}
+use Rattle.ispc_parser_shared.proofs.Tokens.{opens_here, begins_at, first_at, enter_sound, in_parens_sound, name_sound}
+use Rattle.ispc_parser_shared.proofs.SpecTokens.{local_spec_sound}
 use Rattle.ispc_parser_words.proofs.Tokens.{mark_of_is}
 use Rattle.std.proofs.lemmas.Option.{same_Some}
 use Rattle.ispc_lexer.proofs.Runs.{which, bind_some, chosen}

@@ -11,8 +11,8 @@ use Rattle.gang_model.specs.Source.SpellsStatements.{change_of, increment_of}
 use Rattle.ispc_lexer.specs.Options.{◌>>=◌, if_some}
 use Rattle.ispc_parser_words.specs.Front.{begins, take, mark_of}
 use Rattle.ispc_parser_expressions.specs.Parse.{whole_expr, whole_args}
-use Rattle.ispc_parser_front.specs.Front.{Reader, enter, name_of, in_parens}
-use Rattle.ispc_parser_front.specs.SpecWords.{local_spec_of}
+use Rattle.ispc_parser_shared.specs.Front.{Reader, enter, name_of, in_parens}
+use Rattle.ispc_parser_shared.specs.SpecWords.{local_spec_of}
 
 -- an expression behind a mark
 unfoldable pub behind : Mark → ℕ → Reader ParsedExpr

@@ -5,14 +5,14 @@ ghost use Rattle.gang_model.specs.Source.SpellsStatements as grammar;
 ghost use Rattle.source_tree.specs.Expressions.{expr_view};
 ghost use Rattle.ispc_parser_words.specs.Front.{Gives};
 ghost use Rattle.source_tree.specs.Tree.{target_view, stmt_view};
-ghost use Rattle.ispc_parser_front.specs.Front.{name_view};
+ghost use Rattle.ispc_parser_shared.specs.Front.{name_view};
 ghost use Rattle.ispc_parser_parts.specs.Parts as spec;
 
 use gang_model::Mark;
 use gang_types::{BinaryOp, Place};
 use ispc_lexer::{Kind, Token};
 use ispc_parser_expressions::{arguments, expression};
-use ispc_parser_front::{
+use ispc_parser_shared::{
     Context, Identifier, Read, closed, copied_name, enter, local_spec, name, with_rest,
 };
 use ispc_parser_words::{begins, take, unexpected};
@@ -223,7 +223,7 @@ fn assigned(context: Context, depth: u32, target: Target, tokens: &[Token]) -> R
 }
 
 /// Behind the name of a function that is called.
-#[tactic(auto, unfolding(crate::specs::Parts::call_of, ispc_parser_front::specs::Front::in_parens))]
+#[tactic(auto, unfolding(crate::specs::Parts::call_of, ispc_parser_shared::specs::Front::in_parens))]
 fn call(context: Context, depth: u32, name: Identifier, tokens: &[Token]) -> Read<'_, Box<Stmt>>
     ensures { Gives (λ x. (stmt_view x.0.value, lexemes_of x.1.now)) result
         (spec.call_of depth (name_view name).0 (name_view name).1 (lexemes_of tokens.now)) }

@@ -8,8 +8,8 @@ use Rattle.ispc_lexer.specs.Options.{◌>>=◌}
 use Rattle.ispc_parser_words.specs.Front.{Fails, begins}
 use Rattle.source_tree.specs.declared.tree.Segment.{Segment as WrittenSegment}
 use Rattle.source_tree.specs.Tree.{segments_view}
-use Rattle.ispc_parser_front.specs.Front.{Reader}
-use Rattle.ispc_parser_front.proofs.Fails.{fails_when}
+use Rattle.ispc_parser_shared.specs.Front.{Reader}
+use Rattle.ispc_parser_shared.proofs.Fails.{fails_when}
 use Rattle.ispc_parser_statements.specs.Statements.{Segment, segment_view, segments_of}
 
 -- a segment, and those after it

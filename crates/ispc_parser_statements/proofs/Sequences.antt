@@ -7,8 +7,8 @@ use Rattle.ispc_lexer.specs.Options.{◌>>=◌}
 use Rattle.ispc_parser_words.specs.Front.{Fails}
 use Rattle.source_tree.specs.declared.tree.Stmt.{Stmt}
 use Rattle.source_tree.specs.Tree.{stmt_view, stmts_view}
-use Rattle.ispc_parser_front.specs.Front.{Reader}
-use Rattle.ispc_parser_front.proofs.Fails.{fails_when}
+use Rattle.ispc_parser_shared.specs.Front.{Reader}
+use Rattle.ispc_parser_shared.proofs.Fails.{fails_when}
 use Rattle.ispc_parser_statements.specs.Statements.{ends_stmts, stmts_of}
 
 abbrev pub append : ParsedStmts → ParsedStmts → ParsedStmts

@@ -14,13 +14,13 @@ use Rattle.gang_model.proofs.NestingLaws.{opened}
 use Rattle.ispc_parser_words.proofs.Tokens.{take_again, begins_again}
 use Rattle.ispc_parser_words.proofs.Tokens.{takes_at}
 use Rattle.ispc_parser_words.proofs.Follows.{stops_at}
-use Rattle.ispc_parser_front.specs.declared.words.Loop.{Loop}
-use Rattle.ispc_parser_front.specs.declared.words.Loop.TheVariants as loop
-use Rattle.ispc_parser_front.specs.Front.{ended_of}
-use Rattle.ispc_parser_front.proofs.Tokens.{begins_next, take_at_again}
+use Rattle.ispc_parser_shared.specs.declared.words.Loop.{Loop}
+use Rattle.ispc_parser_shared.specs.declared.words.Loop.TheVariants as loop
+use Rattle.ispc_parser_shared.specs.Front.{ended_of}
+use Rattle.ispc_parser_shared.proofs.Tokens.{begins_next, take_at_again}
 use Rattle.ispc_lexer.specs.Options.{if_some}
-use Rattle.ispc_parser_front.proofs.Lengths.{stmt_shorter}
-use Rattle.ispc_parser_front.proofs.SpecTokens.{word_first}
+use Rattle.ispc_parser_shared.proofs.Lengths.{stmt_shorter}
+use Rattle.ispc_parser_shared.proofs.SpecTokens.{word_first}
 use Rattle.ispc_parser_parts.specs.Parts.{declaration_of, simple_of}
 use Rattle.ispc_parser_parts.proofs.Beginnings.{BeginsSimple, simple_first, simple_no_word, simple_other, declaration_word}
 use Rattle.ispc_parser_parts.proofs.PartsComplete.{declaration_complete, simple_complete}

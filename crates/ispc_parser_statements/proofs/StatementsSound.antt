@@ -13,15 +13,15 @@ use Rattle.ispc_parser_expressions.specs.Parse.{whole_expr}
 use Rattle.ispc_parser_words.proofs.Tokens.{take_takes, begins_again}
 use Rattle.ispc_parser_words.proofs.Tokens.{takes_at}
 use Rattle.ispc_parser_expressions.proofs.Whole.{whole_sound}
-use Rattle.ispc_parser_front.specs.declared.words.Loop.{Loop}
-use Rattle.ispc_parser_front.specs.declared.words.Loop.TheVariants as loop
-use Rattle.ispc_parser_front.specs.declared.words.Plain.{Plain}
-use Rattle.ispc_parser_front.specs.declared.words.Plain.TheVariants as plain
-use Rattle.ispc_parser_front.specs.declared.words.Opening.{Opening}
-use Rattle.ispc_parser_front.specs.declared.words.Opening.TheVariants as opening
-use Rattle.ispc_parser_front.specs.Front.{Reader, take_at, name_of, in_parens, ended_of}
-use Rattle.ispc_parser_front.specs.Openings.{opening_of}
-use Rattle.ispc_parser_front.proofs.Tokens.{opens_here, not_next, first_at, take_at_sound, in_parens_sound, name_sound}
+use Rattle.ispc_parser_shared.specs.declared.words.Loop.{Loop}
+use Rattle.ispc_parser_shared.specs.declared.words.Loop.TheVariants as loop
+use Rattle.ispc_parser_shared.specs.declared.words.Plain.{Plain}
+use Rattle.ispc_parser_shared.specs.declared.words.Plain.TheVariants as plain
+use Rattle.ispc_parser_shared.specs.declared.words.Opening.{Opening}
+use Rattle.ispc_parser_shared.specs.declared.words.Opening.TheVariants as opening
+use Rattle.ispc_parser_shared.specs.Front.{Reader, take_at, name_of, in_parens, ended_of}
+use Rattle.ispc_parser_shared.specs.Openings.{opening_of}
+use Rattle.ispc_parser_shared.proofs.Tokens.{opens_here, not_next, first_at, take_at_sound, in_parens_sound, name_sound}
 use Rattle.ispc_parser_parts.specs.Parts.{declaration_of, simple_of}
 use Rattle.ispc_parser_parts.proofs.Beginnings.{declaration_word}
 use Rattle.ispc_parser_parts.proofs.PartsSound.{declaration_sound, simple_sound}

@@ -10,13 +10,13 @@ use Rattle.ispc_lexer.specs.Options.{◌>>=◌}
 use Rattle.ispc_parser_words.specs.Front.{begins, take, is_mark}
 use Rattle.ispc_parser_words.specs.Words.{begins_word}
 use Rattle.ispc_parser_expressions.specs.Parse.{whole_expr}
-use Rattle.ispc_parser_front.specs.declared.words.Loop.{Loop}
-use Rattle.ispc_parser_front.specs.declared.words.Plain.{Plain}
-use Rattle.ispc_parser_front.specs.declared.words.Plain.TheVariants as plain
-use Rattle.ispc_parser_front.specs.declared.words.Opening.{Opening}
-use Rattle.ispc_parser_front.specs.declared.words.Opening.TheVariants as opening
-use Rattle.ispc_parser_front.specs.Front.{Reader, take_at, in_parens, ended_of}
-use Rattle.ispc_parser_front.specs.Openings.{opening_of}
+use Rattle.ispc_parser_shared.specs.declared.words.Loop.{Loop}
+use Rattle.ispc_parser_shared.specs.declared.words.Plain.{Plain}
+use Rattle.ispc_parser_shared.specs.declared.words.Plain.TheVariants as plain
+use Rattle.ispc_parser_shared.specs.declared.words.Opening.{Opening}
+use Rattle.ispc_parser_shared.specs.declared.words.Opening.TheVariants as opening
+use Rattle.ispc_parser_shared.specs.Front.{Reader, take_at, in_parens, ended_of}
+use Rattle.ispc_parser_shared.specs.Openings.{opening_of}
 use Rattle.ispc_parser_parts.specs.Parts.{declaration_of, simple_of}
 use Rattle.ispc_parser_heads.specs.Heads.{optional_of, completed, head_of}
 use Rattle.ispc_parser_heads.specs.Labels.{label_of}

@@ -5,22 +5,22 @@ ghost use Rattle.ispc_parser_words.specs.Front as front;
 ghost use Rattle.ispc_parser_words.specs.Front.{Gives};
 ghost use Rattle.source_tree.specs.Expressions.{expr_view};
 ghost use Rattle.source_tree.specs.Tree.{stmt_view, stmts_view, segments_view};
-ghost use Rattle.ispc_parser_front.specs.Front.{ended_of};
+ghost use Rattle.ispc_parser_shared.specs.Front.{ended_of};
 ghost use Rattle.ispc_parser_parts.specs.Parts.{declaration_of, simple_of};
 ghost use Rattle.ispc_parser_statements.specs.Statements as spec;
 ghost use Rattle.ispc_parser_statements.specs.Statements.{within, parsers, segment_view};
 ghost use Rattle.gang_model.specs.Source.SpellsStatements.{max_labels};
-ghost use Rattle.ispc_parser_front.specs.Refusals.{IsRefusal};
+ghost use Rattle.ispc_parser_shared.specs.Refusals.{IsRefusal};
 
 use gang_model::{Mark, RefusalNumber};
 use gang_types::Place;
 use ispc_lexer::{Kind, Token};
-use ispc_parser_front::{
+use ispc_parser_heads::{begins_label, head_of, label, optional, test};
+use ispc_parser_parts::{declaration, simple};
+use ispc_parser_shared::{
     Context, Loop, Opening, Plain, Read, block_of, closed, do_while, ended, if_else, if_then,
     opening_of, push, refused_at, switch_of, take_at, with_rest,
 };
-use ispc_parser_heads::{begins_label, head_of, label, optional, test};
-use ispc_parser_parts::{declaration, simple};
 use ispc_parser_words::{after, begins, begins_word, take, unexpected};
 use source_answers::SourceFault;
 use source_tree::{Expr, Segment, Stmt};
@@ -37,7 +37,7 @@ enum Holder {
 
 // ---- statements that hold no other one
 
-#[tactic(auto, unfolding(ispc_parser_front::specs::Front::ended_of))]
+#[tactic(auto, unfolding(ispc_parser_shared::specs::Front::ended_of))]
 fn ended_simple(context: Context, depth: u32, tokens: &[Token]) -> Read<'_, Box<Stmt>>
     ensures { Gives (λ x. (stmt_view x.0.value, lexemes_of x.1.now)) result
         (ended_of (simple_of depth) (lexemes_of tokens.now)) }
@@ -46,7 +46,7 @@ fn ended_simple(context: Context, depth: u32, tokens: &[Token]) -> Read<'_, Box<
     ended(simple, rest, context.end)
 }
 
-#[tactic(auto, unfolding(ispc_parser_front::specs::Front::ended_of))]
+#[tactic(auto, unfolding(ispc_parser_shared::specs::Front::ended_of))]
 fn ended_declaration(
     context: Context,
     depth: u32,

@@ -6,3 +6,4 @@ pub mod SpecOrder
 pub mod WordSteps
 pub mod Said
 pub mod SaidAll
+pub mod TreeNumbers

@@ -1,14 +1,14 @@
 //! Why a run is refused, and how it is told.
 ghost use Rattle.std.specs.Prelude.{◌≡◌, ◌++◌, codes, decimal, false};
-ghost use Rattle.debug_machine.specs.Devices.{Writes};
+ghost use Rattle.debug_traits.specs.Devices.{Writes};
 ghost use Rattle.gang_model.specs.Texts.InputText.{TooLarge};
 ghost use Rattle.gang_model.specs.Texts.Text as text;
 ghost use Rattle.gang_model.specs.Texts.RunRefusals.{FromInput, FromSource, run_refusal_text, source_text};
 ghost use Rattle.ispc_refusals.specs.Refusals.{input_view, refusal_view};
 
 use debug_inputs::InputFault;
-use debug_machine::{AnswerWriter, WriteFault};
 use debug_texts::write_pieces;
+use debug_traits::{AnswerWriter, WriteFault};
 use gang_model::{RefusalNumber, SourceRefusal};
 use itoa::Buffer;
 

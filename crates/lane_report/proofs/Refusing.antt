@@ -1,12 +1,10 @@
 -- The refusals of the phases, as those of a report.
-use Rattle.std.proofs.Common.{◌≡◌, ◌⊎◌, ◌≤◌, List, length, Some, None, refl, sym, ap, ◌∙◌, subst, inl, inr}
-use Rattle.gang_model.specs.declared.refusals.RefusalNumber.{RefusalNumber}
-use Rattle.gang_model.specs.declared.refusals.RefusalNumber.TheVariants.{S1, S2, S3, S4, S5, S6, S7, S8, S9, S10, S11, S12, S13}
+use Rattle.std.proofs.Common.{◌≡◌, ◌⊎◌, ◌≤◌, List, length, Some, None, sym, ap, ◌∙◌, subst, inl, inr}
 use Rattle.gang_model.specs.declared.refusals.SourceRefusal.{SourceRefusal}
 use Rattle.gang_model.specs.Source.Lexes.{Lexes, max_source}
 use Rattle.gang_model.specs.Source.Limits.{limit_refusal}
 use Rattle.gang_model.specs.Source.Parsed.{ParsedSource}
-use Rattle.gang_model.specs.Source.Sources.{IsRightRefusal, IsTreeNumber, ReadsAs}
+use Rattle.gang_model.specs.Source.Sources.{IsRightRefusal, ReadsAs}
 use Rattle.gang_model.specs.Source.SpellsSource.{IsTree}
 use Rattle.gang_model.specs.Source.Tokens.{Lexeme}
 use Rattle.gang_model.specs.Texts.Text.{Bytes}
@@ -14,8 +12,8 @@ use Rattle.gang_model.specs.Types.SourceRefusals.{IsAccepted, first_refusal, nam
 use Rattle.source_answers.specs.declared.fault.SourceFault.{SourceFault}
 use Rattle.source_answers.specs.declared.fault.SourceFault.TheVariants.{Memory, Refused}
 use Rattle.ispc_lexer.specs.Refusal.{IsRefusal as IsLexerRefusal}
-use Rattle.ispc_parser_front.specs.Refusals.{IsRefusal as IsParserRefusal}
-use Rattle.ispc_parser_words.specs.Front.{IsParserNumber}
+use Rattle.ispc_parser_shared.specs.Refusals.{IsRefusal as IsParserRefusal}
+use Rattle.ispc_parser_words.proofs.TreeNumbers.{tree_number}
 use Rattle.lane_report.specs.Refusals.{IsRefused, IsSourceRefusal}
 
 -- the tokens' refusals
@@ -23,21 +21,6 @@ pub by_tokens : (text : Bytes) (fault : SourceFault) → IsLexerRefusal text fau
 by_tokens text Memory h = tt
 by_tokens text (Refused r) (inl (many, number, place)) = inl (record { many = many; number = number; place = place })
 by_tokens text (Refused r) (inr (few, only)) = inr (inl (record { few = few; first = only.first; none = only.none }))
-
-tree_number : (n : RefusalNumber) → IsParserNumber n → IsTreeNumber n
-tree_number S1 h = absurd h
-tree_number S2 h = absurd h
-tree_number S3 h = inl refl
-tree_number S4 h = inr (inl refl)
-tree_number S5 h = absurd h
-tree_number S6 h = absurd h
-tree_number S7 h = absurd h
-tree_number S8 h = absurd h
-tree_number S9 h = absurd h
-tree_number S10 h = absurd h
-tree_number S11 h = absurd h
-tree_number S12 h = absurd h
-tree_number S13 h = inr (inr refl)
 
 -- the tree's refusals
 pub by_tree : (text : Bytes) (tokens : List Lexeme) (fault : SourceFault) → length text ≤ max_source → Lexes text tokens

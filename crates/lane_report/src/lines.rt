@@ -1,12 +1,12 @@
 //! The lines of a report.
 ghost use Rattle.std.specs.Prelude.{◌≡◌, false, length};
-ghost use Rattle.debug_machine.specs.Devices.{Writes};
+ghost use Rattle.debug_traits.specs.Devices.{Writes};
 ghost use Rattle.gang_model.specs.Source.Parsed.{functions_in};
 ghost use Rattle.source_tree.specs.Tree.{function_view, tree_view};
 ghost use Rattle.lane_report.specs.Reports.{function_line, function_lines};
 
-use debug_machine::{AnswerWriter, WriteFault};
 use debug_texts::write_pieces;
+use debug_traits::{AnswerWriter, WriteFault};
 use itoa::Buffer;
 use source_tree::{Function, Item, Tree};
 

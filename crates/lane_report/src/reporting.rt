@@ -6,7 +6,7 @@ ghost use Rattle.lane_report.specs.Reports.{IsReport, Tells};
 
 use crate::judging::{answers_of, checked_source};
 use crate::lines::write_lines;
-use debug_machine::AnswerWriter;
+use debug_traits::AnswerWriter;
 use ispc_refusals::Refusal;
 use source_answers::SourceFault;
 use std::alloc::Global;

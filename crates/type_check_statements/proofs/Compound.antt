@@ -23,7 +23,7 @@ use Rattle.typed_tree.specs.Views.{boxed_view}
 use Rattle.source_answers.specs.Answers.{pair_view}
 use Rattle.source_answers.specs.Apart.{seen}
 use Rattle.type_check_parts.specs.Typed.{IsTyped, with_index}
-use Rattle.type_check_forms.specs.Sequences.{value_rounds}
+use Rattle.type_check_statement_parts.specs.Sequences.{value_rounds}
 use Rattle.type_check_statements.proofs.Judging.{seen-both, typed-at, typed-parts, variables-two, length-two, next-number}
 use Rattle.type_check_statements.proofs.ScopeSteps.{indices-length}
 

@@ -18,7 +18,7 @@ use Rattle.typed_tree.specs.Boxes.{BoxedStmt, boxed_stmt_view}
 use Rattle.typed_tree.specs.Views.{stmt_view, stmts_view}
 use Rattle.source_answers.specs.Apart.{seen, joined}
 use Rattle.type_check_parts.specs.Typed.{IsTyped}
-use Rattle.type_check_forms.specs.Sequences.{one_more}
+use Rattle.type_check_statement_parts.specs.Sequences.{one_more}
 use Rattle.type_check_parts.specs.Makes.{Makes}
 use Rattle.type_check_statements.proofs.ScopeSteps.{Extends, extends-next, extends-after, extends-same}
 

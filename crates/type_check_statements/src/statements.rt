@@ -19,15 +19,13 @@ use source_answers::{Answer, both_answers};
 use source_tree::{Dim, Expr, Segment as ParsedSegment, Stmt as ParsedStmt};
 use std::alloc::{AllocError, Global};
 use type_check_calls::Context;
-use type_check_forms::{
-    block, body_first, choice, conditional, label_word, more_segments, more_statements, over_lanes,
-    over_values, switch_of, type_of,
-};
 use type_check_parts::{advanced, variable_of};
 use type_check_scopes::{Declared, TypeScope, index_variable};
-use type_check_steps::{
-    for_each_head, for_each_of, for_of, for_test, rounds_head, selector_step, simple_statement,
-    test_apart, test_step, update_number, value_apart, while_of,
+use type_check_statement_parts::{
+    block, body_first, choice, conditional, for_each_head, for_each_of, for_of, for_test,
+    label_word, more_segments, more_statements, over_lanes, over_values, rounds_head,
+    selector_step, simple_statement, switch_of, test_apart, test_step, type_of, update_number,
+    value_apart, while_of,
 };
 use typed_tree::{Segment, Stmt};
 

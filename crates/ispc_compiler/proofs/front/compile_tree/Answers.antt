@@ -5,7 +5,7 @@ use Rattle.gang_model.specs.Source.Limits.{limit_refusal}
 use Rattle.gang_model.specs.Types.Resolved.{program_of}
 use Rattle.gang_model.specs.Types.SourceRefusals.{types_refusal}
 use Rattle.source_tree.specs.Tree.{tree_view}
-use Rattle.plain_programs.specs.Sources.{HasVariablesOf}
+use Rattle.runnable_programs.specs.Sources.{HasVariablesOf}
 use Rattle.ispc_compiler.proofs.Fronts.{tree_compiles}
 use Rattle.ispc_compiler.proofs.front.compile_tree.Goals as goal
 

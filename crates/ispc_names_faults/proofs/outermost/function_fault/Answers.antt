@@ -4,7 +4,7 @@ use Rattle.gang_model.specs.Names.NameFaults.{params_twice, stmts_names}
 use Rattle.gang_model.specs.Names.Scope.{with_params}
 use Rattle.ispc_names_scopes.specs.Scopes.{site}
 use Rattle.source_tree.specs.Tree.{function_view, param_view, stmts_view}
-use Rattle.ispc_names_parts.specs.MayStand.{allowed_view}
+use Rattle.ispc_names_expressions.specs.MayStand.{allowed_view}
 use Rattle.ispc_names_faults.proofs.ScopeSteps.{reach_begun, reach_params, reach_body, extends_within, environment_left}
 use Rattle.ispc_names_faults.proofs.Found.{function_found}
 use Rattle.ispc_names_faults.proofs.outermost.function_fault.Goals as goal

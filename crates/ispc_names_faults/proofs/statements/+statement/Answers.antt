@@ -11,7 +11,7 @@ use Rattle.source_tree.specs.Expressions.{expr_view}
 use Rattle.source_tree.specs.declared.tree.Stmt.{If}
 use Rattle.source_tree.specs.Tree.{dim_view, segments_view, stmt_view, stmts_view}
 use Rattle.source_tree.proofs.StatementRows.{view_block, view_switch}
-use Rattle.ispc_names_parts.specs.MayStand.{allowed_view}
+use Rattle.ispc_names_expressions.specs.MayStand.{allowed_view}
 use Rattle.ispc_names_declarations.proofs.Merging.{all_found, pair_fault}
 use Rattle.ispc_names_faults.proofs.ScopeSteps.{marked_within, left_for, reach_entered, reach_after, reach_moved, reach_dims, reach_block, reach_here, reach_inner, reach_rounds, reach_same, moved_twice}
 use Rattle.ispc_names_faults.proofs.Found.{domain_found, rounds_found, stmts_step, stmts_passed, stmts_found, if_else_found, for_found, for_each_unique_found, found_as, found_at, after_as, while_found, do_found}

@@ -6,7 +6,7 @@ use Rattle.gang_model.specs.Names.Scope.{after_all, enclosed, locals_in_segments
 use Rattle.ispc_names_scopes.specs.Scopes.{site}
 use Rattle.source_tree.specs.declared.tree.Stmt.{size-Stmt}
 use Rattle.source_tree.specs.Tree.{segments_view, stmts_view}
-use Rattle.ispc_names_parts.specs.MayStand.{allowed_view}
+use Rattle.ispc_names_expressions.specs.MayStand.{allowed_view}
 use Rattle.ispc_names_faults.proofs.ScopeSteps.{Reaches}
 use Rattle.ispc_names_faults.proofs.Segments.{labels_after}
 use Rattle.ispc_names_faults.proofs.statements.+statement.Given as goal

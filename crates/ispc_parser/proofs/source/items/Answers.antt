@@ -4,7 +4,7 @@ use Rattle.std.proofs.lemmas.Result.{err_from_is_err_and}
 use Rattle.ispc_parser_words.proofs.Tokens.{length-lexemes_of}
 use Rattle.ispc_lexer.specs.Views.{lexemes_of}
 use Rattle.source_tree.specs.Tree.{item_view}
-use Rattle.ispc_parser_front.proofs.Fails.{fails_none}
+use Rattle.ispc_parser_shared.proofs.Fails.{fails_none}
 use Rattle.ispc_parser.specs.Source.{tree_of}
 use Rattle.ispc_parser.proofs.Items.{nothing_left, something_left, items_begin, items_done, items_spent, items_fail, items_go_on}
 use Rattle.ispc_parser.proofs.source.items.Goals as goal

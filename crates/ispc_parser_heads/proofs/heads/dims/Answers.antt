@@ -4,8 +4,8 @@ use Rattle.std.proofs.lemmas.Result.{err_from_is_err_and}
 use Rattle.gang_model.specs.Source.SpellsStatements.{max_dims}
 use Rattle.ispc_lexer.specs.Views.{lexemes_of}
 use Rattle.source_tree.specs.Tree.{dim_view}
-use Rattle.ispc_parser_front.proofs.Fails.{fails_none}
-use Rattle.ispc_parser_front.proofs.Lists.{starts_empty, list_spent, list_fails, list_ends, list_goes_on}
+use Rattle.ispc_parser_shared.proofs.Fails.{fails_none}
+use Rattle.ispc_parser_shared.proofs.Lists.{starts_empty, list_spent, list_fails, list_ends, list_goes_on}
 use Rattle.ispc_parser_heads.specs.Heads.{dim_of, dims_of}
 use Rattle.ispc_parser_heads.proofs.heads.dims.Goals as goal
 

@@ -2,8 +2,8 @@ use Rattle.std.proofs.Common.{◌≡◌, ◌-◌, map}
 use Rattle.gang_model.specs.Source.SpellsStatements.{max_dims}
 use Rattle.ispc_lexer.specs.Views.{lexemes_of}
 use Rattle.source_tree.specs.Tree.{dim_view}
-use Rattle.ispc_parser_front.specs.Front.{list_of}
-use Rattle.ispc_parser_front.proofs.Lists.{with_front}
+use Rattle.ispc_parser_shared.specs.Front.{list_of}
+use Rattle.ispc_parser_shared.proofs.Lists.{with_front}
 use Rattle.ispc_parser_heads.specs.Heads.{dim_of, dims_of}
 use Rattle.ispc_parser_heads.proofs.heads.dims.Given as goal
 

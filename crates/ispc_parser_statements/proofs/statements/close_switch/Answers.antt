@@ -1,5 +1,5 @@
 use Rattle.std.proofs.Common.{sym}
-use Rattle.ispc_parser_front.proofs.Fails.{fails_none}
+use Rattle.ispc_parser_shared.proofs.Fails.{fails_none}
 use Rattle.ispc_parser_statements.proofs.statements.close_switch.Goals as goal
 
 pub returns-in-None : goal.returns-in-None

@@ -1,5 +1,5 @@
 use Rattle.std.proofs.Common.{◌++◌, codes, subst}
-use Rattle.debug_machine.specs.Devices.{Writes}
+use Rattle.debug_traits.specs.Devices.{Writes}
 use Rattle.gang_model.specs.Texts.Text.{line}
 use Rattle.ispc_refusals.proofs.refusal.write_input_refusal.Goals as goal
 

@@ -4,7 +4,7 @@ use Rattle.gang_model.specs.Types.Signatures.{ResultType}
 use Rattle.gang_model.specs.Types.Resolved.{param_variables}
 use Rattle.gang_model.specs.Types.Statements.{statements}
 use Rattle.source_tree.specs.Tree as parsed
-use Rattle.type_check_steps.proofs.SingleSteps.{unless-memory}
+use Rattle.type_check_statement_parts.proofs.SingleSteps.{unless-memory}
 use Rattle.type_check_functions.proofs.FunctionBodies.{statements-of_body, body-answered, if-apart}
 use Rattle.type_check_functions.proofs.FunctionParts.{views}
 use Rattle.type_check_functions.proofs.Parameters.{params-in_scope, within, left_again}

@@ -3,7 +3,7 @@ use Rattle.gang_model.specs.Types.Statements.{statements}
 use Rattle.source_tree.specs.Tree.{stmts_view}
 use Rattle.type_check_calls.specs.Calls.{context_view}
 use Rattle.type_check_statements.proofs.InSequence.{typed-body}
-use Rattle.type_check_steps.proofs.SingleSteps.{unless-memory}
+use Rattle.type_check_statement_parts.proofs.SingleSteps.{unless-memory}
 use Rattle.type_check_statements.proofs.body.typed_body.Goals as goal
 
 pub returns-clause-makes : goal.returns-clause-makes

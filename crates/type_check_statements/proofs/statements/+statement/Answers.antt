@@ -18,11 +18,11 @@ use Rattle.typed_tree.specs.Views as typed
 use Rattle.type_check_values.specs.Views.{typed_view}
 use Rattle.type_check_scopes.specs.Entries.{declared_view}
 use Rattle.type_check_calls.specs.Calls.{context_view}
-use Rattle.type_check_forms.specs.Sequences.{type_or_int32}
+use Rattle.type_check_statement_parts.specs.Sequences.{type_or_int32}
 use Rattle.source_answers.specs.Apart.{seen}
 use Rattle.type_check_parts.proofs.Named.{index-named}
-use Rattle.type_check_steps.proofs.SingleSteps.{typed-form, steps-form, counted-as, ends-at, in-any-case}
-use Rattle.type_check_steps.proofs.Switches.{segments-none, segments-next, segments-typed, segments-numbered, switched}
+use Rattle.type_check_statement_parts.proofs.SingleSteps.{typed-form, steps-form, counted-as, ends-at, in-any-case}
+use Rattle.type_check_statement_parts.proofs.Switches.{segments-none, segments-next, segments-typed, segments-numbered, switched}
 use Rattle.type_check_statements.proofs.InSequence.{begun-none, begun-next, begun-all, whole-typed, typed-block}
 use Rattle.type_check_statements.proofs.Compound.{if-only, if-else, while-loop, do-loop, for-loop, for-each, in-rounds, for-each-active, for-each-unique}
 use Rattle.type_check_statements.proofs.ScopeSteps.{extends-after, extends-indices, extends-one, extends-same, extends-next, extends-marked, extends-left}

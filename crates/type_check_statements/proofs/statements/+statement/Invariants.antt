@@ -4,7 +4,7 @@ use Rattle.source_tree.specs.declared.tree.Stmt.{size-Stmt}
 use Rattle.source_tree.specs.Tree.{segments_view, stmts_view}
 use Rattle.type_check_calls.specs.Calls.{context_view}
 use Rattle.source_answers.specs.Apart.{seen}
-use Rattle.type_check_steps.proofs.Switches.{AreBegun}
+use Rattle.type_check_statement_parts.proofs.Switches.{AreBegun}
 use Rattle.type_check_statements.proofs.InSequence.{IsBegun}
 use Rattle.type_check_statements.proofs.statements.+statement.Given as goal
 

@@ -1,5 +1,0 @@
-use Rattle.source_tree.proofs.StatementRows.{view_switch}
-use Rattle.ispc_parser_front.proofs.nodes.switch_of.Goals as goal
-
-pub returns : goal.returns
-returns c = view_switch c.args.place c.args.selector c.args.segments

@@ -1,0 +1,3 @@
+pub mod Segments
+pub mod Sequences
+pub mod Singles

@@ -1,3 +1,0 @@
-pub mod SingleSteps
-pub mod Singles
-pub mod Switches
