@@ -8,7 +8,7 @@ use Rattle.gang_model.specs.Types.Tree as t
 use Rattle.mask_states.specs.Points as p
 use Rattle.mask_states.specs.Points.{points_in}
 use Rattle.machine_states.specs.Cells.{cells_of, greatest, words_left, words_set}
-use Rattle.machine_states.specs.Plain.{IsPlainProgram}
+use Rattle.machine_states.specs.WellScoped.{IsWellScopedProgram}
 use Rattle.machine_states.specs.Variables.{Variables}
 use Rattle.machine_states.proofs.Cells.{cells_few, greatest_enough}
 use Rattle.codegen.specs.declared.code.StepCode.{StepCode}
@@ -76,6 +76,6 @@ module _ (width : ℕ) where
   pub most_within : (functions : List (Vec StepCode Global)) (i : ℕ) (steps : Vec StepCode Global) → slice_get functions i ≡ Some steps → most_set width steps.items ≤ cells_by width functions
   most_within functions i steps is = omega (arith, greatest_enough (λ (s : Vec StepCode Global). most_set width s.items) functions i steps is)
 
-  pub cells_by-few : (functions : List (Vec StepCode Global)) (variables : Variables) (most : ℕ) (program : t.Program) → IsPlainProgram variables most program
+  pub cells_by-few : (functions : List (Vec StepCode Global)) (variables : Variables) (most : ℕ) (program : t.Program) → IsWellScopedProgram variables most program
       → DoEach functions (map points_in program.functions) → cells_by width functions ≤ 9 * width + 16
-  cells_by-few functions variables most program plain does = omega (arith, cells_same functions program does, cells_few width variables most program plain)
+  cells_by-few functions variables most program well_scoped does = omega (arith, cells_same functions program does, cells_few width variables most program well_scoped)

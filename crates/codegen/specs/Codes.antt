@@ -9,7 +9,7 @@ use Rattle.foreach_lowering.specs.Forms.{FormsOf, round_forms}
 use Rattle.typed_tree.specs.declared.expressions.Expr.{Expr}
 use Rattle.typed_tree.specs.Views.{expr_view, result_view, var_view}
 use Rattle.expression_instructions.specs.declared.code.Instruction.{Instruction}
-use Rattle.expression_machine.specs.Correct.{Computes}
+use Rattle.expression_runs.specs.Correct.{Computes}
 use Rattle.codegen.specs.declared.code.ArgCode.{ArgCode}
 use Rattle.codegen.specs.declared.code.ArgCode.TheVariants as arg
 use Rattle.codegen.specs.declared.code.DimensionCode.{DimensionCode}

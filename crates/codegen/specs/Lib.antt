@@ -1,3 +1,4 @@
 pub mod Codes
+pub mod PackedCalls
 pub mod Programs
 pub mod Cells

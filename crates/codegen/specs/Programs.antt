@@ -3,7 +3,7 @@ use Rattle.std.specs.Prelude.{◌≡◌, ℕ, List, filter, length, map, Some, s
 use Rattle.gang_model.specs.Types.Tree as t
 use Rattle.mask_states.specs.Stands.{AreLowerable}
 use Rattle.machine_states.specs.Declared.{AreDeclaredFirst}
-use Rattle.machine_states.specs.Plain.{IsPlainProgram}
+use Rattle.machine_states.specs.WellScoped.{IsWellScopedProgram}
 use Rattle.machine_states.specs.Variables.{Variables}
 use Rattle.expression_code.specs.ProgramRoom.{HaveRoom}
 use Rattle.typed_tree.specs.declared.program.Function.{Function}
@@ -22,11 +22,11 @@ variables_of program = record {
   parameters = map (λ f. length (filter (λ v. v.is_parameter) (own_variables f))) program.functions.items;
 }
 
--- A plain program, whose steps are numbered in running order, in which each name is declared before, each call finds its function, and
+-- A well-scoped program, whose steps are numbered in running order, in which each name is declared before, each call finds its function, and
 -- each expression finds room.
 pub record IsRunnable (program : Program) : Type 0 where
   pub most : ℕ
-  pub plain : IsPlainProgram (variables_of program) most (program_view program)
+  pub well_scoped : IsWellScopedProgram (variables_of program) most (program_view program)
   pub declared : AreDeclaredFirst (variables_of program) (program_view program)
   pub lowerable : AreLowerable (program_view program)
   pub room : (n : ℕ) (f : t.Function) → slice_get (program_view program).functions n ≡ Some f → HaveRoom f.body

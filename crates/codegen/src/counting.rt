@@ -3,7 +3,7 @@ ghost use Rattle.std.specs.Prelude.{◌≡◌, ℕ, ◌+◌, ◌*◌, ◌≤◌,
 ghost use Rattle.gang_types.specs.Masks.{IsGangWidth};
 ghost use Rattle.gang_model.specs.Types.Tree.{Program};
 ghost use Rattle.machine_states.specs.Cells.{cells_of};
-ghost use Rattle.machine_states.specs.Plain.{IsPlainProgram};
+ghost use Rattle.machine_states.specs.WellScoped.{IsWellScopedProgram};
 ghost use Rattle.machine_states.specs.Variables.{Variables};
 ghost use Rattle.mask_states.specs.Points.{points_in};
 ghost use Rattle.codegen.specs.Cells.{most_set, words_set_by};
@@ -11,10 +11,10 @@ ghost use Rattle.codegen.specs.Codes.{DoEach};
 
 use crate::code::{Code, StepCode};
 
-/// The most words that one event of a plain program with this code sets, at a width: a step, leaving a frame, or a poke.
+/// The most words that one event of a well-scoped program with this code sets, at a width: a step, leaving a frame, or a poke.
 pub fn cells(code: &Code, width: usize) -> usize
     requires width { IsGangWidth width }
-    requires plain { (variables : Variables) × (most : ℕ) × (program : Program) × IsPlainProgram variables most program
+    requires well_scoped { (variables : Variables) × (most : ℕ) × (program : Program) × IsWellScopedProgram variables most program
         × DoEach code.now.functions.items (map points_in program.functions) }
     ensures exact { (program : Program) → DoEach code.now.functions.items (map points_in program.functions) → result ≡ cells_of width program }
     ensures few { result ≤ 9 * width + 16 }

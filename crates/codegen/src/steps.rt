@@ -6,6 +6,7 @@ ghost use Rattle.mask_lowering.specs.PointViews.{point_view};
 ghost use Rattle.foreach_lowering.specs.FormViews.{form_view};
 ghost use Rattle.typed_tree.specs.Views.{expr_view, rounds_view, stmt_view, target_view};
 ghost use Rattle.codegen.specs.Codes.{Does, HasCode, IsCodeOf, MovesNoLane};
+ghost use Rattle.codegen.specs.PackedCalls.{IsPackedCall};
 
 use crate::code::{Change, StepCode};
 use crate::forms::{head, indices, segments};
@@ -125,6 +126,16 @@ fn put(alloc: Global, statement: &Stmt, next: usize) -> Result<StepCode, AllocEr
             test: value(alloc, test)?,
             next,
         }),
+        _ => packed(alloc, statement, next),
+    }
+}
+
+/// The code of a packed call.
+fn packed(alloc: Global, statement: &Stmt, next: usize) -> Result<StepCode, AllocError>
+    requires { IsPackedCall (stmt_view statement.now) }
+    ensures { IfOk result (λ code. Does code (Put (stmt_view statement.now) next)) }
+{
+    match statement {
         Stmt::PackedStore {
             array,
             from,

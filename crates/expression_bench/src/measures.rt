@@ -5,7 +5,7 @@ ghost use Rattle.gang_types.specs.Masks.{IsGangWidth};
 use crate::store::{ELEMENTS, Store};
 use crate::sums::{expression, in_one_lane};
 use expression_code::compile;
-use expression_machine::{Stacks, evaluate};
+use expression_runs::{Stacks, evaluate};
 use gang_types::{IntType, Mask, wrap};
 use std::alloc::{AllocError, Global};
 use std::io;

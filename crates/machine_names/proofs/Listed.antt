@@ -15,7 +15,7 @@ use Rattle.gang_model.specs.Names.Scope.{Binding, declaration, names_at, unhidde
 use Rattle.gang_model.specs.Types.Tree.{Variable}
 use Rattle.ispc_names_table.specs.declared.table.Declaration.{Declaration}
 use Rattle.ispc_names_table.specs.declared.table.Standing.{Standing}
-use Rattle.debug_machine.specs.Machines.{IsOneOf}
+use Rattle.debug_traits.specs.Machines.{IsOneOf}
 use Rattle.ispc_names_table.specs.Scopes.{in_scope, newest_first, standing_view, standings_view}
 use Rattle.ispc_names_table.proofs.InnerNames.{declaration-unhidden}
 use Rattle.ispc_names_table.proofs.Links.{linked-none}

@@ -1,7 +1,7 @@
 -- What is shown of a variable that is found.
 use Rattle.std.specs.Prelude.{◌≡◌, ℕ, false, List, Option, Some, None, map, slice_get}
-use Rattle.debug_machine.specs.declared.machine.NamedVariable.{NamedVariable}
-use Rattle.debug_machine.specs.declared.machine.Shown.{Shown}
+use Rattle.debug_traits.specs.declared.machine.NamedVariable.{NamedVariable}
+use Rattle.debug_traits.specs.declared.machine.Shown.{Shown}
 use Rattle.gang_model.specs.Source.Names.{named}
 use Rattle.gang_model.specs.Types.Tree.{Variable}
 use Rattle.gang_model.specs.Running.State.{words_for}

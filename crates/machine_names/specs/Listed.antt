@@ -5,7 +5,7 @@ use Rattle.gang_types.specs.declared.places.VarId.TheVariants.{File, Local}
 use Rattle.gang_model.specs.Names.Scope.{Binding, names_at}
 use Rattle.gang_model.specs.Types.Resolved.{local_at}
 use Rattle.gang_model.specs.Types.Tree.{Variable}
-use Rattle.debug_machine.specs.declared.machine.NextLocal.{NextLocal}
+use Rattle.debug_traits.specs.declared.machine.NextLocal.{NextLocal}
 use Rattle.ispc_names_table.specs.Scopes.{standings_view}
 use Rattle.typed_tree.specs.declared.program.Function.{Function}
 use Rattle.typed_tree.specs.Views.{variable_view}

@@ -7,7 +7,7 @@ ghost use Rattle.machine_names.specs.Found.{IsNamed};
 ghost use Rattle.machine_names.specs.Listed.{SeesNext, is_of, listed_from};
 
 use crate::names::{NOTHING, named};
-use debug_machine::{NamedVariable, NextLocal};
+use debug_traits::{NamedVariable, NextLocal};
 use typed_tree::{Function, Variable};
 
 /// Which of the variables in scope are listed.

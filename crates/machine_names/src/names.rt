@@ -7,7 +7,7 @@ ghost use Rattle.gang_types.specs.declared.places.VarId.TheVariants.{Local};
 ghost use Rattle.typed_tree.specs.Views.{function_view, variable_view};
 ghost use Rattle.machine_names.specs.Found.{FindsNumber, IsNamed, IsSeen, SeesFound, file_variables};
 
-use debug_machine::{NamedVariable, Shown};
+use debug_traits::{NamedVariable, Shown};
 use gang_memory::word_count;
 use gang_types::{IntType, Rate, VarId};
 use typed_tree::{Function, Global, Variable};

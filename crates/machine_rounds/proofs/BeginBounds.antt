@@ -20,7 +20,7 @@ use Rattle.foreach_lowering.specs.Views.{bounds_view, grid_view}
 use Rattle.foreach_lowering.specs.Kept.{Kept, kept_of, kept_lanes}
 use Rattle.foreach_lowering.specs.Law.{first_kept}
 use Rattle.machine_states.specs.Levels.{LevelWords, bounds_in, kept_domain, kept_in, left_in}
-use Rattle.machine_moves.proofs.LeftRounds.{first_six, same_bounds}
+use Rattle.frame_steps.proofs.LeftRounds.{first_six, same_bounds}
 use Rattle.machine_rounds.specs.Beginning.{KeepsDomain, bounds_at, bounds_words}
 
 -- ---- bounds

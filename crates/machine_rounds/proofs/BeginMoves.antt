@@ -4,40 +4,40 @@ use prog.Memory.{up}
 use Rattle.std.specs.Prelude.{Result, Ok, Err, drop, replicate}
 use Rattle.gang_types.specs.Lanes.{no_lane}
 use Rattle.gang_types.specs.Masks.{IsGangWidth, lanes_of}
-use Rattle.gang_model.specs.Types.Tree.{RoundsOf, Rows, Tiles, EachLane, EachValue}
+use Rattle.gang_model.specs.Types.Tree.{RoundsOf}
 use Rattle.gang_model.specs.Running.RunningOrder.{IsNumbered}
 use Rattle.undo_log.specs.History.{History}
 use Rattle.undo_log.specs.declared.timeline.Undone.TheVariants as undone
-use Rattle.debug_machine.specs.declared.machine.Fault.{Fault}
-use Rattle.debug_machine.specs.Machines.{fault_view}
+use Rattle.debug_traits.specs.declared.machine.Fault.{Fault}
+use Rattle.debug_traits.specs.Machines.{fault_view}
 use Rattle.mask_states.specs.Points.{Point, Begin}
 use Rattle.mask_states.specs.Masked.{Masked}
 use Rattle.foreach_lowering.specs.Forms.{most_nested}
-use Rattle.foreach_lowering.specs.Law.{HasDimensions, first_kept}
+use Rattle.foreach_lowering.specs.Law.{first_kept}
 use Rattle.foreach_lowering.proofs.Counted.{counts_rounds}
 use Rattle.machine_states.specs.Effects.{begun_in, sent_on}
 use Rattle.machine_states.specs.Levels.{LevelWords, kept_in}
 use Rattle.machine_states.specs.Nesting.{most_levels}
-use Rattle.machine_states.specs.Plain.{FormPlain}
 use Rattle.machine_states.specs.Regions.{Regions}
 use Rattle.machine_states.specs.Steps.{GoesTo, waiting_in}
-use Rattle.machine_states.specs.Variables.{Variables}
 use Rattle.machine_states.proofs.BeginSteps.{begin_fails, begun_words, form_begins}
 use Rattle.machine_states.proofs.Cells.{greatest_enough}
+use Rattle.machine_states.proofs.NextRounds.{well_scoped_dimensions}
 use Rattle.machine_states.proofs.TopFrame.{form_level_there}
 use Rattle.codegen.specs.declared.code.FormCode.{FormCode}
 use Rattle.codegen.specs.declared.code.StepCode.TheVariants as code
 use Rattle.machine_words.specs.declared.words.MachineWords.{MachineWords}
 use Rattle.machine_words.specs.Ranges.{level_sizes, levels_of}
 use Rattle.machine_words.specs.Words.{AreLaid, left_of, regions_in}
-use Rattle.machine_moves.specs.declared.active.Active.{Active}
-use Rattle.machine_moves.specs.declared.compiled.CompiledProgram.{CompiledProgram}
-use Rattle.machine_moves.specs.Compiled.{program_of, variables_of}
-use Rattle.machine_moves.specs.Standing.{AreSound, Begins, DoesNext, EndsAs, IsShown}
-use Rattle.machine_moves.proofs.SentSteps.{ends_with_fault}
-use Rattle.machine_moves.proofs.Standings.{IsUnderWay, begun, begun_laid, begun_regions, ends_well, frame_below, may_write, some_active, step_within}
-use Rattle.machine_moves.proofs.StepValues.{active_plain}
-use Rattle.machine_rounds.specs.Beginning.{BeginsForm, Sets, opened_in}
+use Rattle.frame_steps.specs.declared.active.Active.{Active}
+use Rattle.frame_steps.specs.declared.compiled.CompiledProgram.{CompiledProgram}
+use Rattle.frame_steps.specs.Compiled.{program_of, variables_of}
+use Rattle.frame_steps.specs.Standing.{AreSound, Begins, DoesNext, EndsAs, IsShown}
+use Rattle.frame_steps.proofs.SentSteps.{ends_with_fault}
+use Rattle.frame_steps.proofs.Standings.{IsUnderWay, begun, begun_laid, begun_regions, ends_well, frame_below, may_write, some_active, step_within}
+use Rattle.frame_steps.proofs.StepValues.{active_well_scoped}
+use Rattle.frame_steps.specs.Written.{Sets}
+use Rattle.machine_rounds.specs.Beginning.{BeginsForm, opened_in}
 use Rattle.machine_rounds.specs.declared.beginning.FirstWords.{FirstWords}
 use Rattle.machine_rounds.proofs.BeginBounds.{kept_alike}
 use Rattle.machine_rounds.proofs.BeginValues.{HeadAt, begins_form, head_of}
@@ -49,12 +49,6 @@ levels_same width zero zero e = refl
 levels_same width zero (suc b) e = absurd (omega (arith, ap length e))
 levels_same width (suc a) zero e = absurd (omega (arith, ap length e))
 levels_same width (suc a) (suc b) e = ap suc (levels_same width a b (ap (drop 4) e))
-
-dimensions_of : (variables : Variables) (n : ℕ) (form : RoundsOf) → FormPlain variables n form → HasDimensions form
-dimensions_of variables n (Rows ds) plain = plain.0
-dimensions_of variables n (Tiles ds) plain = plain.0
-dimensions_of variables n (EachLane x) plain = tt
-dimensions_of variables n (EachValue x e) plain = tt
 
 -- what a form keeps first fits in memory
 abbrev pub first_bytes : ℕ → ℕ
@@ -144,7 +138,7 @@ module _ {T : Type 0} (history : T → History) (left : T → ℕ) (w : ℕ) (co
           let goes : GoesTo (program_of compiled) (variables_of compiled) w masked
           (begun_in active.frame active.level rounds (replicate w rounds) first.counters first.values (sent_on active.frame active.level (waiting_in regions active.frame active.level active.step) (λ k. next) regions)) =
           form_begins (program_of compiled) (variables_of compiled) w regions masked shown.shows active.frame active.level active.function here.f active.step form rounds next here.is_active.next
-          (counts_rounds w sound.lie.gang) (dimensions_of (variables_of compiled) active.function form (active_plain w compiled sound.lie.compiled_is regions active here.f point here.is_active))
+          (counts_rounds w sound.lie.gang) (well_scoped_dimensions (variables_of compiled) active.function form (active_well_scoped w compiled sound.lie.compiled_is regions active here.f point here.is_active))
           numbered first.counters first.values counted valued same in
           ends_well history left w compiled masked (opened_in w active rounds next first regions) (3 * w + 11) old new under_way
           (subst (λ lanes. GoesTo (program_of compiled) (variables_of compiled) w masked
@@ -157,5 +151,5 @@ module _ {T : Type 0} (history : T → History) (left : T → ℕ) (w : ℕ) (co
   head_faults result fault is masked shown fails =
       ends_with_fault history w compiled masked old result fault is
       (begin_fails (program_of compiled) (variables_of compiled) w regions masked shown.shows active.frame active.level active.function here.f active.step form rounds next here.is_active.next
-      (counts_rounds w sound.lie.gang) (dimensions_of (variables_of compiled) active.function form (active_plain w compiled sound.lie.compiled_is regions active here.f point here.is_active))
+      (counts_rounds w sound.lie.gang) (well_scoped_dimensions (variables_of compiled) active.function form (active_well_scoped w compiled sound.lie.compiled_is regions active here.f point here.is_active))
       (fault_view fault) (ap (λ lanes. first_kept form lanes masked.state) (sym here.is_active.lanes) ∙ fails))

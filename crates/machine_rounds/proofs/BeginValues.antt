@@ -8,8 +8,8 @@ use Rattle.gang_model.specs.Types.Tree.{StepNumber, Dimension, Expr, RoundsOf, R
 use Rattle.gang_model.specs.Running.Lanes.{Fault as ModelFault, ◌>>=◌, at}
 use Rattle.gang_model.specs.Running.State.{State}
 use Rattle.gang_model.specs.Running.Value.{value}
-use Rattle.debug_machine.specs.declared.machine.Fault.{Fault}
-use Rattle.debug_machine.specs.Machines.{fault_view}
+use Rattle.debug_traits.specs.declared.machine.Fault.{Fault}
+use Rattle.debug_traits.specs.Machines.{fault_view}
 use Rattle.mask_states.specs.Points.{Point, Begin}
 use Rattle.foreach_lowering.specs.declared.bounds.Order.{Order}
 use Rattle.foreach_lowering.specs.DomainViews.{form_by}
@@ -24,11 +24,11 @@ use Rattle.codegen.specs.declared.code.FormCode.{FormCode}
 use Rattle.codegen.specs.declared.code.FormCode.TheVariants as head
 use Rattle.codegen.specs.declared.code.StepCode.TheVariants as code
 use Rattle.codegen.proofs.Rows.{fit_long}
-use Rattle.machine_moves.specs.declared.active.Active.{Active}
-use Rattle.machine_moves.specs.declared.compiled.CompiledProgram.{CompiledProgram}
-use Rattle.machine_moves.specs.Compiled.{IsCompiled}
-use Rattle.machine_moves.specs.Standing.{DoesNext, IsActive, IsAnswer, IsValueAt}
-use Rattle.machine_moves.proofs.StepValues.{IsFormValue, active_plain, value_at}
+use Rattle.frame_steps.specs.declared.active.Active.{Active}
+use Rattle.frame_steps.specs.declared.compiled.CompiledProgram.{CompiledProgram}
+use Rattle.frame_steps.specs.Compiled.{IsCompiled}
+use Rattle.frame_steps.specs.Standing.{DoesNext, IsActive, IsAnswer, IsValueAt}
+use Rattle.frame_steps.proofs.StepValues.{IsFormValue, active_well_scoped, value_at}
 use Rattle.machine_rounds.specs.Beginning.{AreDimensionsAt, BeginsForm, IsBoundsCode, IsFirst, bounds_at, bounds_words}
 use Rattle.machine_rounds.specs.declared.beginning.FirstWords.{FirstWords}
 
@@ -170,13 +170,13 @@ module _ (width : ℕ) (compiled : CompiledProgram) (regions : Regions) (active 
     domain_at order dimensions (Rows ds) begins = record {
       ds = ds;
       form_is = ap (λ o. form_by o ds) (sym begins.does.0);
-      few = (active_plain width compiled is regions active begins.f (Begin (Rows ds) begins.rounds begins.next) begins.is_active).0;
+      few = (active_well_scoped width compiled is regions active begins.f (Begin (Rows ds) begins.rounds begins.next) begins.is_active).0;
       are = bounds_codes begins.f (Rows ds) begins.rounds begins.next begins.is_active dimensions.items ds (λ k d there e of. (k, d, there, of)) begins.does.1;
     }
     domain_at order dimensions (Tiles ds) begins = record {
       ds = ds;
       form_is = ap (λ o. form_by o ds) (sym begins.does.0);
-      few = (active_plain width compiled is regions active begins.f (Begin (Tiles ds) begins.rounds begins.next) begins.is_active).0;
+      few = (active_well_scoped width compiled is regions active begins.f (Begin (Tiles ds) begins.rounds begins.next) begins.is_active).0;
       are = bounds_codes begins.f (Tiles ds) begins.rounds begins.next begins.is_active dimensions.items ds (λ k d there e of. (k, d, there, of)) begins.does.1;
     }
     domain_at order dimensions (EachLane x) begins = absurd begins.does

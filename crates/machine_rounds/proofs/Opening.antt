@@ -4,19 +4,17 @@ use Rattle.std.specs.Prelude.{replicate, slice_set, if◌then◌else◌}
 use Rattle.std.proofs.lemmas.Bool.{lt-ltb}
 use Rattle.std.proofs.lemmas.List.{append-nil, drop_all, length-replicate}
 use Rattle.gang_types.specs.Masks.{lanes_of}
-use Rattle.gang_types.specs.MaskLaws.{length-lanes_of_word}
 use Rattle.gang_model.specs.Debugger.Events.{covered}
-use Rattle.gang_model.specs.Running.Lanes.{merged}
 use Rattle.undo_log.specs.History.{History}
-use Rattle.mask_states.specs.Masked.{sent}
 use Rattle.machine_states.specs.Effects.{sent_on}
 use Rattle.machine_states.specs.Regions.{LevelPart, NumbersOf, EndOf, CountersOf, ValuesOf, LevelOf, OpenOf, OfHead, OfLevel, Region, Regions, with_region}
 use Rattle.machine_words.specs.declared.words.MachineWords.{MachineWords}
 use Rattle.machine_words.specs.Ranges.{level_size, levels_of}
 use Rattle.machine_words.specs.Words.{AreLaid, Writes, regions_in}
-use Rattle.machine_moves.specs.declared.active.Active.{Active}
-use Rattle.machine_moves.proofs.Heads.{alike, head_long, only_word, regions_after, sent_to}
-use Rattle.machine_rounds.specs.Beginning.{Sets, opened_in}
+use Rattle.frame_steps.specs.declared.active.Active.{Active}
+use Rattle.frame_steps.specs.Written.{Sets}
+use Rattle.frame_steps.proofs.Heads.{alike, head_long, only_word, regions_after}
+use Rattle.machine_rounds.specs.Beginning.{opened_in}
 use Rattle.machine_rounds.specs.declared.beginning.FirstWords.{FirstWords}
 
 -- as many words as there were take their place
@@ -36,10 +34,6 @@ module _ {T : Type 0} (history : T → History) (left : T → ℕ) (w : ℕ) whe
   pub numbers_long : (words : MachineWords T) → AreLaid history w words → (i level : ℕ) → i < 64 → level ≤ levels_of words.layout → length (regions_in history w words (OfLevel i level NumbersOf)) ≡ w
   numbers_long words laid i zero there within = head_long history left w words laid i (LevelOf 0 NumbersOf) there
   numbers_long words laid i (suc level) there within = part_long words laid i level there (omega (arith, within)) NumbersOf
-
-  -- nothing is set so far
-  pub none_set : (words : MachineWords T) → AreLaid history w words → Sets history left w (regions_in history w words) 0 words words
-  none_set words laid = record { regions_are = λ r. refl; layout = refl; laid = laid; rest = refl; few = omega arith }
 
   -- one region more is set
   pub set_more : (regions : Regions) (writes : ℕ) (old mid new : MachineWords T) → Sets history left w regions writes old mid → (region other : Region) → region ≡ other
@@ -75,7 +69,7 @@ module _ {T : Type 0} (history : T → History) (left : T → ℕ) (w : ℕ) (ac
 
     -- the writes one after another
     module _ (rounds next : ℕ) (first : FirstWords w) (counted : length first.counters ≡ 9) (valued : length first.values ≡ w) (sent_words ended numbered counting valued_words new : MachineWords T)
-        (sends : Writes history left w (OfLevel active.frame active.level NumbersOf) (merged (lanes_of w active.lanes) (replicate w next) (regions_in history w old (OfLevel active.frame active.level NumbersOf))) w old sent_words)
+        (sends : Sets history left w (sent_on active.frame active.level (lanes_of w active.lanes) (λ k. next) (regions_in history w old)) w old sent_words)
         (ends : Writes history left w (OfLevel active.frame up EndOf) (slice_set (regions_in history w sent_words (OfLevel active.frame up EndOf)) 0 rounds) 1 sent_words ended)
         (numbers : Writes history left w (OfLevel active.frame up NumbersOf) (covered (replicate w rounds) (regions_in history w ended (OfLevel active.frame up NumbersOf))) (length (replicate w rounds)) ended numbered)
         (counters : Writes history left w (OfLevel active.frame up CountersOf) (covered first.counters (regions_in history w numbered (OfLevel active.frame up CountersOf))) (length first.counters) numbered counting)
@@ -84,27 +78,21 @@ module _ {T : Type 0} (history : T → History) (left : T → ℕ) (w : ℕ) (ac
       abbrev sent_regions : Regions
       sent_regions = sent_on frame active.level (lanes_of w active.lanes) (λ k. next) regions
 
-      is_sent : Sets history left w sent_regions (0 + w) old sent_words
-      is_sent =
-          set_more history left w regions 0 old old sent_words (none_set history left w old laid) (OfLevel frame active.level NumbersOf) (OfLevel frame active.level NumbersOf) refl
-          (merged (lanes_of w active.lanes) (replicate w next) (regions (OfLevel frame active.level NumbersOf))) (sent (lanes_of w active.lanes) (λ k. next) (regions (OfLevel frame active.level NumbersOf)))
-          (sent_to w (lanes_of w active.lanes) next (regions (OfLevel frame active.level NumbersOf)) (length-lanes_of_word w active.lanes.word)) w sends
-
       abbrev ended_regions : Regions
       ended_regions = with_region (OfLevel frame (suc active.level) EndOf) (rounds ∷ []) sent_regions
 
-      is_ended : Sets history left w ended_regions (0 + w + 1) old ended
+      is_ended : Sets history left w ended_regions (w + 1) old ended
       is_ended =
-          set_more history left w sent_regions (0 + w) old sent_words ended is_sent (OfLevel frame up EndOf) (OfLevel frame (suc active.level) EndOf) (ap (λ l. OfLevel frame l EndOf) up_is)
+          set_more history left w sent_regions w old sent_words ended sends (OfLevel frame up EndOf) (OfLevel frame (suc active.level) EndOf) (ap (λ l. OfLevel frame l EndOf) up_is)
           (slice_set (regions_in history w sent_words (OfLevel frame up EndOf)) 0 rounds) (rounds ∷ [])
-          (only_word (regions_in history w sent_words (OfLevel frame up EndOf)) rounds (inner_long sent_words is_sent.layout is_sent.laid EndOf)) 1 ends
+          (only_word (regions_in history w sent_words (OfLevel frame up EndOf)) rounds (inner_long sent_words sends.layout sends.laid EndOf)) 1 ends
 
       abbrev numbered_regions : Regions
       numbered_regions = with_region (OfLevel frame (suc active.level) NumbersOf) (replicate w rounds) ended_regions
 
-      is_numbered : Sets history left w numbered_regions (0 + w + 1 + length (replicate w rounds)) old numbered
+      is_numbered : Sets history left w numbered_regions (w + 1 + length (replicate w rounds)) old numbered
       is_numbered =
-          set_more history left w ended_regions (0 + w + 1) old ended numbered is_ended (OfLevel frame up NumbersOf) (OfLevel frame (suc active.level) NumbersOf) (ap (λ l. OfLevel frame l NumbersOf) up_is)
+          set_more history left w ended_regions (w + 1) old ended numbered is_ended (OfLevel frame up NumbersOf) (OfLevel frame (suc active.level) NumbersOf) (ap (λ l. OfLevel frame l NumbersOf) up_is)
           (covered (replicate w rounds) (regions_in history w ended (OfLevel frame up NumbersOf))) (replicate w rounds)
           (all_covered (replicate w rounds) (regions_in history w ended (OfLevel frame up NumbersOf))
           (length-replicate w rounds ∙ sym (inner_long ended is_ended.layout is_ended.laid NumbersOf))) (length (replicate w rounds)) numbers
@@ -112,9 +100,9 @@ module _ {T : Type 0} (history : T → History) (left : T → ℕ) (w : ℕ) (ac
       abbrev counting_regions : Regions
       counting_regions = with_region (OfLevel frame (suc active.level) CountersOf) first.counters numbered_regions
 
-      is_counting : Sets history left w counting_regions (0 + w + 1 + length (replicate w rounds) + length first.counters) old counting
+      is_counting : Sets history left w counting_regions (w + 1 + length (replicate w rounds) + length first.counters) old counting
       is_counting =
-          set_more history left w numbered_regions (0 + w + 1 + length (replicate w rounds)) old numbered counting is_numbered (OfLevel frame up CountersOf) (OfLevel frame (suc active.level) CountersOf)
+          set_more history left w numbered_regions (w + 1 + length (replicate w rounds)) old numbered counting is_numbered (OfLevel frame up CountersOf) (OfLevel frame (suc active.level) CountersOf)
           (ap (λ l. OfLevel frame l CountersOf) up_is)
           (covered first.counters (regions_in history w numbered (OfLevel frame up CountersOf))) first.counters
           (all_covered first.counters (regions_in history w numbered (OfLevel frame up CountersOf)) (counted ∙ sym (inner_long numbered is_numbered.layout is_numbered.laid CountersOf)))
@@ -123,22 +111,22 @@ module _ {T : Type 0} (history : T → History) (left : T → ℕ) (w : ℕ) (ac
       abbrev valued_regions : Regions
       valued_regions = with_region (OfLevel frame (suc active.level) ValuesOf) first.values counting_regions
 
-      is_valued : Sets history left w valued_regions (0 + w + 1 + length (replicate w rounds) + length first.counters + length first.values) old valued_words
+      is_valued : Sets history left w valued_regions (w + 1 + length (replicate w rounds) + length first.counters + length first.values) old valued_words
       is_valued =
-          set_more history left w counting_regions (0 + w + 1 + length (replicate w rounds) + length first.counters) old counting valued_words is_counting
+          set_more history left w counting_regions (w + 1 + length (replicate w rounds) + length first.counters) old counting valued_words is_counting
           (OfLevel frame up ValuesOf) (OfLevel frame (suc active.level) ValuesOf) (ap (λ l. OfLevel frame l ValuesOf) up_is)
           (covered first.values (regions_in history w counting (OfLevel frame up ValuesOf))) first.values
           (all_covered first.values (regions_in history w counting (OfLevel frame up ValuesOf)) (valued ∙ sym (inner_long counting is_counting.layout is_counting.laid ValuesOf)))
           (length first.values) values
 
-      is_open : Sets history left w (opened_in w active rounds next first regions) (0 + w + 1 + length (replicate w rounds) + length first.counters + length first.values + 1) old new
+      is_open : Sets history left w (opened_in w active rounds next first regions) (w + 1 + length (replicate w rounds) + length first.counters + length first.values + 1) old new
       is_open =
-          set_more history left w valued_regions (0 + w + 1 + length (replicate w rounds) + length first.counters + length first.values) old valued_words new is_valued
+          set_more history left w valued_regions (w + 1 + length (replicate w rounds) + length first.counters + length first.values) old valued_words new is_valued
           (OfHead frame OpenOf) (OfHead frame OpenOf) refl
           (slice_set (regions_in history w valued_words (OfHead frame OpenOf)) 0 up) (suc active.level ∷ [])
           (only_word (regions_in history w valued_words (OfHead frame OpenOf)) up (open_long history left w valued_words is_valued.laid frame active.level there) ∙ ap (λ l. l ∷ []) up_is) 1 opens
 
       pub opened : Sets history left w (opened_in w active rounds next first (regions_in history w old)) (3 * w + 11) old new
       opened =
-          let so_many : 0 + w + 1 + length (replicate w rounds) + length first.counters + length first.values + 1 ≡ 3 * w + 11 = omega (arith, length-replicate w rounds, counted, valued) in
+          let so_many : w + 1 + length (replicate w rounds) + length first.counters + length first.values + 1 ≡ 3 * w + 11 = omega (arith, length-replicate w rounds, counted, valued) in
           subst (λ n. Sets history left w (opened_in w active rounds next first regions) n old new) so_many is_open

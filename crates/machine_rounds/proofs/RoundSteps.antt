@@ -1,19 +1,17 @@
 -- The next round of a form: what is read of it, what may be written, and how the step ends.
-use Rattle.std.proofs.Common.{ℕ, zero, suc, ◌+◌, ◌*◌, ◌<◌, ◌≤◌, false, cond, ◌≡◌, refl, sym, ◌∙◌, ap, ap₂, subst, arith, List, [], ◌∷◌, length, map, Some, None}
+use Rattle.std.proofs.Common.{ℕ, zero, suc, ◌+◌, ◌*◌, ◌≤◌, false, cond, ◌≡◌, refl, sym, ◌∙◌, ap, ap₂, subst, arith, List, [], ◌∷◌, length, map, Some, None}
 use Rattle.std.specs.Prelude.{All, Ok}
 use Rattle.std.proofs.lemmas.List.{length-map}
 use Rattle.gang_types.specs.Lanes.{Lanes, no_lane}
 use Rattle.gang_types.specs.Masks.{IsGangWidth, lanes_of}
-use Rattle.gang_types.specs.MaskLaws.{gang_width-le}
 use Rattle.gang_model.specs.Types.Tree.{StepNumber, Var as ModelVar, RoundsOf, Rows, Tiles, EachLane, EachValue, Function}
-use Rattle.gang_model.specs.Running.Lanes.{at, merged}
 use Rattle.gang_model.proofs.StandingLaws.{Each}
 use Rattle.undo_log.specs.History.{History}
 use Rattle.undo_log.specs.declared.timeline.Undone.TheVariants as undone
 use Rattle.typed_tree.specs.declared.expressions.Var.{Var}
 use Rattle.typed_tree.specs.Views.{var_view}
 use Rattle.mask_states.specs.Points.{Point, Turn, points_in}
-use Rattle.mask_states.specs.Masked.{Masked, sent}
+use Rattle.mask_states.specs.Masked.{Masked}
 use Rattle.foreach_lowering.specs.declared.rounds.Round.{Round}
 use Rattle.foreach_lowering.specs.declared.rounds.RoundsLeft.{RoundsLeft}
 use Rattle.foreach_lowering.specs.Law.{HasDimensions}
@@ -21,29 +19,30 @@ use Rattle.foreach_lowering.specs.RoundViews.{IsNextRound}
 use Rattle.foreach_lowering.proofs.HeadForms.{have_forms}
 use Rattle.machine_states.specs.Effects.{all_declared_in, declared_in, declared_region, region_of, round_in, sent_on}
 use Rattle.machine_states.specs.Levels.{IsForm}
-use Rattle.machine_states.specs.Plain.{FormPlain}
-use Rattle.machine_states.specs.Regions.{CountersOf, NumbersOf, OfLevel, Region, Regions, same_region, with_region}
+use Rattle.machine_states.specs.WellScoped.{FormWellScoped}
+use Rattle.machine_states.specs.Regions.{CountersOf, OfLevel, Region, Regions, same_region, with_region}
 use Rattle.machine_states.specs.Rounds.{counters_behind, indices_of, round_indices}
 use Rattle.machine_states.specs.Shows.{level_words}
 use Rattle.machine_states.specs.Steps.{GoesTo}
 use Rattle.machine_states.proofs.AllDeclared.{own_long}
 use Rattle.machine_states.proofs.DeclaredLists.{same_some}
-use Rattle.machine_states.proofs.NextRounds.{IsOwnOne, form_plain, indices_own, level_of_form, next_round_goes, one_is_left, plain_dimensions, round_lane}
+use Rattle.machine_states.proofs.NextRounds.{IsOwnOne, form_well_scoped, indices_own, level_of_form, next_round_goes, one_is_left, well_scoped_dimensions, round_lane}
 use Rattle.codegen.specs.Codes.{Does, IndexesOf}
 use Rattle.codegen.specs.declared.code.IndexCode.{IndexCode}
 use Rattle.codegen.specs.declared.code.IndexCode.TheVariants as index
 use Rattle.codegen.specs.declared.code.StepCode.TheVariants as code
 use Rattle.machine_words.specs.declared.words.MachineWords.{MachineWords}
 use Rattle.machine_words.specs.Words.{AreLaid, Writes, left_of, regions_in}
-use Rattle.machine_moves.specs.declared.active.Active.{Active}
-use Rattle.machine_moves.specs.declared.compiled.CompiledProgram.{CompiledProgram}
-use Rattle.machine_moves.specs.Compiled.{IsRounds, program_of, variables_of}
-use Rattle.machine_moves.specs.Rounds.{AreRoundsOf, KeepsRounds}
-use Rattle.machine_moves.specs.Standing.{AreSound, Begins, DoesNext, EndsAs, IsActive, IsShown, event_room}
-use Rattle.machine_moves.proofs.FrameLevels.{keeps_here}
-use Rattle.machine_moves.proofs.GangLanes.{gang_some}
-use Rattle.machine_moves.proofs.SentSteps.{MaySend, sent_is, wrote_so}
-use Rattle.machine_moves.proofs.Standings.{IsUnderWay, active_numbers, begun, ends_well, frame_below, lanes_long, may_write, sized, step_within, wrote}
+use Rattle.frame_steps.specs.declared.active.Active.{Active}
+use Rattle.frame_steps.specs.declared.compiled.CompiledProgram.{CompiledProgram}
+use Rattle.frame_steps.specs.Compiled.{IsRounds, program_of, variables_of}
+use Rattle.frame_steps.specs.Rounds.{AreRoundsOf, KeepsRounds}
+use Rattle.frame_steps.specs.Standing.{AreSound, Begins, DoesNext, EndsAs, IsActive, IsShown, event_room}
+use Rattle.frame_steps.proofs.FrameLevels.{keeps_here}
+use Rattle.frame_steps.proofs.GangLanes.{gang_some}
+use Rattle.frame_steps.specs.Written.{MaySend}
+use Rattle.frame_steps.proofs.SentSteps.{Sends, sent_same}
+use Rattle.frame_steps.proofs.Standings.{IsUnderWay, active_numbers, begun, ends_well, frame_below, may_write, set_more, sized, step_within, wrote}
 use Rattle.machine_rounds.specs.Taking.{DeclaresAll, IsRoundAt, IsRoundNext, index_views}
 
 -- ---- code
@@ -117,12 +116,12 @@ module _ {T : Type 0} (history : T → History) (width : ℕ) (compiled : Compil
     -- which has begun in the level of the step
     pub form_at : IsForm (points_in (turn.0)) width (level_words (regions_in history width old) active.frame active.level) form
     form_at =
-        level_of_form (variables_of compiled) sound.lie.compiled_is.runnable.most (program_of compiled) sound.lie.compiled_is.runnable.plain sound.lie.compiled_is.runnable.lowerable.numbered
+        level_of_form (variables_of compiled) sound.lie.compiled_is.runnable.most (program_of compiled) sound.lie.compiled_is.runnable.well_scoped sound.lie.compiled_is.runnable.lowerable.numbered
         width regions sound.masked sound.shown.shows sound.shown.declared active.frame active.function f active.step body form are.is_form active.level turn.1.next
 
-    pub plain_at : FormPlain (variables_of compiled) active.function form
-    plain_at =
-        form_plain (variables_of compiled) sound.lie.compiled_is.runnable.most (program_of compiled) sound.lie.compiled_is.runnable.plain sound.lie.compiled_is.runnable.lowerable.numbered
+    pub well_scoped_at : FormWellScoped (variables_of compiled) active.function form
+    well_scoped_at =
+        form_well_scoped (variables_of compiled) sound.lie.compiled_is.runnable.most (program_of compiled) sound.lie.compiled_is.runnable.well_scoped sound.lie.compiled_is.runnable.lowerable.numbered
         width regions sound.masked sound.shown.shows sound.shown.declared active.frame active.function f active.step body form are.is_form active.level turn.1.next
 
     pub keeps_at : (code : IndexCode) → IndexesOf code form → KeepsRounds width (regions_in history width old) active.frame active.level code form
@@ -133,7 +132,7 @@ module _ {T : Type 0} (history : T → History) (width : ℕ) (compiled : Compil
   pub one_at : (form : RoundsOf) → IsRounds compiled active.function active.step (turn.0) form → (left : RoundsLeft width) → AreRoundsOf width (regions_in history width old) active.frame active.level form left
       → IsNextRound width left None → ⊥
   one_at form are left kept none =
-      one_is_left (variables_of compiled) sound.lie.compiled_is.runnable.most (program_of compiled) sound.lie.compiled_is.runnable.plain sound.lie.compiled_is.runnable.lowerable.numbered
+      one_is_left (variables_of compiled) sound.lie.compiled_is.runnable.most (program_of compiled) sound.lie.compiled_is.runnable.well_scoped sound.lie.compiled_is.runnable.lowerable.numbered
       width regions sound.masked sound.shown.shows sound.shown.declared active.frame active.function f active.step body form are.is_form
       (gang_some width sound.lie.gang) left kept.of_form kept.are_left active.level turn.1.next kept.kept none
 
@@ -153,12 +152,9 @@ module _ {T : Type 0} (history : T → History) (width : ℕ) (compiled : Compil
 
     pub lane_here : no_lane (lanes_of width round.lanes) ≡ false
     lane_here =
-        round_lane (variables_of compiled) sound.lie.compiled_is.runnable.most (program_of compiled) sound.lie.compiled_is.runnable.plain sound.lie.compiled_is.runnable.lowerable.numbered
+        round_lane (variables_of compiled) sound.lie.compiled_is.runnable.most (program_of compiled) sound.lie.compiled_is.runnable.well_scoped sound.lie.compiled_is.runnable.lowerable.numbered
         width regions sound.masked sound.shown.shows sound.shown.declared active.frame active.function f active.step body form are_here.is_form
         (gang_some width sound.lie.gang) round_is.left round_is.are_left.of_form round_is.are_left.are_left round round_is.is_next
-
-    abbrev numbers_of : Region
-    numbers_of = OfLevel active.frame active.level NumbersOf
 
     abbrev counters_of : Region
     counters_of = OfLevel active.frame active.level CountersOf
@@ -169,7 +165,7 @@ module _ {T : Type 0} (history : T → History) (width : ℕ) (compiled : Compil
     goes : (masked : Masked) → IsShown history width compiled old masked → GoesTo (program_of compiled) (variables_of compiled) width masked
         (round_in active.frame active.level lanes body (counters_behind width round.left (regions counters_of)) (round_indices width (indices_of form) round.indices) regions)
     goes masked shown =
-        next_round_goes (variables_of compiled) sound.lie.compiled_is.runnable.most (program_of compiled) sound.lie.compiled_is.runnable.plain sound.lie.compiled_is.runnable.lowerable.numbered
+        next_round_goes (variables_of compiled) sound.lie.compiled_is.runnable.most (program_of compiled) sound.lie.compiled_is.runnable.well_scoped sound.lie.compiled_is.runnable.lowerable.numbered
         width regions masked shown.shows shown.declared active.frame active.function f active.step body form are_here.is_form
         (gang_some width sound.lie.gang) round_is.left round_is.are_left.of_form round_is.are_left.are_left round round_is.is_next active.level turn.1.next round_is.are_left.kept
         (sized history width compiled old old sound.lie refl sound.lie.laid)
@@ -198,30 +194,22 @@ module _ {T : Type 0} (history : T → History) (width : ℕ) (compiled : Compil
 
         -- its lanes may be sent on
         pub may_send_round : MaySend history left width active.frame active.level round.lanes counted
-        may_send_round =
-            let small = gang_width-le width sound.lie.gang in (
-              omega (arith, small),
-              (
-                sound.lie.gang,
-                (
-                  is_counted.laid,
-                  (
-                    active_numbers history width compiled old sound active f (Some (Turn body)) turn.1 counted is_counted.layout is_counted.laid,
-                    (lane_here, may_write history left width undone.Step counting (0 + 3) old counted is_counted width (omega (arith, room))),
-                  ),
-                ),
-              ),
-            )
+        may_send_round = record {
+          gang = sound.lie.gang;
+          laid = is_counted.laid;
+          numbered = active_numbers history width compiled old sound active f (Some (Turn body)) turn.1 counted is_counted.layout is_counted.laid;
+          some = lane_here;
+          room = may_write history left width undone.Step counting (0 + 3) old counted is_counted width (omega (arith, room));
+        }
 
-        module _ (gone : MachineWords T) (numbers : List ℕ) (long : length numbers ≡ width) (each_number : (k : ℕ) → k < width → at numbers k ≡ body)
-            (sent_made : Writes history left width (OfLevel active.frame active.level NumbersOf) (merged (lanes_of width round.lanes) numbers (regions_in history width counted (OfLevel active.frame active.level NumbersOf))) width counted gone) where
+        module _ (gone : MachineWords T) (sends : Sends history left width active.frame active.level round.lanes (λ k. body) counted gone) where
           abbrev sending : Regions
           sending = sent_on active.frame active.level lanes (λ k. body) counting
 
           is_gone : IsUnderWay history left width undone.Step sending (0 + 3 + width) old gone
           is_gone =
-              wrote_so history left width counting (0 + 3) old counted gone is_counted numbers_of numbers_of refl (merged lanes numbers) (sent lanes (λ k. body))
-              (λ ws. sent_is width lanes numbers (λ k. body) ws (lanes_long width round.lanes) long each_number) width sent_made
+              set_more history left width undone.Step counting (0 + 3) old counted is_counted gone (sent_on active.frame active.level lanes (λ k. body) (regions_in history width counted)) sending
+              (sent_same active.frame active.level lanes (λ k. body) (regions_in history width counted) counting is_counted.regions_are) width sends
 
           module _ (code : IndexCode) (indexes : (g : Function) (of : RoundsOf) → IsRounds compiled active.function active.step g of → IndexesOf code of) (variables : List Var) (views : map var_view variables ≡ index_views code) where
             views_are : map var_view variables ≡ indices_of form
@@ -229,7 +217,7 @@ module _ {T : Type 0} (history : T → History) (width : ℕ) (compiled : Compil
 
             few : length variables ≤ 3
             few =
-                let dimensions = plain_dimensions (variables_of compiled) active.function form (plain_at form are_here) in
+                let dimensions = well_scoped_dimensions (variables_of compiled) active.function form (well_scoped_at form are_here) in
                 omega (arith, sym (length-map variables var_view) ∙ ap length views_are, few_indices form dimensions)
 
             place_long : (x : ModelVar) → IsOwnOne (variables_of compiled) active.function x → length (regions_in history width gone (region_of active.frame x.id)) ≡ width
@@ -242,7 +230,7 @@ module _ {T : Type 0} (history : T → History) (width : ℕ) (compiled : Compil
                 all_views (λ x. length (regions_in history width gone (region_of active.frame x.id)) ≡ width) variables
                 (subst (Each (λ x. length (regions_in history width gone (region_of active.frame x.id)) ≡ width)) (sym views_are)
                 (each_long (IsOwnOne (variables_of compiled) active.function) (λ x. length (regions_in history width gone (region_of active.frame x.id)) ≡ width) place_long (indices_of form)
-                (indices_own (variables_of compiled) active.function form (plain_at form are_here))))
+                (indices_own (variables_of compiled) active.function form (well_scoped_at form are_here))))
 
             -- its index variables may be declared
             pub may_declare_all : IsGangWidth width × (AreLaid history width gone × ((length variables ≤ 3) × (All (λ x. length (regions_in history width gone (region_of active.frame x.id)) ≡ width) variables

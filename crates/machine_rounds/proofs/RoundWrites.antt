@@ -18,8 +18,8 @@ use Rattle.machine_states.proofs.ChangedRegions.{lengths_all, region_here}
 use Rattle.machine_words.specs.declared.words.MachineWords.{MachineWords}
 use Rattle.machine_words.specs.Ranges.{regions_of}
 use Rattle.machine_words.specs.Words.{AreLaid, Writes, left_of, regions_in, words_of}
-use Rattle.machine_moves.proofs.GangLanes.{each_width, rounds_bytes, words_few}
-use Rattle.machine_moves.proofs.SentSteps.{MayPut}
+use Rattle.frame_steps.proofs.GangLanes.{each_width, rounds_bytes, words_few}
+use Rattle.frame_steps.proofs.SentSteps.{MayPut}
 use Rattle.machine_rounds.specs.Taking.{DeclaresAll}
 
 module _ {T : Type 0} (history : T → History) (left : T → ℕ) (width : ℕ) (region : Region) where

@@ -1,30 +1,26 @@
 -- What a foreach form keeps when it begins, as the code computes it, and what is written then.
-use Rattle.std.specs.Prelude.{◌≡◌, ℕ, ◌+◌, ◌≤◌, List, [], ◌∷◌, replicate, slice_get, Option, Some, None, Result, Ok, Err}
+use Rattle.std.specs.Prelude.{◌≡◌, ℕ, List, [], ◌∷◌, replicate, slice_get, Option, Some, None, Result, Ok, Err}
 use Rattle.gang_types.specs.Lanes.{Lanes, lowest}
 use Rattle.gang_types.specs.Masks.{lanes_of}
 use Rattle.gang_model.specs.Types.Tree.{StepNumber, Dimension, RoundsOf, Function}
 use Rattle.gang_model.specs.Running.Lanes.{Fault as ModelFault, ◌>>=◌, at}
 use Rattle.gang_model.specs.Running.State.{State}
 use Rattle.gang_model.specs.Running.Value.{value}
-use Rattle.undo_log.specs.History.{History}
-use Rattle.debug_machine.specs.declared.machine.Fault.{Fault}
-use Rattle.debug_machine.specs.Machines.{fault_view}
-use Rattle.gang_memory.specs.Recorded.{without_words}
+use Rattle.debug_traits.specs.declared.machine.Fault.{Fault}
+use Rattle.debug_traits.specs.Machines.{fault_view}
 use Rattle.mask_states.specs.Points.{Begin}
 use Rattle.foreach_lowering.specs.declared.bounds.Order.{Order}
 use Rattle.foreach_lowering.specs.DomainViews.{grid_by}
 use Rattle.foreach_lowering.specs.Kept.{Kept, kept_of}
 use Rattle.machine_states.specs.Levels.{bounds_in, kept_domain, kept_in}
 use Rattle.machine_states.specs.Effects.{begun_in, sent_on}
-use Rattle.machine_states.specs.Regions.{Region, Regions}
+use Rattle.machine_states.specs.Regions.{Regions}
 use Rattle.codegen.specs.Codes.{DoesForm, Fit}
 use Rattle.codegen.specs.declared.code.DimensionCode.{DimensionCode}
 use Rattle.codegen.specs.declared.code.FormCode.{FormCode}
-use Rattle.machine_words.specs.declared.words.MachineWords.{MachineWords}
-use Rattle.machine_words.specs.Words.{AreLaid, left_of, regions_in}
-use Rattle.machine_moves.specs.declared.active.Active.{Active}
-use Rattle.machine_moves.specs.declared.compiled.CompiledProgram.{CompiledProgram}
-use Rattle.machine_moves.specs.Standing.{IsActive, IsValueAt}
+use Rattle.frame_steps.specs.declared.active.Active.{Active}
+use Rattle.frame_steps.specs.declared.compiled.CompiledProgram.{CompiledProgram}
+use Rattle.frame_steps.specs.Standing.{IsActive, IsValueAt}
 use Rattle.machine_rounds.specs.declared.beginning.FirstWords.{FirstWords}
 
 -- ---- what is computed
@@ -72,15 +68,6 @@ IsFirst width form (Ok first) meant = meant ≡ Ok (kept_in width form (record {
 IsFirst width form (Err fault) meant = meant ≡ Err (fault_view fault)
 
 -- ---- what is written
-
--- The regions are these now, and at most so many words were set. The words still lie as the layout says, and what is kept of earlier words
--- is the same.
-pub record Sets {T : Type 0} (history : T → History) (left : T → ℕ) (width : ℕ) (regions : Regions) (writes : ℕ) (old new : MachineWords T) : Type 0 where
-  pub regions_are : (r : Region) → regions_in history width new r ≡ regions r
-  pub layout : new.layout ≡ old.layout
-  pub laid : AreLaid history width new
-  pub rest : without_words (history new.store.timeline) ≡ without_words (history old.store.timeline)
-  pub few : left_of history left old ≤ left_of history left new + writes
 
 -- a form begins in the level above that of the next step, whose lanes go on behind it
 abbrev pub opened_in : (width : ℕ) → Active → (rounds next : ℕ) → FirstWords width → Regions → Regions

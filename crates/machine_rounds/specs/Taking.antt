@@ -15,11 +15,11 @@ use Rattle.codegen.specs.declared.code.IndexCode.{IndexCode}
 use Rattle.codegen.specs.declared.code.IndexCode.TheVariants as code
 use Rattle.machine_words.specs.declared.words.MachineWords.{MachineWords}
 use Rattle.machine_words.specs.Words.{AreLaid, left_of, regions_in}
-use Rattle.machine_moves.specs.declared.active.Active.{Active}
-use Rattle.machine_moves.specs.declared.compiled.CompiledProgram.{CompiledProgram}
-use Rattle.machine_moves.specs.Compiled.{IsRounds}
-use Rattle.machine_moves.specs.Rounds.{AreRoundsOf}
-use Rattle.machine_moves.specs.Standing.{IsActive}
+use Rattle.frame_steps.specs.declared.active.Active.{Active}
+use Rattle.frame_steps.specs.declared.compiled.CompiledProgram.{CompiledProgram}
+use Rattle.frame_steps.specs.Compiled.{IsRounds}
+use Rattle.frame_steps.specs.Rounds.{AreRoundsOf}
+use Rattle.frame_steps.specs.Standing.{IsActive}
 
 -- the index variables of a form, in the order of its dimensions
 abbrev pub index_views : IndexCode → List Var

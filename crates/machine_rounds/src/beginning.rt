@@ -8,15 +8,16 @@ ghost use Rattle.foreach_lowering.specs.Law.{first_kept};
 ghost use Rattle.codegen.specs.declared.code.StepCode.TheVariants as code;
 ghost use Rattle.machine_words.specs.Ranges.{levels_of};
 ghost use Rattle.machine_words.specs.Words.{AreLaid, left_of, regions_in};
-ghost use Rattle.machine_moves.specs.Standing.{AreSound, DoesNext, Ends, IsAnswer, IsShown};
-ghost use Rattle.machine_rounds.specs.Beginning.{AreDimensionsAt, BeginsForm, IsFirst, KeepsDomain, Sets, bounds_at, bounds_words, opened_in};
+ghost use Rattle.frame_steps.specs.Standing.{AreSound, DoesNext, Ends, IsAnswer, IsShown};
+ghost use Rattle.frame_steps.specs.Written.{Sets};
+ghost use Rattle.machine_rounds.specs.Beginning.{AreDimensionsAt, BeginsForm, IsFirst, KeepsDomain, bounds_at, bounds_words, opened_in};
 
 use codegen::{DimensionCode, FormCode};
-use debug_machine::Fault;
-use expression_machine::Stacks;
+use debug_traits::Fault;
+use expression_runs::Stacks;
 use foreach_lowering::{Domain, Order};
+use frame_steps::{Active, CompiledProgram, begin, bounds_of, send_on, value_of};
 use gang_types::Mask;
-use machine_moves::{Active, CompiledProgram, begin, bounds_of, value_of};
 use machine_words::{Head, LevelPart, MachineWords, Region};
 use undo_log::{Timeline, Undone};
 
@@ -185,11 +186,7 @@ fn open_level<const W: usize, T: Timeline + Drop>(
 {
     let frame = active.frame;
     let level = active.level + 1;
-    words.set_lanes::<W>(
-        Region::Head(frame, Head::Level(active.level, LevelPart::Numbers)),
-        active.lanes,
-        [next as u64; W],
-    );
+    send_on::<W, T>(frame, active.level, active.lanes, next, words);
     words.set::<W>(
         Region::Head(frame, Head::Level(level, LevelPart::End)),
         0,

@@ -13,14 +13,14 @@ ghost use Rattle.machine_words.specs.Views.{region_view};
 ghost use Rattle.machine_states.specs.Regions.{CountersOf, OfLevel};
 ghost use Rattle.machine_states.specs.Rounds.{counters_behind, lane_words, round_indices};
 ghost use Rattle.machine_words.specs.Words.{AreLaid, Writes, left_of, regions_in};
-ghost use Rattle.machine_moves.specs.Standing.{AreSound, DoesNext, Ends};
+ghost use Rattle.frame_steps.specs.Standing.{AreSound, DoesNext, Ends};
 ghost use Rattle.machine_rounds.specs.Taking.{DeclaresAll, IsRoundAt, IsRoundNext, index_views};
 
 use codegen::IndexCode;
-use debug_machine::Fault;
+use debug_traits::Fault;
 use foreach_lowering::{Indices, Round, RoundsLeft};
+use frame_steps::{Active, CompiledProgram, begin, kept_rounds, region_of, send_on};
 use gang_types::{Mask, Rate};
-use machine_moves::{Active, CompiledProgram, begin, kept_rounds, region_of};
 use machine_words::{Head, LevelPart, MachineWords, Region};
 use std::slice;
 use typed_tree::Var;
@@ -45,11 +45,7 @@ pub fn take_round<const W: usize, T: Timeline + Drop>(
     let round = next_round::<W, T>(compiled, active, words);
     begin::<W, T>(words, Undone::Step);
     count_left(active, round.left, words);
-    words.set_lanes::<W>(
-        Region::Head(active.frame, Head::Level(active.level, LevelPart::Numbers)),
-        round.lanes,
-        [body as u64; W],
-    );
+    send_on::<W, T>(active.frame, active.level, round.lanes, body, words);
     let form = compiled.round_form(active.function, active.step);
     let variables = index_variables(form);
     declare_all(active.frame, variables, round.lanes, &round.indices, words);

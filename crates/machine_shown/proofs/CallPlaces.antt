@@ -9,8 +9,8 @@ use Rattle.gang_model.specs.Types.Tree.{Standing, Function, Program}
 use Rattle.gang_model.specs.Running.State.{Frame}
 use Rattle.gang_model.specs.Debugger.Positions.{standing_in}
 use Rattle.gang_model.specs.Texts.Text.{Bytes, bits, call_line, line, line_and_column, standing_text}
-use Rattle.debug_machine.specs.declared.machine.Position.{Position}
-use Rattle.debug_machine.specs.Machines.{call_text, position_line}
+use Rattle.debug_traits.specs.declared.machine.Position.{Position}
+use Rattle.debug_traits.specs.Machines.{call_text, position_line}
 use Rattle.mask_states.specs.Points.{closing_number, points_in}
 use Rattle.mask_states.specs.Masked.{Masked}
 use Rattle.machine_states.specs.Variables.{Variables}
@@ -20,9 +20,9 @@ use Rattle.machine_states.specs.Shows.{Shows, level_words}
 use Rattle.machine_states.specs.Steps.{IsInnermost, least_in}
 use Rattle.machine_states.proofs.NextPoints.{same_function, same_word}
 use Rattle.machine_states.proofs.Calls.{made_at, none_made, none_made_at_0, calls}
-use Rattle.machine_moves.specs.Rounds.{IsRunning}
-use Rattle.machine_moves.proofs.FrameLevels.{least_within}
-use Rattle.machine_moves.proofs.ShownFrames.{frame_shown}
+use Rattle.frame_steps.specs.Rounds.{IsRunning}
+use Rattle.frame_steps.proofs.FrameLevels.{least_within}
+use Rattle.frame_steps.proofs.ShownFrames.{frame_shown}
 use Rattle.machine_shown.specs.Seen.{IsStandingOf}
 
 -- ---- a position as a line

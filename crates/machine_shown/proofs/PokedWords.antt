@@ -1,7 +1,7 @@
 -- What a poke leaves: it is recorded, and the words show a masked state; a variable that is seen is shown as it was set.
 use Rattle.std.proofs.Common.{◌≡◌, refl, sym, ap, ◌∙◌, subst, ℕ, zero, suc, ◌+◌, ◌<◌, ◌≤◌, Bool, true, false, List, [], ◌∷◌, length, map, Option, Some, None, arith}
 use Rattle.std.specs.Prelude.{replicate, take, if◌then◌else◌}
-use Rattle.std.proofs.lemmas.List.{length-map, length-replicate, length-set, length-take-le}
+use Rattle.std.proofs.lemmas.List.{length-replicate, length-set, length-take-le}
 use Rattle.gang_types.specs.declared.types.Rate.{Rate}
 use Rattle.gang_types.specs.declared.types.Rate.TheVariants.{Uniform, Varying}
 use Rattle.gang_types.specs.declared.places.VarId.{VarId}
@@ -23,16 +23,17 @@ use Rattle.machine_states.specs.Steps.{poked_region}
 use Rattle.machine_states.specs.Variables.{Variables, is_array_of, rate_of}
 use Rattle.machine_states.proofs.AlwaysDeclared.{poked_declared}
 use Rattle.machine_states.proofs.LeaveSteps.{shows_alike}
+use Rattle.machine_states.proofs.Pokes.{poked_long}
 use Rattle.machine_states.proofs.StoredElements.{array_shows}
 use Rattle.machine_states.proofs.WrittenVariables.{StandsIn, written_shows}
 use Rattle.machine_words.specs.declared.words.MachineWords.{MachineWords}
 use Rattle.machine_words.specs.Words.{AreLaid, Writes, left_of, regions_in}
 use Rattle.machine_words.proofs.AllLanes.{merged_all}
-use Rattle.machine_moves.specs.declared.compiled.CompiledProgram.{CompiledProgram}
-use Rattle.machine_moves.specs.Compiled.{program_of, variables_of}
-use Rattle.machine_moves.specs.Standing.{AreSound, Begins, HaveLanes, IsShown, Records}
-use Rattle.machine_moves.proofs.CalledFrames.{words_called}
-use Rattle.machine_moves.proofs.Standings.{IsUnderWay, begun, begun_laid, begun_regions, leaving_within, lie_behind, may_write, recorded_so_far, sized, wrote}
+use Rattle.frame_steps.specs.declared.compiled.CompiledProgram.{CompiledProgram}
+use Rattle.frame_steps.specs.Compiled.{program_of, variables_of}
+use Rattle.frame_steps.specs.Standing.{AreSound, Begins, HaveLanes, IsShown, Records}
+use Rattle.frame_steps.proofs.CalledFrames.{words_called}
+use Rattle.frame_steps.proofs.Standings.{IsUnderWay, begun, begun_laid, begun_regions, leaving_within, lie_behind, may_write, recorded_so_far, sized, wrote}
 use Rattle.machine_shown.specs.Seen.{IsPartOf, IsSeen}
 use Rattle.machine_shown.specs.ShownWords.{AreInRegion, HasNoWords, HasWords, IsSetIn, OfElements, OfScalar, WordsShown, has_part, part_set, region_shown}
 use Rattle.machine_shown.proofs.SameWords.{no_words, same_words}
@@ -57,11 +58,6 @@ assigned_poked (suc w) some Varying word region room most =
     ∙ ap (λ n. replicate n word) (sym long) ∙ every_word word region
 
 -- as many words as before
-poked_long : (rate : Rate) (lane : Option ℕ) (word : ℕ) (region : List ℕ) → length (poked_region rate lane word region) ≡ length region
-poked_long Uniform None word region = length-set region 0 word
-poked_long Varying None word region = length-map region (λ x. word)
-poked_long rate (Some lane) word region = length-set region lane word
-
 set_long : (shown : WordsShown) (part : Option ℕ) (word : ℕ) (region : List ℕ) → length (part_set shown part word region) ≡ length region
 set_long (OfScalar at rate) part word region = poked_long rate part word region
 set_long (OfElements view) None word region = refl
@@ -103,7 +99,7 @@ module _ {T : Type 0} (history : T → History) (left : T → ℕ) (width : ℕ)
   -- or a scalar of the top frame
   local_some : (k : ℕ) (words : List ℕ) (shown : WordsShown) (has : HasWords width compiled regions (Local k) shown) → has.variable.is_array ≡ false → length words ≡ length (regions (OfLocal has.active.frame k))
       → words_for width has.variable.rate ≤ length (regions (OfLocal has.active.frame k)) → AreShown (OfLocal has.active.frame k) words
-  local_some k words shown has plain long room =
+  local_some k words shown has well_scoped long room =
       let active = has.active in
       let next = has.active_is.next in
       let n = words_for width has.variable.rate in
@@ -113,7 +109,7 @@ module _ {T : Type 0} (history : T → History) (left : T → ℕ) (width : ℕ)
       } in
       let stands : StandsIn variables width active.function (Local k) (take n words) words (regions (OfLocal active.frame k)) = (
         subst (λ r. IsScalarIn width r (take n words) words) (sym (ap rate_of has.is_variable)) first,
-        ap is_array_of has.is_variable ∙ plain,
+        ap is_array_of has.is_variable ∙ well_scoped,
       ) in (
         record { state = with_words_in masked.state (Local k) (take n words); levels = masked.levels },
         written_shows p variables width active.frame active.function regions masked sound.shown.shows next.depth next.function (Local k) (take n words) words stands,

@@ -9,9 +9,9 @@ use Rattle.mask_states.specs.Masked.{Masked}
 use Rattle.machine_states.specs.Regions.{Regions}
 use Rattle.machine_words.specs.declared.words.MachineWords.{MachineWords}
 use Rattle.machine_words.specs.Words.{regions_in}
-use Rattle.machine_moves.specs.declared.compiled.CompiledProgram.{CompiledProgram}
-use Rattle.machine_moves.specs.Standing.{AreSound, IsShown}
-use Rattle.machine_moves.proofs.Standings.{sized}
+use Rattle.frame_steps.specs.declared.compiled.CompiledProgram.{CompiledProgram}
+use Rattle.frame_steps.specs.Standing.{AreSound, IsShown}
+use Rattle.frame_steps.proofs.Standings.{sized}
 use Rattle.machine_shown.specs.Seen.{IsSeen}
 use Rattle.machine_shown.specs.ShownWords.{HasNoWords, HasWords, IsCountOf, IsWordOf, WordsShown, count_shown, words_shown}
 use Rattle.machine_shown.proofs.SameWords.{no_words, same_words}

@@ -10,10 +10,10 @@ use Rattle.machine_states.specs.Regions.{Depth, FunctionOf, OfHead, Regions}
 use Rattle.machine_states.specs.Variables.{own_of}
 use Rattle.machine_states.proofs.DeclaredLists.{same_some}
 use Rattle.machine_states.proofs.NextPoints.{same_word}
-use Rattle.machine_moves.specs.declared.active.Active.{Active}
-use Rattle.machine_moves.specs.declared.compiled.CompiledProgram.{CompiledProgram}
-use Rattle.machine_moves.specs.Compiled.{variables_of}
-use Rattle.machine_moves.specs.Standing.{IsActive}
+use Rattle.frame_steps.specs.declared.active.Active.{Active}
+use Rattle.frame_steps.specs.declared.compiled.CompiledProgram.{CompiledProgram}
+use Rattle.frame_steps.specs.Compiled.{variables_of}
+use Rattle.frame_steps.specs.Standing.{IsActive}
 use Rattle.machine_shown.specs.ShownWords.{HasNoWords, HasWords, WordsShown, shown_of}
 
 module _ (width : ℕ) (compiled : CompiledProgram) (regions : Regions) where

@@ -18,7 +18,7 @@ use Rattle.codegen.specs.Programs.{IsRunnable}
 use Rattle.machine_states.specs.ArrayParts.{view_at}
 use Rattle.machine_states.specs.Declared.{AreDeclared}
 use Rattle.machine_states.specs.Effects.{region_of}
-use Rattle.machine_states.specs.Plain.{IsPlainName}
+use Rattle.machine_states.specs.WellScoped.{IsWellScopedName}
 use Rattle.machine_states.specs.Regions.{Depth, OfFile, Region, Regions, with_region}
 use Rattle.machine_states.specs.Shows.{AreSized, IsScalarIn, Shows}
 use Rattle.machine_states.specs.Variables.{Variables, own_of}
@@ -29,10 +29,10 @@ use Rattle.machine_states.proofs.Endings.{over_nowhere}
 use Rattle.machine_states.proofs.Pokes.{poked_at, pokes, pokes_element, pokes_file}
 use Rattle.machine_states.proofs.TopFrame.{spot}
 use Rattle.machine_states.proofs.WrittenVariables.{HasVariable, variable_in}
-use Rattle.machine_moves.specs.declared.active.Active.{Active}
-use Rattle.machine_moves.specs.declared.compiled.CompiledProgram.{CompiledProgram}
-use Rattle.machine_moves.specs.Compiled.{program_of, variables_of}
-use Rattle.machine_moves.specs.Standing.{IsActive}
+use Rattle.frame_steps.specs.declared.active.Active.{Active}
+use Rattle.frame_steps.specs.declared.compiled.CompiledProgram.{CompiledProgram}
+use Rattle.frame_steps.specs.Compiled.{program_of, variables_of}
+use Rattle.frame_steps.specs.Standing.{IsActive}
 use Rattle.machine_shown.specs.Seen.{IsInScope, IsPartOf, IsSeen, StandsAt}
 use Rattle.machine_shown.specs.ShownWords.{HasNoWords, HasWords, OfElements, OfScalar, WordsShown, count_shown, has_part, part_set, region_shown, shown_of, words_shown}
 
@@ -54,8 +54,8 @@ part_of width (Some k) region view false Varying count long is = lane_below k co
 
 -- a poke of a scalar, and of an element
 poked_scalar : (v : Variable) (part : Option ℕ) → v.is_array ≡ false → poked_by v part ≡ poked_at v.id part
-poked_scalar v None plain = refl
-poked_scalar v (Some k) plain = ap (λ b. if b then ElementAt v.id k else LaneOf v.id k) plain
+poked_scalar v None well_scoped = refl
+poked_scalar v (Some k) well_scoped = ap (λ b. if b then ElementAt v.id k else LaneOf v.id k) well_scoped
 
 poked_element : (v : Variable) (k : ℕ) → v.is_array ≡ true → poked_by v (Some k) ≡ ElementAt v.id k
 poked_element v k array = ap (λ b. if b then ElementAt v.id k else LaneOf v.id k) array
@@ -85,10 +85,10 @@ module _ (compiled : CompiledProgram) (runnable : IsRunnable compiled.program) w
   named : (function number : ℕ) (f : Function) (standing : Standing) (k : ℕ) (v : Variable) → StandsAt compiled function number f standing → slice_get standing.scope k ≡ Some v
       → IsNamed function v
   named function number f standing k v stands e =
-      let scopes : All (IsPlainName variables function) standing.scope = (runnable.plain.functions function f stands.is_function).scopes number standing stands.stands in
-      let plain : IsPlainName variables function v =
-      subst (IsPlainName variables function) (get_or_from_slice_get standing.scope k v v e) (scopes k v (slice_get_within standing.scope k v e)) in
-      (plain.0, runnable.plain.own function plain.0 v plain.1, plain.1)
+      let scopes : All (IsWellScopedName variables function) standing.scope = (runnable.well_scoped.functions function f stands.is_function).scopes number standing stands.stands in
+      let well_scoped : IsWellScopedName variables function v =
+      subst (IsWellScopedName variables function) (get_or_from_slice_get standing.scope k v v e) (scopes k v (slice_get_within standing.scope k v e)) in
+      (well_scoped.0, runnable.well_scoped.own function well_scoped.0 v well_scoped.1, well_scoped.1)
 
   in_scope : (masked : Masked) (v : Variable) → IsInScope compiled masked v → (function : ℕ) × IsNamed function v
   in_scope masked v (function, number, f, standing, at_spot, stands, k, e) = (function, named function number f standing k v stands e)
@@ -96,11 +96,11 @@ module _ (compiled : CompiledProgram) (runnable : IsRunnable compiled.program) w
   -- a variable that is seen and is one of the file
   seen_file : (masked : Masked) (v : Variable) → IsSeen compiled masked v → (k : ℕ) → v.id ≡ File k → slice_get variables.file k ≡ Some v
   seen_file masked v (inl seen) k e = let found = in_scope masked v seen in absurd (other_kind found.1.0 k (sym found.1.1 ∙ e))
-  seen_file masked v (inr (j, is)) k e = subst (λ i. slice_get variables.file i ≡ Some v) (same_file j k (sym (runnable.plain.file j v is) ∙ e)) is
+  seen_file masked v (inr (j, is)) k e = subst (λ i. slice_get variables.file i ≡ Some v) (same_file j k (sym (runnable.well_scoped.file j v is) ∙ e)) is
 
   seen_local : (masked : Masked) (v : Variable) → IsSeen compiled masked v → (k : ℕ) → v.id ≡ Local k → IsInScope compiled masked v
   seen_local masked v (inl seen) k e = seen
-  seen_local masked v (inr (j, is)) k e = absurd (other_kind k j (sym e ∙ runnable.plain.file j v is))
+  seen_local masked v (inr (j, is)) k e = absurd (other_kind k j (sym e ∙ runnable.well_scoped.file j v is))
 
   module _ (width : ℕ) (regions : Regions) (masked : Masked) (shows : Shows p variables width regions masked) (declared : AreDeclared variables p masked) where
     -- nothing is in scope once the program has ended
@@ -128,7 +128,7 @@ module _ (compiled : CompiledProgram) (runnable : IsRunnable compiled.program) w
           found.0,
           found.1,
           ap (λ m. slice_get (own_of variables m) found.0) (sym same_function) ∙ found.2,
-          λ plain. subst (λ frames. HasVariable frames (Local found.0)) (sym top.are) (own plain found.0 found.1),
+          λ well_scoped. subst (λ frames. HasVariable frames (Local found.0)) (sym top.are) (own well_scoped found.0 found.1),
         )
 
     -- a variable that is seen is found
@@ -156,13 +156,13 @@ module _ (compiled : CompiledProgram) (runnable : IsRunnable compiled.program) w
           frame = 0;
           shown_is = shown_is ∙ ap (λ x. shown_of regions 0 (File k) x) (same_some u v (sym is ∙ file));
           view = λ array. ap (λ ws. record { array = File k; first = 0; len = length ws }) (shows.memory (File k));
-          scalar = λ sized plain.
-              let long = sized.file k v file plain in
+          scalar = λ sized well_scoped.
+              let long = sized.file k v file well_scoped in
               record {
                 long = ap length (shows.memory (File k)) ∙ long;
                 stands = shows.memory (File k) ∙ sym (take_all (words_for width v.rate) (regions (OfFile k)) (omega (arith, long)));
               };
-          pokes = λ sized plain part word. pokes_file p variables width regions masked shows sized part word k v file plain;
+          pokes = λ sized well_scoped part word. pokes_file p variables width regions masked shows sized part word k v file well_scoped;
         }
     seen_in (Local k) v seen e shown has =
         let active = has.active in
@@ -170,13 +170,13 @@ module _ (compiled : CompiledProgram) (runnable : IsRunnable compiled.program) w
         let found = top_named active has.f has.active_is v (seen_local masked v seen k e) in
         let same : found.0 ≡ k = same_local found.0 k (sym found.1 ∙ e) in
         let own : slice_get (own_of variables active.function) k ≡ Some v = ap (slice_get (own_of variables active.function)) (sym same) ∙ found.2 in
-        let there : v.is_array ≡ false → HasVariable masked.state.frames (Local k) = λ plain. subst (λ j. HasVariable masked.state.frames (Local j)) same (found.3 plain) in
+        let there : v.is_array ≡ false → HasVariable masked.state.frames (Local k) = λ well_scoped. subst (λ j. HasVariable masked.state.frames (Local j)) same (found.3 well_scoped) in
         record {
           frame = active.frame;
           shown_is = has.shown_is ∙ ap (λ x. shown_of regions active.frame (Local k) x) (same_some has.variable v (sym has.is_variable ∙ own));
           view = λ array. array_shown p variables width regions masked shows active.frame active.level active.function has.f active.step _ next (Local k) (v, own, array);
-          scalar = λ sized plain. variable_in p variables width active.frame active.function regions masked shows next.depth next.function sized (Local k) v own plain (there plain);
-          pokes = λ sized plain part word. pokes p variables width regions masked shows sized part word active.frame active.function next.depth next.function (Local k) v own plain (there plain);
+          scalar = λ sized well_scoped. variable_in p variables width active.frame active.function regions masked shows next.depth next.function sized (Local k) v own well_scoped (there well_scoped);
+          pokes = λ sized well_scoped part word. pokes p variables width regions masked shows sized part word active.frame active.function next.depth next.function (Local k) v own well_scoped (there well_scoped);
         }
 
     module _ (sized : AreSized variables width regions) (id : VarId) (v : Variable) (seen : IsSeen compiled masked v) (e : v.id ≡ id) (shown : WordsShown) (has : HasWords width compiled regions id shown) where
@@ -191,10 +191,10 @@ module _ (compiled : CompiledProgram) (runnable : IsRunnable compiled.program) w
           ∙ ap (λ i. elements (view_of masked.state i) masked.state) e
           ∙ ap (λ u. elements u masked.state) (here.view array)
           ∙ ap (λ ws. take view.len (drop view.first ws)) (shows.memory view.array)
-      by_kind false plain =
-          ap (λ b. if b then elements (view_of masked.state v.id) masked.state else words_in masked.state v.id) plain
+      by_kind false well_scoped =
+          ap (λ b. if b then elements (view_of masked.state v.id) masked.state else words_in masked.state v.id) well_scoped
           ∙ ap (words_in masked.state) e
-          ∙ (here.scalar sized plain).stands
+          ∙ (here.scalar sized well_scoped).stands
 
       -- its words are those that are shown
       pub words_stand : shown_words masked.state v ≡ words_shown width regions shown
@@ -225,11 +225,11 @@ module _ (compiled : CompiledProgram) (runnable : IsRunnable compiled.program) w
           poke_by_kind : (b : Bool) → v.is_array ≡ b → has_part width (if b then OfElements (view_at regions here.frame id) else OfScalar (region_of here.frame id) v.rate) part ≡ true
               → PokeShows (if b then OfElements (view_at regions here.frame id) else OfScalar (region_of here.frame id) v.rate)
           poke_by_kind true array has = element_pokes part array has
-          poke_by_kind false plain has =
+          poke_by_kind false well_scoped has =
               let region : Region = region_of here.frame id in
               subst (λ what. Shows p variables width (with_region region (part_set (OfScalar region v.rate) part word (regions region)) regions) (record masked { state = poked what word masked.state }))
-              (sym (poked_scalar v part plain ∙ ap (λ i. poked_at i part) e))
-              (here.pokes sized plain part word)
+              (sym (poked_scalar v part well_scoped ∙ ap (λ i. poked_at i part) e))
+              (here.pokes sized well_scoped part word)
 
           -- the regions show the state after it is set
           pub poke_shows : PokeShows shown

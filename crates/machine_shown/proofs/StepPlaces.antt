@@ -6,7 +6,7 @@ use Rattle.std.proofs.lemmas.Option.{none-some, slice_get-get_or}
 use Rattle.gang_types.specs.declared.masks.Mask.{Mask}
 use Rattle.gang_types.specs.Masks.{IsGangWidth, lanes_of}
 use Rattle.gang_model.specs.Types.Tree.{StepNumber, Function}
-use Rattle.debug_machine.specs.declared.machine.Position.{Position}
+use Rattle.debug_traits.specs.declared.machine.Position.{Position}
 use Rattle.mask_states.specs.Points.{Point, Go, Turn, closing_number, function_ways, points_in}
 use Rattle.mask_states.specs.Masked.{Masked, at_end, masked_lanes}
 use Rattle.mask_states.proofs.LaneNumbers.{least_at_most}
@@ -25,12 +25,12 @@ use Rattle.codegen.specs.Codes.{Does}
 use Rattle.codegen.specs.declared.code.IndexCode.{IndexCode}
 use Rattle.codegen.specs.declared.code.StepCode.{StepCode}
 use Rattle.codegen.specs.declared.code.StepCode.TheVariants as code
-use Rattle.machine_moves.specs.declared.active.Active.{Active}
-use Rattle.machine_moves.specs.declared.compiled.CompiledProgram.{CompiledProgram}
-use Rattle.machine_moves.specs.Compiled.{IsCompiled, program_of, variables_of}
-use Rattle.machine_moves.specs.Standing.{IsActive}
-use Rattle.machine_moves.proofs.FrameLevels.{least_within}
-use Rattle.machine_moves.proofs.GangLanes.{gang_some}
+use Rattle.frame_steps.specs.declared.active.Active.{Active}
+use Rattle.frame_steps.specs.declared.compiled.CompiledProgram.{CompiledProgram}
+use Rattle.frame_steps.specs.Compiled.{IsCompiled, program_of, variables_of}
+use Rattle.frame_steps.specs.Standing.{IsActive}
+use Rattle.frame_steps.proofs.FrameLevels.{least_within}
+use Rattle.frame_steps.proofs.GangLanes.{gang_some}
 use Rattle.machine_rounds.specs.Taking.{IsRoundAt}
 use Rattle.machine_shown.specs.Seen.{IsPositionOf, IsStandingOf}
 use Rattle.machine_shown.proofs.CallPlaces.{has_standing}
@@ -82,7 +82,7 @@ module _ (width : ℕ) (compiled : CompiledProgram) (regions : Regions) (active 
   lanes_at_round gang compiled_is declared body is round at =
       let same : at.f ≡ f = same_function at.f f (slice_get (program_of compiled).functions active.function) at.are_rounds.is_function is.next.is_function in
       let next = subst (λ g. IsNext (program_of compiled) width regions active.frame active.level active.function g active.step (Some (Turn body))) (sym same) is.next in
-      sym (shown_lanes (variables_of compiled) compiled_is.runnable.most (program_of compiled) compiled_is.runnable.plain compiled_is.runnable.lowerable.numbered width regions masked shows declared
+      sym (shown_lanes (variables_of compiled) compiled_is.runnable.most (program_of compiled) compiled_is.runnable.well_scoped compiled_is.runnable.lowerable.numbered width regions masked shows declared
       active.frame active.function at.f active.step body at.form at.are_rounds.is_form (gang_some width gang) at.left at.are_left.of_form at.are_left.are_left round at.is_next active.level next at.are_left.kept)
 
   -- ---- the position

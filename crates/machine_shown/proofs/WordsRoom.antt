@@ -15,11 +15,11 @@ use Rattle.machine_states.specs.Variables.{own_of}
 use Rattle.machine_states.proofs.ArrayViews.{view_inside}
 use Rattle.machine_words.specs.declared.words.MachineWords.{MachineWords}
 use Rattle.machine_words.specs.Words.{regions_in}
-use Rattle.machine_moves.specs.declared.compiled.CompiledProgram.{CompiledProgram}
-use Rattle.machine_moves.specs.Compiled.{variables_of}
-use Rattle.machine_moves.specs.Standing.{AreSound}
-use Rattle.machine_moves.proofs.Standings.{file_sized, frame_below, own_sized}
-use Rattle.machine_moves.proofs.GangLanes.{words_few}
+use Rattle.frame_steps.specs.declared.compiled.CompiledProgram.{CompiledProgram}
+use Rattle.frame_steps.specs.Compiled.{variables_of}
+use Rattle.frame_steps.specs.Standing.{AreSound}
+use Rattle.frame_steps.proofs.Standings.{file_sized, frame_below, own_sized}
+use Rattle.frame_steps.proofs.GangLanes.{words_few}
 use Rattle.machine_shown.specs.ShownWords.{AreInRegion, HasWords, OfElements, OfScalar, WordsShown, count_shown, first_shown, region_shown, words_shown}
 
 module _ {T : Type 0} (history : T → History) (width : ℕ) (compiled : CompiledProgram) (words : MachineWords T) (sound : AreSound history width compiled words) where

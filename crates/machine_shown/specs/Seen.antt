@@ -5,10 +5,10 @@ use Rattle.gang_types.specs.Masks.{lanes_of}
 use Rattle.gang_model.specs.Types.Tree.{Variable, Standing, Function}
 use Rattle.gang_model.specs.Debugger.Debugger.{bad_part, shown_words}
 use Rattle.gang_model.specs.Debugger.Positions.{spot_in}
-use Rattle.debug_machine.specs.declared.machine.Position.{Position}
+use Rattle.debug_traits.specs.declared.machine.Position.{Position}
 use Rattle.mask_states.specs.Masked.{Masked, masked_lanes, masked_spot}
-use Rattle.machine_moves.specs.declared.compiled.CompiledProgram.{CompiledProgram}
-use Rattle.machine_moves.specs.Compiled.{function_of, variables_of}
+use Rattle.frame_steps.specs.declared.compiled.CompiledProgram.{CompiledProgram}
+use Rattle.frame_steps.specs.Compiled.{function_of, variables_of}
 
 -- a step of a function stands so in the source
 pub record StandsAt (compiled : CompiledProgram) (function number : ℕ) (f : Function) (standing : Standing) : Type 0 where

@@ -13,10 +13,10 @@ use Rattle.machine_states.specs.Regions.{Depth, Region, Regions, with_region}
 use Rattle.machine_states.specs.Steps.{poked_region}
 use Rattle.machine_states.specs.Variables.{own_of}
 use Rattle.machine_words.specs.Views.{region_view, view_view}
-use Rattle.machine_moves.specs.declared.active.Active.{Active}
-use Rattle.machine_moves.specs.declared.compiled.CompiledProgram.{CompiledProgram}
-use Rattle.machine_moves.specs.Compiled.{variables_of}
-use Rattle.machine_moves.specs.Standing.{IsActive}
+use Rattle.frame_steps.specs.declared.active.Active.{Active}
+use Rattle.frame_steps.specs.declared.compiled.CompiledProgram.{CompiledProgram}
+use Rattle.frame_steps.specs.Compiled.{variables_of}
+use Rattle.frame_steps.specs.Standing.{IsActive}
 use Rattle.machine_shown.specs.declared.found.ShownWords.{ShownWords}
 use Rattle.machine_shown.specs.declared.found.ShownWords.TheVariants.{Scalar, Elements}
 

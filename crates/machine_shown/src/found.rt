@@ -3,11 +3,11 @@ ghost use Rattle.std.specs.Prelude.{◌≡◌, ◌<◌, None, Some, IfSome};
 ghost use Rattle.gang_types.specs.Masks.{IsGangWidth};
 ghost use Rattle.typed_tree.specs.Views.{variable_view};
 ghost use Rattle.machine_words.specs.Words.{AreLaid, regions_in};
-ghost use Rattle.machine_moves.specs.Standing.{AreSound};
+ghost use Rattle.frame_steps.specs.Standing.{AreSound};
 ghost use Rattle.machine_shown.specs.ShownWords.{HasNoWords, HasWords, count_shown, has_part, shown_of, shown_view};
 
+use frame_steps::{CompiledProgram, next_step, region_of};
 use gang_types::{Rate, VarId};
-use machine_moves::{CompiledProgram, next_step, region_of};
 use machine_words::{MachineWords, Region, View};
 use typed_tree::Variable;
 use undo_log::Timeline;

@@ -2,18 +2,18 @@
 ghost use Rattle.std.specs.Prelude.{◌≡◌, ◌<◌, Some, IfSome};
 ghost use Rattle.gang_types.specs.Masks.{IsGangWidth, lanes_of};
 ghost use Rattle.gang_model.specs.Types.Tree.{Function as ModelFunction};
-ghost use Rattle.debug_machine.specs.Machines.{call_text, position_line};
+ghost use Rattle.debug_traits.specs.Machines.{call_text, position_line};
 ghost use Rattle.mask_states.specs.Masked.{Masked, masked_lanes};
 ghost use Rattle.machine_states.specs.Regions.{LanesOf, OfHead, lanes_in};
 ghost use Rattle.machine_words.specs.Words.{AreLaid, regions_in};
-ghost use Rattle.machine_moves.specs.Compiled.{function_of, program_of};
-ghost use Rattle.machine_moves.specs.Standing.{AreSound, IsNextOf, IsShown};
+ghost use Rattle.frame_steps.specs.Compiled.{function_of, program_of};
+ghost use Rattle.frame_steps.specs.Standing.{AreSound, IsNextOf, IsShown};
 ghost use Rattle.machine_shown.specs.Seen.{IsPositionOf, IsStandingOf};
 
 use codegen::StepCode;
-use debug_machine::Position;
+use debug_traits::Position;
+use frame_steps::{Active, CompiledProgram, frame_step, next_step};
 use gang_types::Mask;
-use machine_moves::{Active, CompiledProgram, frame_step, next_step};
 use machine_rounds::next_round;
 use machine_words::{Head, MachineWords, Region};
 use undo_log::Timeline;

@@ -7,13 +7,13 @@ ghost use Rattle.gang_model.specs.Debugger.Events.{poked};
 ghost use Rattle.mask_states.specs.Masked.{Masked};
 ghost use Rattle.undo_log.specs.declared.timeline.Undone.TheVariants as undone;
 ghost use Rattle.machine_words.specs.Words.{AreLaid, Writes, left_of, regions_in};
-ghost use Rattle.machine_moves.specs.Standing.{AreSound, IsShown, Records};
+ghost use Rattle.frame_steps.specs.Standing.{AreSound, IsShown, Records};
 ghost use Rattle.machine_shown.specs.Seen.{IsPartOf, IsSeen};
 ghost use Rattle.machine_shown.specs.ShownWords.{AreInRegion, IsCountOf, IsSetIn, IsWordOf, has_part, part_set, region_shown, shown_view, words_shown};
 
 use crate::found::{ShownWords, find_shown};
+use frame_steps::{CompiledProgram, begin};
 use gang_types::{Mask, VarId};
-use machine_moves::{CompiledProgram, begin};
 use machine_words::MachineWords;
 use undo_log::{Timeline, Undone};
 

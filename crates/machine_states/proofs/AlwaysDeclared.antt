@@ -16,7 +16,7 @@ use Rattle.mask_states.specs.Points.{Point}
 use Rattle.mask_states.specs.Masked.{Level, Masked, entered_body}
 use Rattle.mask_states.specs.MaskedStep.{untasked, entered_levels, masked_start}
 use Rattle.machine_states.specs.Variables.{Variables, own_of, variable_of, rate_of, IsScalar}
-use Rattle.machine_states.specs.Plain.{IsPlainProgram}
+use Rattle.machine_states.specs.WellScoped.{IsWellScopedProgram}
 use Rattle.machine_states.specs.Regions.{OfFile, OfLocal, Regions}
 use Rattle.machine_states.specs.Declared.{IsThere, scalar_parameters, declared_before, AreDeclaredFirst, has_entry, HasAll, IsAwaited, FrameDeclared, FramesDeclared, AreDeclared}
 use Rattle.machine_states.specs.Shows.{IsScalarIn, ShowsLocal, Shows}
@@ -40,15 +40,15 @@ some_lanes : (width : ℕ) → 0 < width → 0 < length (replicate width true)
 some_lanes zero h = absurd (omega (arith, h))
 some_lanes (suc width) h = omega arith
 
-module _ (variables : Variables) (most : ℕ) (p : Program) (plain : IsPlainProgram variables most p) (numbered : IsNumberedProgram p) where
+module _ (variables : Variables) (most : ℕ) (p : Program) (well_scoped : IsWellScopedProgram variables most p) (numbered : IsNumberedProgram p) where
   -- an entry begins with its scalar parameters
   pub start_declared : (entry width : ℕ) (rows : List Row) (f : Function) → slice_get p.functions entry ≡ Some f → 0 < width
       → HasAll (scalar_parameters variables entry) (with_rows rows (nothing_given p width)).passed.vars → AreDeclared variables p (masked_start p entry rows width)
   start_declared entry width rows f is wide given_all =
       let given : Given = with_rows rows (nothing_given p width) in
-      let begun = entered_awaited variables most p plain numbered entry f is given.passed.vars given_all (replicate width true) 0 (all_lanes width wide) (some_lanes width wide) in
+      let begun = entered_awaited variables most p well_scoped numbered entry f is given.passed.vars given_all (replicate width true) 0 (all_lanes width wide) (some_lanes width wide) in
       subst (λ o. FramesDeclared variables p (untasked (started o entry width given)).frames (entered_levels o (replicate width true))) (sym is)
-      (frame_declared variables most p plain numbered (new_frame entry f (replicate width true) None Nothing given.passed) (entered_body f (replicate width true) ∷ []) entry f is refl begun, tt)
+      (frame_declared variables most p well_scoped numbered (new_frame entry f (replicate width true) None Nothing given.passed) (entered_body f (replicate width true) ∷ []) entry f is refl begun, tt)
 
 -- ---- pokes
 

@@ -8,9 +8,9 @@ use Rattle.gang_model.specs.Types.Tree.{Scalar, ElementOf, Declare, Assign, Chan
 use Rattle.mask_states.specs.Points.{Point, Put, Go, Branch, Choose, Begin, Turn, Enter, points_in}
 use Rattle.mask_states.specs.Placed.{HasPoint}
 use Rattle.machine_states.specs.Cells.{cells_of, greatest, words_left, words_set}
-use Rattle.machine_states.specs.Plain.{IsPlainPoint, IsPlainProgram}
+use Rattle.machine_states.specs.WellScoped.{IsWellScopedPoint, IsWellScopedProgram}
 use Rattle.machine_states.specs.Variables.{Variables}
-use Rattle.machine_states.proofs.PlainPoints.{points_in-plain, point_at}
+use Rattle.machine_states.proofs.WellScopedPoints.{points_in-well_scoped, point_at}
 
 pub greatest_enough : {A : Type 0} (number : A → ℕ) (xs : List A) (k : ℕ) (x : A) → slice_get xs k ≡ Some x → number x ≤ greatest number xs
 greatest_enough number xs k x is =
@@ -35,28 +35,28 @@ module _ (width : ℕ) (p : Program) where
       omega (arith, of_points, of_functions)
 
 module _ (width : ℕ) (variables : Variables) where
-  point_few : (n : ℕ) (point : Point) → IsPlainPoint variables n point → words_set width point ≤ 9 * width + 16
-  point_few n (Put (Declare number x e) next) plain = omega arith
-  point_few n (Put (Assign number (Scalar x) e) next) plain = omega arith
-  point_few n (Put (Assign number (ElementOf array rate index) e) next) plain = omega arith
-  point_few n (Put (Change number (Scalar x) type op in_type e) next) plain = omega arith
-  point_few n (Put (Change number (ElementOf array rate index) type op in_type e) next) plain = omega arith
-  point_few n (Put (PackedStore number array from e result_for) next) plain = omega arith
-  point_few n (Put (PackedLoad number array from x result_for) next) plain = omega arith
-  point_few n (Put (Return number e) next) plain = omega arith
-  point_few n (Put (Check number e) next) plain = omega arith
-  point_few n (Go next) plain = omega arith
-  point_few n (Branch test yes' no') plain = omega arith
-  point_few n (Enter called args result_for next) plain = let args_few = mul-le-mul_right width plain.0.few in omega (arith, args_few)
-  point_few n (Choose e segments entries next) plain = omega arith
-  point_few n (Begin form rounds next) plain = omega arith
-  point_few n (Turn body) plain = omega arith
-  point_few n (Put s next) plain = absurd plain
+  point_few : (n : ℕ) (point : Point) → IsWellScopedPoint variables n point → words_set width point ≤ 9 * width + 16
+  point_few n (Put (Declare number x e) next) well_scoped = omega arith
+  point_few n (Put (Assign number (Scalar x) e) next) well_scoped = omega arith
+  point_few n (Put (Assign number (ElementOf array rate index) e) next) well_scoped = omega arith
+  point_few n (Put (Change number (Scalar x) type op in_type e) next) well_scoped = omega arith
+  point_few n (Put (Change number (ElementOf array rate index) type op in_type e) next) well_scoped = omega arith
+  point_few n (Put (PackedStore number array from e result_for) next) well_scoped = omega arith
+  point_few n (Put (PackedLoad number array from x result_for) next) well_scoped = omega arith
+  point_few n (Put (Return number e) next) well_scoped = omega arith
+  point_few n (Put (Check number e) next) well_scoped = omega arith
+  point_few n (Go next) well_scoped = omega arith
+  point_few n (Branch test yes' no') well_scoped = omega arith
+  point_few n (Enter called args result_for next) well_scoped = let args_few = mul-le-mul_right width well_scoped.0.few in omega (arith, args_few)
+  point_few n (Choose e segments entries next) well_scoped = omega arith
+  point_few n (Begin form rounds next) well_scoped = omega arith
+  point_few n (Turn body) well_scoped = omega arith
+  point_few n (Put s next) well_scoped = absurd well_scoped
 
   -- a call has at most 8 parameters
-  pub cells_few : (most : ℕ) (p : Program) → IsPlainProgram variables most p → cells_of width p ≤ 9 * width + 16
-  cells_few most p plain =
+  pub cells_few : (most : ℕ) (p : Program) → IsWellScopedProgram variables most p → cells_of width p ≤ 9 * width + 16
+  cells_few most p well_scoped =
       let function_few : (n : ℕ) (f : Function) → slice_get p.functions n ≡ Some f → greatest (words_set width) (points_in f) ≤ 9 * width + 16 =
       λ n f is. greatest_few (words_set width) (points_in f) (9 * width + 16) (λ k point has. point_few n point
-      (point_at variables n (points_in f) k point (points_in-plain variables n f (plain.functions n f is)) has)) in
+      (point_at variables n (points_in f) k point (points_in-well_scoped variables n f (well_scoped.functions n f is)) has)) in
       omega (arith, greatest_few (λ f. greatest (words_set width) (points_in f)) p.functions (9 * width + 16) function_few)

@@ -8,7 +8,7 @@ use Rattle.mask_states.specs.Points.{Point, Put, Go, Branch, Choose, Begin, Turn
 use Rattle.mask_states.specs.Placed.{HasPoint}
 use Rattle.mask_states.proofs.PlacedPoints.{length-points_of}
 use Rattle.machine_states.specs.Variables.{Variables}
-use Rattle.machine_states.specs.Plain.{IsPlainExpr, CallPlain, ResultPlain, FormPlain, IsPlain}
+use Rattle.machine_states.specs.WellScoped.{IsWellScopedExpr, CallWellScoped, ResultWellScoped, FormWellScoped, IsWellScoped}
 use Rattle.machine_states.specs.RoundNumbers.{NumberedForm, numbered_form, numbered_round, numbered_about}
 use Rattle.machine_states.specs.Declared.{own_number, declared_by_result, declared_by_form, declared_by, may_return, declared_before_return, declared_at, scalar_parameters, declared_at_end, declared_before}
 use Rattle.machine_states.proofs.DeclaredLists.{same_some, or_front, or_back, IsWithin, within_itself, within_front, within_back, within_both, within_then, within_grouped, AreBefore, before_front, before_after, before_steps, before_behind, before_end, before_return_within, about_after}
@@ -45,67 +45,67 @@ module _ (P : StepNumber → Point → Type 0) where
   all_at points number point a h =
       let e : 0 + number ≡ number = omega arith in subst (λ m. P m point) e (all_at_from 0 points number point a h)
 
--- ---- plain points
+-- ---- well-scoped points
 
 -- a statement that moves no lane
-abbrev pub IsPlainPut : Variables → (function : ℕ) → Stmt → Type 0
-IsPlainPut variables m (Declare number x e) = IsPlain variables m (Declare number x e)
-IsPlainPut variables m (Assign number target e) = IsPlain variables m (Assign number target e)
-IsPlainPut variables m (Change number target type op in_type e) = IsPlain variables m (Change number target type op in_type e)
-IsPlainPut variables m (Return number e) = IsPlain variables m (Return number e)
-IsPlainPut variables m (Check number e) = IsPlain variables m (Check number e)
-IsPlainPut variables m (PackedStore number array from e result_for) = IsPlain variables m (PackedStore number array from e result_for)
-IsPlainPut variables m (PackedLoad number array from x result_for) = IsPlain variables m (PackedLoad number array from x result_for)
-IsPlainPut variables m s = ⊥
+abbrev pub IsWellScopedPut : Variables → (function : ℕ) → Stmt → Type 0
+IsWellScopedPut variables m (Declare number x e) = IsWellScoped variables m (Declare number x e)
+IsWellScopedPut variables m (Assign number target e) = IsWellScoped variables m (Assign number target e)
+IsWellScopedPut variables m (Change number target type op in_type e) = IsWellScoped variables m (Change number target type op in_type e)
+IsWellScopedPut variables m (Return number e) = IsWellScoped variables m (Return number e)
+IsWellScopedPut variables m (Check number e) = IsWellScoped variables m (Check number e)
+IsWellScopedPut variables m (PackedStore number array from e result_for) = IsWellScoped variables m (PackedStore number array from e result_for)
+IsWellScopedPut variables m (PackedLoad number array from x result_for) = IsWellScoped variables m (PackedLoad number array from x result_for)
+IsWellScopedPut variables m s = ⊥
 
-abbrev pub IsPlainPoint : Variables → (function : ℕ) → StepNumber → Point → Type 0
-IsPlainPoint variables m number (Put s next) = IsPlainPut variables m s
-IsPlainPoint variables m number (Go next) = Unit {0}
-IsPlainPoint variables m number (Branch test yes' no') = IsPlainExpr variables m test
-IsPlainPoint variables m number (Choose e segments entries next) = IsPlainExpr variables m e
-IsPlainPoint variables m number (Begin form rounds next) = FormPlain variables m form
-IsPlainPoint variables m number (Turn body) = Unit {0}
-IsPlainPoint variables m number (Enter n args result_for next) = CallPlain variables m n args × ResultPlain variables m result_for
+abbrev pub IsWellScopedPoint : Variables → (function : ℕ) → StepNumber → Point → Type 0
+IsWellScopedPoint variables m number (Put s next) = IsWellScopedPut variables m s
+IsWellScopedPoint variables m number (Go next) = Unit {0}
+IsWellScopedPoint variables m number (Branch test yes' no') = IsWellScopedExpr variables m test
+IsWellScopedPoint variables m number (Choose e segments entries next) = IsWellScopedExpr variables m e
+IsWellScopedPoint variables m number (Begin form rounds next) = FormWellScoped variables m form
+IsWellScopedPoint variables m number (Turn body) = Unit {0}
+IsWellScopedPoint variables m number (Enter n args result_for next) = CallWellScoped variables m n args × ResultWellScoped variables m result_for
 
 module _ (variables : Variables) (m : ℕ) where
-  plain_points : (s : Stmt) (ways : Ways) (n : ℕ) → IsPlain variables m s → AllPoints (IsPlainPoint variables m) n (points_of s ways)
-  plain_points Empty ways n p = tt
-  plain_points (Then first rest) ways n p =
+  well_scoped_points : (s : Stmt) (ways : Ways) (n : ℕ) → IsWellScoped variables m s → AllPoints (IsWellScopedPoint variables m) n (points_of s ways)
+  well_scoped_points Empty ways n p = tt
+  well_scoped_points (Then first rest) ways n p =
       let here = before_step (entry_of rest ways.next) ways in
-      all_behind (IsPlainPoint variables m) n first here (points_of rest ways) (plain_points first here n p.0) (plain_points rest ways (n + steps_of first) p.1)
-  plain_points (Declare number x e) ways n p = (p, tt)
-  plain_points (Assign number target e) ways n p = (p, tt)
-  plain_points (Change number target type op in_type e) ways n p = (p, tt)
-  plain_points (If number test first other) ways n p =
-      (p.0, all_behind (IsPlainPoint variables m) (n + 1) first ways (points_of other ways) (plain_points first ways (n + 1) p.1) (plain_points other ways (n + 1 + steps_of first) p.2))
-  plain_points (Loop number test update body) ways n p =
+      all_behind (IsWellScopedPoint variables m) n first here (points_of rest ways) (well_scoped_points first here n p.0) (well_scoped_points rest ways (n + steps_of first) p.1)
+  well_scoped_points (Declare number x e) ways n p = (p, tt)
+  well_scoped_points (Assign number target e) ways n p = (p, tt)
+  well_scoped_points (Change number target type op in_type e) ways n p = (p, tt)
+  well_scoped_points (If number test first other) ways n p =
+      (p.0, all_behind (IsWellScopedPoint variables m) (n + 1) first ways (points_of other ways) (well_scoped_points first ways (n + 1) p.1) (well_scoped_points other ways (n + 1 + steps_of first) p.2))
+  well_scoped_points (Loop number test update body) ways n p =
       let inside = body_ways (entry_of update number) ways in
       let again = update_ways number ways in
       let last = Branch test (entry_of body (entry_of update number)) ways.next ∷ [] in
-      all_behind (IsPlainPoint variables m) n body inside (points_of update again ++ last) (plain_points body inside n p.2)
-      (all_behind (IsPlainPoint variables m) (n + steps_of body) update again last (plain_points update again (n + steps_of body) p.1) (p.0, tt))
-  plain_points (BodyFirst number test body) ways n p =
+      all_behind (IsWellScopedPoint variables m) n body inside (points_of update again ++ last) (well_scoped_points body inside n p.2)
+      (all_behind (IsWellScopedPoint variables m) (n + steps_of body) update again last (well_scoped_points update again (n + steps_of body) p.1) (p.0, tt))
+  well_scoped_points (BodyFirst number test body) ways n p =
       let inside = body_ways number ways in
-      all_behind (IsPlainPoint variables m) n body inside (Branch test (entry_of body number) ways.next ∷ []) (plain_points body inside n p.1) (p.0, tt)
-  plain_points (Break number) ways n p = (tt, tt)
-  plain_points (Continue number) ways n p = (tt, tt)
-  plain_points (Return number e) ways n p = (p, tt)
-  plain_points (Switch number e segments) ways n p = (p.0, plain_points segments (record ways { on_break = Some ways.next }) (n + 1) p.1)
-  plain_points (Segment label body rest) ways n p =
+      all_behind (IsWellScopedPoint variables m) n body inside (Branch test (entry_of body number) ways.next ∷ []) (well_scoped_points body inside n p.1) (p.0, tt)
+  well_scoped_points (Break number) ways n p = (tt, tt)
+  well_scoped_points (Continue number) ways n p = (tt, tt)
+  well_scoped_points (Return number e) ways n p = (p, tt)
+  well_scoped_points (Switch number e segments) ways n p = (p.0, well_scoped_points segments (record ways { on_break = Some ways.next }) (n + 1) p.1)
+  well_scoped_points (Segment label body rest) ways n p =
       let there = before_step (entry_of rest ways.next) ways in
-      all_behind (IsPlainPoint variables m) n body there (points_of rest ways) (plain_points body there n p.0) (plain_points rest ways (n + steps_of body) p.1)
-  plain_points (ForEach number form body) ways n p =
+      all_behind (IsWellScopedPoint variables m) n body there (points_of rest ways) (well_scoped_points body there n p.0) (well_scoped_points rest ways (n + steps_of body) p.1)
+  well_scoped_points (ForEach number form body) ways n p =
       let rounds = round_number number body in
-      (p.0, all_behind (IsPlainPoint variables m) (n + 1) body (round_ways rounds) (Turn (entry_of body rounds) ∷ []) (plain_points body (round_ways rounds) (n + 1) p.1) (tt, tt))
-  plain_points (Call number function args result_for) ways n p = ((p.0, p.1), tt)
-  plain_points (Check number e) ways n p = (p, tt)
-  plain_points (PackedStore number array from e result_for) ways n p = (p, tt)
-  plain_points (PackedLoad number array from v result_for) ways n p = (p, tt)
+      (p.0, all_behind (IsWellScopedPoint variables m) (n + 1) body (round_ways rounds) (Turn (entry_of body rounds) ∷ []) (well_scoped_points body (round_ways rounds) (n + 1) p.1) (tt, tt))
+  well_scoped_points (Call number function args result_for) ways n p = ((p.0, p.1), tt)
+  well_scoped_points (Check number e) ways n p = (p, tt)
+  well_scoped_points (PackedStore number array from e result_for) ways n p = (p, tt)
+  well_scoped_points (PackedLoad number array from v result_for) ways n p = (p, tt)
 
-  -- a plain function's points are plain
-  pub plain_point : (f : Function) → IsPlain variables m f.body → (number : StepNumber) (point : Point) → HasPoint (points_in f) number point → IsPlainPoint variables m number point
-  plain_point f p number point h =
-      all_at (IsPlainPoint variables m) (points_in f) number point (plain_points f.body (function_ways f) 0 p) h
+  -- a well-scoped function's points are well-scoped
+  pub well_scoped_point : (f : Function) → IsWellScoped variables m f.body → (number : StepNumber) (point : Point) → HasPoint (points_in f) number point → IsWellScopedPoint variables m number point
+  well_scoped_point f p number point h =
+      all_at (IsWellScopedPoint variables m) (points_in f) number point (well_scoped_points f.body (function_ways f) 0 p) h
 
 -- ---- where points lead
 

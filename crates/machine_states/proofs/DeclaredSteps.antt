@@ -22,7 +22,7 @@ use Rattle.mask_states.specs.Masked.{Level, Masked, next_in, next_waiting, sent,
 use Rattle.mask_states.specs.MaskedStep.{untasked_frame, untasked, points_at, points_for, Acted, segment_of, chosen, turn_taken, entered_levels, act, past_point, past_call, past_calls, MaskedStepped, Goes, Fails, Over, acted, step_point, step_levels, masked_step}
 use Rattle.mask_states.proofs.LaneNumbers.{length-waiting_for}
 use Rattle.machine_states.specs.Variables.{Variables}
-use Rattle.machine_states.specs.Plain.{IsPlain, IsPlainProgram}
+use Rattle.machine_states.specs.WellScoped.{IsWellScoped, IsWellScopedProgram}
 use Rattle.machine_states.specs.Regions.{OpenOf, OfHead, Regions}
 use Rattle.machine_states.specs.RoundNumbers.{NumberedForm, numbered_form, numbered_about, innermost_rounds, rounds_about}
 use Rattle.machine_states.specs.Awaited.{LevelHolds, EndHolds, LevelsHold}
@@ -30,7 +30,7 @@ use Rattle.machine_states.specs.Declared.{own_number, declared_by_result, declar
 use Rattle.machine_states.specs.Levels.{ShowsLevels}
 use Rattle.machine_states.specs.Shows.{level_words, ShowsCall, ShowsFrames, Shows}
 use Rattle.machine_states.proofs.DeclaredLists.{same_some, IsWithin, before_end}
-use Rattle.machine_states.proofs.DeclaredPoints.{IsPlainPut, IsPlainPoint, plain_point, AreLed, LeadsDeclared, point_leads, first_declared}
+use Rattle.machine_states.proofs.DeclaredPoints.{IsWellScopedPut, IsWellScopedPoint, well_scoped_point, AreLed, LeadsDeclared, point_leads, first_declared}
 use Rattle.machine_states.proofs.StoreEntries.{Keeps, keeps_itself, with_words_keeps, with_words_has, has_all_kept, has_all_within, has_all_both, has_own, passed_has}
 use Rattle.machine_states.proofs.NestedPoints.{StandIn, LeadsInside, nested_alike, closing_nested, first_nested, point_inside, begins_nested, begins_turn}
 use Rattle.machine_states.proofs.AwaitedLevels.{Waits, waits_below, next_holds, IsNoTurn, point_below, next_inside, sent_inside, begun_inside, EndsAt, ends_at, turned_holds, begun_holds, entered_holds, sent_on_holds, end_kept, levels_kept, closed_holds}
@@ -119,32 +119,32 @@ module _ (memory : Store) (frame : Frame) (frames : List Frame) where
   under_way = record { memory = memory; frames = frame ∷ frames }
 
   -- a statement is done
-  run_grows : (variables : Variables) (m : ℕ) (p : Program) (s : Stmt) (lanes : Lanes) → IsPlainPut variables m s → IfOk (run p s lanes under_way) (λ after. Grows frame frames (declared_by s) after.frames)
-  run_grows variables m p (Declare number x e) lanes plain = if_ok_after _ (initial e lanes under_way) _ (λ values. words_grow memory frame frames x.id _)
-  run_grows variables m p (Assign number (Scalar x) e) lanes plain =
+  run_grows : (variables : Variables) (m : ℕ) (p : Program) (s : Stmt) (lanes : Lanes) → IsWellScopedPut variables m s → IfOk (run p s lanes under_way) (λ after. Grows frame frames (declared_by s) after.frames)
+  run_grows variables m p (Declare number x e) lanes well_scoped = if_ok_after _ (initial e lanes under_way) _ (λ values. words_grow memory frame frames x.id _)
+  run_grows variables m p (Assign number (Scalar x) e) lanes well_scoped =
       if_ok_after _ (value e lanes under_way) _ (λ values. grows_less frame frames (own_number x.id) _ (words_grow memory frame frames x.id _))
-  run_grows variables m p (Assign number (ElementOf array rate index) e) lanes plain = by_index (value index lanes under_way)
+  run_grows variables m p (Assign number (ElementOf array rate index) e) lanes well_scoped = by_index (value index lanes under_way)
     where
       by_index : (r : Result (List ℕ) Fault) → IfOk ((r >>= λ x. Ok (ToElements (view_of under_way array) x)) >>= λ written. value e lanes under_way >>= λ y. old_values written lanes under_way >>= λ old. Ok (write written lanes y under_way)) (λ after. Grows frame frames [] after.frames)
       by_index (Ok x) = if_ok_after _ (value e lanes under_way) _ (λ y. if_ok_after _ (try_each lanes _) _ (λ old. stays frame frames))
       by_index (Err fault) = tt
-  run_grows variables m p (Change number (Scalar x) type op in_type e) lanes plain =
+  run_grows variables m p (Change number (Scalar x) type op in_type e) lanes well_scoped =
       if_ok_after _ (value e lanes under_way) _ (λ y. if_ok_after _ (try_each lanes _) _ (λ values. grows_less frame frames (own_number x.id) _ (words_grow memory frame frames x.id _)))
-  run_grows variables m p (Change number (ElementOf array rate index) type op in_type e) lanes plain = by_index (value index lanes under_way)
+  run_grows variables m p (Change number (ElementOf array rate index) type op in_type e) lanes well_scoped = by_index (value index lanes under_way)
     where
       by_index : (r : Result (List ℕ) Fault) → IfOk ((r >>= λ x. Ok (ToElements (view_of under_way array) x)) >>= λ written. value e lanes under_way >>= λ y. old_values written lanes under_way >>= λ old.
           try_each lanes (λ k. binary_result op in_type (converted type in_type (at old k)) (at y k)) >>= λ z. Ok (write written lanes (each lanes (λ k. converted in_type type (at z k))) under_way)) (λ after. Grows frame frames [] after.frames)
       by_index (Ok x) = if_ok_after _ (value e lanes under_way) _ (λ y. if_ok_after _ (try_each lanes _) _ (λ old. if_ok_after _ (try_each lanes _) _ (λ z. stays frame frames)))
       by_index (Err fault) = tt
-  run_grows variables m p (Return number e) lanes plain = if_ok_after _ (initial e lanes under_way) _ (λ values.
+  run_grows variables m p (Return number e) lanes well_scoped = if_ok_after _ (initial e lanes under_way) _ (λ values.
       record { top = _; are = refl; function = refl; keeps = keeps_itself frame.vars; has_all = λ k among. absurd among })
-  run_grows variables m p (Check number e) lanes plain = if_ok_after _ (value e lanes under_way) _ (λ c. if_ok_after _ (try_each lanes _) _ (λ passes. stays frame frames))
-  run_grows variables m p (PackedStore number array from e result_for) lanes plain =
+  run_grows variables m p (Check number e) lanes well_scoped = if_ok_after _ (value e lanes under_way) _ (λ c. if_ok_after _ (try_each lanes _) _ (λ passes. stays frame frames))
+  run_grows variables m p (PackedStore number array from e result_for) lanes well_scoped =
       if_ok_after _ (part from (view_of under_way array) lanes under_way) _ (λ view. if_ok_after _ (value e lanes under_way) _ (λ x. if_ok_after _ (try_each lanes _) _
       (λ there. delivered_grows _ frame frames p Int32 result_for lanes _)))
-  run_grows variables m p (PackedLoad number array from v result_for) lanes plain =
+  run_grows variables m p (PackedLoad number array from v result_for) lanes well_scoped =
       if_ok_after _ (part from (view_of under_way array) lanes under_way) _ (λ view. if_ok_after _ (try_each lanes _) _ (λ x. loaded_grows memory frame frames p v.id _ result_for lanes _))
-  run_grows variables m p s lanes plain = absurd plain
+  run_grows variables m p s lanes well_scoped = absurd well_scoped
 
 -- no frame is left
 none_words : (memory : Store) (v : VarId) (words : List ℕ) → (with_words_in (record { memory = memory; frames = [] }) v words).frames ≡ []
@@ -172,7 +172,7 @@ IfGoes Over P = Unit {0}
 pub goes_at : (P : Masked → Type 0) (stepped : MaskedStepped) (next : Masked) → stepped ≡ Goes next → IfGoes stepped P → P next
 goes_at P stepped next e h = subst (λ z. IfGoes z P) e h
 
-module _ (variables : Variables) (most : ℕ) (p : Program) (plain : IsPlainProgram variables most p) (numbered : IsNumberedProgram p) where
+module _ (variables : Variables) (most : ℕ) (p : Program) (well_scoped : IsWellScopedProgram variables most p) (numbered : IsNumberedProgram p) where
   -- a frame by its function
   pub frame_declared : (frame : Frame) (levels : List Level) (n : ℕ) (f : Function) → slice_get p.functions n ≡ Some f → frame.function ≡ n
       → LevelsHold (IsAwaited variables n f frame.vars) f levels → FrameDeclared variables p frame levels
@@ -375,38 +375,38 @@ module _ (variables : Variables) (most : ℕ) (p : Program) (plain : IsPlainProg
     -- what a point does
     acts : (point : Point) → HasPoint (points_in f) (next_in level) point → HoldsHere
         → (memory : Store) (frames : List Frame) (rest : List (List Level)) → FramesDeclared variables p frames rest
-        → LeadsDeclared before (numbered_about f) (next_in level) point → LeadsInside (numbered_about f) (next_in level) point → IsPlainPoint variables frame.function (next_in level) point
+        → LeadsDeclared before (numbered_about f) (next_in level) point → LeadsInside (numbered_about f) (next_in level) point → IsWellScopedPoint variables frame.function (next_in level) point
         → ((next : Level) (under : List Level) → below ≡ next ∷ under → IsFormLevel (points_in f) level)
         → IfOk (act p (next_in level) point (next_waiting level) (record { memory = memory; frames = frame ∷ frames }) level below)
         (λ a. FramesDeclared variables p a.state.frames (a.levels ++ rest))
-    acts (Put s next) h declared memory frames rest lower leads inside plain_point in_form =
+    acts (Put s next) h declared memory frames rest lower leads inside well_scoped_point in_form =
         if_ok_bind (λ after. Grows frame frames (declared_by s) after.frames) _ (run p s (next_waiting level) (state memory frame frames)) _
-        (run_grows memory frame frames variables frame.function p s (next_waiting level) plain_point)
+        (run_grows memory frame frames variables frame.function p s (next_waiting level) well_scoped_point)
         (λ after g. moves_on (Put s next) h tt declared frames after.frames rest (declared_by s) (λ k. next) g (λ k. leads) (λ k. inside) lower)
-    acts (Go next) h declared memory frames rest lower leads inside plain_point in_form =
+    acts (Go next) h declared memory frames rest lower leads inside well_scoped_point in_form =
         moves_on (Go next) h tt declared frames (frame ∷ frames) rest [] (λ k. next) (stays frame frames) (λ k. leads) (λ k. inside) lower
-    acts (Branch test yes' no') h declared memory frames rest lower leads inside plain_point in_form =
+    acts (Branch test yes' no') h declared memory frames rest lower leads inside well_scoped_point in_form =
         if_ok_after _ (value test (next_waiting level) (state memory frame frames)) _
         (λ c. moves_on (Branch test yes' no') h tt declared frames (frame ∷ frames) rest [] (λ k. if holds c k then yes' else no') (stays frame frames)
         (λ k. branch_within (holds c k) yes' no' (before (next_in level)) leads.0 leads.1)
         (λ k. branch_inside (holds c k) yes' no' (numbered_about f (next_in level)) inside.0 inside.1) lower)
-    acts (Choose e segments entries next) h declared memory frames rest lower leads inside plain_point in_form =
+    acts (Choose e segments entries next) h declared memory frames rest lower leads inside well_scoped_point in_form =
         if_ok_after _ (value e (next_waiting level) (state memory frame frames)) _
         (λ x. moves_on (Choose e segments entries next) h tt declared frames (frame ∷ frames) rest [] (λ k. chosen entries next (segment_of segments (at x k))) (stays frame frames)
         (λ k. chosen_within (before (next_in level)) entries next (segment_of segments (at x k)) leads.0 leads.1)
         (λ k. chosen_inside (numbered_about f (next_in level)) entries next (segment_of segments (at x k)) inside.0 inside.1) lower)
-    acts (Begin form rounds next) h declared memory frames rest lower leads inside plain_point in_form =
+    acts (Begin form rounds next) h declared memory frames rest lower leads inside well_scoped_point in_form =
         if_ok_after _ (form_rounds form (next_waiting level) (state memory frame frames)) _ (λ turns. begins form rounds next h declared turns frames rest leads inside lower)
-    acts (Turn body) h declared memory frames rest lower leads inside plain_point in_form =
+    acts (Turn body) h declared memory frames rest lower leads inside well_scoped_point in_form =
         turns_on body h declared in_form memory frames rest leads inside lower level.turns refl
-    acts (Enter n args result_for next) h declared memory frames rest lower leads inside plain_point in_form =
+    acts (Enter n args result_for next) h declared memory frames rest lower leads inside well_scoped_point in_form =
         let s : State = state memory frame frames in
         let lanes : Lanes = next_waiting level in
         let low : next_in level < level.end = point_below (IsAwaitedWith frame.vars (length below)) f level below (Enter n args result_for next) declared.1 tt h in
         let run_enters : IfOk (run p (Call (next_in level) n args result_for) lanes s)
         (λ after. FramesDeclared variables p (untasked after).frames ((entered_levels (slice_get p.functions n) lanes ++ (level ∷ below) ∷ []) ++ rest)) =
         if_ok_bind (λ a. HasAll (scalar_parameters variables n) a.vars) _ (passed args lanes s) _
-        (passed_has variables frame.function n lanes s args plain_point.0)
+        (passed_has variables frame.function n lanes s args well_scoped_point.0)
         (λ a has_all. enters (next_in level) result_for n (slice_get p.functions n) refl a has_all low declared memory frames rest lower) in
         if_ok_bind (λ after. FramesDeclared variables p (untasked after).frames ((entered_levels (slice_get p.functions n) lanes ++ (level ∷ below) ∷ []) ++ rest)) _
         (run p (Call (next_in level) n args result_for) lanes s) _ run_enters (λ after d. d)
@@ -448,12 +448,12 @@ module _ (variables : Variables) (most : ℕ) (p : Program) (plain : IsPlainProg
         → (o : Option Point) → slice_get (points_in f) (next_in level) ≡ o → IfGoes (step_point p memory frames frame o level below rest) (AreDeclared variables p)
     steps_at f is level below declared in_form call shown lower None o_is = leaves frame f is memory regions w frames rest call shown lower
     steps_at f is level below declared in_form call shown lower (Some point) o_is =
-        let body : IsPlain variables frame.function f.body = (plain.functions frame.function f is).body in
+        let body : IsWellScoped variables frame.function f.body = (well_scoped.functions frame.function f is).body in
         if_acted (act p (next_in level) point (next_waiting level) (state memory frame frames) level below) rest
         (acts frame f is level below point o_is declared memory frames rest lower
         (point_leads variables frame.function f (numbered frame.function f is) (next_in level) point o_is)
         (point_inside f (numbered frame.function f is) (next_in level) point o_is)
-        (plain_point variables frame.function f body (next_in level) point o_is) in_form)
+        (well_scoped_point variables frame.function f body (next_in level) point o_is) in_form)
 
     steps : (level : Level) (below : List Level) → ShowsFrames p variables w regions (frame ∷ frames) ((level ∷ below) ∷ rest)
         → FramesDeclared variables p (frame ∷ frames) ((level ∷ below) ∷ rest) → IfGoes (step_levels p memory (frame ∷ frames) ((level ∷ below) ∷ rest)) (AreDeclared variables p)

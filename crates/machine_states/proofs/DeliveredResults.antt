@@ -10,7 +10,7 @@ use Rattle.gang_model.specs.Running.Step.{deliver, returned_on}
 use Rattle.gang_model.proofs.LaneWords.{length-each}
 use Rattle.mask_states.specs.Masked.{Masked}
 use Rattle.machine_states.specs.Variables.{Variables}
-use Rattle.machine_states.specs.Plain.{ResultPlain}
+use Rattle.machine_states.specs.WellScoped.{ResultWellScoped}
 use Rattle.machine_states.specs.Regions.{FunctionOf, Depth, OfHead, Regions}
 use Rattle.machine_states.specs.Shows.{AreSized, Shows}
 use Rattle.machine_states.specs.Steps.{Delivers, converted_values}
@@ -35,16 +35,16 @@ module _ (p : Program) (variables : Variables) (w : ℕ) (regions : Regions) (ma
   size_of : (to : IntType) → length (converted_values type to lanes values) ≡ w
   size_of to = length-each lanes (λ k. converted type to (at values k)) ∙ long
 
-  pub delivered_shows : (for : ResultFor) (delivered : Regions) → ResultPlain variables n for → HasResult masked.state.frames for → Delivers w i f for type lanes values regions delivered
+  pub delivered_shows : (for : ResultFor) (delivered : Regions) → ResultWellScoped variables n for → HasResult masked.state.frames for → Delivers w i f for type lanes values regions delivered
       → Shows p variables w delivered (record { state = deliver p type for lanes values masked.state; levels = masked.levels })
-  delivered_shows Nothing delivered plain has is = subst (λ new. Shows p variables w new (after Nothing)) (sym is) shows
-  delivered_shows (Declares x) delivered plain has is =
+  delivered_shows Nothing delivered well_scoped has is = subst (λ new. Shows p variables w new (after Nothing)) (sym is) shows
+  delivered_shows (Declares x) delivered well_scoped has is =
       subst (λ new. Shows p variables w new (after (Declares x))) (sym is)
-      (declared_shows p variables w i n regions masked shows depth function sized lanes (converted_values type x.type lanes values) long some plain.0 x plain.1)
-  delivered_shows (Assigns x) delivered plain has is =
+      (declared_shows p variables w i n regions masked shows depth function sized lanes (converted_values type x.type lanes values) long some well_scoped.0 x well_scoped.1)
+  delivered_shows (Assigns x) delivered well_scoped has is =
       subst (λ new. Shows p variables w new (after (Assigns x))) (sym is)
-      (assigned_shows p variables w i n regions masked shows depth function sized lanes (converted_values type x.type lanes values) long (size_of x.type) x plain has)
-  delivered_shows Returns delivered plain has is =
+      (assigned_shows p variables w i n regions masked shows depth function sized lanes (converted_values type x.type lanes values) long (size_of x.type) x well_scoped has)
+  delivered_shows Returns delivered well_scoped has is =
       subst (λ new. Shows p variables w new (after Returns)) (sym is.2)
       (returned_shows p variables w i n f lanes (converted_values type f.result_type lanes values) is.0 regions is.1 long (size_of f.result_type)
       (λ frame. returned_on (slice_get p.functions frame.function) type lanes values frame) (λ frame q. ap (λ o. returned_on o type lanes values frame) q)

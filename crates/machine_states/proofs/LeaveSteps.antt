@@ -20,7 +20,7 @@ use Rattle.mask_states.specs.Masked.{Level, Masked, closed, next_in, sent_in}
 use Rattle.mask_states.specs.MaskedStep.{Goes, points_for, past_point, past_calls, step_levels}
 use Rattle.mask_states.proofs.LaneNumbers.{length-waiting_for}
 use Rattle.machine_states.specs.Variables.{Variables}
-use Rattle.machine_states.specs.Plain.{ResultPlain}
+use Rattle.machine_states.specs.WellScoped.{ResultWellScoped}
 use Rattle.machine_states.specs.ArrayParts.{AreMemory, array_region}
 use Rattle.machine_states.specs.Regions.{FunctionOf, LanesOf, ReturnedOf, NumbersOf, ResultOf, OfFile, OfEntry, Depth, OfHead, OfLocal, Region, Regions, lanes_in, with_region, OfLevel}
 use Rattle.machine_states.specs.Shows.{AreSized, result_of, ShowsFrame, ShowsFrames, Shows}
@@ -161,23 +161,23 @@ module _ (p : Program) (variables : Variables) (w : ℕ) (regions : Regions) (j 
     size_of : (to : IntType) → length (converted_values type to lanes values) ≡ w
     size_of to = length-each lanes (λ k. converted type to (word_at values k)) ∙ long
 
-    given_shows : (for : ResultFor) (delivered : Regions) → ResultPlain variables m for → HasResult state.frames for
+    given_shows : (for : ResultFor) (delivered : Regions) → ResultWellScoped variables m for → HasResult state.frames for
         → Delivers w j g for type lanes values regions delivered → ends_as delivered (deliver p type for lanes values state)
-    given_shows Nothing delivered plain has is =
+    given_shows Nothing delivered well_scoped has is =
         subst (λ new. ends_as new state) (sym is) (given_on (λ old. old) state (last_kept j level sent_lanes target (suc j ∷ []) regions) refl shows)
-    given_shows (Declares x) delivered plain has is =
+    given_shows (Declares x) delivered well_scoped has is =
         let given : List ℕ = converted_values type x.type lanes values in
         subst (λ new. ends_as new (deliver p type (Declares x) lanes values state)) (sym is)
         (given_on (declared_in j x.id x.rate lanes given) (deliver p type (Declares x) lanes values state)
         (last_written j level sent_lanes target (suc j ∷ []) regions x.id (declared_region x.rate lanes given)) (scalar_depth _ lowered j x.id)
-        (declared_shows p variables w j m lowered caller shows refl function lowered_sized lanes given long some plain.0 x plain.1))
-    given_shows (Assigns x) delivered plain has is =
+        (declared_shows p variables w j m lowered caller shows refl function lowered_sized lanes given long some well_scoped.0 x well_scoped.1))
+    given_shows (Assigns x) delivered well_scoped has is =
         let given : List ℕ = converted_values type x.type lanes values in
         subst (λ new. ends_as new (deliver p type (Assigns x) lanes values state)) (sym is)
         (given_on (assigned_in j x.id x.rate lanes given) (deliver p type (Assigns x) lanes values state)
         (last_written j level sent_lanes target (suc j ∷ []) regions x.id (assigned_region x.rate lanes given)) (scalar_depth _ lowered j x.id)
-        (assigned_shows p variables w j m lowered caller shows refl function lowered_sized lanes given long (size_of x.type) x plain has))
-    given_shows Returns delivered plain has is =
+        (assigned_shows p variables w j m lowered caller shows refl function lowered_sized lanes given long (size_of x.type) x well_scoped has))
+    given_shows Returns delivered well_scoped has is =
         let given : List ℕ = converted_values type g.result_type lanes values in
         subst (λ new. ends_as new (deliver p type Returns lanes values state)) (sym is.2)
         (given_on (returned_in j g.result lanes given is.0) (deliver p type Returns lanes values state)
@@ -212,7 +212,7 @@ module _ (p : Program) (variables : Variables) (w : ℕ) (gang : IsGangWidth w) 
   some_lanes = ⊎_elim (λ e. omega (arith, e)) (λ h. ⊎_elim (λ e. omega (arith, e)) (λ e. omega (arith, e)) h) gang
 
   abbrev Leaves : List Frame → List (List Level) → (index : ℕ) → Type 0
-  Leaves frames levels index = index ≡ suc j → length frames ≤ 64 → (delivered : Regions) → ResultPlain variables m for → HasResult (drop 1 frames) for
+  Leaves frames levels index = index ≡ suc j → length frames ≤ 64 → (delivered : Regions) → ResultWellScoped variables m for → HasResult (drop 1 frames) for
       → Delivers w j g for f.result_type call_lanes (seen f.result call_lanes result_words) regions delivered
       → (after : Masked) × (step_levels p masked.state.memory frames levels ≡ Goes after) × Shows p variables w (left_regions delivered) after
 
@@ -257,12 +257,12 @@ module _ (p : Program) (variables : Variables) (w : ℕ) (gang : IsGangWidth w) 
     waiting_long : length (waiting_in regions j below_level call_number) ≡ w
     waiting_long = length-waiting_for call_number (regions (OfLevel j below_level NumbersOf)) ∙ numbers_long w regions j g below_level lower_turns under top
 
-    left_here : (delivered : Regions) → ResultPlain variables m for → HasResult (below ∷ frames) for
+    left_here : (delivered : Regions) → ResultWellScoped variables m for → HasResult (below ∷ frames) for
         → Delivers w j g for f.result_type call_lanes (seen f.result call_lanes result_words) regions delivered
         → (after : Masked)
         × (step_levels p masked.state.memory (frame ∷ below ∷ frames) (levels_left ∷ (caller_top ∷ under) ∷ rest) ≡ Goes after)
         × Shows p variables w (left_regions delivered) after
-    left_here delivered plain has is =
+    left_here delivered well_scoped has is =
         let values : List ℕ = seen f.result call_lanes result_words in
         let runs_f : slice_get p.functions frame.function ≡ Some f = ap (slice_get p.functions) runs ∙ is_next.is_function in
         let on : List Level = closed (sent_in (waiting_in regions j below_level call_number) (λ k. next) caller_top ∷ under) in (
@@ -273,22 +273,22 @@ module _ (p : Program) (variables : Variables) (w : ℕ) (gang : IsGangWidth w) 
               ∙ ap (λ o. Goes (record { state = deliver p f.result_type for call_lanes values out; levels = past_point o caller_top under ∷ rest })) point_below,
           given_shows p variables w regions j below_level m g some_lanes below_runs is_below sized out caller_top under rest (below_long w regions j g below_level lower_turns under top) lowered_shows
               f.result_type call_lanes values
-              (length-lanes_of_word w (word_at (regions (OfHead (suc j) LanesOf)) 0)) (waiting_in regions j below_level call_number) waiting_long (λ k. next) for delivered plain has is,
+              (length-lanes_of_word w (word_at (regions (OfHead (suc j) LanesOf)) 0)) (waiting_in regions j below_level call_number) waiting_long (λ k. next) for delivered well_scoped has is,
         )
 
   leaves_at : HoldsOnTop p variables w regions (suc j) level n f number None is_next (λ frames levels index k. Leaves frames levels index)
-  leaves_at frame [] turns lower rest runs at top s index few delivered plain has is = absurd (omega (arith, index))
-  leaves_at frame (below ∷ frames) turns lower [] runs at top s index few delivered plain has is = absurd s.2
-  leaves_at frame (below ∷ frames) turns lower (levels ∷ rest) runs at top s index few delivered plain has is =
+  leaves_at frame [] turns lower rest runs at top s index few delivered well_scoped has is = absurd (omega (arith, index))
+  leaves_at frame (below ∷ frames) turns lower [] runs at top s index few delivered well_scoped has is = absurd s.2
+  leaves_at frame (below ∷ frames) turns lower (levels ∷ rest) runs at top s index few delivered well_scoped has is =
       let caller = caller_levels p variables w regions j below_level m g below_runs is_below inner (length frames) below levels (omega (arith, index)) s.2.0 in
       let levels_left : List Level = level_of regions (suc (length frames)) f level turns ∷ lower in
       subst (λ ls. (after : Masked)
       × (step_levels p masked.state.memory (frame ∷ below ∷ frames) (levels_left ∷ ls ∷ rest) ≡ Goes after)
       × Shows p variables w (left_regions delivered) after) (sym caller.levels_are)
       (left_here frame below frames turns caller.turns lower caller.under rest (omega (arith, index)) runs at
-      (subst (λ ls. ShowsFrames p variables w regions (frame ∷ below ∷ frames) (levels_left ∷ ls ∷ rest)) caller.levels_are s) caller.top few delivered plain has is)
+      (subst (λ ls. ShowsFrames p variables w regions (frame ∷ below ∷ frames) (levels_left ∷ ls ∷ rest)) caller.levels_are s) caller.top few delivered well_scoped has is)
 
   -- the result is given, and the lanes of the call go on
-  pub leaves : (delivered : Regions) → ResultPlain variables m for → HasResult (drop 1 masked.state.frames) for
+  pub leaves : (delivered : Regions) → ResultWellScoped variables m for → HasResult (drop 1 masked.state.frames) for
       → Delivers w j g for f.result_type call_lanes (seen f.result call_lanes result_words) regions delivered → GoesTo p variables w masked (left_regions delivered)
   leaves = on_top p variables w regions (suc j) level n f number None is_next (λ frames levels index k. Leaves frames levels index) leaves_at masked shows refl shows.few

@@ -36,7 +36,7 @@ mod NestedRows
 pub mod NextPoints
 pub mod NextRounds
 pub mod PackedSteps
-pub mod PlainPoints
+pub mod WellScopedPoints
 pub mod Pokes
 pub mod PutSteps
 pub mod ReadValues

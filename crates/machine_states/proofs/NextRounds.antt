@@ -17,7 +17,7 @@ use Rattle.foreach_lowering.specs.Kept.{Takes, turns_left}
 use Rattle.foreach_lowering.specs.Law.{HasDimensions}
 use Rattle.foreach_lowering.specs.RoundViews.{AreLeft, IsFormOf, IsNextRound, kept_view, round_turn}
 use Rattle.machine_states.specs.Variables.{Variables, IsOwn}
-use Rattle.machine_states.specs.Plain.{DimensionPlain, FormPlain, IsPlainProgram}
+use Rattle.machine_states.specs.WellScoped.{DimensionWellScoped, FormWellScoped, IsWellScopedProgram}
 use Rattle.machine_states.specs.Declared.{AreDeclared}
 use Rattle.machine_states.specs.Levels.{IsForm, kept_in}
 use Rattle.machine_states.specs.Regions.{CountersOf, OfLevel, Regions}
@@ -26,7 +26,7 @@ use Rattle.machine_states.specs.Shows.{AreSized, level_words, Shows}
 use Rattle.machine_states.specs.Effects.{round_in}
 use Rattle.machine_states.specs.Steps.{IsNext, end_in, GoesTo}
 use Rattle.machine_states.proofs.AllDeclared.{AreOwn}
-use Rattle.machine_states.proofs.DeclaredPoints.{plain_point}
+use Rattle.machine_states.proofs.DeclaredPoints.{well_scoped_point}
 use Rattle.machine_states.proofs.RoundCounters.{counters_long, kept_behind, left_is_kept}
 use Rattle.machine_states.proofs.RoundSteps.{form_of_level, round_goes, round_lanes, round_there, same_form}
 use Rattle.machine_states.proofs.RoundTurns.{takes_indices, takes_lane}
@@ -37,31 +37,31 @@ use Rattle.machine_states.proofs.TurnPlaces.{turn_last}
 abbrev pub IsOwnOne : Variables → (function : ℕ) → Var → Type 0
 IsOwnOne variables n x = (k : ℕ) × IsOwn variables n k x
 
-dimensions_own : (variables : Variables) (n : ℕ) (ds : List Dimension) → All (DimensionPlain variables n) ds → Each (IsOwnOne variables n) (map (λ d. d.index) ds)
-dimensions_own variables n [] plain = tt
-dimensions_own variables n (d ∷ ds) plain = ((All-head (DimensionPlain variables n) d ds plain).0, dimensions_own variables n ds (All-tail (DimensionPlain variables n) d ds plain))
+dimensions_own : (variables : Variables) (n : ℕ) (ds : List Dimension) → All (DimensionWellScoped variables n) ds → Each (IsOwnOne variables n) (map (λ d. d.index) ds)
+dimensions_own variables n [] well_scoped = tt
+dimensions_own variables n (d ∷ ds) well_scoped = ((All-head (DimensionWellScoped variables n) d ds well_scoped).0, dimensions_own variables n ds (All-tail (DimensionWellScoped variables n) d ds well_scoped))
 
 -- they are the function's own
-pub indices_own : (variables : Variables) (n : ℕ) (form : RoundsOf) → FormPlain variables n form → Each (IsOwnOne variables n) (indices_of form)
-indices_own variables n (Rows ds) plain = dimensions_own variables n ds plain.1
-indices_own variables n (Tiles ds) plain = dimensions_own variables n ds plain.1
-indices_own variables n (EachLane x) plain = (plain.0, tt)
-indices_own variables n (EachValue x e) plain = (plain.0, tt)
+pub indices_own : (variables : Variables) (n : ℕ) (form : RoundsOf) → FormWellScoped variables n form → Each (IsOwnOne variables n) (indices_of form)
+indices_own variables n (Rows ds) well_scoped = dimensions_own variables n ds well_scoped.1
+indices_own variables n (Tiles ds) well_scoped = dimensions_own variables n ds well_scoped.1
+indices_own variables n (EachLane x) well_scoped = (well_scoped.0, tt)
+indices_own variables n (EachValue x e) well_scoped = (well_scoped.0, tt)
 
 given_own : (variables : Variables) (n : ℕ) (xs : List Var) (lists : List (List ℕ)) → Each (IsOwnOne variables n) xs → AreOwn variables n (zip xs lists)
 given_own variables n [] lists own = tt
 given_own variables n (x ∷ xs) [] own = tt
 given_own variables n (x ∷ xs) (ws ∷ lists) own = (own.0, given_own variables n xs lists own.1)
 
-pub plain_dimensions : (variables : Variables) (n : ℕ) (form : RoundsOf) → FormPlain variables n form → HasDimensions form
-plain_dimensions variables n (Rows ds) plain = plain.0
-plain_dimensions variables n (Tiles ds) plain = plain.0
-plain_dimensions variables n (EachLane x) plain = tt
-plain_dimensions variables n (EachValue x e) plain = tt
+pub well_scoped_dimensions : (variables : Variables) (n : ℕ) (form : RoundsOf) → FormWellScoped variables n form → HasDimensions form
+well_scoped_dimensions variables n (Rows ds) well_scoped = well_scoped.0
+well_scoped_dimensions variables n (Tiles ds) well_scoped = well_scoped.0
+well_scoped_dimensions variables n (EachLane x) well_scoped = tt
+well_scoped_dimensions variables n (EachValue x e) well_scoped = tt
 
 -- ---- the step
 
-module _ (variables : Variables) (most : ℕ) (p : Program) (plain : IsPlainProgram variables most p) (numbered : IsNumberedProgram p) (w : ℕ) (regions : Regions) (masked : Masked) (shows : Shows p variables w regions masked)
+module _ (variables : Variables) (most : ℕ) (p : Program) (well_scoped : IsWellScopedProgram variables most p) (numbered : IsNumberedProgram p) (w : ℕ) (regions : Regions) (masked : Masked) (shows : Shows p variables w regions masked)
     (declared : AreDeclared variables p masked) (i n : ℕ) (f : Function) (number body : StepNumber) (form : RoundsOf) (is_form : slice_get (round_forms f) number ≡ Some (Some form)) where
   in_form : (level : ℕ) → IsNext p w regions i (suc level) n f number (Some (Turn body)) → (number ≡ end_in regions i f (suc level)) × IsForm (points_in f) w (level_words regions i (suc level)) form
   in_form level next =
@@ -78,10 +78,10 @@ module _ (variables : Variables) (most : ℕ) (p : Program) (plain : IsPlainProg
   level_of_form (suc level) next = (in_form level next).1
 
   -- whose index variables are the function's own
-  pub form_plain : (level : ℕ) → IsNext p w regions i level n f number (Some (Turn body)) → FormPlain variables n form
-  form_plain level next =
+  pub form_well_scoped : (level : ℕ) → IsNext p w regions i level n f number (Some (Turn body)) → FormWellScoped variables n form
+  form_well_scoped level next =
       let is = level_of_form level next in
-      plain_point variables n f (plain.functions n f next.is_function).body is.head (Begin form _ is.next) is.begins
+      well_scoped_point variables n f (well_scoped.functions n f next.is_function).body is.head (Begin form _ is.next) is.begins
 
   module _ (some : 0 < w) (left : RoundsLeft w) (of_form : IsFormOf w form left) (are_left : AreLeft w left) where
     abbrev IsLeftOf : ℕ → Type 0
@@ -116,13 +116,13 @@ module _ (variables : Variables) (most : ℕ) (p : Program) (plain : IsPlainProg
       next_round_goes zero next kept sized = absurd (omega (arith, (turn_last p variables w regions masked shows i 0 n f number body next (numbered n f next.is_function) declared).0))
       next_round_goes (suc level) next kept sized =
           let at = in_form level next in
-          let own = form_plain (suc level) next in
+          let own = form_well_scoped (suc level) next in
           let long : length (lanes_of w round.lanes) ≡ w = length-lanes_of_word w round.lanes.word in
           let counters : List ℕ = regions (OfLevel i (suc level) CountersOf) in
           round_goes p variables w regions masked shows i level n f number body next (numbered n f next.is_function) at.0 form is_form (round_turn w form round) (kept_view w round.left)
           (subst (λ k. Takes form w k (round_turn w form round) (kept_view w round.left)) kept (is_next.0 form of_form).0) long
           (counters_behind w round.left counters) (counters_long w round.left counters ∙ at.1.counted)
-          (kept_behind w form (level_words regions i (suc level)) at.1.counted (plain_dimensions variables n form own) left round.left kept of_form is_next.2)
+          (kept_behind w form (level_words regions i (suc level)) at.1.counted (well_scoped_dimensions variables n form own) left round.left kept of_form is_next.2)
           (left_is_kept w form round.left (is_next.0 form of_form).1 is_next.1)
           some sized (round_indices w (indices_of form) round.indices) (given_own variables n (indices_of form) _ (indices_own variables n form own))
           (takes_indices variables n w some (kept_view w left) (kept_view w round.left) (lanes_of w round.lanes) long round.indices form own (left_is_kept w form left of_form are_left) (is_next.0 form of_form).0)

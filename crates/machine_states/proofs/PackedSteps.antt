@@ -16,7 +16,7 @@ use Rattle.mask_states.specs.Points.{Put}
 use Rattle.mask_states.specs.Masked.{Masked}
 use Rattle.machine_states.specs.Variables.{Variables, IsArray, IsScalar}
 use Rattle.machine_states.specs.ArrayParts.{array_region, view_at}
-use Rattle.machine_states.specs.Plain.{ResultPlain}
+use Rattle.machine_states.specs.WellScoped.{ResultWellScoped}
 use Rattle.machine_states.specs.Regions.{FunctionOf, OfFile, OfLocal, Region, Regions, with_region}
 use Rattle.machine_states.specs.Shows.{AreSized, Shows}
 use Rattle.machine_states.specs.Effects.{assigned_in, assigned_region, region_of, sent_on, stored_in, stored_region}
@@ -35,7 +35,7 @@ use Rattle.machine_states.proofs.WrittenVariables.{HasVariable, assigned_shows}
 -- each region has as many words as before
 pub sized_kept : (variables : Variables) (w : ℕ) (region : Region) (words : List ℕ) (old : Regions) → length words ≡ length (old region) → AreSized variables w old → AreSized variables w (with_region region words old)
 sized_kept variables w region words old same sized = record {
-  file = λ k v is plain. lengths_all region words old same (OfFile k) ∙ sized.file k v is plain;
+  file = λ k v is well_scoped. lengths_all region words old same (OfFile k) ∙ sized.file k v is well_scoped;
   own = λ index n k v below is. lengths_all region words old same (OfLocal index k) ∙ sized.own index n k v below is;
 }
 
@@ -98,10 +98,10 @@ module _ (p : Program) (variables : Variables) (w : ℕ) (regions : Regions) (ma
 
         -- the elements are stored to, and then the count is given
         pub packs : (found : List ℕ) → try_each (waiting_in regions i level number) (λ k. element masked.state view (rank (waiting_in regions i level number) k)) ≡ Ok found
-            → AreSized variables w regions → ResultPlain variables n for → HasResult masked.state.frames for
+            → AreSized variables w regions → ResultWellScoped variables n for → HasResult masked.state.frames for
             → (delivered : Regions) → Delivers w i f for Int32 (waiting_in regions i level number) counts (stored_in view (waiting_in regions i level number) ranks x regions) delivered
             → GoesTo p variables w masked (sent_on i level (waiting_in regions i level number) (λ k. target) delivered)
-        packs found is sized plain has delivered gives =
+        packs found is sized well_scoped has delivered gives =
             let stored : Regions = stored_in view lanes ranks x regions in
             let after : List ℕ = stored_region view lanes ranks x (regions (array_region view.array)) in
             let depth = array_depth after regions view.array ∙ next.depth in
@@ -110,7 +110,7 @@ module _ (p : Program) (variables : Variables) (w : ℕ) (regions : Regions) (ma
             (delivered_shows p variables w stored (record masked { state = write (ToElements view ranks) lanes x masked.state }) (stored_shows p variables w regions masked shows view lanes ranks x)
             (some p variables w regions masked shows i level n f number s target next) i n f depth (array_head after regions view.array i FunctionOf ∙ next.function) next.is_function
             (sized_kept variables w (array_region view.array) after regions (length-stored 0 lanes _ x (regions (array_region view.array))) sized)
-            Int32 lanes counts (long p variables w regions masked shows i level n f number s target next) for delivered plain has gives)
+            Int32 lanes counts (long p variables w regions masked shows i level n f number s target next) for delivered well_scoped has gives)
             (delivered_depth w i f for Int32 lanes counts stored delivered gives ∙ depth)
 
   -- ---- loads
@@ -139,11 +139,11 @@ module _ (p : Program) (variables : Variables) (w : ℕ) (regions : Regions) (ma
 
       -- the variable has the elements, and then the count is given
       pub unpacks : (found : List ℕ) → try_each (waiting_in regions i level number) (λ k. element masked.state view (rank (waiting_in regions i level number) k)) ≡ Ok found
-          → AreSized variables w regions → IsScalar variables n x → HasVariable masked.state.frames x.id → ResultPlain variables n for → HasResult masked.state.frames for
+          → AreSized variables w regions → IsScalar variables n x → HasVariable masked.state.frames x.id → ResultWellScoped variables n for → HasResult masked.state.frames for
           → length (assigned_region x.rate (waiting_in regions i level number) found (regions (region_of i x.id))) ≡ length (regions (region_of i x.id))
           → (delivered : Regions) → Delivers w i f for Int32 (waiting_in regions i level number) counts (assigned_in i x.id x.rate (waiting_in regions i level number) found regions) delivered
           → GoesTo p variables w masked (sent_on i level (waiting_in regions i level number) (λ k. target) delivered)
-      unpacks found is sized scalar there plain has same delivered gives =
+      unpacks found is sized scalar there well_scoped has same delivered gives =
           let after : List ℕ = assigned_region x.rate lanes found (regions (region_of i x.id)) in
           let assigned : Regions = assigned_in i x.id x.rate lanes found regions in
           let wide = long p variables w regions masked shows i level n f number l target next in
@@ -155,6 +155,6 @@ module _ (p : Program) (variables : Variables) (w : ℕ) (regions : Regions) (ma
           (assigned_shows p variables w i n regions masked shows next.depth next.function sized lanes found wide full x scalar there)
           (some p variables w regions masked shows i level n f number l target next) i n f depth (scalar_head after regions i x.id i FunctionOf ∙ next.function) next.is_function
           (sized_kept variables w (region_of i x.id) after regions same sized)
-          Int32 lanes counts wide for delivered plain
+          Int32 lanes counts wide for delivered well_scoped
           (result_kept masked.state.frames masked.state.memory for x.id (assigned_words x.rate lanes found (words_in masked.state x.id)) has) gives)
           (delivered_depth w i f for Int32 lanes counts assigned delivered gives ∙ depth)

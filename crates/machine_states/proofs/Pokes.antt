@@ -62,7 +62,7 @@ poked_stands w rate (Some lane) word words region is = record {
 }
 
 -- as many words as before
-poked_long : (rate : Rate) (lane : Option ℕ) (word : ℕ) (region : List ℕ) → length (poked_region rate lane word region) ≡ length region
+pub poked_long : (rate : Rate) (lane : Option ℕ) (word : ℕ) (region : List ℕ) → length (poked_region rate lane word region) ≡ length region
 poked_long Uniform None word region = length-set region 0 word
 poked_long Varying None word region = length-map region (λ x. word)
 poked_long rate (Some lane) word region = length-set region lane word
@@ -85,33 +85,33 @@ module _ (p : Program) (variables : Variables) (w : ℕ) (regions : Regions) (ma
 
   file_stands : (k : ℕ) (v : Variable) → slice_get variables.file k ≡ Some v → v.is_array ≡ false
       → poked_words lane word (words_in masked.state (File k)) ≡ poked_region v.rate lane word (regions (OfFile k))
-  file_stands k v is plain = ap (poked_words lane word) (shows.memory (File k)) ∙ poked_same w v.rate lane word (regions (OfFile k)) (sized.file k v is plain)
+  file_stands k v is well_scoped = ap (poked_words lane word) (shows.memory (File k)) ∙ poked_same w v.rate lane word (regions (OfFile k)) (sized.file k v is well_scoped)
 
   -- a variable of the file, also once the program has ended
   pub pokes_file : (k : ℕ) (v : Variable) → slice_get variables.file k ≡ Some v → v.is_array ≡ false
       → Shows p variables w (with_region (OfFile k) (poked_region v.rate lane word (regions (OfFile k))) regions) (poked_masked (File k))
-  pokes_file k v is plain =
+  pokes_file k v is well_scoped =
       let region : List ℕ = poked_region v.rate lane word (regions (OfFile k)) in
       subst (λ state. Shows p variables w (with_region (OfFile k) region regions) (record { state = state; levels = masked.levels })) (sym (poke_is (File k) lane word masked.state))
-      (file_shows p variables w 0 0 regions k (poked_words lane word (words_in masked.state (File k))) region (file_stands k v is plain) (poked_long v.rate lane word (regions (OfFile k))) masked shows)
+      (file_shows p variables w 0 0 regions k (poked_words lane word (words_in masked.state (File k))) region (file_stands k v is well_scoped) (poked_long v.rate lane word (regions (OfFile k))) masked shows)
 
   module _ (i n : ℕ) (depth : regions Depth ≡ suc i ∷ []) (function : regions (OfHead i FunctionOf) ≡ n ∷ []) where
     stands : (id : VarId) (v : Variable) → variable_of variables n id ≡ Some v → v.is_array ≡ false → HasVariable masked.state.frames id
         → StandsIn variables w n id (poked_words lane word (words_in masked.state id)) (poked_region v.rate lane word (regions (region_of i id))) (regions (region_of i id))
-    stands (File k) v is plain there = (file_stands k v is plain, poked_long v.rate lane word (regions (OfFile k)))
-    stands (Local k) v is plain there = (
+    stands (File k) v is well_scoped there = (file_stands k v is well_scoped, poked_long v.rate lane word (regions (OfFile k)))
+    stands (Local k) v is well_scoped there = (
       subst (λ rate. IsScalarIn w rate (poked_words lane word (words_in masked.state (Local k))) (poked_region v.rate lane word (regions (OfLocal i k)))) (sym (ap rate_of is))
-          (poked_stands w v.rate lane word (words_in masked.state (Local k)) (regions (OfLocal i k)) (variable_in p variables w i n regions masked shows depth function sized (Local k) v is plain there)),
-      ap is_array_of is ∙ plain,
+          (poked_stands w v.rate lane word (words_in masked.state (Local k)) (regions (OfLocal i k)) (variable_in p variables w i n regions masked shows depth function sized (Local k) v is well_scoped there)),
+      ap is_array_of is ∙ well_scoped,
     )
 
     -- a variable of the file, or one that is declared in the top frame
     pub pokes : (id : VarId) (v : Variable) → variable_of variables n id ≡ Some v → v.is_array ≡ false → HasVariable masked.state.frames id
         → Shows p variables w (with_region (region_of i id) (poked_region v.rate lane word (regions (region_of i id))) regions) (poked_masked id)
-    pokes id v is plain there =
+    pokes id v is well_scoped there =
         let region : List ℕ = poked_region v.rate lane word (regions (region_of i id)) in
         subst (λ state. Shows p variables w (with_region (region_of i id) region regions) (record { state = state; levels = masked.levels })) (sym (poke_is id lane word masked.state))
-        (written_shows p variables w i n regions masked shows depth function id (poked_words lane word (words_in masked.state id)) region (stands id v is plain there))
+        (written_shows p variables w i n regions masked shows depth function id (poked_words lane word (words_in masked.state id)) region (stands id v is well_scoped there))
 
 -- ---- elements
 

@@ -15,7 +15,7 @@ use Rattle.gang_model.specs.Running.Value.{element, value}
 use Rattle.gang_model.specs.Running.Step.{initial, part, passed}
 use Rattle.mask_states.proofs.ResultLaws.{bind_same}
 use Rattle.machine_states.specs.Variables.{Variables, IsArray, IsScalar}
-use Rattle.machine_states.specs.Plain.{IsPlainExpr, IsPlainOption, ArgsPlain}
+use Rattle.machine_states.specs.WellScoped.{IsWellScopedExpr, IsWellScopedOption, ArgsWellScoped}
 use Rattle.machine_states.specs.Declared.{IsThere, NamesDeclared, OptionDeclared, ArgsDeclared}
 
 -- ---- words
@@ -59,7 +59,7 @@ element_same s t same view i = ap (λ ws. if nat_lt i view.len then Ok (at ws (v
 -- two states in which each declared scalar is read alike, with the same arrays
 module _ (variables : Variables) (n : ℕ) (d : List ℕ) (w : ℕ) (s t : State) (alike : (x : Var) → IsScalar variables n x → IsThere d x.id → AreReadAlike w x.rate (words_in s x.id) (words_in t x.id))
     (same_memory : (v : VarId) → words_of s.memory v ≡ words_of t.memory v) (same_views : (a : VarId) → IsArray variables n a → view_of s a ≡ view_of t a) where
-  pub value_agrees : (e : Expr) → IsPlainExpr variables n e → NamesDeclared d e → (lanes : Lanes) → length lanes ≡ w → value e lanes s ≡ value e lanes t
+  pub value_agrees : (e : Expr) → IsWellScopedExpr variables n e → NamesDeclared d e → (lanes : Lanes) → length lanes ≡ w → value e lanes s ≡ value e lanes t
   value_agrees (Number m) p h lanes l = refl
   value_agrees ProgramIndex p h lanes l = refl
   value_agrees ProgramCount p h lanes l = refl
@@ -101,15 +101,15 @@ module _ (variables : Variables) (n : ℕ) (d : List ℕ) (w : ℕ) (s t : State
       (λ x. bind_same (value b lanes s) (value b lanes t) _ _ (value_agrees b p.1 h.1 lanes l)
       (λ y. bind_same (value places lanes s) (value places lanes t) _ _ (value_agrees places p.2 h.2 lanes l) (λ q. refl)))
 
-  pub initial_agrees : (e : Option Expr) → IsPlainOption variables n e → OptionDeclared d e → (lanes : Lanes) → length lanes ≡ w → initial e lanes s ≡ initial e lanes t
+  pub initial_agrees : (e : Option Expr) → IsWellScopedOption variables n e → OptionDeclared d e → (lanes : Lanes) → length lanes ≡ w → initial e lanes s ≡ initial e lanes t
   initial_agrees None p h lanes l = refl
   initial_agrees (Some e) p h lanes l = value_agrees e p h lanes l
 
-  pub part_agrees : (from : Option Expr) → IsPlainOption variables n from → OptionDeclared d from → (view : View) (lanes : Lanes) → length lanes ≡ w → part from view lanes s ≡ part from view lanes t
+  pub part_agrees : (from : Option Expr) → IsWellScopedOption variables n from → OptionDeclared d from → (view : View) (lanes : Lanes) → length lanes ≡ w → part from view lanes s ≡ part from view lanes t
   part_agrees None p h view lanes l = refl
   part_agrees (Some e) p h view lanes l = bind_same (value e lanes s) (value e lanes t) _ _ (value_agrees e p h lanes l) (λ x. refl)
 
-  pub passed_agrees : (called k : ℕ) (args : List Arg) → ArgsPlain variables n called k args → ArgsDeclared d args → (lanes : Lanes) → length lanes ≡ w → passed args lanes s ≡ passed args lanes t
+  pub passed_agrees : (called k : ℕ) (args : List Arg) → ArgsWellScoped variables n called k args → ArgsDeclared d args → (lanes : Lanes) → length lanes ≡ w → passed args lanes s ≡ passed args lanes t
   passed_agrees called k [] p h lanes l = refl
   passed_agrees called k (Value x e ∷ args) p h lanes l = bind_same (value e lanes s) (value e lanes t) _ _ (value_agrees e p.1 h.0 lanes l)
       (λ y. bind_same (passed args lanes s) (passed args lanes t) _ _ (passed_agrees called (suc k) args p.2 h.1 lanes l) (λ rest. refl))

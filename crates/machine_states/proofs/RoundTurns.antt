@@ -21,7 +21,7 @@ use Rattle.foreach_lowering.specs.RoundViews.{index_store}
 use Rattle.foreach_lowering.proofs.Grids.{takes_first}
 use Rattle.foreach_lowering.proofs.TakenRounds.{HasLane, IsPlace, row_has_lane, tile_has_lane, lanes_have_lanes, values_have_lanes}
 use Rattle.machine_states.specs.Variables.{Variables}
-use Rattle.machine_states.specs.Plain.{DimensionPlain, FormPlain}
+use Rattle.machine_states.specs.WellScoped.{DimensionWellScoped, FormWellScoped}
 use Rattle.machine_states.specs.Rounds.{indices_of, round_indices, declared_store}
 use Rattle.machine_states.proofs.DeclaredLists.{same_first}
 
@@ -122,7 +122,7 @@ module _ (slots : Slots) (lanes : Lanes) (are : lanes ≡ map is_some slots) whe
       ∙ ap (λ more. (d.index.id, declared_words d.index.rate lanes ws) ∷ more)
       (stored_declared (suc j) ds lists (All-tail (λ d. d.index.rate ≡ Varying) d ds varying) (ap later_words e))
 
-pub all_varying : (variables : Variables) (n : ℕ) (ds : List Dimension) → All (DimensionPlain variables n) ds → All (λ d. d.index.rate ≡ Varying) ds
+pub all_varying : (variables : Variables) (n : ℕ) (ds : List Dimension) → All (DimensionWellScoped variables n) ds → All (λ d. d.index.rate ≡ Varying) ds
 all_varying variables n ds all = λ k d within. (all k d within).1
 
 -- a uniform variable
@@ -144,7 +144,7 @@ module _ (variables : Variables) (n width : ℕ) (some : 0 < width) (kept after 
   abbrev taken : RoundsOf → Turn
   taken form = record { lanes = lanes; indices = index_store width form indices }
 
-  by_slots : (ds : List Dimension) (slots : Slots) → All (DimensionPlain variables n) ds → turn ds slots ≡ record { lanes = lanes; indices = index_store width (Rows ds) indices }
+  by_slots : (ds : List Dimension) (slots : Slots) → All (DimensionWellScoped variables n) ds → turn ds slots ≡ record { lanes = lanes; indices = index_store width (Rows ds) indices }
       → index_store width (Rows ds) indices ≡ declared_store lanes (round_indices width (map (λ d. d.index) ds) indices)
   by_slots ds slots all e = by_indices indices (ap (λ t. t.indices) e)
     where
@@ -157,21 +157,21 @@ module _ (variables : Variables) (n width : ℕ) (some : 0 < width) (kept after 
           none (d ∷ ds) h = absurd cc
 
   -- the words of the index variables are those that the lanes declare
-  pub takes_indices : (form : RoundsOf) → FormPlain variables n form → IsKept form width kept → Takes form width kept (record { lanes = lanes; indices = index_store width form indices }) after
+  pub takes_indices : (form : RoundsOf) → FormWellScoped variables n form → IsKept form width kept → Takes form width kept (record { lanes = lanes; indices = index_store width form indices }) after
       → index_store width form indices ≡ declared_store lanes (round_indices width (indices_of form) indices)
-  takes_indices (Rows ds) plain is takes = let at = first_mapped (turn ds) _ _ _ takes in by_slots ds at.0 plain.1 at.1
-  takes_indices (Tiles ds) plain is takes = let at = first_mapped (turn ds) _ _ _ takes in by_slots ds at.0 plain.1 at.1
-  takes_indices (EachLane i) plain is takes =
+  takes_indices (Rows ds) well_scoped is takes = let at = first_mapped (turn ds) _ _ _ takes in by_slots ds at.0 well_scoped.1 at.1
+  takes_indices (Tiles ds) well_scoped is takes = let at = first_mapped (turn ds) _ _ _ takes in by_slots ds at.0 well_scoped.1 at.1
+  takes_indices (EachLane i) well_scoped is takes =
       let first = first_mapped (lane_turn i width) _ _ _ takes in
       by_indices first.0 indices (ap (λ t. t.indices) first.1) (takes_lane width some kept after (taken (EachLane i)) (EachLane i) is takes)
     where
       by_indices : (word : ℕ) (indices : Indices width) → (i.id, word ∷ []) ∷ [] ≡ index_store width (EachLane i) indices → no_lane lanes ≡ false → index_store width (EachLane i) indices ≡ declared_store lanes (round_indices width (i ∷ []) indices)
       by_indices k (words.Varying lists) h lane = absurd cc
-      by_indices k (words.Uniform word) h lane = declared_uniform lanes width i word plain.1 lane long
-  takes_indices (EachValue v e) plain is takes =
+      by_indices k (words.Uniform word) h lane = declared_uniform lanes width i word well_scoped.1 lane long
+  takes_indices (EachValue v e) well_scoped is takes =
       let first = first_mapped (value_turn v kept.lanes kept.values) _ _ _ takes in
       by_indices first.0 indices (ap (λ t. t.indices) first.1) (takes_lane width some kept after (taken (EachValue v e)) (EachValue v e) is takes)
     where
       by_indices : (word : ℕ) (indices : Indices width) → (v.id, word ∷ []) ∷ [] ≡ index_store width (EachValue v e) indices → no_lane lanes ≡ false → index_store width (EachValue v e) indices ≡ declared_store lanes (round_indices width (v ∷ []) indices)
       by_indices k (words.Varying lists) h lane = absurd cc
-      by_indices k (words.Uniform word) h lane = declared_uniform lanes width v word plain.1 lane long
+      by_indices k (words.Uniform word) h lane = declared_uniform lanes width v word well_scoped.1 lane long

@@ -14,7 +14,7 @@ use Rattle.gang_model.specs.Types.Tree.{Arg, Value, Array, Variable}
 use Rattle.gang_model.proofs.LaneWords.{if_ok_bind, if_ok_after}
 use Rattle.mask_states.proofs.OwnTasks.{by_bool}
 use Rattle.machine_states.specs.Variables.{Variables, is_array_of, own_of, parameters_of}
-use Rattle.machine_states.specs.Plain.{ArgsPlain, CallPlain}
+use Rattle.machine_states.specs.WellScoped.{ArgsWellScoped, CallWellScoped}
 use Rattle.machine_states.specs.Declared.{IsAmong, own_number, scalars_below, scalar_parameters, has_entry, HasAll}
 use Rattle.machine_states.proofs.DeclaredLists.{or_front, or_back, IsWithin}
 use Rattle.machine_states.proofs.StoreWords.{itself, same_variable}
@@ -107,7 +107,7 @@ module _ (variables : Variables) (n called : ℕ) (lanes : Lanes) (state : State
       (λ other. more j (let apart : suc k ≤ j = grind (arith, nat_tests) in apart) high scalar)
 
   -- each argument that is no array is there
-  passed_has_from : (k : ℕ) (args : List Arg) → ArgsPlain variables n called k args → IfOk (passed args lanes state) (λ a. HasFrom k args a.vars)
+  passed_has_from : (k : ℕ) (args : List Arg) → ArgsWellScoped variables n called k args → IfOk (passed args lanes state) (λ a. HasFrom k args a.vars)
   passed_has_from k [] p = λ j low high scalar. absurd (omega (arith, low, high))
   passed_has_from k (Array parameter array from ∷ args) p =
       if_ok_after (λ a. HasFrom k (Array parameter array from ∷ args) a.vars) (part from (view_of state array) lanes state) _ (λ view.
@@ -119,10 +119,10 @@ module _ (variables : Variables) (n called : ℕ) (lanes : Lanes) (state : State
       (λ rest more j low high scalar. value_passed k args x.id (declared_words x.rate lanes y) rest.vars p.0.id more j low (omega (arith, high)) scalar))
 
   -- so a call begins with its parameters
-  pub passed_has : (args : List Arg) → CallPlain variables n called args → IfOk (passed args lanes state) (λ a. HasAll (scalar_parameters variables called) a.vars)
-  passed_has args plain =
+  pub passed_has : (args : List Arg) → CallWellScoped variables n called args → IfOk (passed args lanes state) (λ a. HasAll (scalar_parameters variables called) a.vars)
+  passed_has args well_scoped =
       IfOk-weaker (passed args lanes state) (λ a. HasFrom 0 args a.vars) (λ a. HasAll (scalar_parameters variables called) a.vars)
       (λ a has k among.
       let scalar = among_scalars (own_of variables called) (parameters_of variables called) k among in
-      has k (omega arith) (omega (arith, plain.all, scalar.0)) scalar.1)
-      (passed_has_from 0 args plain.args_plain)
+      has k (omega arith) (omega (arith, well_scoped.all, scalar.0)) scalar.1)
+      (passed_has_from 0 args well_scoped.args_well_scoped)

@@ -157,53 +157,53 @@ module _ (p : Program) (variables : Variables) (w i n : ℕ) (old : Regions) whe
 
       pub variable_in : (id : VarId) (v : Variable) → variable_of variables n id ≡ Some v → v.is_array ≡ false → HasVariable masked.state.frames id
           → IsScalarIn w v.rate (words_in masked.state id) (old (region_of i id))
-      variable_in (File k) v is plain there =
-          let size : length (old (OfFile k)) ≡ words_for w v.rate = sized.file k v is plain in
+      variable_in (File k) v is well_scoped there =
+          let size : length (old (OfFile k)) ≡ words_for w v.rate = sized.file k v is well_scoped in
           record { long = ap length (shows.memory (File k)) ∙ size; stands = shows.memory (File k) ∙ sym (take_all (words_for w v.rate) (old (OfFile k)) (omega (arith, size))) }
-      variable_in (Local k) v is plain there =
+      variable_in (Local k) v is well_scoped there =
           subst (λ rate. IsScalarIn w rate (words_in masked.state (Local k)) (old (OfLocal i k))) (ap rate_of is)
           (local_in k masked.state.memory masked.state.frames masked.levels shows top_length there)
 
       -- a scalar's words stand in its region
       pub scalar_in : (x : Var) → IsScalar variables n x → HasVariable masked.state.frames x.id → IsScalarIn w x.rate (words_in masked.state x.id) (old (region_of i x.id))
-      scalar_in x (v, is, plain, same) there =
-          subst (λ rate. IsScalarIn w rate (words_in masked.state x.id) (old (region_of i x.id))) (sym (ap (λ y. y.rate) same)) (variable_in x.id v is plain there)
+      scalar_in x (v, is, well_scoped, same) there =
+          subst (λ rate. IsScalarIn w rate (words_in masked.state x.id) (old (region_of i x.id))) (sym (ap (λ y. y.rate) same)) (variable_in x.id v is well_scoped there)
 
       module _ (lanes : Lanes) (values : List ℕ) (long : length lanes ≡ w) where
         module _ (given : length values ≡ w) where
           assigned_in_place : (id : VarId) (v : Variable) → variable_of variables n id ≡ Some v → v.is_array ≡ false → HasVariable masked.state.frames id
               → StandsIn variables w n id (assigned_words v.rate lanes values (words_in masked.state id)) (assigned_region v.rate lanes values (old (region_of i id))) (old (region_of i id))
-          assigned_in_place (File k) v is plain there =
-              let size : length (old (OfFile k)) ≡ words_for w v.rate = sized.file k v is plain in (
+          assigned_in_place (File k) v is well_scoped there =
+              let size : length (old (OfFile k)) ≡ words_for w v.rate = sized.file k v is well_scoped in (
                 ap (assigned_words v.rate lanes values) (shows.memory (File k)) ∙ assigned_same w v.rate lanes values (old (OfFile k)) size,
                 assigned_long w lanes long values given v.rate (old (OfFile k)) size,
               )
-          assigned_in_place (Local k) v is plain there = (
+          assigned_in_place (Local k) v is well_scoped there = (
             subst (λ rate. IsScalarIn w rate (assigned_words v.rate lanes values (words_in masked.state (Local k))) (assigned_region v.rate lanes values (old (OfLocal i k)))) (sym (ap rate_of is))
-                (assigned_stands w lanes long values given v.rate (words_in masked.state (Local k)) (old (OfLocal i k)) (variable_in (Local k) v is plain there)),
-            ap is_array_of is ∙ plain,
+                (assigned_stands w lanes long values given v.rate (words_in masked.state (Local k)) (old (OfLocal i k)) (variable_in (Local k) v is well_scoped there)),
+            ap is_array_of is ∙ well_scoped,
           )
 
           -- a scalar is assigned to
           pub assigned_shows : (x : Var) → IsScalar variables n x → HasVariable masked.state.frames x.id
               → Shows p variables w (assigned_in i x.id x.rate lanes values old)
               (record { state = with_words_in masked.state x.id (assigned_words x.rate lanes values (words_in masked.state x.id)); levels = masked.levels })
-          assigned_shows x (v, is, plain, same) there =
+          assigned_shows x (v, is, well_scoped, same) there =
               written_shows x.id (assigned_words x.rate lanes values (words_in masked.state x.id)) (assigned_region x.rate lanes values (old (region_of i x.id)))
               (subst (λ rate. StandsIn variables w n x.id (assigned_words rate lanes values (words_in masked.state x.id)) (assigned_region rate lanes values (old (region_of i x.id))) (old (region_of i x.id)))
-              (sym (ap (λ y. y.rate) same)) (assigned_in_place x.id v is plain there))
+              (sym (ap (λ y. y.rate) same)) (assigned_in_place x.id v is well_scoped there))
 
         declared_in_place : 0 < w → (k : ℕ) (id : VarId) (v : Variable) → id ≡ Local k → variable_of variables n id ≡ Some v → v.is_array ≡ false
             → StandsIn variables w n id (declared_words v.rate lanes values) (declared_region v.rate lanes values (old (region_of i id))) (old (region_of i id))
-        declared_in_place some k (File j) v e is plain = absurd (apart e)
+        declared_in_place some k (File j) v e is well_scoped = absurd (apart e)
           where
             apart : File j ≡ Local k → ⊥
             apart e = cc
-        declared_in_place some k (Local j) v e is plain =
+        declared_in_place some k (Local j) v e is well_scoped =
             let size : length (old (OfLocal i j)) ≡ w = sized.own i n j v (omega (arith, top_length, shows.few)) is in (
               subst (λ rate. IsScalarIn w rate (declared_words v.rate lanes values) (declared_region v.rate lanes values (old (OfLocal i j)))) (sym (ap rate_of is))
                   (declared_stands w lanes long values v.rate (old (OfLocal i j)) (omega (arith, size, some))),
-              ap is_array_of is ∙ plain,
+              ap is_array_of is ∙ well_scoped,
             )
 
         -- a scalar is declared
@@ -211,7 +211,7 @@ module _ (p : Program) (variables : Variables) (w i n : ℕ) (old : Regions) whe
             → Shows p variables w (declared_in i x.id x.rate lanes values old)
             (record { state = with_words_in masked.state x.id (declared_words x.rate lanes values); levels = masked.levels })
         declared_shows some k x own =
-            let (v, is, plain, same) = own.scalar in
+            let (v, is, well_scoped, same) = own.scalar in
             written_shows x.id (declared_words x.rate lanes values) (declared_region x.rate lanes values (old (region_of i x.id)))
             (subst (λ rate. StandsIn variables w n x.id (declared_words rate lanes values) (declared_region rate lanes values (old (region_of i x.id))) (old (region_of i x.id)))
-            (sym (ap (λ y. y.rate) same)) (declared_in_place some k x.id v own.id is plain))
+            (sym (ap (λ y. y.rate) same)) (declared_in_place some k x.id v own.id is well_scoped))

@@ -2,7 +2,7 @@ pub mod Regions
 pub mod ArrayParts
 pub mod Variables
 pub mod EntryParameters
-pub mod Plain
+pub mod WellScoped
 pub mod Nesting
 pub mod RoundNumbers
 pub mod Awaited

@@ -10,8 +10,8 @@ use Rattle.gang_model.specs.Running.Step.{part}
 use Rattle.gang_model.specs.Running.Value.{value}
 use Rattle.undo_log.specs.History.{History}
 use Rattle.typed_tree.specs.declared.expressions.Var.{Var}
-use Rattle.debug_machine.specs.declared.machine.Fault.{Fault}
-use Rattle.debug_machine.specs.Machines.{fault_view}
+use Rattle.debug_traits.specs.declared.machine.Fault.{Fault}
+use Rattle.debug_traits.specs.Machines.{fault_view}
 use Rattle.mask_states.specs.Masked.{Masked}
 use Rattle.machine_states.specs.ArrayParts.{IsInside, view_at, view_of_words}
 use Rattle.machine_states.specs.Regions.{Regions}
@@ -21,11 +21,11 @@ use Rattle.codegen.specs.declared.code.ArgCode.{ArgCode}
 use Rattle.codegen.specs.declared.code.ArgCode.TheVariants as arg
 use Rattle.machine_words.specs.declared.words.MachineWords.{MachineWords}
 use Rattle.machine_words.specs.Words.{regions_in}
-use Rattle.machine_moves.specs.declared.active.Active.{Active}
-use Rattle.machine_moves.specs.declared.compiled.CompiledProgram.{CompiledProgram}
-use Rattle.machine_moves.specs.Compiled.{program_of, variables_of}
-use Rattle.machine_moves.specs.Parts.{HasNextPoint, IsIndexAt}
-use Rattle.machine_moves.specs.Standing.{IsAnswer, IsShown, IsValueAt}
+use Rattle.frame_steps.specs.declared.active.Active.{Active}
+use Rattle.frame_steps.specs.declared.compiled.CompiledProgram.{CompiledProgram}
+use Rattle.frame_steps.specs.Compiled.{program_of, variables_of}
+use Rattle.frame_steps.specs.Parts.{HasNextPoint, IsIndexAt}
+use Rattle.frame_steps.specs.Standing.{IsAnswer, IsShown, IsValueAt}
 use Rattle.machine_steps.specs.Calls.{IsArgumentAnswer, IsArgumentAt}
 
 module _ (width : ℕ) (compiled : CompiledProgram) (regions : Regions) (active : Active) where

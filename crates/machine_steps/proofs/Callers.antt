@@ -9,19 +9,19 @@ use Rattle.gang_model.specs.Running.RunningOrder.{IsNumberedProgram}
 use Rattle.mask_states.specs.Points.{Enter, Point, points_in}
 use Rattle.mask_states.specs.Masked.{Level, Masked}
 use Rattle.machine_states.specs.Declared.{AreDeclaredFirst, ResultDeclared, declared_before}
-use Rattle.machine_states.specs.Plain.{IsPlainProgram, ResultPlain}
+use Rattle.machine_states.specs.WellScoped.{IsWellScopedProgram, ResultWellScoped}
 use Rattle.machine_states.specs.Regions.{LanesOf, OfHead, Regions, lanes_in}
 use Rattle.machine_states.specs.Shows.{Shows}
 use Rattle.machine_states.specs.Steps.{IsNext, least_in}
 use Rattle.machine_states.specs.Variables.{Variables}
 use Rattle.machine_states.proofs.DeclaredNames.{point_names}
 use Rattle.machine_states.proofs.NextPoints.{on_top}
-use Rattle.machine_states.proofs.PlainPoints.{point_at, points_in-plain}
+use Rattle.machine_states.proofs.WellScopedPoints.{point_at, points_in-well_scoped}
 use Rattle.typed_tree.specs.declared.statements.ResultFor.{ResultFor as TypedResultFor}
 use Rattle.codegen.specs.declared.code.StepCode.{StepCode}
 use Rattle.codegen.specs.declared.code.StepCode.TheVariants as code
 use Rattle.codegen.specs.Codes.{Does}
-use Rattle.machine_moves.specs.Standing.{HaveLanes}
+use Rattle.frame_steps.specs.Standing.{HaveLanes}
 use Rattle.machine_steps.specs.Leaving.{IsAtCall}
 
 -- ---- the lanes of the call that made a frame
@@ -43,10 +43,10 @@ module _ (p : Program) (w : ℕ) (regions : Regions) (frame level n : ℕ) (g : 
   call_within = slice_get_within (points_in g) (least_in regions frame g level) (Enter call.called call.args for next) call.calls
 
   -- the frame has the variable that its result is for
-  pub call_plain : (variables : Variables) (most : ℕ) → IsPlainProgram variables most p → ResultPlain variables n for
-  call_plain variables most plain =
+  pub call_well_scoped : (variables : Variables) (most : ℕ) → IsWellScopedProgram variables most p → ResultWellScoped variables n for
+  call_well_scoped variables most well_scoped =
       (point_at variables n (points_in g) (least_in regions frame g level) (Enter call.called call.args for next)
-      (points_in-plain variables n g (plain.functions n g call.is_function)) call.calls).1
+      (points_in-well_scoped variables n g (well_scoped.functions n g call.is_function)) call.calls).1
 
   -- which is declared, if it is assigned to
   pub call_declared : (variables : Variables) → IsNumberedProgram p → AreDeclaredFirst variables p → ResultDeclared (declared_before variables n g (least_in regions frame g level)) for

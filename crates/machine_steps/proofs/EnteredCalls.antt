@@ -21,7 +21,7 @@ use Rattle.mask_states.specs.Points.{Enter}
 use Rattle.mask_states.proofs.EnterPoints.{entered_function}
 use Rattle.machine_states.specs.ArrayParts.{IsInside, array_region, view_kept, view_of_words}
 use Rattle.machine_states.specs.Effects.{declared_region}
-use Rattle.machine_states.specs.Plain.{ArgsPlain, CallPlain, IsPlainProgram}
+use Rattle.machine_states.specs.WellScoped.{ArgsWellScoped, CallWellScoped, IsWellScopedProgram}
 use Rattle.machine_states.specs.Regions.{OfEntry, OfFile, OfHead, OfLocal, Regions}
 use Rattle.machine_states.specs.Shows.{IsScalarIn, ShowsView}
 use Rattle.machine_states.specs.Steps.{AreSameBelow, FailsWith, IsBegun, waiting_in}
@@ -34,27 +34,23 @@ use Rattle.codegen.specs.declared.code.ArgCode.TheVariants as arg
 use Rattle.codegen.specs.declared.code.StepCode.TheVariants as code
 use Rattle.machine_words.specs.declared.words.MachineWords.{MachineWords}
 use Rattle.machine_words.specs.Words.{AreLaid, left_of, regions_in}
-use Rattle.machine_moves.specs.declared.active.Active.{Active}
-use Rattle.machine_moves.specs.declared.compiled.CompiledProgram.{CompiledProgram}
-use Rattle.machine_moves.specs.Compiled.{IsCompiled, function_of, program_of, variables_of}
-use Rattle.machine_moves.specs.Parts.{HasNextPoint, IsIndexAt}
-use Rattle.machine_moves.specs.Standing.{AreSound, Begins, DoesNext, EndsAs, IsActive, IsShown, IsValueAt, event_room}
+use Rattle.frame_steps.specs.declared.active.Active.{Active}
+use Rattle.frame_steps.specs.declared.compiled.CompiledProgram.{CompiledProgram}
+use Rattle.frame_steps.specs.Compiled.{IsCompiled, function_of, program_of, variables_of}
+use Rattle.frame_steps.specs.Parts.{HasNextPoint, IsIndexAt}
+use Rattle.frame_steps.specs.Standing.{AreSound, Begins, DoesNext, EndsAs, IsActive, IsShown, IsValueAt, event_room}
 use Rattle.codegen.proofs.Rows.{fit_long}
-use Rattle.machine_moves.proofs.FunctionCode.{fit_at}
-use Rattle.machine_moves.proofs.GangLanes.{gang_wide}
-use Rattle.machine_moves.proofs.Standings.{begun_laid, begun_regions, frame_below, lanes_long, own_sized, some_active, step_within}
-use Rattle.machine_moves.proofs.StepValues.{IsArgumentOf, active_plain, enters_at, value_at}
+use Rattle.frame_steps.proofs.FunctionCode.{fit_at}
+use Rattle.frame_steps.proofs.GangLanes.{gang_wide}
+use Rattle.frame_steps.proofs.Standings.{begun_laid, begun_regions, frame_below, lanes_long, own_sized, some_active, step_within}
+use Rattle.frame_steps.proofs.StepValues.{IsArgumentOf, active_well_scoped, enters_at, value_at}
 use Rattle.machine_steps.specs.Calls.{AreArgumentWords, AreParametersDeclared, BeginsFrame, IsArgumentAt}
+use Rattle.machine_states.proofs.Elements.{item_at}
 use Rattle.machine_states.proofs.KeptViews.{kept_whole}
 use Rattle.machine_steps.proofs.OwnParameters.{argument_region, array_in, array_there, made_region, own_of_argument, parameter_in}
 use Rattle.machine_steps.proofs.PassedArguments.{all_passed, passed_with}
 
 -- ---- arguments
-
-item_at : {A : Type 0} (xs : List A) (k : ℕ) → k < length xs → (x : A) × (slice_get xs k ≡ Some x)
-item_at [] k h = absurd (omega (arith, h))
-item_at (x ∷ xs) zero h = (x, refl)
-item_at (x ∷ xs) (suc k) h = item_at xs k (omega (arith, h))
 
 fit_each : {A B : Type 0} (P Q : A → B → Type 0) (xs : List A) (ys : List B) → Fit P xs ys → ((k : ℕ) (x : A) (y : B) → slice_get ys k ≡ Some y → P x y → Q x y) → Fit Q xs ys
 fit_each P Q [] [] h go = tt
@@ -67,12 +63,12 @@ abbrev PassesArray : Variables → (function : ℕ) → Arg → Type 0
 PassesArray variables n (Value x e) = Unit {0}
 PassesArray variables n (Array parameter array from) = IsArray variables n array
 
-passes_array : (variables : Variables) (n called first : ℕ) (meant : List Arg) → ArgsPlain variables n called first meant → (k : ℕ) (y : Arg) → slice_get meant k ≡ Some y → PassesArray variables n y
-passes_array variables n called first [] plain k y is = absurd (none-some y is)
-passes_array variables n called first (Value x e ∷ meant) plain zero y is = subst (PassesArray variables n) (same_Some (Value x e) y is) tt
-passes_array variables n called first (Array parameter array from ∷ meant) plain zero y is = subst (PassesArray variables n) (same_Some (Array parameter array from) y is) plain.1
-passes_array variables n called first (Value x e ∷ meant) plain (suc k) y is = passes_array variables n called (suc first) meant plain.2 k y is
-passes_array variables n called first (Array parameter array from ∷ meant) plain (suc k) y is = passes_array variables n called (suc first) meant plain.3 k y is
+passes_array : (variables : Variables) (n called first : ℕ) (meant : List Arg) → ArgsWellScoped variables n called first meant → (k : ℕ) (y : Arg) → slice_get meant k ≡ Some y → PassesArray variables n y
+passes_array variables n called first [] well_scoped k y is = absurd (none-some y is)
+passes_array variables n called first (Value x e ∷ meant) well_scoped zero y is = subst (PassesArray variables n) (same_Some (Value x e) y is) tt
+passes_array variables n called first (Array parameter array from ∷ meant) well_scoped zero y is = subst (PassesArray variables n) (same_Some (Array parameter array from) y is) well_scoped.1
+passes_array variables n called first (Value x e ∷ meant) well_scoped (suc k) y is = passes_array variables n called (suc first) meant well_scoped.2 k y is
+passes_array variables n called first (Array parameter array from ∷ meant) well_scoped (suc k) y is = passes_array variables n called (suc first) meant well_scoped.3 k y is
 
 module _ (width : ℕ) (compiled : CompiledProgram) (regions : Regions) (active : Active) where
   -- what the code of an expression computes, if the next step may have it
@@ -94,8 +90,8 @@ module _ (width : ℕ) (compiled : CompiledProgram) (regions : Regions) (active 
 
 module _ (width : ℕ) (compiled : CompiledProgram) (is : IsCompiled compiled) (regions : Regions) (active : Active) (f : Function) (called : ℕ) (meant : List Arg) (for : ResultFor) (next : ℕ)
     (at : IsActive width compiled regions active f (Some (Enter called meant for next))) where
-  pub call_plain : CallPlain (variables_of compiled) active.function called meant
-  call_plain = (active_plain width compiled is regions active f (Enter called meant for next) at).0
+  pub call_well_scoped : CallWellScoped (variables_of compiled) active.function called meant
+  call_well_scoped = (active_well_scoped width compiled is regions active f (Enter called meant for next) at).0
 
   pub called_there : (g : Function) × (function_of compiled called ≡ Some g)
   called_there =
@@ -107,16 +103,16 @@ module _ (width : ℕ) (compiled : CompiledProgram) (is : IsCompiled compiled) (
         fit_each IsArg (IsArgumentAt width compiled regions active) args meant fits
         (λ k made y there. argument_at width compiled regions active made y
         (λ e code of. value_at width compiled is regions active f (Enter called meant for next) at e code (k, y, there, of))
-        (passes_array (variables_of compiled) active.function called 0 meant call_plain.args_plain k y there))
+        (passes_array (variables_of compiled) active.function called 0 meant call_well_scoped.args_well_scoped k y there))
 
     pub few_arguments : length args ≤ 8
-    few_arguments = omega (arith, fit_long IsArg args meant fits, call_plain.few)
+    few_arguments = omega (arith, fit_long IsArg args meant fits, call_well_scoped.few)
 
 -- ---- the frame
 
-module _ {T : Type 0} (history : T → History) (left : T → ℕ) (width : ℕ) (variables : Variables) (most : ℕ) (p : Program) (plain_program : IsPlainProgram variables most p)
+module _ {T : Type 0} (history : T → History) (left : T → ℕ) (width : ℕ) (variables : Variables) (most : ℕ) (p : Program) (well_scoped_program : IsWellScopedProgram variables most p)
     (n called frame : ℕ) (g : Function) (lanes : Lanes) (size : length lanes ≡ width)
-    (args : List ArgCode) (meant : List Arg) (fits : Fit IsArg args meant) (plain : CallPlain variables n called meant) (given : List (List ℕ)) (old mid new : MachineWords T)
+    (args : List ArgCode) (meant : List Arg) (fits : Fit IsArg args meant) (well_scoped : CallWellScoped variables n called meant) (given : List (List ℕ)) (old mid new : MachineWords T)
     (declared : AreParametersDeclared history left width frame (length args) args given lanes old mid) (begins : BeginsFrame history left width frame called g lanes mid new) where
   -- the region of each parameter
   own_region : (k : ℕ) (y : Arg) (words : List ℕ) → slice_get meant k ≡ Some y → slice_get given k ≡ Some words
@@ -145,9 +141,9 @@ module _ {T : Type 0} (history : T → History) (left : T → ℕ) (width : ℕ)
     entered_views : (k : ℕ) → ShowsView variables (regions_in history width new) frame called (passed_with lanes meant given).views k
     entered_views k array =
         let there = array_there (slice_get (own_of variables called) k) array in
-        let below = plain_program.arrays called k there.0 there.1 there.2 in
-        let found = array_in variables n called lanes 0 meant given (fit_long (AreArgumentWords width (regions_in history width old) lanes state) meant given are) plain.args_plain k
-        (omega arith) (omega (arith, below, plain.all)) array in
+        let below = well_scoped_program.arrays called k there.0 there.1 there.2 in
+        let found = array_in variables n called lanes 0 meant given (fit_long (AreArgumentWords width (regions_in history width old) lanes state) meant given are) well_scoped.args_well_scoped k
+        (omega arith) (omega (arith, below, well_scoped.all)) array in
         let place : k ≡ found.number = omega (arith, found.place) in
         let y : Arg = Array found.parameter found.array found.from in
         let kept = (fit_at (AreArgumentWords width (regions_in history width old) lanes state) meant given found.number y found.words are found.is_arg found.is_given).1 in
@@ -168,7 +164,7 @@ module _ {T : Type 0} (history : T → History) (left : T → ℕ) (width : ℕ)
       numbers = begins.begun.numbers;
       result_sized = begins.begun.result_sized;
       declared = λ k h.
-          let found = parameter_in variables n called lanes 0 meant given plain.args_plain k h in
+          let found = parameter_in variables n called lanes 0 meant given well_scoped.args_well_scoped k h in
           let y : Arg = Value found.x found.e in
           let within : found.number < length args = omega (arith, slice_get_within meant found.number y found.is_arg, fit_long IsArg args meant fits) in
           let place : k ≡ found.number = omega (arith, found.place) in
@@ -220,8 +216,8 @@ module _ {T : Type 0} (history : T → History) (left : T → ℕ) (width : ℕ)
   pub call_fits : Fit (IsArgumentAt width compiled regions active) args call.meant
   call_fits = arguments_fit width compiled sound.lie.compiled_is regions active call.f called call.meant call.for call.next call.at args call.fits
 
-  call_is_plain : CallPlain (variables_of compiled) active.function called call.meant
-  call_is_plain = call_plain width compiled sound.lie.compiled_is regions active call.f called call.meant call.for call.next call.at
+  call_is_well_scoped : CallWellScoped (variables_of compiled) active.function called call.meant
+  call_is_well_scoped = call_well_scoped width compiled sound.lie.compiled_is regions active call.f called call.meant call.for call.next call.at
 
   pub call_few : length args ≤ 8
   call_few = few_arguments width compiled sound.lie.compiled_is regions active call.f called call.meant call.for call.next call.at args call.fits
@@ -266,7 +262,7 @@ module _ {T : Type 0} (history : T → History) (left : T → ℕ) (width : ℕ)
 
     pub parameters_sized : (k : ℕ) → k < length args → length (regions_in history width open' (OfLocal (active.frame + 1) k)) ≡ width
     parameters_sized k below =
-        let variable = own_of_argument (variables_of compiled) active.function called 0 call.meant call_is_plain.args_plain k (omega (arith, below, fit_long IsArg args call.meant call.fits)) in
+        let variable = own_of_argument (variables_of compiled) active.function called 0 call.meant call_is_well_scoped.args_well_scoped k (omega (arith, below, fit_long IsArg args call.meant call.fits)) in
         own_sized history width compiled old open' sound.lie opened.layout open_laid (active.frame + 1) called k variable.0 deep
         (ap (slice_get (own_of (variables_of compiled) called)) (sym (zero-add k)) ∙ variable.1)
 
@@ -292,9 +288,9 @@ module _ {T : Type 0} (history : T → History) (left : T → ℕ) (width : ℕ)
             let same = begun_regions history left width compiled undone.Step old open' sound.lie opened in
             let are_now = subst (λ rs. Fit (AreArgumentWords width rs lanes masked.state) call.meant given) (sym same) are in
             let begun =
-            entered_begun history left width variables runnable.most p runnable.plain active.function called frame g lanes size args call.meant call.fits call_is_plain given open' mid new declared begins
+            entered_begun history left width variables runnable.most p runnable.well_scoped active.function called frame g lanes size args call.meant call.fits call_is_well_scoped given open' mid new declared begins
             masked.state are_now (omega (arith, wide)) parameters_sized in
-            let below = entered_below history left width variables runnable.most p runnable.plain active.function called frame g lanes size args call.meant call.fits call_is_plain given open' mid new declared begins in (
+            let below = entered_below history left width variables runnable.most p runnable.well_scoped active.function called frame g lanes size args call.meant call.fits call_is_well_scoped given open' mid new declared begins in (
               enters p variables width regions masked shown.shows active.frame active.level active.function called call.f active.step call.meant call.for call.next call.at.next g is
                   arguments (given_passed masked given are) (omega (arith, deep)) now
                   (subst (λ l. IsBegun variables width now (suc active.frame) called g l arguments) call.at.lanes

@@ -21,7 +21,7 @@ use Rattle.machine_states.specs.Regions.{OfFile, Region, same_region}
 use Rattle.machine_words.specs.declared.words.MachineWords.{MachineWords}
 use Rattle.machine_words.specs.Words.{AreLaid, Writes, left_of, regions_in}
 use Rattle.machine_words.proofs.AllLanes.{merged_all}
-use Rattle.machine_moves.proofs.GangLanes.{gang_wide}
+use Rattle.frame_steps.proofs.GangLanes.{gang_wide}
 use Rattle.machine_steps.specs.Beginning.{FillsVariable}
 use Rattle.machine_steps.proofs.WrittenRegions.{one_word, written_away, written_here}
 

@@ -28,16 +28,17 @@ use Rattle.machine_states.proofs.ChangedRegions.{HaveSameLengths}
 use Rattle.machine_states.proofs.DeclaredRows.{rows_declare}
 use Rattle.machine_states.proofs.GivenRows.{given_memory, given_views}
 use Rattle.machine_states.proofs.StoreEntries.{among_scalars}
+use Rattle.machine_states.proofs.Elements.{item_at}
 use Rattle.codegen.specs.Programs.{IsRunnable}
 use Rattle.machine_words.specs.declared.words.MachineWords.{MachineWords}
 use Rattle.machine_words.specs.Words.{regions_in}
-use Rattle.machine_moves.specs.declared.compiled.CompiledProgram.{CompiledProgram}
-use Rattle.machine_moves.specs.Compiled.{program_of, variables_of}
-use Rattle.machine_moves.specs.Standing.{AreFor, IsShown}
-use Rattle.machine_moves.proofs.GangLanes.{gang_wide}
+use Rattle.frame_steps.specs.declared.compiled.CompiledProgram.{CompiledProgram}
+use Rattle.frame_steps.specs.Compiled.{program_of, variables_of}
+use Rattle.frame_steps.specs.Standing.{AreFor, IsShown}
+use Rattle.frame_steps.proofs.GangLanes.{gang_wide}
 use Rattle.machine_steps.specs.Beginning.{FillsFile, GivesRows, HaveEntryLengths, MayBegin}
 use Rattle.machine_steps.specs.Calls.{BeginsFrame}
-use Rattle.machine_steps.proofs.FirstWords.{first_entry, item_at, lie_kept}
+use Rattle.machine_steps.proofs.FirstWords.{first_entry, lie_kept}
 use Rattle.machine_steps.proofs.OwnParameters.{array_there}
 use Rattle.machine_steps.proofs.RowWords.{regions_long}
 
@@ -68,7 +69,7 @@ module _ (compiled : CompiledProgram) (entry : ℕ) (f : Function) (given : List
         is_own = own;
         is_row = is_row;
         row_is = row_is;
-        id = ap (λ (u : Variable). u.id) row_is ∙ runnable.plain.own entry n v own;
+        id = ap (λ (u : Variable). u.id) row_is ∙ runnable.well_scoped.own entry n v own;
       }
 
   -- so each scalar parameter is declared
@@ -82,7 +83,7 @@ module _ (compiled : CompiledProgram) (entry : ℕ) (f : Function) (given : List
   pub rows_give_all : (n : ℕ) → is_array_of (slice_get (own_of (variables_of compiled) entry) n) ≡ true → HasNoArrayRow given (length given) n → ⊥
   rows_give_all n array none =
       let (v, own, is_array) = array_there (slice_get (own_of (variables_of compiled) entry) n) array in
-      let has = has_row n (runnable.plain.arrays entry n v own is_array) in
+      let has = has_row n (runnable.well_scoped.arrays entry n v own is_array) in
       let same : has.variable ≡ v = same_Some has.variable v (sym has.is_own ∙ own) in
       let no_array = none has.number has.row (slice_get_within given has.number has.row has.is_row) has.is_row has.id in
       true≢false (sym is_array ∙ ap (λ (u : Variable). u.is_array) (sym same ∙ sym has.row_is) ∙ no_array)
@@ -172,6 +173,6 @@ module _ {T : Type 0} (history : T → History) (left : T → ℕ) (width : ℕ)
         let wide = gang_wide width lie.gang in
         record {
           shows = begins (program_of compiled) variables width after entry given f may.is_function first_begun memory;
-          declared = start_declared variables runnable.most (program_of compiled) runnable.plain runnable.lowerable.numbered entry width given f may.is_function
+          declared = start_declared variables runnable.most (program_of compiled) runnable.well_scoped runnable.lowerable.numbered entry width given f may.is_function
               (omega (arith, wide)) (rows_declare_all compiled entry f given rows may runnable first);
         }

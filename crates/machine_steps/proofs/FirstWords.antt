@@ -21,30 +21,21 @@ use Rattle.gang_memory.specs.Recorded.{without_words}
 use Rattle.machine_states.specs.Nesting.{most_levels}
 use Rattle.machine_states.specs.Regions.{OfFile}
 use Rattle.machine_states.proofs.StoreWords.{another, itself}
+use Rattle.machine_states.proofs.Elements.{get_mapped, item_at}
 use Rattle.machine_words.specs.declared.words.MachineWords.{MachineWords}
 use Rattle.machine_words.proofs.Sizes.{file_words}
 use Rattle.machine_words.specs.Ranges.{head_sizes, machine_sizes}
 use Rattle.machine_words.specs.Words.{AreLaid, left_of, regions_in, words_of as all_words}
-use Rattle.machine_moves.specs.declared.compiled.CompiledProgram.{CompiledProgram}
-use Rattle.machine_moves.specs.Compiled.{program_of, variables_of}
-use Rattle.machine_moves.specs.Standing.{AreFor}
-use Rattle.machine_moves.proofs.RegionStates.{no_file_words}
+use Rattle.frame_steps.specs.declared.compiled.CompiledProgram.{CompiledProgram}
+use Rattle.frame_steps.specs.Compiled.{program_of, variables_of}
+use Rattle.frame_steps.specs.Standing.{AreFor}
+use Rattle.frame_steps.proofs.RegionStates.{no_file_words}
 use Rattle.machine_steps.specs.Beginning.{FillsFile, FillsVariable}
 use Rattle.machine_steps.proofs.FilledVariables.{plenty_left}
-
-pub item_at : {A : Type 0} (xs : List A) (k : ℕ) → k < length xs → (x : A) × (slice_get xs k ≡ Some x)
-item_at [] k h = absurd (omega (arith, h))
-item_at (x ∷ xs) zero h = (x, refl)
-item_at (x ∷ xs) (suc k) h = item_at xs k (omega (arith, h))
 
 same_variables : (o : Option Global) → option_map (λ (h : Global). variable_view h.variable) o ≡ option_map (λ (u : model.Global). u.variable) (option_map global_view o)
 same_variables None = refl
 same_variables (Some h) = refl
-
-pub mapped_back : {A B : Type 0} (g : A → B) (xs : List A) (k : ℕ) (y : B) → slice_get (map g xs) k ≡ Some y → (x : A) × (slice_get xs k ≡ Some x) × (g x ≡ y)
-mapped_back g [] k y e = absurd (none-some y e)
-mapped_back g (x ∷ xs) zero y e = (x, refl, same_Some (g x) y e)
-mapped_back g (x ∷ xs) (suc k) y e = mapped_back g xs k y e
 
 same_file : (m n : ℕ) → File m ≡ File n → m ≡ n
 same_file m n e = cc
@@ -103,7 +94,7 @@ pub file_long : {T : Type 0} (history : T → History) (width : ℕ) (compiled :
 file_long history width compiled words lie k g is =
     let mine : slice_get (sizes_of words.layout.file.items) k ≡ Some (layout_words width g) =
     ap (λ sizes. slice_get sizes k) lie.layout.file ∙ slice_get-map (layout_words width) compiled.program.globals.items k ∙ ap (option_map (layout_words width)) is in
-    let found = mapped_back (λ (p : Part). p.len) words.layout.file.items k (layout_words width g) mine in
+    let found = get_mapped (λ (p : Part). p.len) words.layout.file.items k (layout_words width g) mine in
     file_words width words.layout (all_words history words) lie.laid k found.0 found.1 ∙ found.2
 
 module _ {T : Type 0} (history : T → History) (left : T → ℕ) (width : ℕ) (compiled : CompiledProgram) (old : MachineWords T) (lie : AreFor history width compiled old) where
@@ -174,7 +165,7 @@ module _ {T : Type 0} (history : T → History) (left : T → ℕ) (width : ℕ)
       let variable : slice_get (variables_of compiled).file k ≡ Some g.variable =
       slice_get-map (λ (h : Global). variable_view h.variable) globals k ∙ same_variables (slice_get globals k)
       ∙ ap (option_map (λ (u : model.Global). u.variable)) (sym (slice_get-map global_view globals k) ∙ e) in
-      lie.compiled_is.runnable.plain.file k g.variable variable ∙ ap File (sym (zero-add k))
+      lie.compiled_is.runnable.well_scoped.file k g.variable variable ∙ ap File (sym (zero-add k))
 
   -- no array of the entry is in the memory yet
   pub first_entry : (n : ℕ) → words_of (initial_memory width (program_of compiled).globals) (Local n) ≡ []

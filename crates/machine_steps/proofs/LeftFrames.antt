@@ -14,14 +14,14 @@ use Rattle.machine_states.proofs.LeaveSteps.{leaves, leaves_entry}
 use Rattle.machine_words.specs.declared.words.MachineWords.{MachineWords}
 use Rattle.machine_words.specs.Words.{AreLaid, Writes, regions_in, words_of}
 use Rattle.machine_words.proofs.Sizes.{depth_words}
-use Rattle.machine_moves.specs.declared.active.Active.{Active}
-use Rattle.machine_moves.specs.declared.compiled.CompiledProgram.{CompiledProgram}
-use Rattle.machine_moves.specs.Compiled.{IsCompiled, program_of, variables_of}
-use Rattle.machine_moves.specs.Standing.{AreSound, Begins, IsActive, IsClosing, IsShown}
-use Rattle.machine_moves.proofs.Heads.{only_word}
-use Rattle.machine_moves.proofs.Standings.{IsUnderWay, begun, begun_regions, lie_behind, recorded_so_far, shown_alike, sized, under_way_alike, wrote}
+use Rattle.frame_steps.specs.declared.active.Active.{Active}
+use Rattle.frame_steps.specs.declared.compiled.CompiledProgram.{CompiledProgram}
+use Rattle.frame_steps.specs.Compiled.{IsCompiled, program_of, variables_of}
+use Rattle.frame_steps.specs.Standing.{AreSound, Begins, IsActive, IsClosing, IsShown}
+use Rattle.frame_steps.proofs.Heads.{only_word}
+use Rattle.frame_steps.proofs.Standings.{IsUnderWay, begun, begun_regions, lie_behind, recorded_so_far, shown_alike, sized, under_way_alike, wrote}
 use Rattle.machine_steps.specs.Leaving.{GoesPastCall, behind_call, lanes_called, result_seen}
-use Rattle.machine_steps.proofs.Callers.{call_declared, call_plain}
+use Rattle.machine_steps.proofs.Callers.{call_declared, call_well_scoped}
 
 -- ---- where lanes go on
 
@@ -48,7 +48,7 @@ module _ {T : Type 0} (history : T → History) (left : T → ℕ) (w : ℕ) (ga
       (call_declared p w regions j gone.level gone.n gone.g gone.for gone.next call variables runnable.lowerable.numbered runnable.declared) shown.declared in
       subst (λ d. GoesTo p variables w masked (with_region Depth (d ∷ []) (behind_call regions j gone.level gone.g gone.next gone.delivered))) (sym e)
       (leaves p variables w gang regions masked shown.shows sized j active.level gone.level active.function gone.n call.called f gone.g active.step call.args gone.for gone.next next call.runs
-      call.is_function call.innermost call.calls gone.delivered (call_plain p w regions j gone.level gone.n gone.g gone.for gone.next call variables runnable.most runnable.plain) has delivers)
+      call.is_function call.innermost call.calls gone.delivered (call_well_scoped p w regions j gone.level gone.n gone.g gone.for gone.next call variables runnable.most runnable.well_scoped) has delivers)
 
   -- nowhere, if the frame is the entry's
   pub goes_nowhere : active.frame ≡ 0 → GoesTo (program_of compiled) (variables_of compiled) w masked (with_region Depth (active.frame ∷ []) regions)

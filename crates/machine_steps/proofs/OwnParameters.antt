@@ -11,7 +11,7 @@ use Rattle.mask_states.proofs.OwnTasks.{by_bool}
 use Rattle.machine_states.specs.ArrayParts.{view_of_words}
 use Rattle.machine_states.specs.Declared.{has_entry}
 use Rattle.machine_states.specs.Effects.{declared_region}
-use Rattle.machine_states.specs.Plain.{ArgsPlain}
+use Rattle.machine_states.specs.WellScoped.{ArgsWellScoped}
 use Rattle.machine_states.specs.Variables.{Variables, is_array_of, own_of, rate_of, variable_of}
 use Rattle.machine_states.proofs.StoreWords.{another, itself, same_variable}
 use Rattle.codegen.specs.Codes.{IsArg}
@@ -42,21 +42,21 @@ made_region (arg.Array array from) (Value x e) lanes words old is = absurd is
 
 module _ (variables : Variables) (n called : ℕ) where
   -- the variable of a parameter
-  pub own_of_argument : (first : ℕ) (meant : List Arg) → ArgsPlain variables n called first meant → (k : ℕ) → k < length meant
+  pub own_of_argument : (first : ℕ) (meant : List Arg) → ArgsWellScoped variables n called first meant → (k : ℕ) → k < length meant
       → (v : Variable) × (slice_get (own_of variables called) (first + k) ≡ Some v)
-  own_of_argument first [] plain k below = absurd (omega (arith, below))
-  own_of_argument first (Array parameter array from ∷ meant) plain zero below =
-      let there = array_there (slice_get (own_of variables called) first) plain.0.array in
+  own_of_argument first [] well_scoped k below = absurd (omega (arith, below))
+  own_of_argument first (Array parameter array from ∷ meant) well_scoped zero below =
+      let there = array_there (slice_get (own_of variables called) first) well_scoped.0.array in
       (there.0, ap (slice_get (own_of variables called)) (add-zero first) ∙ there.1)
-  own_of_argument first (Value x e ∷ meant) plain zero below =
-      let own = plain.0.scalar in
-      (own.0, ap (slice_get (own_of variables called)) (add-zero first) ∙ ap (variable_of variables called) (sym plain.0.id) ∙ own.1)
-  own_of_argument first (Array parameter array from ∷ meant) plain (suc k) below =
-      let rest = own_of_argument (suc first) meant plain.3 k (omega (arith, below)) in
+  own_of_argument first (Value x e ∷ meant) well_scoped zero below =
+      let own = well_scoped.0.scalar in
+      (own.0, ap (slice_get (own_of variables called)) (add-zero first) ∙ ap (variable_of variables called) (sym well_scoped.0.id) ∙ own.1)
+  own_of_argument first (Array parameter array from ∷ meant) well_scoped (suc k) below =
+      let rest = own_of_argument (suc first) meant well_scoped.3 k (omega (arith, below)) in
       let same : first + suc k ≡ suc first + k = omega arith in
       (rest.0, ap (slice_get (own_of variables called)) same ∙ rest.1)
-  own_of_argument first (Value x e ∷ meant) plain (suc k) below =
-      let rest = own_of_argument (suc first) meant plain.2 k (omega (arith, below)) in
+  own_of_argument first (Value x e ∷ meant) well_scoped (suc k) below =
+      let rest = own_of_argument (suc first) meant well_scoped.2 k (omega (arith, below)) in
       let same : first + suc k ≡ suc first + k = omega arith in
       (rest.0, ap (slice_get (own_of variables called)) same ∙ rest.1)
 
@@ -75,12 +75,12 @@ module _ (variables : Variables) (n called : ℕ) where
   same_local : (j k : ℕ) → Local j ≡ Local k → j ≡ k
   same_local j k e = cc
 
-  pub parameter_in : (lanes : Lanes) (first : ℕ) (meant : List Arg) (given : List (List ℕ)) → ArgsPlain variables n called first meant
+  pub parameter_in : (lanes : Lanes) (first : ℕ) (meant : List Arg) (given : List (List ℕ)) → ArgsWellScoped variables n called first meant
       → (k : ℕ) → has_entry (passed_with lanes meant given).vars (Local k) ≡ true → IsParameterOf first meant lanes given k
-  parameter_in lanes first [] given plain k h = absurd cc
-  parameter_in lanes first (y ∷ meant) [] plain k h = absurd cc
-  parameter_in lanes first (Array parameter array from ∷ meant) (words ∷ given) plain k h =
-      let found = parameter_in lanes (suc first) meant given plain.3 k h in
+  parameter_in lanes first [] given well_scoped k h = absurd cc
+  parameter_in lanes first (y ∷ meant) [] well_scoped k h = absurd cc
+  parameter_in lanes first (Array parameter array from ∷ meant) (words ∷ given) well_scoped k h =
+      let found = parameter_in lanes (suc first) meant given well_scoped.3 k h in
       record {
         number = suc found.number;
         x = found.x;
@@ -92,12 +92,12 @@ module _ (variables : Variables) (n called : ℕ) where
         declares = found.declares;
         rate = found.rate;
       }
-  parameter_in lanes first (Value x e ∷ meant) (words ∷ given) plain k h =
+  parameter_in lanes first (Value x e ∷ meant) (words ∷ given) well_scoped k h =
       let rest = (passed_with lanes meant given).vars in
       by_bool (same_id x.id (Local k))
       (λ here.
-      let place : first ≡ k = same_local first k (sym plain.0.id ∙ same_variable x.id (Local k) here) in
-      let own = plain.0.scalar in
+      let place : first ≡ k = same_local first k (sym well_scoped.0.id ∙ same_variable x.id (Local k) here) in
+      let own = well_scoped.0.scalar in
       record {
         number = 0;
         x = x;
@@ -108,10 +108,10 @@ module _ (variables : Variables) (n called : ℕ) where
         place = omega (arith, place);
         declares = ap (λ b. if b then declared_words x.rate lanes words else words_of rest (Local k)) here;
         rate = ap (λ j. rate_of (slice_get (own_of variables called) j)) (sym place)
-            ∙ ap rate_of (ap (variable_of variables called) (sym plain.0.id) ∙ own.1) ∙ sym (ap (λ (y : Var). y.rate) own.3);
+            ∙ ap rate_of (ap (variable_of variables called) (sym well_scoped.0.id) ∙ own.1) ∙ sym (ap (λ (y : Var). y.rate) own.3);
       })
       (λ away.
-      let found = parameter_in lanes (suc first) meant given plain.2 k (ap (λ b. b || has_entry rest (Local k)) (sym away) ∙ h) in
+      let found = parameter_in lanes (suc first) meant given well_scoped.2 k (ap (λ b. b || has_entry rest (Local k)) (sym away) ∙ h) in
       record {
         number = suc found.number;
         x = found.x;
@@ -136,19 +136,19 @@ module _ (variables : Variables) (n called : ℕ) where
     pub place : k ≡ first + number
     pub view : view_in (passed_with lanes meant given).views (Local k) ≡ view_of_words words
 
-  pub array_in : (lanes : Lanes) (first : ℕ) (meant : List Arg) (given : List (List ℕ)) → length meant ≡ length given → ArgsPlain variables n called first meant
+  pub array_in : (lanes : Lanes) (first : ℕ) (meant : List Arg) (given : List (List ℕ)) → length meant ≡ length given → ArgsWellScoped variables n called first meant
       → (k : ℕ) → first ≤ k → k < first + length meant → is_array_of (slice_get (own_of variables called) k) ≡ true → IsArrayParameterOf first meant lanes given k
-  array_in lanes first [] given same plain k low high array = absurd (omega (arith, low, high))
-  array_in lanes first (y ∷ meant) [] same plain k low high array = absurd (omega (arith, same))
-  array_in lanes first (Value x e ∷ meant) (words ∷ given) same plain k low high array = elim (cases_eq first k) [
+  array_in lanes first [] given same well_scoped k low high array = absurd (omega (arith, low, high))
+  array_in lanes first (y ∷ meant) [] same well_scoped k low high array = absurd (omega (arith, same))
+  array_in lanes first (Value x e ∷ meant) (words ∷ given) same well_scoped k low high array = elim (cases_eq first k) [
     | inl here ↦
-        let own = plain.0.scalar in
+        let own = well_scoped.0.scalar in
         let scalar : is_array_of (slice_get (own_of variables called) k) ≡ false =
         ap (λ j. is_array_of (slice_get (own_of variables called) j)) (sym here)
-        ∙ ap is_array_of (ap (variable_of variables called) (sym plain.0.id) ∙ own.1) ∙ own.2 in
+        ∙ ap is_array_of (ap (variable_of variables called) (sym well_scoped.0.id) ∙ own.1) ∙ own.2 in
         absurd (true≢false (sym array ∙ scalar))
     | inr away ↦
-        let found = array_in lanes (suc first) meant given (omega (arith, same)) plain.2 k (omega (arith, low, away)) (omega (arith, high)) array in
+        let found = array_in lanes (suc first) meant given (omega (arith, same)) well_scoped.2 k (omega (arith, low, away)) (omega (arith, high)) array in
         record {
           number = suc found.number;
           parameter = found.parameter;
@@ -161,11 +161,11 @@ module _ (variables : Variables) (n called : ℕ) where
           view = found.view;
         }
   ]
-  array_in lanes first (Array parameter named from ∷ meant) (words ∷ given) same plain k low high array =
+  array_in lanes first (Array parameter named from ∷ meant) (words ∷ given) same well_scoped k low high array =
       let rest = (passed_with lanes meant given).views in
       elim (cases_eq first k) [
         | inl here ↦
-            let mine : same_id parameter (Local k) ≡ true = ap (λ v. same_id v (Local k)) (plain.0.is_local ∙ ap Local here) ∙ itself (Local k) in
+            let mine : same_id parameter (Local k) ≡ true = ap (λ v. same_id v (Local k)) (well_scoped.0.is_local ∙ ap Local here) ∙ itself (Local k) in
             record {
               number = 0;
               parameter = parameter;
@@ -178,9 +178,9 @@ module _ (variables : Variables) (n called : ℕ) where
               view = ap (λ b. if b then view_of_words words else view_in rest (Local k)) mine;
             }
         | inr away ↦
-            let found = array_in lanes (suc first) meant given (omega (arith, same)) plain.3 k (omega (arith, low, away)) (omega (arith, high)) array in
+            let found = array_in lanes (suc first) meant given (omega (arith, same)) well_scoped.3 k (omega (arith, low, away)) (omega (arith, high)) array in
             let other : same_id parameter (Local k) ≡ false =
-            ap (λ v. same_id v (Local k)) plain.0.is_local ∙ another (Local first) (Local k) (λ e. away (same_local first k e)) in
+            ap (λ v. same_id v (Local k)) well_scoped.0.is_local ∙ another (Local first) (Local k) (λ e. away (same_local first k e)) in
             record {
               number = suc found.number;
               parameter = found.parameter;

@@ -22,19 +22,19 @@ use Rattle.codegen.specs.declared.code.StepCode.TheVariants as code
 use Rattle.codegen.specs.Codes.{DoAll, Does}
 use Rattle.machine_words.specs.declared.words.MachineWords.{MachineWords}
 use Rattle.machine_words.specs.Words.{regions_in}
-use Rattle.machine_moves.specs.declared.active.Active.{Active}
-use Rattle.machine_moves.specs.declared.compiled.CompiledProgram.{CompiledProgram}
-use Rattle.machine_moves.specs.declared.levels.FrameStep.{FrameStep}
-use Rattle.machine_moves.specs.Compiled.{IsCompiled, function_of, program_of, variables_of}
-use Rattle.machine_moves.specs.Delivering.{TakesResult}
-use Rattle.machine_moves.specs.Rounds.{IsFrameStep, IsRunning}
-use Rattle.machine_moves.specs.Standing.{AreSound, IsClosing}
-use Rattle.machine_moves.proofs.FunctionCode.{code_long, fit_at}
-use Rattle.machine_moves.proofs.Heads.{first_word, head_long}
-use Rattle.machine_moves.proofs.ShownFrames.{IsShownFrame, frame_shown}
-use Rattle.machine_moves.proofs.Standings.{frame_below, sized}
+use Rattle.frame_steps.specs.declared.active.Active.{Active}
+use Rattle.frame_steps.specs.declared.compiled.CompiledProgram.{CompiledProgram}
+use Rattle.frame_steps.specs.declared.levels.FrameStep.{FrameStep}
+use Rattle.frame_steps.specs.Compiled.{IsCompiled, function_of, program_of, variables_of}
+use Rattle.frame_steps.specs.Delivering.{TakesResult}
+use Rattle.frame_steps.specs.Rounds.{IsFrameStep, IsRunning}
+use Rattle.frame_steps.specs.Standing.{AreSound, IsClosing}
+use Rattle.frame_steps.proofs.FunctionCode.{code_long, fit_at}
+use Rattle.frame_steps.proofs.Heads.{first_word, head_long}
+use Rattle.frame_steps.proofs.ShownFrames.{IsShownFrame, frame_shown}
+use Rattle.frame_steps.proofs.Standings.{frame_below, sized}
 use Rattle.machine_steps.specs.Leaving.{IsAtCall, lanes_called}
-use Rattle.machine_steps.proofs.Callers.{call_plain, call_within, some_called}
+use Rattle.machine_steps.proofs.Callers.{call_well_scoped, call_within, some_called}
 
 -- the call of the frame below, by what its lanes wait for and by its function's code
 pub record ReadsCall (w : ℕ) (compiled : CompiledProgram) (regions : Regions) (below : ℕ) (steps : List StepCode) (found : FrameStep) : Type 0 where
@@ -161,5 +161,5 @@ takes_result compiled is w regions below level n g for next call = record {
   n = n;
   runs = call.runs;
   is_function = call.is_function;
-  plain = call_plain (program_of compiled) w regions below level n g for next call (variables_of compiled) is.runnable.most is.runnable.plain;
+  well_scoped = call_well_scoped (program_of compiled) w regions below level n g for next call (variables_of compiled) is.runnable.most is.runnable.well_scoped;
 }

@@ -23,15 +23,16 @@ use Rattle.machine_states.specs.GivenRows.{FitsParameter, FitsRow, GivesRow, Sho
 use Rattle.machine_states.specs.Regions.{OfEntry, OfFile, OfLocal}
 use Rattle.machine_states.specs.Variables.{is_array_of, own_of, rate_of}
 use Rattle.machine_states.proofs.GivenRows.{IsParameterRow, row_given}
+use Rattle.machine_states.proofs.Elements.{get_mapped}
 use Rattle.machine_words.specs.declared.words.MachineWords.{MachineWords}
 use Rattle.machine_words.specs.Words.{regions_in}
-use Rattle.machine_moves.specs.declared.compiled.CompiledProgram.{CompiledProgram}
-use Rattle.machine_moves.specs.Compiled.{program_of, variables_of}
-use Rattle.machine_moves.specs.Standing.{AreFor}
-use Rattle.machine_moves.proofs.GangLanes.{gang_wide}
-use Rattle.machine_moves.proofs.Standings.{own_sized}
+use Rattle.frame_steps.specs.declared.compiled.CompiledProgram.{CompiledProgram}
+use Rattle.frame_steps.specs.Compiled.{program_of, variables_of}
+use Rattle.frame_steps.specs.Standing.{AreFor}
+use Rattle.frame_steps.proofs.GangLanes.{gang_wide}
+use Rattle.frame_steps.proofs.Standings.{own_sized}
 use Rattle.machine_steps.specs.Beginning.{AreChanged, GivesRows, HaveEntryLengths, MayBegin}
-use Rattle.machine_steps.proofs.FirstWords.{file_long, lie_kept, mapped_back}
+use Rattle.machine_steps.proofs.FirstWords.{file_long, lie_kept}
 use Rattle.machine_steps.proofs.RowWords.{regions_long}
 
 -- ---- lists
@@ -74,7 +75,7 @@ module _ {T : Type 0} (history : T → History) (width : ℕ) (compiled : Compil
   pub file_fits : (k : ℕ) → row.variable.id ≡ File k → length row.words ≤ length (regions_in history width mid (OfFile k))
   file_fits k id =
       let mine : IsRowOf (program_of compiled) f (File k) row = subst (λ v. IsRowOf (program_of compiled) f v row) id right in
-      let found = mapped_back global_view compiled.program.globals.items k mine.0 mine.1 in
+      let found = get_mapped global_view compiled.program.globals.items k mine.0 mine.1 in
       let fits = room found.0 found.0.variable.is_array refl (subst (λ g. IsFileRow g row) (sym found.2) mine.2) in
       let long = file_long history width compiled mid lie k found.0 found.1 in
       omega (arith, fits, long)

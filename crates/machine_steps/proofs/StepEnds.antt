@@ -3,13 +3,13 @@ use Rattle.std.proofs.Common.{ℕ}
 use Rattle.std.specs.Prelude.{Ok}
 use Rattle.undo_log.specs.History.{History}
 use Rattle.undo_log.specs.declared.timeline.Undone.TheVariants as undone
-use Rattle.debug_machine.specs.declared.machine.StepEnd.TheVariants as end
+use Rattle.debug_traits.specs.declared.machine.StepEnd.TheVariants as end
 use Rattle.mask_states.specs.Masked.{Masked}
 use Rattle.machine_words.specs.declared.words.MachineWords.{MachineWords}
-use Rattle.machine_moves.specs.declared.compiled.CompiledProgram.{CompiledProgram}
-use Rattle.machine_moves.specs.Standing.{AreSound, Ends, IsShown, Steps}
-use Rattle.machine_moves.proofs.CalledFrames.{called_behind}
-use Rattle.machine_moves.proofs.Standings.{lie_behind, shown_behind}
+use Rattle.frame_steps.specs.declared.compiled.CompiledProgram.{CompiledProgram}
+use Rattle.frame_steps.specs.Standing.{AreSound, Ends, IsShown, Steps}
+use Rattle.frame_steps.proofs.CalledFrames.{called_behind}
+use Rattle.frame_steps.proofs.Standings.{lie_behind, shown_behind}
 
 module _ {T : Type 0} (history : T → History) (width : ℕ) (compiled : CompiledProgram) (old new : MachineWords T) (sound : AreSound history width compiled old)
     (ends : Ends history width compiled old (Ok tt) new) where

@@ -17,9 +17,9 @@ use Rattle.machine_states.specs.Regions.{OfEntry, OfFile, Region, Regions, same_
 use Rattle.codegen.specs.Programs.{variables_of}
 use Rattle.machine_words.specs.declared.words.MachineWords.{MachineWords}
 use Rattle.machine_words.specs.Words.{AreLaid, regions_in}
-use Rattle.machine_moves.specs.declared.compiled.CompiledProgram.{CompiledProgram}
-use Rattle.machine_moves.specs.Compiled.{program_of}
-use Rattle.machine_moves.specs.Standing.{AreFor}
+use Rattle.frame_steps.specs.declared.compiled.CompiledProgram.{CompiledProgram}
+use Rattle.frame_steps.specs.Compiled.{program_of}
+use Rattle.frame_steps.specs.Standing.{AreFor}
 
 -- rows of the definitions, given by their numbers, with which a run of a function of the program may begin
 pub record MayBegin (program : Program) (entry : ℕ) (f : Function) (given : List Row) (rows : List InputRow) : Type 0 where

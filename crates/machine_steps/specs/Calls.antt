@@ -9,8 +9,8 @@ use Rattle.gang_model.specs.Running.Value.{value}
 use Rattle.gang_model.specs.Running.Step.{part, passed}
 use Rattle.typed_tree.specs.Views.{var_view}
 use Rattle.undo_log.specs.History.{History}
-use Rattle.debug_machine.specs.declared.machine.Fault.{Fault}
-use Rattle.debug_machine.specs.Machines.{fault_view}
+use Rattle.debug_traits.specs.declared.machine.Fault.{Fault}
+use Rattle.debug_traits.specs.Machines.{fault_view}
 use Rattle.gang_memory.specs.Recorded.{without_words}
 use Rattle.machine_states.specs.ArrayParts.{IsInside, view_of_words}
 use Rattle.machine_states.specs.Effects.{declared_region}
@@ -22,11 +22,11 @@ use Rattle.codegen.specs.declared.code.ArgCode.{ArgCode}
 use Rattle.codegen.specs.declared.code.ArgCode.TheVariants as arg
 use Rattle.machine_words.specs.declared.words.MachineWords.{MachineWords}
 use Rattle.machine_words.specs.Words.{AreLaid, left_of, regions_in}
-use Rattle.machine_moves.specs.declared.active.Active.{Active}
-use Rattle.machine_moves.specs.declared.compiled.CompiledProgram.{CompiledProgram}
-use Rattle.machine_moves.specs.Compiled.{variables_of}
-use Rattle.machine_moves.specs.Parts.{IsIndexAt}
-use Rattle.machine_moves.specs.Standing.{IsValueAt}
+use Rattle.frame_steps.specs.declared.active.Active.{Active}
+use Rattle.frame_steps.specs.declared.compiled.CompiledProgram.{CompiledProgram}
+use Rattle.frame_steps.specs.Compiled.{variables_of}
+use Rattle.frame_steps.specs.Parts.{IsIndexAt}
+use Rattle.frame_steps.specs.Standing.{IsValueAt}
 
 -- ---- arguments
 

@@ -1,21 +1,24 @@
 -- What becomes of the words of a machine when a frame is left: its result goes to what it is for, and the lanes of the call go on.
-use Rattle.std.specs.Prelude.{◌≡◌, ℕ, ◌+◌, ◌-◌, ◌≤◌, List, [], ◌∷◌, Some, slice_get}
+use Rattle.std.specs.Prelude.{◌≡◌, ℕ, ◌+◌, ◌-◌, ◌≤◌, false, List, [], ◌∷◌, Some, length, slice_get}
 use Rattle.gang_types.specs.declared.types.IntType.{IntType}
 use Rattle.gang_types.specs.declared.types.Rate.{Rate}
-use Rattle.gang_types.specs.Lanes.{Lanes}
+use Rattle.gang_types.specs.Lanes.{Lanes, no_lane}
+use Rattle.gang_types.specs.Masks.{lanes_of}
 use Rattle.gang_model.specs.Types.Tree.{Arg, Function, Program, ResultFor, StepNumber}
 use Rattle.gang_model.specs.Running.State.{seen}
 use Rattle.undo_log.specs.History.{History}
 use Rattle.gang_memory.specs.Recorded.{without_words}
 use Rattle.mask_states.specs.Points.{Enter, points_in}
 use Rattle.machine_states.specs.Effects.{sent_on}
-use Rattle.machine_states.specs.Regions.{FunctionOf, LanesOf, OfHead, Region, Regions, ResultOf, ReturnedOf, lanes_in}
+use Rattle.machine_states.specs.Regions.{FunctionOf, LanesOf, NumbersOf, OfHead, OfLevel, Region, Regions, ResultOf, ReturnedOf, lanes_in}
 use Rattle.machine_states.specs.Shows.{result_of}
 use Rattle.machine_states.specs.Steps.{Delivers, IsInnermost, converted_values, least_in, waiting_in}
+use Rattle.typed_tree.specs.Views.{result_view}
 use Rattle.machine_words.specs.declared.words.MachineWords.{MachineWords}
 use Rattle.machine_words.specs.Words.{AreLaid, left_of, regions_in}
-use Rattle.machine_moves.specs.declared.compiled.CompiledProgram.{CompiledProgram}
-use Rattle.machine_moves.specs.Compiled.{program_of}
+use Rattle.frame_steps.specs.declared.compiled.CompiledProgram.{CompiledProgram}
+use Rattle.frame_steps.specs.Compiled.{program_of}
+use Rattle.machine_steps.specs.declared.leaving.AwaitedCall.{AwaitedCall}
 
 -- ---- the result
 
@@ -42,6 +45,15 @@ pub record IsAtCall (p : Program) (width : ℕ) (regions : Regions) (frame level
   pub is_function : slice_get p.functions n ≡ Some g
   pub innermost : IsInnermost width regions frame g level
   pub calls : slice_get (points_in g) (least_in regions frame g level) ≡ Some (Enter called args for next)
+
+-- a frame waits at this call: some lanes of a level of it, which has a number for each lane
+pub record WaitsAt (width : ℕ) (compiled : CompiledProgram) (regions : Regions) (frame : ℕ) (call : AwaitedCall) : Type 0 where
+  pub n : ℕ
+  pub g : Function
+  pub is_call : IsAtCall (program_of compiled) width regions frame call.level n g (result_view call.result_for) call.next
+  pub lanes_are : lanes_of width call.lanes ≡ waiting_in regions frame call.level (least_in regions frame g call.level)
+  pub some : no_lane (lanes_of width call.lanes) ≡ false
+  pub sized : length (regions (OfLevel frame call.level NumbersOf)) ≡ width
 
 -- the lanes of a level of a frame that runs g go on behind their call
 abbrev pub behind_call : Regions → (frame level : ℕ) → (g : Function) → (next : StepNumber) → Regions → Regions

@@ -9,15 +9,15 @@ ghost use Rattle.gang_memory.specs.Recorded.{without_words};
 ghost use Rattle.mask_states.specs.MaskedStep.{masked_start};
 ghost use Rattle.machine_states.specs.Regions.{OfFile};
 ghost use Rattle.machine_words.specs.Words.{AreLaid, regions_in};
-ghost use Rattle.machine_moves.specs.Compiled.{program_of};
-ghost use Rattle.machine_moves.specs.Standing.{AreFor, IsShown};
+ghost use Rattle.frame_steps.specs.Compiled.{program_of};
+ghost use Rattle.frame_steps.specs.Standing.{AreFor, IsShown};
 ghost use Rattle.machine_steps.specs.Beginning.{FillsFile, FillsVariable, HaveEntryLengths, MayBegin};
 
 use crate::calls::begin_frame;
 use crate::rows::give_rows;
+use frame_steps::CompiledProgram;
 use gang_types::Mask;
 use input_rows::InputRow;
-use machine_moves::CompiledProgram;
 use machine_words::{MachineWords, Region};
 use typed_tree::Global;
 use undo_log::Timeline;

@@ -9,18 +9,18 @@ ghost use Rattle.mask_states.specs.Masked.{Masked};
 ghost use Rattle.machine_states.specs.Regions.{OfLocal};
 ghost use Rattle.machine_words.specs.Words.{AreLaid, Writes, left_of, regions_in};
 ghost use Rattle.typed_tree.specs.declared.statements.ResultFor.{ResultFor as TypedResultFor};
-ghost use Rattle.machine_moves.specs.Compiled.{IsCompiled, function_of};
-ghost use Rattle.machine_moves.specs.Parts.{HasNextPoint};
-ghost use Rattle.machine_moves.specs.Standing.{AreSound, DoesNext, Ends, IsShown};
+ghost use Rattle.frame_steps.specs.Compiled.{IsCompiled, function_of};
+ghost use Rattle.frame_steps.specs.Parts.{HasNextPoint};
+ghost use Rattle.frame_steps.specs.Standing.{AreSound, DoesNext, Ends, IsShown};
 ghost use Rattle.machine_steps.specs.Calls.{AreParametersDeclared, ArePassed, BeginsFrame, IsArgumentAnswer, IsArgumentAt, parameter_region};
 
 use arrayvec::ArrayVec;
 use codegen::ArgCode;
-use debug_machine::Fault;
-use expression_machine::Stacks;
+use debug_traits::Fault;
+use expression_runs::Stacks;
+use frame_steps::{Active, CompiledProgram, begin, named_part, value_of};
 use gang_memory::MOST_FRAMES;
 use gang_types::{FaultName, Mask};
-use machine_moves::{Active, CompiledProgram, begin, named_part, value_of};
 use machine_words::{Head, LevelPart, MachineWords, Region, view_words};
 use undo_log::{Timeline, Undone};
 

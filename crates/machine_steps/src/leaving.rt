@@ -6,15 +6,15 @@ ghost use Rattle.gang_model.specs.Types.Tree.{Function as ModelFunction};
 ghost use Rattle.machine_states.specs.Shows.{AreSized};
 ghost use Rattle.typed_tree.specs.Views.{result_view};
 ghost use Rattle.machine_words.specs.Words.{AreLaid, left_of, regions_in};
-ghost use Rattle.machine_moves.specs.Compiled.{function_of, variables_of};
-ghost use Rattle.machine_moves.specs.Delivering.{GivesResult, TakesResult};
-ghost use Rattle.machine_moves.specs.Standing.{AreSound, Ends, IsActive, IsClosing};
-ghost use Rattle.machine_steps.specs.Leaving.{AreSameIn, GoesPastCall, lanes_called, result_seen};
+ghost use Rattle.frame_steps.specs.Compiled.{function_of, variables_of};
+ghost use Rattle.frame_steps.specs.Delivering.{GivesResult, TakesResult};
+ghost use Rattle.frame_steps.specs.Standing.{AreSound, Ends, IsActive, IsClosing};
+ghost use Rattle.machine_steps.specs.Leaving.{AreSameIn, GoesPastCall, WaitsAt, lanes_called, result_seen};
 
 use codegen::StepCode;
+use frame_steps::{Active, CompiledProgram, begin, deliver_values, frame_step, send_on};
 use gang_types::{Mask, Rate};
-use machine_moves::{Active, CompiledProgram, begin, deliver_values, frame_step};
-use machine_words::{Head, LevelPart, MachineWords, Region};
+use machine_words::{Head, MachineWords, Region};
 use masked_operations::only;
 use typed_tree::ResultFor;
 use undo_log::{Timeline, Undone};
@@ -49,6 +49,31 @@ fn go_past_call<const W: usize, T: Timeline + Drop>(
     ensures { (f : ModelFunction) → IsActive W compiled.now (regions_in T.history W words.old) active f None
         → GoesPastCall T.history T.left W compiled.now active.frame f words.old words.new }
 {
+    let call = awaited_call::<W, T>(compiled, active, words);
+    deliver::<W, T>(compiled, active, call.result_for, words);
+    send_on::<W, T>(active.frame - 1, call.level, call.lanes, call.next, words);
+}
+
+/// A call that lanes of a frame wait at: the level in which they wait, what its result is for, and the step behind it.
+#[derive(Clone, Copy)]
+pub(crate) struct AwaitedCall {
+    pub level: usize,
+    pub lanes: Mask,
+    pub result_for: ResultFor,
+    pub next: usize,
+}
+
+/// The call that the frame below waits at, which made a frame that is at its closing brace.
+fn awaited_call<const W: usize, T: Timeline + Drop>(
+    compiled: &CompiledProgram,
+    active: Active,
+    words: &MachineWords<T>,
+) -> AwaitedCall
+    requires sound { AreSound T.history W compiled.now words.now }
+    requires closing { IsClosing W compiled.now (regions_in T.history W words.now) active }
+    requires above { 0 < active.frame }
+    ensures { WaitsAt W compiled.now (regions_in T.history W words.now) (active.frame - 1) result }
+{
     let below = active.frame - 1;
     let caller = words.word::<W>(Region::Head(below, Head::Function), 0) as usize;
     let call = frame_step::<W, T>(compiled, words, below, caller);
@@ -60,12 +85,12 @@ fn go_past_call<const W: usize, T: Timeline + Drop>(
     else {
         unreachable!()
     };
-    deliver::<W, T>(compiled, active, *result_for, words);
-    words.set_lanes::<W>(
-        Region::Head(below, Head::Level(call.level, LevelPart::Numbers)),
-        call.lanes,
-        [*next as u64; W],
-    );
+    AwaitedCall {
+        level: call.level,
+        lanes: call.lanes,
+        result_for: *result_for,
+        next: *next,
+    }
 }
 
 /// Gives the result of a frame to what it is for.

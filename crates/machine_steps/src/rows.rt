@@ -11,12 +11,12 @@ ghost use Rattle.machine_states.specs.GivenRows.{FitsParameter, FitsRow, GivesPa
 ghost use Rattle.machine_states.specs.Variables.{is_array_of, own_of, parameters_of};
 ghost use Rattle.machine_words.specs.Views.{region_view};
 ghost use Rattle.machine_words.specs.Words.{AreLaid, regions_in};
-ghost use Rattle.machine_moves.specs.Standing.{AreFor};
+ghost use Rattle.frame_steps.specs.Standing.{AreFor};
 ghost use Rattle.machine_steps.specs.Beginning.{AreArrayRows, AreChanged, GivesRows, HaveEntryLengths, MayBegin};
 
+use frame_steps::CompiledProgram;
 use gang_types::{Mask, VarId};
 use input_rows::InputRow;
-use machine_moves::CompiledProgram;
 use machine_words::{MachineWords, Region, View, view_words};
 use std::alloc::{AllocError, Global};
 use typed_tree::{Program, Variable};

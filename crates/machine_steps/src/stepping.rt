@@ -1,5 +1,5 @@
 //! One step.
-ghost use Rattle.machine_moves.specs.Standing.{AreSound, DoesNext, Ends, IsShown, Steps};
+ghost use Rattle.frame_steps.specs.Standing.{AreSound, DoesNext, Ends, IsShown, Steps};
 ghost use Rattle.machine_words.specs.Words.{regions_in};
 ghost use Rattle.mask_states.specs.Masked.{Masked};
 ghost use Rattle.machine_steps.specs.Stepping.{IsPacked, IsWrite};
@@ -7,9 +7,9 @@ ghost use Rattle.machine_steps.specs.Stepping.{IsPacked, IsWrite};
 use crate::calls::enter;
 use crate::leaving::leave;
 use codegen::StepCode;
-use debug_machine::{Fault, StepEnd};
-use expression_machine::Stacks;
-use machine_moves::{
+use debug_traits::{Fault, StepEnd};
+use expression_runs::Stacks;
+use frame_steps::{
     Active, CompiledProgram, assign, assign_element, branch, change, change_element, check, choose,
     declare, finish, go, load_packed, next_step, store_packed,
 };

@@ -12,8 +12,8 @@ most_set-requires-clause-few c =
     let i = c.loop-steps.steps-index in
     let item = c.steps-item.result in
     let one = most_within c.args.width functions i item (slice_get_read functions (length functions) i item refl c.loop-steps-test.true c.steps-item.is) in
-    let plain = c.requires.plain in
-    let few = cells_by-few c.args.width c.args.code.now.functions.items plain.0 plain.1 plain.2 plain.3 plain.4 in
+    let well_scoped = c.requires.well_scoped in
+    let few = cells_by-few c.args.width c.args.code.now.functions.items well_scoped.0 well_scoped.1 well_scoped.2 well_scoped.3 well_scoped.4 in
     let whole = ap (cells_by c.args.width) c.deref-steps-items.ensures.value in
     let same = ap (most_set c.args.width) c.deref.ensures.value in
     omega (arith, one, same, few, whole)
@@ -35,8 +35,8 @@ returns-clause-exact c program does =
 pub returns-clause-few : goal.returns-clause-few
 returns-clause-few c =
     let functions = c.deref-steps-items.result.now in
-    let plain = c.requires.plain in
-    let few = cells_by-few c.args.width c.args.code.now.functions.items plain.0 plain.1 plain.2 plain.3 plain.4 in
+    let well_scoped = c.requires.well_scoped in
+    let few = cells_by-few c.args.width c.args.code.now.functions.items well_scoped.0 well_scoped.1 well_scoped.2 well_scoped.3 well_scoped.4 in
     let whole = ap (cells_by c.args.width) c.deref-steps-items.ensures.value in
     let done = c.loop-steps.invariant ∙ ap (cells_by c.args.width) (take_all c.loop-steps.steps-index functions c.loop-steps-test.false) in
     omega (arith, done, few, whole)

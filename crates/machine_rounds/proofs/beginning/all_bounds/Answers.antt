@@ -2,8 +2,8 @@ use Rattle.std.proofs.Common.{◌∙◌, ap}
 use Rattle.std.specs.Prelude.{Err}
 use Rattle.std.proofs.lemmas.Result.{err_from_is_err_and}
 use Rattle.gang_types.specs.Masks.{lanes_of}
-use Rattle.debug_machine.specs.Machines.{fault_view}
-use Rattle.machine_moves.proofs.GangLanes.{stacks_small}
+use Rattle.debug_traits.specs.Machines.{fault_view}
+use Rattle.frame_steps.proofs.GangLanes.{stacks_small}
 use Rattle.machine_rounds.proofs.BeginValues.{answers_fault, first_faults, second_faults, third_faults, words_are}
 use Rattle.machine_rounds.proofs.beginning.all_bounds.Goals as goal
 

@@ -1,7 +1,7 @@
 use Rattle.std.proofs.Common.{◌≡◌, ◌∙◌, ap, arith, length}
 use Rattle.std.specs.Prelude.{Err}
 use Rattle.std.proofs.lemmas.Result.{err_from_is_err_and}
-use Rattle.machine_moves.proofs.GangLanes.{stacks_small}
+use Rattle.frame_steps.proofs.GangLanes.{stacks_small}
 use Rattle.machine_rounds.proofs.BeginMoves.{first_small, form, begins_here, form_opened, head_faults, may_open}
 use Rattle.machine_rounds.proofs.beginning.begin_form.Goals as goal
 

@@ -3,9 +3,9 @@ use Rattle.std.specs.Prelude.{Ok, Err}
 use Rattle.std.proofs.lemmas.Result.{err_from_is_err_and}
 use Rattle.gang_types.specs.Masks.{lanes_of}
 use Rattle.gang_model.specs.Running.Lanes.{at}
-use Rattle.debug_machine.specs.Machines.{fault_view}
+use Rattle.debug_traits.specs.Machines.{fault_view}
 use Rattle.machine_words.specs.Words.{regions_in}
-use Rattle.machine_moves.proofs.GangLanes.{stacks_small}
+use Rattle.frame_steps.proofs.GangLanes.{stacks_small}
 use Rattle.machine_rounds.proofs.BeginValues.{answers_fault, bounds_are, high_at, high_faults, high_of, low_at, low_faults, low_of, past_bounds}
 use Rattle.machine_rounds.proofs.beginning.bounds_at.Goals as goal
 

@@ -3,10 +3,10 @@ use Rattle.std.specs.Prelude.{Err, replicate}
 use Rattle.std.proofs.lemmas.Result.{err_from_is_err_and}
 use Rattle.gang_types.specs.Masks.{lanes_of}
 use Rattle.gang_types.specs.MaskLaws.{length-lanes_of_word}
-use Rattle.debug_machine.specs.Machines.{fault_view}
+use Rattle.debug_traits.specs.Machines.{fault_view}
 use Rattle.foreach_lowering.specs.Law.{first_kept}
 use Rattle.machine_words.specs.Words.{regions_in}
-use Rattle.machine_moves.proofs.GangLanes.{stacks_small}
+use Rattle.frame_steps.proofs.GangLanes.{stacks_small}
 use Rattle.machine_rounds.specs.Beginning.{AreDimensionsAt, BeginsForm}
 use Rattle.machine_rounds.proofs.BeginBounds.{domain_answer, domain_fails}
 use Rattle.machine_rounds.proofs.BeginMoves.{some_lane_of}

@@ -1,4 +1,4 @@
-use Rattle.machine_moves.proofs.Heads.{word_keeps}
+use Rattle.frame_steps.proofs.Heads.{word_keeps}
 use Rattle.machine_rounds.proofs.beginning.lane_counters.Goals as goal
 
 pub returns : goal.returns

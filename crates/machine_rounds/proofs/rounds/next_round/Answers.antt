@@ -1,6 +1,6 @@
 use Rattle.std.proofs.Common.{subst}
 use Rattle.foreach_lowering.specs.RoundViews.{IsNextRound}
-use Rattle.machine_moves.proofs.GangLanes.{rounds_small}
+use Rattle.frame_steps.proofs.GangLanes.{rounds_small}
 use Rattle.machine_rounds.proofs.RoundSteps.{keeps_at, one_at, rounds_at}
 use Rattle.machine_rounds.proofs.RoundWrites.{round_small}
 use Rattle.machine_rounds.proofs.rounds.next_round.Goals as goal

@@ -2,8 +2,8 @@ use Rattle.std.proofs.Common.{◌≡◌, ◌<◌, ◌∙◌, refl, ap, suc, ◌-
 use Rattle.std.specs.Prelude.{slice_index}
 use Rattle.machine_states.specs.Regions.{FunctionOf}
 use Rattle.machine_words.specs.Words.{regions_in}
-use Rattle.machine_moves.specs.Compiled.{program_of, variables_of}
-use Rattle.machine_moves.proofs.Standings.{head_sized}
+use Rattle.frame_steps.specs.Compiled.{program_of, variables_of}
+use Rattle.frame_steps.proofs.Standings.{head_sized}
 use Rattle.machine_shown.proofs.CallPlaces.{call_shown, function_at, is_below, no_call, no_call_at_0, running_at, standing_width}
 use Rattle.machine_shown.proofs.positions.call.Goals as goal
 use Rattle.machine_shown.proofs.positions.call.Goals.{then-depth-eq0-via-then-depth-eq0, then-depth-eq0-via-else-depth-eq0+then-word-depth}

@@ -6,10 +6,10 @@ use Rattle.machine_states.specs.Regions.{Regions}
 use Rattle.codegen.specs.declared.code.StepCode.{StepCode}
 use Rattle.codegen.specs.Codes.{DoAll}
 use Rattle.machine_words.specs.Words.{regions_in}
-use Rattle.machine_moves.specs.declared.active.Active.{Active}
-use Rattle.machine_moves.specs.declared.compiled.CompiledProgram.{CompiledProgram}
-use Rattle.machine_moves.specs.Standing.{DoesNext, IsNextOf}
-use Rattle.machine_moves.proofs.NextCode.{does_next, is_closing}
+use Rattle.frame_steps.specs.declared.active.Active.{Active}
+use Rattle.frame_steps.specs.declared.compiled.CompiledProgram.{CompiledProgram}
+use Rattle.frame_steps.specs.Standing.{DoesNext, IsNextOf}
+use Rattle.frame_steps.proofs.NextCode.{does_next, is_closing}
 use Rattle.machine_rounds.proofs.RoundSteps.{round_next}
 use Rattle.machine_rounds.proofs.RoundWrites.{round_small}
 use Rattle.machine_shown.proofs.StepPlaces.{lanes_at_brace, lanes_at_round, lanes_at_step, unturned}

@@ -3,7 +3,7 @@ use Rattle.std.specs.Prelude.{replicate}
 use Rattle.machine_states.specs.Effects.{assigned_region}
 use Rattle.machine_words.specs.Views.{region_view}
 use Rattle.machine_words.specs.Words.{Writes, regions_in}
-use Rattle.machine_moves.proofs.GangLanes.{gang_some}
+use Rattle.frame_steps.proofs.GangLanes.{gang_some}
 use Rattle.machine_shown.specs.ShownWords.{AreInRegion, OfScalar, part_set, region_shown, shown_view}
 use Rattle.machine_shown.proofs.PokedWords.{assigned_poked}
 use Rattle.machine_shown.proofs.shown.set_part.Goals as goal

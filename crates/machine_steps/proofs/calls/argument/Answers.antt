@@ -5,7 +5,7 @@ use Rattle.gang_types.specs.Masks.{lanes_of}
 use Rattle.gang_types.specs.MaskLaws.{gang_width-le}
 use Rattle.machine_words.specs.Views.{view_view}
 use Rattle.machine_words.specs.Words.{regions_in}
-use Rattle.machine_moves.proofs.GangLanes.{stacks_small}
+use Rattle.frame_steps.proofs.GangLanes.{stacks_small}
 use Rattle.machine_steps.specs.Calls.{IsArgumentAnswer}
 use Rattle.machine_steps.proofs.ArgumentWords.{array_argument, part_faults, part_kept, value_answer, value_argument}
 use Rattle.machine_steps.proofs.calls.argument.Goals as goal

@@ -5,13 +5,13 @@ use Rattle.std.proofs.lemmas.Option.{slice_get_read}
 use Rattle.std.proofs.lemmas.Result.{err_from_is_err_and}
 use Rattle.gang_types.specs.Masks.{lanes_of}
 use Rattle.gang_types.specs.MaskLaws.{gang_width-le}
-use Rattle.debug_machine.specs.Machines.{fault_view}
+use Rattle.debug_traits.specs.Machines.{fault_view}
 use Rattle.machine_words.specs.Words.{regions_in}
 use Rattle.machine_steps.specs.Calls.{AreArgumentWords, ArePassed, IsArgumentAt}
 use Rattle.codegen.specs.Codes.{Fit}
 use Rattle.codegen.proofs.Rows.{fit_long}
-use Rattle.machine_moves.proofs.FunctionCode.{fit_with}
-use Rattle.machine_moves.proofs.GangLanes.{stacks_small}
+use Rattle.frame_steps.proofs.FunctionCode.{fit_with}
+use Rattle.frame_steps.proofs.GangLanes.{stacks_small}
 use Rattle.machine_steps.proofs.PassedArguments.{fault_passed, one_passed, whole}
 use Rattle.machine_steps.proofs.calls.arguments.Goals as goal
 

@@ -4,7 +4,7 @@ use Rattle.gang_model.specs.Types.Tree.{Arg}
 use Rattle.mask_states.specs.Masked.{Masked}
 use Rattle.codegen.specs.Codes.{Fit}
 use Rattle.machine_words.specs.Words.{regions_in}
-use Rattle.machine_moves.specs.Standing.{IsShown}
+use Rattle.frame_steps.specs.Standing.{IsShown}
 use Rattle.machine_steps.specs.Calls.{AreArgumentWords, IsArgumentAt}
 use Rattle.machine_steps.proofs.calls.arguments.Given as goal
 

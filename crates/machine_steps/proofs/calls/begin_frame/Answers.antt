@@ -6,7 +6,7 @@ use Rattle.gang_types.specs.MaskLaws.{gang_width-le, length-lanes_of_word}
 use Rattle.mask_states.specs.Masked.{sent}
 use Rattle.machine_states.specs.Regions.{FunctionOf, LanesOf, ReturnedOf, OpenOf, NumbersOf, Depth, OfHead, LevelOf, OfLevel}
 use Rattle.machine_words.specs.Words.{left_of}
-use Rattle.machine_moves.proofs.GangLanes.{some_of_all}
+use Rattle.frame_steps.proofs.GangLanes.{some_of_all}
 use Rattle.machine_steps.proofs.EnteredNumbers.{all_entered}
 use Rattle.machine_steps.proofs.FrameHeads.{frame_begins}
 use Rattle.machine_steps.proofs.WrittenRegions.{all_words, depth_long, head_long, only_word}

@@ -4,7 +4,7 @@ use Rattle.gang_types.specs.Masks.{lanes_of}
 use Rattle.gang_types.specs.MaskLaws.{gang_width-le}
 use Rattle.machine_states.specs.Regions.{OfLocal}
 use Rattle.machine_words.specs.Words.{Writes, regions_in}
-use Rattle.machine_moves.proofs.GangLanes.{some_of_all, words_few}
+use Rattle.frame_steps.proofs.GangLanes.{some_of_all, words_few}
 use Rattle.machine_steps.specs.Calls.{parameter_region}
 use Rattle.machine_steps.proofs.WrittenRegions.{all_words}
 use Rattle.machine_steps.proofs.calls.declare_parameter.Goals as goal

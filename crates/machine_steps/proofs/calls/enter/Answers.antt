@@ -4,14 +4,14 @@ use Rattle.gang_types.specs.declared.faults.FaultName.TheVariants.{CallDepth}
 use Rattle.gang_types.specs.Masks.{lanes_of}
 use Rattle.gang_types.specs.MaskLaws.{gang_width-le}
 use Rattle.undo_log.specs.declared.timeline.Undone.TheVariants as undone
-use Rattle.debug_machine.specs.Machines.{fault_view}
+use Rattle.debug_traits.specs.Machines.{fault_view}
 use Rattle.machine_states.specs.Regions.{OfLocal}
 use Rattle.machine_states.specs.Steps.{FailsWith}
 use Rattle.machine_words.specs.Words.{left_of, regions_in}
-use Rattle.machine_moves.specs.Compiled.{program_of}
-use Rattle.machine_moves.specs.Standing.{EndsAs}
-use Rattle.machine_moves.proofs.GangLanes.{given_small, stacks_small}
-use Rattle.machine_moves.proofs.Standings.{begun_laid}
+use Rattle.frame_steps.specs.Compiled.{program_of}
+use Rattle.frame_steps.specs.Standing.{EndsAs}
+use Rattle.frame_steps.proofs.GangLanes.{given_small, stacks_small}
+use Rattle.frame_steps.proofs.Standings.{begun_laid}
 use Rattle.machine_steps.specs.Calls.{AreParametersDeclared}
 use Rattle.machine_steps.proofs.EnteredCalls.{call_below, call_ends, call_fails, call_few, call_fits, call_lanes, call_of, call_point, call_there, call_too_deep, frame_left, given_long, parameters_left, parameters_sized}
 use Rattle.machine_steps.proofs.calls.enter.Goals as goal

@@ -7,10 +7,10 @@ use Rattle.gang_model.specs.Types.Tree.{Function}
 use Rattle.typed_tree.specs.Views.{function_view, result_view}
 use Rattle.machine_states.specs.Regions.{LanesOf}
 use Rattle.machine_words.specs.Words.{regions_in}
-use Rattle.machine_moves.specs.Delivering.{GivesResult}
-use Rattle.machine_moves.proofs.FrameResults.{function_is, function_within}
-use Rattle.machine_moves.proofs.GivenResults.{given_alike}
-use Rattle.machine_moves.proofs.Heads.{head_long}
+use Rattle.frame_steps.specs.Delivering.{GivesResult}
+use Rattle.frame_steps.proofs.FrameResults.{function_is, function_within}
+use Rattle.frame_steps.proofs.GivenResults.{given_alike}
+use Rattle.frame_steps.proofs.Heads.{head_long}
 use Rattle.machine_steps.specs.Leaving.{AreSameIn, lanes_called, result_seen}
 use Rattle.machine_steps.proofs.leaving.deliver.Goals as goal
 

@@ -4,7 +4,7 @@ use Rattle.undo_log.specs.declared.timeline.Undone.TheVariants as undone
 use Rattle.machine_states.specs.Regions.{Depth, with_region}
 use Rattle.machine_words.specs.Words.{AreLaid, Writes, left_of, regions_in, words_of}
 use Rattle.machine_words.proofs.Sizes.{depth_words}
-use Rattle.machine_moves.proofs.Standings.{begun, ends_well, leaving_within}
+use Rattle.frame_steps.proofs.Standings.{begun, ends_well, leaving_within}
 use Rattle.machine_steps.specs.Leaving.{behind_call}
 use Rattle.machine_steps.proofs.LeftFrames.{begun_closing, begun_laid, begun_shown, begun_sized, depth_set, goes_nowhere, goes_past, past_under_way}
 use Rattle.machine_steps.proofs.leaving.leave.Goals.{else-active-gt0, then-active-gt0}

@@ -8,8 +8,8 @@ use Rattle.gang_model.specs.Running.Lanes.{at, each}
 use Rattle.machine_states.specs.Regions.{OfHead, ResultOf, ReturnedOf, lanes_in}
 use Rattle.machine_states.specs.Steps.{converted_values}
 use Rattle.machine_words.specs.Words.{regions_in}
-use Rattle.machine_moves.proofs.FrameResults.{uniform_given, varying_given}
-use Rattle.machine_moves.proofs.Heads.{head_long}
+use Rattle.frame_steps.proofs.FrameResults.{uniform_given, varying_given}
+use Rattle.frame_steps.proofs.Heads.{head_long}
 use Rattle.machine_steps.specs.Leaving.{result_seen}
 use Rattle.machine_steps.proofs.leaving.result_words.Goals as goal
 

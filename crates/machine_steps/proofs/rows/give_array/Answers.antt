@@ -4,7 +4,7 @@ use Rattle.gang_types.specs.Masks.{lanes_of}
 use Rattle.gang_types.specs.MaskLaws.{gang_width-le}
 use Rattle.machine_states.specs.Regions.{OfEntry, OfLocal}
 use Rattle.machine_words.specs.Words.{regions_in}
-use Rattle.machine_moves.proofs.GangLanes.{some_of_all}
+use Rattle.frame_steps.proofs.GangLanes.{some_of_all}
 use Rattle.machine_steps.proofs.RowWords.{all_left, array_given, words_left}
 use Rattle.machine_steps.proofs.WrittenRegions.{written_away}
 use Rattle.machine_steps.proofs.rows.give_array.Goals as goal

@@ -1,7 +1,7 @@
 use Rattle.std.proofs.Common.{arith, subst}
 use Rattle.gang_types.specs.MaskLaws.{gang_width-le}
 use Rattle.machine_words.specs.Words.{regions_in}
-use Rattle.machine_moves.specs.Standing.{DoesNext}
+use Rattle.frame_steps.specs.Standing.{DoesNext}
 use Rattle.machine_steps.proofs.StepKinds.{writes_else}
 use Rattle.machine_steps.proofs.stepping.perform.Goals as goal
 

@@ -4,9 +4,9 @@ use Rattle.std.proofs.lemmas.Option.{slice_get-get_or}
 use Rattle.gang_types.specs.MaskLaws.{gang_width-le}
 use Rattle.machine_states.proofs.Endings.{over}
 use Rattle.machine_words.specs.Words.{regions_in}
-use Rattle.machine_moves.specs.Compiled.{program_of, variables_of}
-use Rattle.machine_moves.specs.Standing.{AreSound}
-use Rattle.machine_moves.proofs.NextCode.{does_next, is_closing}
+use Rattle.frame_steps.specs.Compiled.{program_of, variables_of}
+use Rattle.frame_steps.specs.Standing.{AreSound}
+use Rattle.frame_steps.proofs.NextCode.{does_next, is_closing}
 use Rattle.machine_steps.proofs.StepEnds.{sound_behind, step_done}
 use Rattle.machine_steps.proofs.stepping.step.Goals as goal
 

@@ -1,0 +1,10 @@
+pub mod Checks
+pub mod Compiled
+pub mod Delivering
+pub mod Elements
+pub mod Parts
+pub mod Read
+pub mod Results
+pub mod Rounds
+pub mod Standing
+pub mod Written

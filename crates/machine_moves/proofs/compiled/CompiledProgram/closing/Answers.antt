@@ -1,5 +1,0 @@
-use Rattle.machine_moves.proofs.FunctionCode.{code_long}
-use Rattle.machine_moves.proofs.compiled.CompiledProgram.closing.Goals as goal
-
-pub returns : goal.returns
-returns c f found = code_long f c.steps.result.now (c.steps.ensures.does f found)
