@@ -4,7 +4,7 @@ use Rattle.gang_model.specs.Types.Tree.{Variable}
 use Rattle.gang_model.specs.Debugger.Debugger as model
 use Rattle.gang_model.specs.Debugger.Debugger.{Debugger, Setting}
 use Rattle.debug_commands.specs.Views.{target_view}
-use Rattle.debug_machine.specs.Machines.{IsShown, fault_view, file_variables}
+use Rattle.debug_traits.specs.Machines.{IsShown, fault_view, file_variables}
 use Rattle.debug_answers.specs.declared.answer.Answer.{Answer}
 use Rattle.debug_answers.specs.declared.answer.Answer.TheVariants as answer
 use Rattle.debug_answers.specs.declared.answer.Refusal.{Refusal}

@@ -1,6 +1,6 @@
 //! Answers to commands.
 use debug_commands::Target;
-use debug_machine::{Fault, Shown};
+use debug_traits::{Fault, Shown};
 
 /// Why a command is refused.
 #[derive(Clone, Copy, Debug, PartialEq, Eq)]

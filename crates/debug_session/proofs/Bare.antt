@@ -1,8 +1,8 @@
 -- What can be shown of a variable does not depend on breakpoints and watches.
 use Rattle.gang_model.specs.Types.Tree.{Variable}
 use Rattle.gang_model.specs.Debugger.Debugger.{Debugger, Setting}
-use Rattle.debug_machine.specs.declared.machine.Shown.{Shown}
-use Rattle.debug_machine.specs.Machines.{IsShown}
+use Rattle.debug_traits.specs.declared.machine.Shown.{Shown}
+use Rattle.debug_traits.specs.Machines.{IsShown}
 use Rattle.debug_session.specs.Sessions.{bare}
 
 pub to_bare : (s : Setting) (d : Debugger) (v : Variable) (shown : Shown) → IsShown s d v shown → IsShown s (bare d) v shown

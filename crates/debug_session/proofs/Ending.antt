@@ -7,8 +7,8 @@ use Rattle.gang_model.specs.Types.Tree.{Program, Standing, Function}
 use Rattle.gang_model.specs.Running.State.{Frame}
 use Rattle.gang_model.specs.Debugger.Positions.{frame_spot, frame_lanes, standing_at}
 use Rattle.gang_model.specs.Texts.Text.{Bytes, frames_text, standing_text}
-use Rattle.debug_machine.specs.declared.machine.Position.{Position}
-use Rattle.debug_machine.specs.Machines.{line_of_position, position_text}
+use Rattle.debug_traits.specs.declared.machine.Position.{Position}
+use Rattle.debug_traits.specs.Machines.{line_of_position, position_text}
 
 abbrev first_byte : Bytes → ℕ
 first_byte [] = 0

@@ -1,9 +1,11 @@
 pub mod Bare
+pub mod Bounds
 pub mod Ending
 pub mod Histories
 pub mod Listing
 pub mod Moves
 pub mod Replies
+pub mod Rows
 pub mod Stepping
 pub mod Turns
 pub mod Watches

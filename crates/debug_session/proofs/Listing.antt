@@ -11,8 +11,8 @@ use Rattle.debug_answers.specs.declared.answer.Refusal.TheVariants as refusal
 use Rattle.debug_answers.specs.declared.stops.NumberedStop.{NumberedStop}
 use Rattle.debug_answers.specs.declared.stops.Stop.{Stop}
 use Rattle.debug_answers.specs.Meanings.{AreStops, IsStop, Means}
-use Rattle.debug_machine.specs.declared.machine.Shown.{Shown}
-use Rattle.debug_machine.specs.Machines.{IsShown}
+use Rattle.debug_traits.specs.declared.machine.Shown.{Shown}
+use Rattle.debug_traits.specs.Machines.{IsShown}
 use Rattle.debug_session.specs.Sessions.{bare}
 use Rattle.debug_session.specs.Stops.{Table}
 use Rattle.debug_session.specs.Tables.{Listed, given_number, is_full, with_stop}

@@ -3,7 +3,7 @@ use Rattle.std.proofs.Common.{◌≡◌, refl, sym, subst, ap, ◌∙◌, ℕ, s
 use Rattle.std.specs.Prelude.{filter}
 use Rattle.undo_log.specs.declared.timeline.Undone.TheVariants as undone
 use Rattle.gang_model.specs.Debugger.Events.{Event, Step, Poke, Poked}
-use Rattle.debug_machine.specs.Machines.{kind_of}
+use Rattle.debug_traits.specs.Machines.{kind_of}
 use Rattle.gang_model.specs.Debugger.Debugger.{Debugger, is_step, kept_steps, stepped_back, taken_back, to_last_step}
 
 -- a debugger with its events and how many of them are kept

@@ -1,3 +1,4 @@
+pub mod Bounds
 pub mod Goals
 pub mod Moves
 pub mod Sessions

@@ -1,5 +1,5 @@
 //! Values that are set, events that are taken back, and how many can be.
-ghost use Rattle.std.specs.Prelude.{◌≡◌, true};
+ghost use Rattle.std.specs.Prelude.{◌≡◌, suc, true};
 ghost use Rattle.gang_model.specs.Debugger.Debugger.{Debugger, DoSetHistory, Setting, do_set, do_undo, is_value};
 ghost use Rattle.debug_commands.specs.Views.{target_view};
 ghost use Rattle.debug_session.specs.Moves.{Done, MayBeDone};
@@ -8,7 +8,7 @@ ghost use Rattle.debug_session.specs.Sessions.{bare, is_refused};
 use crate::refusing::part_refusal;
 use debug_answers::{Answer, Refusal};
 use debug_commands::Target;
-use debug_machine::RecordedMachine;
+use debug_traits::RecordedMachine;
 use gang_types::{IntType, value, wrap};
 use undo_log::Undone;
 
@@ -21,6 +21,7 @@ pub(crate) fn set<'a, M: RecordedMachine>(
     ensures replied { (s : Setting) (d : Debugger) → M.stands machine.old s (bare d)
         → Done M.stands s d (do_set s (target_view target.entry) number d) result machine.new }
     ensures refused { is_refused result ≡ true → M.history machine.new ≡ M.history machine.old }
+    ensures moves { M.moves machine.new ≡ M.moves machine.old }
 {
     let Some(shown) = machine.find(target.name) else {
         return Answer::Refused(Refusal::NoSuchName);
@@ -50,6 +51,7 @@ pub(crate) fn undo<'a, M: RecordedMachine>(machine: &mut M) -> Answer<'a>
     ensures replied { (s : Setting) (d : Debugger) → M.stands machine.old s (bare d)
         → Done M.stands s d (do_undo d) result machine.new }
     ensures refused { is_refused result ≡ true → M.history machine.new ≡ M.history machine.old }
+    ensures moves { M.moves machine.new ≡ suc (M.moves machine.old) }
 {
     match machine.undo() {
         Err(_) => Answer::Refused(Refusal::NoHistory),
@@ -66,6 +68,7 @@ pub(crate) fn set_history<'a, M: RecordedMachine>(machine: &mut M, limit: u32) -
     ensures replied { (s : Setting) (d : Debugger) → M.stands machine.old s (bare d)
         → MayBeDone M.stands s d (DoSetHistory limit) result machine.new }
     ensures refused { is_refused result ≡ true → M.history machine.new ≡ M.history machine.old }
+    ensures moves { M.moves machine.new ≡ M.moves machine.old }
 {
     if limit == 0 || limit > MOST_KEPT {
         return Answer::Refused(Refusal::OutOfRange);

@@ -1,10 +1,12 @@
 //! Moves forward and backward.
-ghost use Rattle.std.specs.Prelude.{◌≡◌, ℕ, suc, ◌-◌, ◌<◌, true, false, Option, Bool, IfSome, None};
+ghost use Rattle.std.specs.Prelude.{◌≡◌, ℕ, suc, ◌+◌, ◌-◌, ◌<◌, ◌≤◌, true, false, Option, Bool, IfSome, None};
+ghost use Rattle.undo_log.specs.History.{steps_in};
 ghost use Rattle.gang_model.specs.Running.State.{State};
 ghost use Rattle.gang_model.specs.Debugger.Debugger as model;
 ghost use Rattle.gang_model.specs.Debugger.Debugger.{Debugger, Setting, after_move, backward, ends_or_goes_on, forward, kept_steps, moved, now, stepped_back};
 ghost use Rattle.gang_model.specs.Debugger.Events.{Step};
 ghost use Rattle.debug_answers.specs.Meanings.{AreStops, Means};
+ghost use Rattle.debug_session.specs.Bounds.{TakesBack};
 ghost use Rattle.debug_session.specs.Goals.{goal_option, goal_view};
 ghost use Rattle.debug_session.specs.Moves.{Done, IfGoesOn, IsPlainEnd, IsReached, MeansAfter, Moved, noted, watch_words};
 ghost use Rattle.debug_session.specs.Sessions.{bare, is_refused};
@@ -14,7 +16,7 @@ use crate::places::{Reached, reached_by};
 use crate::table::StopTable;
 use crate::watching::{WordsBefore, changed_watch, note_words};
 use debug_answers::Answer;
-use debug_machine::{RecordedMachine, StepEnd};
+use debug_traits::{RecordedMachine, StepEnd};
 use undo_log::Undone;
 
 /// Whether a command ends after a move, or goes on to a goal.
@@ -35,6 +37,7 @@ pub(crate) fn move_forward<'a, M: RecordedMachine>(
     ensures replied { (s : Setting) (d : Debugger) → M.stands machine.old s (bare d) → AreStops s stops.now.items d.stops
         → Done M.stands s d (forward most_steps s (goal_view goal) d) result machine.new }
     ensures plain { is_refused result ≡ false }
+    ensures moves { M.moves machine.new ≤ M.moves machine.old + most_steps }
 {
     note_words(machine, stops, before);
     let mut left = goal;
@@ -57,6 +60,7 @@ pub(crate) fn move_backward<'a, M: RecordedMachine>(
     ensures replied { (s : Setting) (d : Debugger) → M.stands machine.old s (bare d) → AreStops s stops.now.items d.stops → 0 < kept_steps d
         → Done M.stands s d (backward d.kept s (goal_view goal) d) result machine.new }
     ensures plain { is_refused result ≡ false }
+    ensures moves { 0 < steps_in (M.history machine.old).past → TakesBack M.moves M.history machine.old machine.new }
 {
     note_words(machine, stops, before);
     let mut left = goal;
@@ -83,6 +87,7 @@ fn step_forward<'a, M: RecordedMachine>(
         → noted before.now.items ≡ watch_words (now s d) d.stops
         → IfGoesOn result (noted before.now.items ≡ watch_words (now s (moved Step d)) d.stops) }
     ensures plain { IsPlainEnd result }
+    ensures moves { M.moves machine.new ≡ suc (M.moves machine.old) }
 {
     match machine.step() {
         StepEnd::Fault(fault) => AfterMove::Ends(Answer::AtFault(fault)),
@@ -110,6 +115,8 @@ fn step_backward<'a, M: RecordedMachine>(
         → noted before.now.items ≡ watch_words (now s d) d.stops
         → IfGoesOn result (noted before.now.items ≡ watch_words (now s (stepped_back d)) d.stops) }
     ensures plain { IsPlainEnd result }
+    ensures moves { 0 < steps_in (M.history machine.old).past → TakesBack M.moves M.history machine.old machine.new }
+    ensures kept { IfGoesOn result (0 < steps_in (M.history machine.new).past) }
 {
     take_step_back(machine);
     let at = reached_by(machine);
@@ -127,7 +134,8 @@ fn step_backward<'a, M: RecordedMachine>(
 
 /// Takes back the values that were set since the last step, and that step.
 fn take_step_back<M: RecordedMachine>(machine: &mut M)
-    ensures { (s : Setting) (d : Debugger) → M.stands machine.old s (bare d) → 0 < kept_steps d → M.stands machine.new s (bare (stepped_back d)) }
+    ensures back { (s : Setting) (d : Debugger) → M.stands machine.old s (bare d) → 0 < kept_steps d → M.stands machine.new s (bare (stepped_back d)) }
+    ensures moves { 0 < steps_in (M.history machine.old).past → TakesBack M.moves M.history machine.old machine.new }
 {
     while let Ok(Undone::Poke) = machine.undo() {}
 }

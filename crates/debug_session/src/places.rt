@@ -1,11 +1,11 @@
 //! Where a program stands.
 ghost use Rattle.std.specs.Prelude.{◌≡◌};
 ghost use Rattle.gang_model.specs.Debugger.Debugger.{Debugger, Setting};
-ghost use Rattle.debug_machine.specs.Machines.{depth_of, line_of_position};
+ghost use Rattle.debug_traits.specs.Machines.{depth_of, line_of_position};
 ghost use Rattle.debug_session.specs.Moves.{IsReached};
 ghost use Rattle.debug_session.specs.Sessions.{bare};
 
-use debug_machine::{Position, RecordedMachine};
+use debug_traits::{Position, RecordedMachine};
 
 /// Where a move has led: the line, unless the program has ended, and how many frames there are.
 #[derive(Clone, Copy, Debug)]

@@ -1,5 +1,6 @@
 //! Why commands are refused.
-ghost use Rattle.std.specs.Prelude.{◌≡◌, None, false};
+ghost use Rattle.std.specs.Prelude.{◌≡◌, ◌<◌, None, false};
+ghost use Rattle.undo_log.specs.History.{steps_in};
 ghost use Rattle.gang_model.specs.Debugger.Debugger as model;
 ghost use Rattle.gang_model.specs.Debugger.Debugger.{Debugger, Setting, backward_refusal, bad_part, forward_refusal, kept_steps, now};
 ghost use Rattle.debug_answers.specs.Meanings.{IsInside};
@@ -8,7 +9,7 @@ ghost use Rattle.debug_session.specs.Sessions.{bare};
 
 use crate::places::depth_of;
 use debug_answers::Refusal;
-use debug_machine::{RecordedMachine, Shown};
+use debug_traits::{RecordedMachine, Shown};
 use gang_types::Rate;
 
 /// Why a forward command is refused, if it is; some need a frame below.
@@ -30,7 +31,8 @@ pub(crate) fn backward_refusal<M: RecordedMachine>(
     machine: &M,
     needs_frame: bool,
 ) -> Option<Refusal>
-    ensures { (s : Setting) (d : Debugger) → M.stands machine.now s (bare d) → refusal_option result ≡ backward_refusal (kept_steps d) needs_frame (now s d) }
+    ensures refusal { (s : Setting) (d : Debugger) → M.stands machine.now s (bare d) → refusal_option result ≡ backward_refusal (kept_steps d) needs_frame (now s d) }
+    ensures kept { result ≡ None → 0 < steps_in (M.history machine.now).past }
 {
     if machine.kept_steps() == 0 {
         Some(Refusal::NoHistory)

@@ -1,7 +1,8 @@
 //! A debugger over a recorded machine.
-ghost use Rattle.std.specs.Prelude.{◌≡◌, [], true};
+ghost use Rattle.std.specs.Prelude.{◌≡◌, ◌+◌, ◌≤◌, [], length, true};
 ghost use Rattle.gang_model.specs.Debugger.Debugger.{Debugger, Setting, do_backward, do_forward};
 ghost use Rattle.debug_commands.specs.Views.{command_view};
+ghost use Rattle.debug_session.specs.Bounds.{TakesBack, most_moves};
 ghost use Rattle.debug_session.specs.Goals.{goal_view};
 ghost use Rattle.debug_session.specs.Sessions.{IsUnchanged, Replied, RepliesTo, StandsFor, is_refused};
 
@@ -15,7 +16,7 @@ use crate::table::StopTable;
 use crate::watching::WordsBefore;
 use debug_answers::{Answer, NumberedStop};
 use debug_commands::Command;
-use debug_machine::RecordedMachine;
+use debug_traits::RecordedMachine;
 
 /// A debugger over a machine. It does at most so many moves for one forward command.
 #[derive(Drop)]
@@ -47,6 +48,7 @@ impl<M: RecordedMachine> Session<M> {
         ensures replied { (s : Setting) (d : Debugger) → StandsFor M.stands self.old s d
             → RepliesTo M.stands s (command_view command.entry) d result self.new }
         ensures refused { is_refused result ≡ true → IsUnchanged M.history self.old self.new }
+        ensures moves { M.moves self.new.machine ≤ M.moves self.old.machine + most_moves self.old.most_steps (length (M.history self.old.machine).past) (command_view command.entry) }
     {
         match command {
             Command::Step(count) => self.go_forward(Goal::Moves(count), false),
@@ -102,6 +104,7 @@ impl<M: RecordedMachine> Session<M> {
         ensures replied { (s : Setting) (d : Debugger) → StandsFor M.stands self.old s d
             → Replied M.stands s (do_forward s needs_frame (goal_view goal) d) result self.new }
         ensures refused { is_refused result ≡ true → IsUnchanged M.history self.old self.new }
+        ensures moves { M.moves self.new.machine ≤ M.moves self.old.machine + self.old.most_steps }
     {
         match forward_refusal(&self.machine, needs_frame) {
             Some(refusal) => Answer::Refused(refusal),
@@ -120,6 +123,7 @@ impl<M: RecordedMachine> Session<M> {
         ensures replied { (s : Setting) (d : Debugger) → StandsFor M.stands self.old s d
             → Replied M.stands s (do_backward s needs_frame (goal_view goal) d) result self.new }
         ensures refused { is_refused result ≡ true → IsUnchanged M.history self.old self.new }
+        ensures moves { TakesBack M.moves M.history self.old.machine self.new.machine }
     {
         match backward_refusal(&self.machine, needs_frame) {
             Some(refusal) => Answer::Refused(refusal),

@@ -8,7 +8,7 @@ ghost use Rattle.debug_session.specs.Sessions.{bare};
 use crate::refusing::part_refusal;
 use debug_answers::{Answer, Refusal};
 use debug_commands::Target;
-use debug_machine::RecordedMachine;
+use debug_traits::RecordedMachine;
 
 /// Shows a scalar, a lane of one, an array or an element.
 pub(crate) fn print<'a, M: RecordedMachine>(machine: &M, target: Target<'a>) -> Answer<'a>

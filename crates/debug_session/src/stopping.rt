@@ -10,7 +10,7 @@ use crate::refusing::part_refusal;
 use crate::table::StopTable;
 use debug_answers::{Answer, Refusal, Stop};
 use debug_commands::Target;
-use debug_machine::RecordedMachine;
+use debug_traits::RecordedMachine;
 
 /// Makes a breakpoint on the first line from this one on that has a place.
 pub(crate) fn set_breakpoint<'a, M: RecordedMachine>(

@@ -6,14 +6,14 @@ ghost use Rattle.gang_model.specs.Running.State.{State};
 ghost use Rattle.gang_model.specs.Debugger.Debugger as model;
 ghost use Rattle.gang_model.specs.Debugger.Debugger.{Debugger, Setting, differs, first_stop, now, shown_words, target_words};
 ghost use Rattle.debug_answers.specs.Meanings.{AreStops, IsWatch};
-ghost use Rattle.debug_machine.specs.Machines.{IsShown};
+ghost use Rattle.debug_traits.specs.Machines.{IsShown};
 ghost use Rattle.debug_session.specs.Moves.{noted, watch_words};
 ghost use Rattle.debug_session.specs.Sessions.{bare};
 
 use crate::table::{ROOM, StopTable};
 use arrayvec::ArrayVec;
 use debug_answers::Stop;
-use debug_machine::{RecordedMachine, Shown};
+use debug_traits::{RecordedMachine, Shown};
 
 /// The most lanes of a gang.
 const WIDEST: usize = 16;

@@ -1,7 +1,7 @@
 //! std's readers as the reader of a run.
 ghost use Rattle.std.specs.Prelude.{◌≡◌, ◌≤◌, false};
 
-use debug_machine::{CommandReader, ReadFault};
+use debug_traits::{CommandReader, ReadFault};
 use std::io::Read;
 
 /// Commands from a reader of std.

@@ -1,7 +1,7 @@
 //! std's writers as the writer of a run.
 ghost use Rattle.std.specs.Prelude.{◌≡◌, false};
 
-use debug_machine::{AnswerWriter, WriteFault};
+use debug_traits::{AnswerWriter, WriteFault};
 use std::io::Write;
 
 /// Answers to a writer of std.

@@ -5,8 +5,8 @@ use Rattle.std.proofs.lemmas.Bool.Decides.{nat_tests}
 use Rattle.gang_model.specs.Types.Tree.{Program}
 use Rattle.gang_model.specs.Running.State.{Frame}
 use Rattle.gang_model.specs.Texts.Text.{call_line, frame_lines, frames_text, line, outer_lines}
-use Rattle.debug_machine.specs.declared.machine.Position.{Position}
-use Rattle.debug_machine.specs.Machines.{call_text, depth_of, position_text}
+use Rattle.debug_traits.specs.declared.machine.Position.{Position}
+use Rattle.debug_traits.specs.Machines.{call_text, depth_of, position_text}
 use Rattle.debug_texts.specs.Wording.{calls_text}
 
 -- the calls from one depth on: the first, and the others

@@ -4,8 +4,8 @@ use Rattle.std.specs.Prelude.{codes, flat_map}
 use Rattle.gang_model.specs.Types.Tree.{Variable}
 use Rattle.gang_model.specs.Debugger.Debugger.{Debugger, Setting, now}
 use Rattle.gang_model.specs.Texts.Text.{Bytes, line, or_none, shown_line, whole}
-use Rattle.debug_machine.specs.declared.machine.NamedVariable.{NamedVariable}
-use Rattle.debug_machine.specs.Machines.{IsShown, ShowsNamed}
+use Rattle.debug_traits.specs.declared.machine.NamedVariable.{NamedVariable}
+use Rattle.debug_traits.specs.Machines.{IsShown, ShowsNamed}
 use Rattle.debug_texts.proofs.Stops.{or_none_line}
 
 -- a line for each variable

@@ -6,9 +6,9 @@ use Rattle.gang_model.specs.Debugger.Events.{Event}
 use Rattle.gang_model.specs.Debugger.Positions.{scope_now}
 use Rattle.gang_model.specs.Debugger.Debugger.{Debugger, Setting, now, shown_words}
 use Rattle.gang_model.specs.Texts.Text.{Bytes, text}
-use Rattle.debug_machine.specs.Devices.{Writes}
-use Rattle.debug_machine.specs.declared.machine.Shown.{Shown}
-use Rattle.debug_machine.specs.Machines.{IsOneOf, IsShown, file_variables}
+use Rattle.debug_traits.specs.Devices.{Writes}
+use Rattle.debug_traits.specs.declared.machine.Shown.{Shown}
+use Rattle.debug_traits.specs.Machines.{IsOneOf, IsShown, file_variables}
 use Rattle.debug_answers.specs.Meanings.{Means}
 use Rattle.debug_answers.specs.declared.answer.Answer.{Answer}
 

@@ -6,8 +6,8 @@ use Rattle.std.specs.Prelude.{flat_map}
 use Rattle.std.specs.List.{concat}
 use Rattle.gang_types.specs.Masks.{lanes_of}
 use Rattle.gang_model.specs.Texts.Text.{Bytes, bits, line}
-use Rattle.debug_machine.specs.declared.machine.Position.{Position}
-use Rattle.debug_machine.specs.Machines.{position_text}
+use Rattle.debug_traits.specs.declared.machine.Position.{Position}
+use Rattle.debug_traits.specs.Machines.{position_text}
 use Rattle.debug_texts.specs.Wording.{place_front}
 
 module _ {X : Type 0} (f : X → List ℕ) where

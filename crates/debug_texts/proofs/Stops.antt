@@ -6,7 +6,7 @@ use Rattle.gang_model.specs.Types.Tree.{Variable}
 use Rattle.gang_model.specs.Debugger.Debugger as model
 use Rattle.gang_model.specs.Debugger.Debugger.{Setting}
 use Rattle.gang_model.specs.Texts.Text.{Bytes, index_text, line, or_none, stop_lines, stop_text, target_text}
-use Rattle.debug_machine.specs.Machines.{file_variables}
+use Rattle.debug_traits.specs.Machines.{file_variables}
 use Rattle.debug_answers.specs.Meanings.{AreStops, IsStop}
 use Rattle.debug_answers.specs.declared.stops.NumberedStop.{NumberedStop}
 use Rattle.debug_answers.specs.declared.stops.Stop.TheVariants as stop

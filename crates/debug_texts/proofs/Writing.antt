@@ -4,8 +4,8 @@ use Rattle.std.proofs.lemmas.List.{take-append-le}
 use Rattle.std.proofs.Math.Seq.{take-append-add}
 use Rattle.std.proofs.KnownBytes.{Appends-trans}
 use Rattle.std.specs.Io.KnownBytes.{Appends}
-use Rattle.debug_machine.specs.Devices.{Writes}
-use Rattle.debug_machine.proofs.Writing.{Broke}
+use Rattle.debug_traits.specs.Devices.{Writes}
+use Rattle.debug_traits.proofs.Writing.{Broke}
 
 -- the first part broke, so the whole did
 pub broke_early : (front rest : List ℕ) (old new : Option (List ℕ)) (failed : Bool) → Broke front old new failed → Broke (front ++ rest) old new failed

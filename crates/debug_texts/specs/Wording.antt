@@ -5,8 +5,8 @@ use Rattle.gang_types.specs.declared.types.IntType.{IntType}
 use Rattle.gang_model.specs.Types.Tree.{Program}
 use Rattle.gang_model.specs.Running.State.{Frame}
 use Rattle.gang_model.specs.Texts.Text.{Bytes, word_text}
-use Rattle.debug_machine.specs.Machines.{call_text}
-use Rattle.debug_machine.specs.declared.machine.Position.{Position}
+use Rattle.debug_traits.specs.Machines.{call_text}
+use Rattle.debug_traits.specs.declared.machine.Position.{Position}
 
 -- the text of a position up to its lanes
 abbrev pub place_front : Position → Bytes

@@ -3,8 +3,8 @@ ghost use Rattle.std.specs.Prelude.{◌≡◌, ◌++◌, codes, decimal, false, 
 ghost use Rattle.gang_model.specs.Debugger.Debugger as model;
 ghost use Rattle.gang_model.specs.Debugger.Debugger.{Debugger, Setting};
 ghost use Rattle.gang_model.specs.Texts.Text.{stopped, text};
-ghost use Rattle.debug_machine.specs.Devices.{Writes};
-ghost use Rattle.debug_machine.specs.Machines.{fault_view};
+ghost use Rattle.debug_traits.specs.Devices.{Writes};
+ghost use Rattle.debug_traits.specs.Machines.{fault_view};
 ghost use Rattle.debug_answers.specs.Meanings.{AreStops, Means};
 
 use crate::change_texts::{write_breaks_at, write_deleted, write_history, write_watches};
@@ -15,7 +15,7 @@ use crate::place_texts::write_place_line;
 use crate::stop_texts::write_stops;
 use crate::value_texts::write_shown;
 use debug_answers::{Answer, NumberedStop};
-use debug_machine::{AnswerWriter, Fault, RecordedMachine, WriteFault};
+use debug_traits::{AnswerWriter, Fault, RecordedMachine, WriteFault};
 use itoa::Buffer;
 
 /// Writes the text of an answer to a command that led to where the machine stands, with these breakpoints and watches.

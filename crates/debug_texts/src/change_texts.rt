@@ -4,12 +4,12 @@ ghost use Rattle.gang_model.specs.Debugger.Debugger as model;
 ghost use Rattle.gang_model.specs.Debugger.Debugger.{Debugger, Setting};
 ghost use Rattle.gang_model.specs.Texts.Text.{text};
 ghost use Rattle.debug_commands.specs.Views.{target_view};
-ghost use Rattle.debug_machine.specs.Devices.{Writes};
+ghost use Rattle.debug_traits.specs.Devices.{Writes};
 
 use crate::target_texts::write_target_line;
 use crate::texts::write_pieces;
 use debug_commands::Target;
-use debug_machine::{AnswerWriter, WriteFault};
+use debug_traits::{AnswerWriter, WriteFault};
 use itoa::Buffer;
 
 /// Writes a line: the number and the line of a breakpoint.

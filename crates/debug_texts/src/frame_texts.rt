@@ -2,12 +2,12 @@
 ghost use Rattle.std.specs.Prelude.{◌≡◌, ◌-◌, false, is_err};
 ghost use Rattle.gang_model.specs.Debugger.Debugger.{Debugger, Setting, now};
 ghost use Rattle.gang_model.specs.Texts.Text.{frame_lines};
-ghost use Rattle.debug_machine.specs.Devices.{Writes};
-ghost use Rattle.debug_machine.specs.Machines.{call_text, depth_of};
+ghost use Rattle.debug_traits.specs.Devices.{Writes};
+ghost use Rattle.debug_traits.specs.Machines.{call_text, depth_of};
 ghost use Rattle.debug_texts.specs.Wording.{calls_text};
 
 use crate::place_texts::write_place_line;
-use debug_machine::{AnswerWriter, Position, RecordedMachine, WriteFault};
+use debug_traits::{AnswerWriter, Position, RecordedMachine, WriteFault};
 
 /// Writes a line for each frame, the top one first, or `ended`.
 pub(crate) fn write_frames<M: RecordedMachine, O: AnswerWriter>(

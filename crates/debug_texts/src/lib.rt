@@ -14,3 +14,4 @@ mod value_texts;
 
 pub use answer_texts::write_answer;
 pub use texts::write_pieces;
+pub use value_texts::{write_value, write_values};

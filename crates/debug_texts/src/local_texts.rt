@@ -4,12 +4,12 @@ ghost use Rattle.gang_model.specs.Types.Tree.{Variable};
 ghost use Rattle.gang_model.specs.Debugger.Debugger.{Debugger, Setting, now};
 ghost use Rattle.gang_model.specs.Debugger.Positions.{scope_now};
 ghost use Rattle.gang_model.specs.Texts.Text.{locals_lines, or_none, shown_line, whole};
-ghost use Rattle.debug_machine.specs.Devices.{Writes};
-ghost use Rattle.debug_machine.specs.Machines.{IsShown};
+ghost use Rattle.debug_traits.specs.Devices.{Writes};
+ghost use Rattle.debug_traits.specs.Machines.{IsShown};
 
 use crate::value_texts::write_shown;
 use debug_commands::Target;
-use debug_machine::{AnswerWriter, NamedVariable, NextLocal, RecordedMachine, WriteFault};
+use debug_traits::{AnswerWriter, NamedVariable, NextLocal, RecordedMachine, WriteFault};
 
 /// Writes a line for each local variable in scope, parameters left out, or `none`.
 pub(crate) fn write_locals<M: RecordedMachine, O: AnswerWriter>(

@@ -3,12 +3,12 @@ ghost use Rattle.std.specs.Prelude.{◌≡◌, [], ◌∷◌, ◌++◌, false, I
 ghost use Rattle.std.specs.List.{concat};
 ghost use Rattle.gang_types.specs.Masks.{IsGangWidth, lanes_of};
 ghost use Rattle.gang_model.specs.Texts.Text.{bits, line};
-ghost use Rattle.debug_machine.specs.Devices.{Writes};
-ghost use Rattle.debug_machine.specs.Machines.{position_text};
+ghost use Rattle.debug_traits.specs.Devices.{Writes};
+ghost use Rattle.debug_traits.specs.Machines.{position_text};
 ghost use Rattle.debug_texts.specs.Wording.{place_front};
 
 use crate::texts::write_pieces;
-use debug_machine::{AnswerWriter, Position, WriteFault};
+use debug_traits::{AnswerWriter, Position, WriteFault};
 use gang_types::Mask;
 use itoa::Buffer;
 

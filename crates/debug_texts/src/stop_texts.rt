@@ -4,15 +4,15 @@ ghost use Rattle.gang_model.specs.Types.Tree.{Variable};
 ghost use Rattle.gang_model.specs.Debugger.Debugger as model;
 ghost use Rattle.gang_model.specs.Debugger.Debugger.{Debugger, Setting};
 ghost use Rattle.gang_model.specs.Texts.Text.{line, or_none, stop_lines, stop_text};
-ghost use Rattle.debug_machine.specs.Devices.{Writes};
-ghost use Rattle.debug_machine.specs.Machines.{file_variables};
+ghost use Rattle.debug_traits.specs.Devices.{Writes};
+ghost use Rattle.debug_traits.specs.Machines.{file_variables};
 ghost use Rattle.debug_answers.specs.Meanings.{AreStops, IsStop};
 
 use crate::target_texts::write_target_line;
 use crate::texts::write_pieces;
 use debug_answers::{NumberedStop, Stop};
 use debug_commands::Target;
-use debug_machine::{AnswerWriter, RecordedMachine, WriteFault};
+use debug_traits::{AnswerWriter, RecordedMachine, WriteFault};
 use itoa::Buffer;
 
 /// Writes a line for each breakpoint and watch, or `none`.

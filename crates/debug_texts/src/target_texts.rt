@@ -3,11 +3,11 @@ ghost use Rattle.std.specs.Prelude.{◌≡◌, ◌++◌, false, map};
 ghost use Rattle.std.specs.List.{concat};
 ghost use Rattle.gang_model.specs.Texts.Text.{line, target_text};
 ghost use Rattle.debug_commands.specs.Views.{target_view};
-ghost use Rattle.debug_machine.specs.Devices.{Writes};
+ghost use Rattle.debug_traits.specs.Devices.{Writes};
 
 use crate::texts::write_pieces;
 use debug_commands::Target;
-use debug_machine::{AnswerWriter, WriteFault};
+use debug_traits::{AnswerWriter, WriteFault};
 use itoa::Buffer;
 
 /// Writes a line: some pieces, and a target.

@@ -1,9 +1,9 @@
 //! Texts, written whole or up to where the writer fails.
 ghost use Rattle.std.specs.Prelude.{◌≡◌, false, map};
 ghost use Rattle.std.specs.List.{concat};
-ghost use Rattle.debug_machine.specs.Devices.{Writes};
+ghost use Rattle.debug_traits.specs.Devices.{Writes};
 
-use debug_machine::{AnswerWriter, WriteFault};
+use debug_traits::{AnswerWriter, WriteFault};
 
 /// Writes these pieces in order, or the front of them where the writer fails.
 ///

@@ -23,7 +23,7 @@ use Rattle.mask_states.specs.MaskedStep.{Fails, Goes, Over, MaskedStepped, maske
 use Rattle.mask_states.specs.Law.{AgreesWith}
 use Rattle.mask_states.specs.Stands.{AreLowerable, EndAlike}
 use Rattle.mask_states.proofs.RunsAlike.{runs_alike}
-use Rattle.gang_machine.specs.Standings.{Stands, masked_at, view_of}
+use Rattle.gang_machine.specs.Standings.{SeenStands, masked_at, view_of}
 
 -- ---- states without tasks
 
@@ -65,7 +65,7 @@ module _ (p : t.Program) (w : ℕ) where
   is_over source.Over alike = refl
 
 module _ (w entry : ℕ) (program : Program) (lines : List ℕ) (layout : Layout) (h : History) (lowerable : AreLowerable (program_view program)) (s : Setting) (d : Debugger)
-    (stands : Stands (view_of w entry program lines layout h) s d) where
+    (stands : SeenStands (view_of w entry program lines layout h) s d) where
   abbrev p : t.Program
   p = program_view program
 

@@ -16,14 +16,14 @@ use Rattle.machine_states.specs.Cells.{cells_of}
 use Rattle.machine_states.specs.Nesting.{most_levels}
 use Rattle.machine_words.specs.declared.words.MachineWords.{MachineWords}
 use Rattle.machine_words.proofs.Plans.{planned_for}
-use Rattle.machine_moves.specs.Compiled.{function_of, program_of}
-use Rattle.machine_moves.specs.Standing.{AreFor, IsShown}
-use Rattle.machine_moves.proofs.CalledFrames.{start_called}
-use Rattle.machine_moves.proofs.GangLanes.{gang_wide}
+use Rattle.frame_steps.specs.Compiled.{function_of, program_of}
+use Rattle.frame_steps.specs.Standing.{AreFor, IsShown}
+use Rattle.frame_steps.proofs.CalledFrames.{start_called}
+use Rattle.frame_steps.proofs.GangLanes.{gang_wide}
 use Rattle.gang_machine.specs.declared.opening.PreparedProgram.{PreparedProgram}
 use Rattle.gang_machine.specs.Machines.{IsMachine, IsSoundMoment}
 use Rattle.gang_machine.specs.Openings.{IsNew, IsPrepared}
-use Rattle.gang_machine.specs.Standings.{AreKept, Stands, view_of}
+use Rattle.gang_machine.specs.Standings.{AreKept, SeenStands, view_of}
 
 module _ {T : Type 0} (history : T → History) (width : ℕ) (prepared : PreparedProgram) (is : IsPrepared width prepared) (timeline : T) (new_record : IsNew prepared.layout.words (history timeline)) where
   -- its words lie as the program's layout says
@@ -63,7 +63,7 @@ module _ {T : Type 0} (history : T → History) (width : ℕ) (prepared : Prepar
   -- it stands before the first step, and keeps nothing
   pub first_stands : (words : MachineWords T) (entry : ℕ) (rows : List Row) → IsShown history width prepared.compiled words (masked_start (program_of prepared.compiled) entry rows width)
       → without_words (history words.store.timeline) ≡ without_words (history timeline) → (steps : ℕ)
-      → Stands (view_of width entry prepared.compiled.program prepared.lines.items words.layout (history words.store.timeline))
+      → SeenStands (view_of width entry prepared.compiled.program prepared.lines.items words.layout (history words.store.timeline))
       (setting (program_view prepared.compiled.program) entry rows (record { width = width; history = (history timeline).limit; steps = steps })) (fresh (history timeline).limit)
   first_stands words entry rows shown kept steps =
       let none = none_kept words kept in

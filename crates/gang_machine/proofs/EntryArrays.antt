@@ -25,7 +25,7 @@ use Rattle.machine_words.specs.declared.words.MachineWords.{MachineWords}
 use Rattle.machine_words.specs.Words.{AreLaid, regions_in, words_of}
 use Rattle.machine_words.proofs.Found.{entry_found}
 use Rattle.machine_words.proofs.RegionWords.{region_long}
-use Rattle.machine_moves.proofs.RegionStates.{no_entry_words}
+use Rattle.frame_steps.proofs.RegionStates.{no_entry_words}
 use Rattle.machine_steps.specs.Beginning.{HaveEntryLengths}
 use Rattle.gang_machine.specs.declared.opening.PreparedProgram.{PreparedProgram}
 use Rattle.gang_machine.specs.Openings.{MayOpen}

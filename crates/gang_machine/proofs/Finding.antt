@@ -7,12 +7,12 @@ use Rattle.gang_model.specs.Debugger.Debugger.{Debugger, Setting, found, global_
 use Rattle.gang_model.specs.Debugger.Positions.{scope_now}
 use Rattle.gang_model.specs.Source.Names.{named}
 use Rattle.gang_model.specs.Types.Tree.{Variable}
-use Rattle.debug_machine.specs.Machines.{Finds, FindsInFile, IsOneOf, IsShown, ShowsNamed, ShowsNext, file_variables as variables_of_file}
-use Rattle.debug_machine.specs.declared.machine.NamedVariable.{NamedVariable}
-use Rattle.debug_machine.specs.declared.machine.NextLocal.{NextLocal}
-use Rattle.debug_machine.specs.declared.machine.Shown.{Shown}
+use Rattle.debug_traits.specs.Machines.{Finds, FindsInFile, IsOneOf, IsShown, ShowsNamed, ShowsNext, file_variables as variables_of_file}
+use Rattle.debug_traits.specs.declared.machine.NamedVariable.{NamedVariable}
+use Rattle.debug_traits.specs.declared.machine.NextLocal.{NextLocal}
+use Rattle.debug_traits.specs.declared.machine.Shown.{Shown}
 use Rattle.typed_tree.specs.declared.program.Function.{Function}
-use Rattle.machine_moves.proofs.GangLanes.{words_few}
+use Rattle.frame_steps.proofs.GangLanes.{words_few}
 use Rattle.machine_names.specs.Found.{FindsNumber, IsNamed, IsSeen, SeesFound}
 use Rattle.machine_names.specs.declared.listing.ListedKind.{ListedKind}
 use Rattle.machine_names.specs.Listed.{SeesNext, is_of, listed_from}

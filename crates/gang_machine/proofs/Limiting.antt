@@ -5,7 +5,7 @@ use Rattle.std.proofs.lemmas.Bool.{cases_lt, false≢true}
 use Rattle.std.proofs.lemmas.List.{length-take}
 use Rattle.std.proofs.lemmas.List.Elements.{All-take}
 use Rattle.undo_log.specs.History.{History, limited as limited_words}
-use Rattle.debug_machine.specs.Machines.{Limits, LimitsWords}
+use Rattle.debug_traits.specs.Machines.{Limits, LimitsWords}
 use Rattle.gang_model.specs.Debugger.Debugger.{Debugger, Setting, limited}
 use Rattle.typed_tree.specs.declared.program.Program.{Program}
 use Rattle.machine_states.specs.Shows.{Shows}
@@ -14,10 +14,10 @@ use Rattle.gang_memory.specs.Layouts.{IsLayoutOf}
 use Rattle.machine_states.specs.Nesting.{most_levels}
 use Rattle.machine_words.specs.declared.words.MachineWords.{MachineWords}
 use Rattle.machine_words.specs.Ranges.{IsLaid, head_sizes, machine_sizes, regions_of}
-use Rattle.machine_moves.specs.declared.compiled.CompiledProgram.{CompiledProgram}
-use Rattle.machine_moves.specs.Compiled.{program_of, variables_of}
+use Rattle.frame_steps.specs.declared.compiled.CompiledProgram.{CompiledProgram}
+use Rattle.frame_steps.specs.Compiled.{program_of, variables_of}
 use Rattle.gang_machine.specs.Machines.{IsMachine, IsSoundMoment}
-use Rattle.gang_machine.specs.Standings.{Stands, view_of}
+use Rattle.gang_machine.specs.Standings.{SeenStands, Stands, counted, view_of}
 use Rattle.gang_machine.proofs.Keeping.{kept_front}
 
 -- what a record does with its limit: only a larger one is refused
@@ -70,9 +70,9 @@ module _ {T : Type 0} (history : T → History) (w : ℕ) (compiled : CompiledPr
       (subst (λ ms. All (IsSoundMoment w compiled old.layout) ms) (sym (ap (λ (h : History). h.past) is)) machine.past)
       (omega (arith, machine.limit, ap (λ (h : History). h.limit) is))
 
-module _ (w entry : ℕ) (program : Program) (layout : Layout) (lines : List ℕ) (old : History) (s : Setting) (d : Debugger) (stands : Stands (view_of w entry program lines layout old) s d) where
+module _ (w entry : ℕ) (program : Program) (layout : Layout) (lines : List ℕ) (old : History) (s : Setting) (d : Debugger) (stands : SeenStands (view_of w entry program lines layout old) s d) where
   -- the front of what is kept is that of the newest events
-  stands_limited : (limit : ℕ) → Stands (view_of w entry program lines layout (limited_words limit old)) s (limited limit d)
+  stands_limited : (limit : ℕ) → SeenStands (view_of w entry program lines layout (limited_words limit old)) s (limited limit d)
   stands_limited limit = record {
     program = stands.program;
     rows = stands.rows;
@@ -85,7 +85,7 @@ module _ (w entry : ℕ) (program : Program) (layout : Layout) (lines : List ℕ
   }
 
   -- the machine stands as the definition says, whether the limit was changed or was not
-  pub stands_limits : {X E : Type 0} (limit : ℕ) (r : Result X E) (new : History) → LimitsWords old limit r new → Limits Stands s d limit r (view_of w entry program lines layout new)
-  stands_limits limit (Ok x) new is = subst (λ h. Stands (view_of w entry program lines layout h) s (limited limit d)) (sym is) (stands_limited limit)
-  stands_limits limit (Err e) new (larger, is) =
-      (omega (arith, larger, stands.limit), subst (λ h. Stands (view_of w entry program lines layout h) s d) (sym is) stands)
+  pub stands_limits : {X E : Type 0} (moves limit : ℕ) (r : Result X E) (new : History) → LimitsWords old limit r new → Limits Stands s d limit r (counted (view_of w entry program lines layout new) moves)
+  stands_limits moves limit (Ok x) new is = subst (λ h. SeenStands (view_of w entry program lines layout h) s (limited limit d)) (sym is) (stands_limited limit)
+  stands_limits moves limit (Err e) new (larger, is) =
+      (omega (arith, larger, stands.limit), subst (λ h. SeenStands (view_of w entry program lines layout h) s d) (sym is) stands)

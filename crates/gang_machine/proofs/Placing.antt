@@ -11,14 +11,14 @@ use Rattle.gang_model.specs.Types.Tree.{StepNumber, Function, Standing, Variable
 use Rattle.gang_model.specs.Debugger.Debugger.{Debugger, Setting, depth, now}
 use Rattle.gang_model.specs.Debugger.Positions.{line_now, line_of, scope_now, scope_of, spot_in, spot_now, standing_in, standing_of, top_lanes, top_spot}
 use Rattle.gang_model.specs.Texts.Text.{Bytes, bits, call_line, frames_text, line_and_column, place_text, standing_text, where_text}
-use Rattle.debug_machine.specs.Machines.{call_text}
+use Rattle.debug_traits.specs.Machines.{call_text}
 use Rattle.typed_tree.specs.declared.program.Program.{Program}
 use Rattle.typed_tree.specs.Views.{program_view}
 use Rattle.gang_memory.specs.declared.layout.Layout.{Layout}
 use Rattle.mask_states.specs.Masked.{masked_lanes, masked_spot}
 use Rattle.mask_states.specs.MaskedStep.{untasked_frame}
 use Rattle.mask_states.specs.Stands.{AreLowerable}
-use Rattle.gang_machine.specs.Standings.{Stands, view_of}
+use Rattle.gang_machine.specs.Standings.{SeenStands, view_of}
 use Rattle.gang_machine.proofs.Agreeing.{agrees, frames_alike, lanes_are, masked_now, spot_is, standing_is}
 
 -- ---- frames
@@ -57,7 +57,7 @@ place_written p function number f standing deep lanes is_function stands =
     ap (λ o. standing_text (standing_in o number) o deep lanes) is_function ∙ ap (λ o. standing_text o (Some f) deep lanes) stands
 
 module _ (w entry : ℕ) (program : Program) (lines : List ℕ) (layout : Layout) (h : History) (lowerable : AreLowerable (program_view program)) (s : Setting) (d : Debugger)
-    (stands : Stands (view_of w entry program lines layout h) s d) where
+    (stands : SeenStands (view_of w entry program lines layout h) s d) where
   abbrev p : t.Program
   p = program_view program
 

@@ -10,16 +10,16 @@ use Rattle.gang_model.specs.Running.State.{Frame, State, with_first, with_var, w
 use Rattle.gang_model.specs.Debugger.Debugger.{Debugger, Setting, bad_part, moved, now, poked_by}
 use Rattle.gang_model.specs.Debugger.Events.{ElementAt, LaneOf, Poke, Poked, WholeOf, poked}
 use Rattle.gang_model.specs.Debugger.Positions.{scope_now, scope_of, spot_now, standing_of, top_spot}
-use Rattle.debug_machine.specs.Machines.{IsOneOf, IsPart, IsShown, file_variables as variables_of_file}
-use Rattle.debug_machine.specs.declared.machine.Shown.{Shown}
+use Rattle.debug_traits.specs.Machines.{IsOneOf, IsPart, IsShown, file_variables as variables_of_file}
+use Rattle.debug_traits.specs.declared.machine.Shown.{Shown}
 use Rattle.mask_states.specs.Masked.{Masked}
 use Rattle.typed_tree.specs.Views.{program_view}
 use Rattle.machine_words.specs.declared.words.MachineWords.{MachineWords}
-use Rattle.machine_moves.specs.declared.compiled.CompiledProgram.{CompiledProgram}
-use Rattle.machine_moves.specs.Standing.{AreSound, IsShown as WordsShow, Records}
+use Rattle.frame_steps.specs.declared.compiled.CompiledProgram.{CompiledProgram}
+use Rattle.frame_steps.specs.Standing.{AreSound, IsShown as WordsShow, Records}
 use Rattle.machine_shown.specs.Seen.{IsPartOf, IsSeen}
 use Rattle.gang_machine.specs.Machines.{IsMachine}
-use Rattle.gang_machine.specs.Standings.{ShowsWords, Stands, masked_at, view_of}
+use Rattle.gang_machine.specs.Standings.{SeenStands, ShowsWords, masked_at, view_of}
 use Rattle.gang_machine.proofs.Keeping.{stands_moved}
 use Rattle.gang_machine.proofs.Recording.{limit_is, past_is}
 use Rattle.gang_machine.proofs.PokedLengths.{poked_long}
@@ -47,7 +47,7 @@ scope_kept p what word state = ap (λ spot. scope_of (standing_of p spot)) (spot
 -- ---- where a machine stands
 
 module _ {T : Type 0} (history : T → History) (w entry : ℕ) (compiled : CompiledProgram) (lines : List ℕ) (old new : MachineWords T) (machine : IsMachine history w compiled old) (s : Setting) (d : Debugger)
-    (stands : Stands (view_of w entry compiled.program lines old.layout (history old.store.timeline)) s d) (v : Variable) (shown : Shown) (at : Option ℕ) (word : ℕ) (is : IsShown s d v shown) (part : IsPart at shown)
+    (stands : SeenStands (view_of w entry compiled.program lines old.layout (history old.store.timeline)) s d) (v : Variable) (shown : Shown) (at : Option ℕ) (word : ℕ) (is : IsShown s d v shown) (part : IsPart at shown)
     (records : Records history w undone.Poke old new) (sound : AreSound history w compiled new)
     (shows : (masked : Masked) (u : Variable) → WordsShow history w compiled old masked → IsSeen compiled masked u → u.id ≡ shown.id → IsPartOf masked u at
     → WordsShow history w compiled new (record masked { state = poked (poked_by u at) word masked.state })) where
@@ -71,12 +71,12 @@ module _ {T : Type 0} (history : T → History) (w entry : ℕ) (compiled : Comp
       let now_shown = shows masked v (shown_here history w entry compiled lines old machine s d stands) seen is.id set in
       record { shows = now_shown.shows; declared = now_shown.declared }
 
-  pub stands_poked : Stands (view_of w entry compiled.program lines new.layout (history new.store.timeline)) s after
+  pub stands_poked : SeenStands (view_of w entry compiled.program lines new.layout (history new.store.timeline)) s after
   stands_poked =
       let p = compiled.program in
       let h = history new.store.timeline in
       let event = Poke (poked_by v at) word in
-      subst (λ l. Stands (view_of w entry p lines l h) s after) (sym records.layout)
+      subst (λ l. SeenStands (view_of w entry p lines l h) s after) (sym records.layout)
       (stands_moved w entry p old.layout lines (history old.store.timeline) s d stands event h
       (subst (λ l. ShowsWords w p l h.words (masked_at w entry (program_view p) stands.rows (event ∷ d.events))) records.layout words)
       (past_is history w compiled old new undone.Poke records) (limit_is history w compiled old new undone.Poke records))

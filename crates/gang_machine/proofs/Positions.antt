@@ -8,14 +8,14 @@ use Rattle.gang_types.specs.Masks.{lanes_of}
 use Rattle.gang_model.specs.Debugger.Debugger.{Debugger, Setting, depth, now}
 use Rattle.gang_model.specs.Debugger.Positions.{line_now}
 use Rattle.gang_model.specs.Texts.Text.{Bytes, bits, line_and_column, where_text}
-use Rattle.debug_machine.specs.declared.machine.Position.{Position}
-use Rattle.debug_machine.specs.Machines.{depth_of, line_of_position, position_text}
+use Rattle.debug_traits.specs.declared.machine.Position.{Position}
+use Rattle.debug_traits.specs.Machines.{depth_of, line_of_position, position_text}
 use Rattle.gang_memory.specs.declared.layout.Layout.{Layout}
 use Rattle.mask_states.specs.Stands.{AreLowerable}
-use Rattle.machine_moves.specs.declared.compiled.CompiledProgram.{CompiledProgram}
-use Rattle.machine_moves.specs.Compiled.{program_of}
+use Rattle.frame_steps.specs.declared.compiled.CompiledProgram.{CompiledProgram}
+use Rattle.frame_steps.specs.Compiled.{program_of}
 use Rattle.machine_shown.specs.Seen.{IsPositionOf}
-use Rattle.gang_machine.specs.Standings.{Stands, view_of}
+use Rattle.gang_machine.specs.Standings.{SeenStands, view_of}
 use Rattle.gang_machine.proofs.Agreeing.{masked_now}
 use Rattle.gang_machine.proofs.Placing.{depth_ended, depth_here, line_ended, line_here, text_ended, text_here}
 
@@ -32,7 +32,7 @@ written_alike place other_place name other_name deep other_deep lanes other_lane
     ∙ ap (λ x. place_line other_place other_name other_deep x) same_lanes)
 
 module _ (w entry : ℕ) (compiled : CompiledProgram) (lines : List ℕ) (layout : Layout) (h : History) (lowerable : AreLowerable (program_of compiled)) (s : Setting) (d : Debugger)
-    (stands : Stands (view_of w entry compiled.program lines layout h) s d) where
+    (stands : SeenStands (view_of w entry compiled.program lines layout h) s d) where
   pub text_is : (result : Option Position) → IsPositionOf w compiled (masked_now w entry compiled.program lines layout h lowerable s d stands) result → where_text s.program (now s d) ≡ position_text result
   text_is None over = text_ended w entry compiled.program lines layout h lowerable s d stands over
   text_is (Some p) (function, number, f, standing, at_spot, there, place, name, deep, width, lanes) =

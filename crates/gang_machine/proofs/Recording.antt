@@ -10,10 +10,10 @@ use Rattle.machine_states.specs.Nesting.{most_levels}
 use Rattle.machine_words.specs.declared.words.MachineWords.{MachineWords}
 use Rattle.machine_words.specs.Ranges.{head_sizes, machine_sizes}
 use Rattle.machine_words.specs.Words.{AreLaid}
-use Rattle.machine_moves.specs.declared.compiled.CompiledProgram.{CompiledProgram}
-use Rattle.machine_moves.specs.Compiled.{program_of}
-use Rattle.machine_moves.specs.Standing.{AreSound, Records}
-use Rattle.debug_machine.specs.Machines.{RecordsWords}
+use Rattle.frame_steps.specs.declared.compiled.CompiledProgram.{CompiledProgram}
+use Rattle.frame_steps.specs.Compiled.{program_of}
+use Rattle.frame_steps.specs.Standing.{AreSound, Records}
+use Rattle.debug_traits.specs.Machines.{RecordsWords}
 use Rattle.gang_machine.specs.Machines.{IsMachine, IsSoundMoment}
 
 module _ {T : Type 0} (history : T → History) (w : ℕ) (compiled : CompiledProgram) (old new : MachineWords T) where

@@ -10,7 +10,7 @@ use Rattle.gang_model.specs.Running.RunningOrder.{IsNumberedProgram}
 use Rattle.gang_model.specs.Running.State.{Frame, view_of as array_of, words_in, words_for}
 use Rattle.gang_model.specs.Debugger.Debugger.{Debugger, Setting, elements, now, shown_words}
 use Rattle.gang_model.specs.Debugger.Positions.{scope_now, scope_of, spot_in, standing_in}
-use Rattle.debug_machine.specs.Machines.{IsOneOf, file_variables as variables_of_file}
+use Rattle.debug_traits.specs.Machines.{IsOneOf, file_variables as variables_of_file}
 use Rattle.typed_tree.specs.declared.program.Function.{Function as TypedFunction}
 use Rattle.typed_tree.specs.declared.program.Global.{Global}
 use Rattle.typed_tree.specs.Views.{function_view, variable_view}
@@ -18,7 +18,7 @@ use Rattle.mask_states.specs.Points.{points_in}
 use Rattle.mask_states.specs.Masked.{Level, Masked, masked_spot, top_spot}
 use Rattle.codegen.specs.Programs.{IsRunnable}
 use Rattle.machine_states.specs.Declared.{AreDeclared}
-use Rattle.machine_states.specs.Plain.{IsPlainName}
+use Rattle.machine_states.specs.WellScoped.{IsWellScopedName}
 use Rattle.machine_states.specs.Regions.{Depth, Regions}
 use Rattle.machine_states.specs.Shows.{AreSized, Shows, ShowsFrames}
 use Rattle.machine_states.specs.Steps.{IsNext as IsNextStep, least_in}
@@ -29,17 +29,17 @@ use Rattle.machine_states.proofs.TopFrame.{spot}
 use Rattle.machine_states.proofs.WrittenVariables.{HasVariable, variable_in}
 use Rattle.machine_words.specs.declared.words.MachineWords.{MachineWords}
 use Rattle.machine_words.specs.Words.{regions_in}
-use Rattle.machine_moves.specs.declared.compiled.CompiledProgram.{CompiledProgram}
-use Rattle.machine_moves.specs.Compiled.{program_of, variables_of}
-use Rattle.machine_moves.specs.Standing.{IsShown}
-use Rattle.machine_moves.proofs.FrameLevels.{innermost_there}
-use Rattle.machine_moves.proofs.Standings.{sized}
+use Rattle.frame_steps.specs.declared.compiled.CompiledProgram.{CompiledProgram}
+use Rattle.frame_steps.specs.Compiled.{program_of, variables_of}
+use Rattle.frame_steps.specs.Standing.{IsShown}
+use Rattle.frame_steps.proofs.FrameLevels.{innermost_there}
+use Rattle.frame_steps.proofs.Standings.{sized}
 use Rattle.machine_shown.specs.Seen.{IsInScope, IsSeen, StandsAt}
 use Rattle.machine_shown.proofs.Viewed.{viewed_at}
 use Rattle.machine_names.specs.Found.{file_variables}
 use Rattle.gang_machine.specs.Machines.{IsMachine}
 use Rattle.gang_machine.specs.Nexts.{HasEnded, IsNext, Sees}
-use Rattle.gang_machine.specs.Standings.{Stands, view_of}
+use Rattle.gang_machine.specs.Standings.{SeenStands, view_of}
 use Rattle.gang_machine.proofs.Agreeing.{masked_now, shown_are, spot_is, standing_is}
 use Rattle.gang_machine.proofs.Placing.{scope_ended}
 
@@ -87,10 +87,10 @@ module _ (p : t.Program) (variables : Variables) (numbered : IsNumberedProgram p
 module _ (w : ℕ) (compiled : CompiledProgram) (runnable : IsRunnable compiled.program) (masked : Masked) where
   -- a name in scope stands for a variable of its function
   in_scope : (function number : ℕ) (f : Function) (standing : Standing) → StandsAt compiled function number f standing → (k : ℕ) (v : Variable) → slice_get standing.scope k ≡ Some v
-      → IsPlainName (variables_of compiled) function v
+      → IsWellScopedName (variables_of compiled) function v
   in_scope function number f standing stands k v e =
-      let scopes : All (IsPlainName (variables_of compiled) function) standing.scope = (runnable.plain.functions function f stands.is_function).scopes number standing stands.stands in
-      subst (IsPlainName (variables_of compiled) function) (get_or_from_slice_get standing.scope k v v e) (scopes k v (slice_get_within standing.scope k v e))
+      let scopes : All (IsWellScopedName (variables_of compiled) function) standing.scope = (runnable.well_scoped.functions function f stands.is_function).scopes number standing stands.stands in
+      subst (IsWellScopedName (variables_of compiled) function) (get_or_from_slice_get standing.scope k v v e) (scopes k v (slice_get_within standing.scope k v e))
 
   module _ (regions : Regions) (shows : Shows (program_of compiled) (variables_of compiled) w regions masked) (declared : AreDeclared (variables_of compiled) (program_of compiled) masked)
       (sizes : AreSized (variables_of compiled) w regions) where
@@ -109,12 +109,12 @@ module _ (w : ℕ) (compiled : CompiledProgram) (runnable : IsRunnable compiled.
         let standing_there : slice_get has.f.standings has.number ≡ Some standing =
         ap (λ h. slice_get h.standings has.number) (sym same) ∙ ap (slice_get f.standings) (sym same_number) ∙ stands.stands in
         let all = scope_has variables p runnable.declared w regions masked has.index has.function has.f has.number has.next.is_function top standing standing_there in
-        let plain = in_scope function number f standing stands k v e in
-        let j = plain.0 in
+        let well_scoped = in_scope function number f standing stands k v e in
+        let j = well_scoped.0 in
         let own : HasOwn top.frame.vars v.id =
         subst (λ (u : Variable). u.is_array ≡ false → HasOwn top.frame.vars u.id) (get_or_from_slice_get standing.scope k v v e) (all k v (slice_get_within standing.scope k v e)) scalar in
-        let id : v.id ≡ Local j = runnable.plain.own function j v plain.1 in
-        let is : slice_get (own_of variables has.function) j ≡ Some v = ap (λ m. slice_get (own_of variables m) j) (sym same_function) ∙ plain.1 in
+        let id : v.id ≡ Local j = runnable.well_scoped.own function j v well_scoped.1 in
+        let is : slice_get (own_of variables has.function) j ≡ Some v = ap (λ m. slice_get (own_of variables m) j) (sym same_function) ∙ well_scoped.1 in
         let there : HasVariable masked.state.frames (Local j) = subst (λ frames. HasVariable frames (Local j)) (sym top.are) (own j id) in
         ap (λ i. length (words_in masked.state i)) id
         ∙ (variable_in p variables w has.index has.function regions masked shows has.next.depth has.next.function sizes (Local j) v is scalar there).long
@@ -123,7 +123,7 @@ module _ (w : ℕ) (compiled : CompiledProgram) (runnable : IsRunnable compiled.
     pub seen_long : (v : Variable) → v.is_array ≡ false → IsSeen compiled masked v → length (words_in masked.state v.id) ≡ words_for w v.rate
     seen_long v scalar (inl scope) = scope_long v scalar scope (next_or_ended (program_of compiled) (variables_of compiled) runnable.lowerable.numbered w regions masked shows)
     seen_long v scalar (inr (k, is)) =
-        ap (λ i. length (words_in masked.state i)) (runnable.plain.file k v is)
+        ap (λ i. length (words_in masked.state i)) (runnable.well_scoped.file k v is)
         ∙ ap length (shows.memory (File k)) ∙ sizes.file k v is scalar
 
 -- the variables of the file are those of the globals
@@ -134,7 +134,7 @@ file_same (global ∷ globals) = ap (λ vs. variable_view global.variable ∷ vs
 -- ---- where a machine stands
 
 module _ {T : Type 0} (history : T → History) (w entry : ℕ) (compiled : CompiledProgram) (lines : List ℕ) (words : MachineWords T) (is_machine : IsMachine history w compiled words) (s : Setting) (d : Debugger)
-    (stands : Stands (view_of w entry compiled.program lines words.layout (history words.store.timeline)) s d) where
+    (stands : SeenStands (view_of w entry compiled.program lines words.layout (history words.store.timeline)) s d) where
   abbrev runnable : IsRunnable compiled.program
   runnable = is_machine.lie.compiled_is.runnable
 

@@ -5,8 +5,8 @@ use Rattle.mask_states.specs.Masked.{Masked}
 use Rattle.gang_memory.specs.declared.layout.Layout.{Layout}
 use Rattle.machine_words.specs.declared.words.MachineWords.{MachineWords}
 use Rattle.machine_words.specs.Ranges.{IsLaid}
-use Rattle.machine_moves.specs.declared.compiled.CompiledProgram.{CompiledProgram}
-use Rattle.machine_moves.specs.Standing.{AreFor, HaveLanes, IsShown}
+use Rattle.frame_steps.specs.declared.compiled.CompiledProgram.{CompiledProgram}
+use Rattle.frame_steps.specs.Standing.{AreFor, HaveLanes, IsShown}
 use Rattle.gang_machine.specs.Standings.{ShowsWords}
 
 -- words before an event lie as the layout says, and show some masked state, of which each frame has a lane

@@ -1,6 +1,6 @@
 -- The step that comes next, and what is seen there.
 use Rattle.std.specs.Prelude.{◌≡◌, ℕ, List, [], Option, Some, None, slice_get}
-use Rattle.debug_machine.specs.Machines.{file_variables as variables_of_file}
+use Rattle.debug_traits.specs.Machines.{file_variables as variables_of_file}
 use Rattle.gang_model.specs.Debugger.Debugger.{Debugger, Setting, now}
 use Rattle.gang_model.specs.Debugger.Positions.{scope_now, scope_of, spot_in, spot_now}
 use Rattle.gang_types.specs.declared.places.Spot.{Spot}

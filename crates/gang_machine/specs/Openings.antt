@@ -13,7 +13,7 @@ use Rattle.machine_states.specs.Nesting.{most_levels}
 use Rattle.machine_states.specs.Variables.{parameters_of}
 use Rattle.codegen.specs.Programs.{variables_of}
 use Rattle.machine_words.specs.Ranges.{head_sizes, machine_sizes}
-use Rattle.machine_moves.specs.Compiled.{IsCompiled}
+use Rattle.frame_steps.specs.Compiled.{IsCompiled}
 use Rattle.machine_steps.specs.Beginning.{MayBegin}
 use Rattle.gang_machine.specs.declared.opening.PreparedProgram.{PreparedProgram}
 

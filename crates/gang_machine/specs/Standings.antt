@@ -1,7 +1,7 @@
 -- What a machine stands for.
 use Rattle.std.specs.Prelude.{◌≡◌, ℕ, List, [], ◌∷◌, length}
 use Rattle.undo_log.specs.History.{History, Moment}
-use Rattle.debug_machine.specs.Machines.{kind_of}
+use Rattle.debug_traits.specs.Machines.{kind_of}
 use Rattle.gang_model.specs.Types.Tree as t
 use Rattle.gang_model.specs.Debugger.Events.{Event, Row, start}
 use Rattle.gang_model.specs.Debugger.Debugger.{Debugger, Setting, step_lines}
@@ -28,8 +28,19 @@ pub record View : Type 0 where
 abbrev pub view_of : (width entry : ℕ) → Program → (lines : List ℕ) → Layout → History → View
 view_of width entry program lines layout history = record { width = width; entry = entry; program = program; lines = lines; layout = layout; history = history }
 
-abbrev pub history_of : View → History
-history_of m = m.history
+-- the same with the number of its moves: the steps that were tried, and the events that were to be taken back
+pub record Counted : Type 0 where
+  pub seen : View
+  pub moves : ℕ
+
+abbrev pub counted : View → (moves : ℕ) → Counted
+counted seen moves = record { seen = seen; moves = moves }
+
+abbrev pub history_of : Counted → History
+history_of m = m.seen.history
+
+abbrev pub moves_of : Counted → ℕ
+moves_of m = m.moves
 
 -- words show a masked state, of which each frame has declared what its lanes have passed
 pub record ShowsWords (width : ℕ) (program : Program) (layout : Layout) (words : List ℕ) (masked : Masked) : Type 0 where
@@ -48,8 +59,8 @@ AreKept width entry program layout rows (event ∷ events) (moment ∷ past) =
     (moment.event ≡ kind_of event) × ShowsWords width program layout moment.before (masked_at width entry (program_view program) rows events)
     × AreKept width entry program layout rows events past
 
--- The machine stands where the debugger of the definitions stands, in a run that began with some rows.
-pub record Stands (m : View) (s : Setting) (d : Debugger) : Type 0 where
+-- A machine that is seen so stands where the debugger of the definitions stands, in a run that began with some rows.
+pub record SeenStands (m : View) (s : Setting) (d : Debugger) : Type 0 where
   pub program : s.program ≡ program_view m.program
   pub rows : List Row
   pub first : s.first ≡ start (program_view m.program) m.entry rows m.width
@@ -58,3 +69,7 @@ pub record Stands (m : View) (s : Setting) (d : Debugger) : Type 0 where
   pub past : AreKept m.width m.entry m.program m.layout rows d.events m.history.past
   pub kept : d.kept ≡ length m.history.past
   pub limit : d.history ≡ m.history.limit
+
+-- the machine stands there, however often it has moved
+abbrev pub Stands : Counted → Setting → Debugger → Type 0
+Stands m s d = SeenStands m.seen s d

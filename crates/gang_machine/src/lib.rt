@@ -2,6 +2,7 @@
 #![tactic(auto)]
 
 mod machine;
+mod mover;
 mod opening;
 
 pub use machine::Machine;

@@ -1,30 +1,29 @@
 //! The machine: a compiled program, and words that lie in a timeline.
-ghost use Rattle.std.specs.Prelude.{◌≡◌, ◌⊎◌, ℕ, ◌<◌, ◌≤◌, false, filter, length, map, not, slice_get, slice_index, None, Some, IfSome, OnErr};
+ghost use Rattle.std.specs.Prelude.{◌≡◌, ◌⊎◌, ℕ, ◌<◌, ◌≤◌, false, filter, length, map, not, slice_get, slice_index, None, Some, IfSome};
 ghost use Rattle.gang_types.specs.Masks.{IsGangWidth};
-ghost use Rattle.undo_log.specs.History.{TakenBack, steps_in};
+ghost use Rattle.undo_log.specs.History.{steps_in};
 ghost use Rattle.gang_model.specs.Types.Tree.{Variable};
 ghost use Rattle.gang_model.specs.Debugger.Debugger.{Debugger, Setting, depth, found, kept_steps, least_from, now, shown_words, step_lines};
 ghost use Rattle.gang_model.specs.Debugger.Positions.{line_now, scope_now};
 ghost use Rattle.gang_model.specs.Texts.Text.{where_text};
-ghost use Rattle.debug_machine.specs.Machines.{Finds, FindsInFile, IsOneOf, IsPart, IsShown, Limits, LimitsWords, Pokes, PokesWords, ShowsNamed, ShowsNext, Steps, StepsWords, Undoes, UndoesWords, call_text, depth_of, file_variables, line_of_position, listed, listed_parameters, position_line, position_text};
+ghost use Rattle.debug_traits.specs.Machines.{Finds, FindsInFile, IsOneOf, IsPart, IsShown, Limits, LimitsWords, Pokes, PokesWords, ShowsNamed, ShowsNext, Steps, StepsWords, Undoes, UndoesWords, call_text, depth_of, file_variables, line_of_position, listed, listed_parameters, position_line, position_text};
 ghost use Rattle.machine_names.specs.Found.{IsNamed, IsSeen, SeesFound};
 ghost use Rattle.machine_names.specs.Listed.{is_of};
 ghost use Rattle.gang_machine.specs.Nexts.{HasEnded, IsNext, listed_left};
-ghost use Rattle.gang_machine.specs.Standings.{Stands, history_of};
+ghost use Rattle.gang_machine.specs.Standings.{Stands, history_of, moves_of};
 
-use debug_machine::{NamedVariable, NextLocal, Position, RecordedMachine, Shown, StepEnd};
-use expression_machine::Stacks;
-use machine_moves::{CompiledProgram, next_step};
+use crate::mover::Mover;
+use debug_traits::{NamedVariable, NextLocal, Position, RecordedMachine, Shown, StepEnd};
+use frame_steps::{CompiledProgram, next_step};
 use machine_names::{
     ListedKind, file_named, file_number, least_from, local_named, named, next_listed,
 };
 use machine_shown::{call, count, poke, position, word};
-use machine_steps::step;
 use machine_words::MachineWords;
 use std::alloc::AllocError;
 use std::marker::Model;
 use typed_tree::Function;
-use undo_log::{Back, NoHistory, Timeline, Undone};
+use undo_log::{NoHistory, Timeline, Undone};
 
 /// A program that runs: its code, and its words in a timeline.
 #[derive(Drop)]
@@ -33,21 +32,21 @@ pub struct Machine<const W: usize, T: Timeline + Drop> {
     pub(crate) compiled: CompiledProgram,
     pub(crate) lines: Vec<u32>,
     pub(crate) words: MachineWords<T>,
-    pub(crate) stacks: Box<Stacks<W>>,
+    pub(crate) mover: Mover<W>,
 }
 
 impl<const W: usize, T: Timeline + Drop> Model for Machine<W, T> {
     ghost use Rattle.gang_machine.specs.Machines.{IsMachine};
-    ghost use Rattle.gang_machine.specs.Standings.{View, view_of};
+    ghost use Rattle.gang_machine.specs.Standings.{Counted, counted, view_of};
     ghost use Rattle.std.specs.Coded.{codes};
     ghost use Rattle.typed_tree.specs.contracts.expressions.Expr as expression;
     ghost use Rattle.typed_tree.specs.contracts.statements.Stmt as statement;
 
-    ghost Value = { View };
+    ghost Value = { Counted };
 
     ghost coded = { Prim.hlevel (codes, statement.the_row.coded, expression.the_row.coded) };
 
-    ghost view = { λ m. view_of W m.entry m.compiled.program m.lines.items m.words.layout (T.history m.words.store.timeline) };
+    ghost view = { λ m. counted (view_of W m.entry m.compiled.program m.lines.items m.words.layout (T.history m.words.store.timeline)) m.mover.moves.count };
 
     ghost invariant = { λ m. IsMachine T.history W m.compiled m.words };
 }
@@ -55,8 +54,8 @@ impl<const W: usize, T: Timeline + Drop> Model for Machine<W, T> {
 impl<const W: usize, T: Timeline + Drop> Machine<W, T> {
     /// The function of the top frame and the step that comes next, unless the program has ended.
     fn next(&self) -> Option<(&Function, usize)>
-        ensures step { (s : Setting) (d : Debugger) → Stands self.now s d → IfSome result (λ next. IsNext self.now s d next.0.now next.1) }
-        ensures ended { result ≡ None → (s : Setting) (d : Debugger) → Stands self.now s d → HasEnded self.now s d }
+        ensures step { (s : Setting) (d : Debugger) → Stands self.now s d → IfSome result (λ next. IsNext self.now.seen s d next.0.now next.1) }
+        ensures ended { result ≡ None → (s : Setting) (d : Debugger) → Stands self.now s d → HasEnded self.now.seen s d }
     {
         let active = next_step::<W, T>(&self.compiled, &self.words)?;
         Some((
@@ -110,8 +109,8 @@ impl<const W: usize, T: Timeline + Drop> Machine<W, T> {
 
     /// The first of the variables in scope of this kind, from a number on.
     fn next_variable(&self, kind: ListedKind, from: usize) -> Option<NextLocal<'_>>
-        ensures all { (s : Setting) (d : Debugger) → Stands self.now s d → listed_left kind self.now s d 0 ≡ filter (λ v. is_of kind v) (scope_now s.program (now s d)) }
-        ensures next { (s : Setting) (d : Debugger) → Stands self.now s d → ShowsNext s d (listed_left kind self.now s d) from result }
+        ensures all { (s : Setting) (d : Debugger) → Stands self.now s d → listed_left kind self.now.seen s d 0 ≡ filter (λ v. is_of kind v) (scope_now s.program (now s d)) }
+        ensures next { (s : Setting) (d : Debugger) → Stands self.now s d → ShowsNext s d (listed_left kind self.now.seen s d) from result }
         ensures further { IfSome result (λ variable. from < variable.next) }
     {
         let (function, step) = self.next()?;
@@ -130,16 +129,18 @@ impl<const W: usize, T: Timeline + Drop> RecordedMachine for Machine<W, T> {
 
     ghost history = { history_of };
 
-    ghost locals_from = { listed_left Locals };
+    ghost moves = { moves_of };
 
-    ghost parameters_from = { listed_left Parameters };
+    ghost locals_from = { λ m. listed_left Locals m.seen };
+
+    ghost parameters_from = { λ m. listed_left Parameters m.seen };
 
     fn step(&mut self) -> StepEnd {
-        step::<W, T>(&self.compiled, &mut self.words, &mut self.stacks)
+        self.mover.step::<T>(&self.compiled, &mut self.words)
     }
 
     fn undo(&mut self) -> Result<Undone, NoHistory> {
-        let back = taken_back(&mut self.words)?;
+        let back = self.mover.back::<T>(&mut self.words)?;
         Ok(back.event)
     }
 
@@ -200,15 +201,6 @@ impl<const W: usize, T: Timeline + Drop> RecordedMachine for Machine<W, T> {
     fn line_from(&self, line: u32) -> Option<u32> {
         least_from(&self.lines, line)
     }
-}
-
-/// Takes the newest kept event of the words back.
-fn taken_back<T: Timeline + Drop>(words: &mut MachineWords<T>) -> Result<Back, NoHistory>
-    ensures answer { TakenBack (T.history words.old.store.timeline) result (T.history words.new.store.timeline) }
-    ensures left { OnErr result (T.left words.new.store.timeline ≡ T.left words.old.store.timeline) }
-    ensures layout { words.new.layout ≡ words.old.layout }
-{
-    words.store.timeline.back()
 }
 
 /// Changes how many events of the words are kept at most.

@@ -17,12 +17,13 @@ ghost use Rattle.gang_machine.specs.Openings.{IsNew, IsPrepared, MayOpen};
 ghost use Rattle.gang_machine.specs.Standings.{Stands};
 
 use crate::machine::Machine;
+use crate::mover::Mover;
 use codegen::{cells, compile};
-use expression_machine::Stacks;
+use expression_runs::Stacks;
+use frame_steps::CompiledProgram;
 use gang_memory::{Layout, Recorded};
 use gang_types::FuncId;
 use input_rows::InputRow;
-use machine_moves::CompiledProgram;
 use machine_names::step_lines;
 use machine_steps::{entry_lengths, start};
 use machine_words::MachineWords;
@@ -165,6 +166,6 @@ fn started<const W: usize, T: Timeline + Drop>(
         compiled,
         lines,
         words,
-        stacks,
+        mover: Mover::new(stacks),
     }
 }

@@ -24,9 +24,9 @@ use Rattle.ispc_options.specs.declared.options.Width.{Width}
 use Rattle.ispc_options.specs.declared.options.Width.TheVariants.{Four, Eight, Sixteen}
 use Rattle.machine_states.specs.EntryParameters.{HasEntryParameters}
 use Rattle.machine_steps.specs.Beginning.{MayBegin}
-use Rattle.plain_programs.proofs.EntryFunctions.{entry_exported}
-use Rattle.plain_programs.proofs.PlainSources.{no_refusal}
-use Rattle.plain_programs.proofs.RunnableSources.{parameters_text}
+use Rattle.runnable_programs.proofs.EntryFunctions.{entry_exported}
+use Rattle.runnable_programs.proofs.WellScopedSources.{no_refusal}
+use Rattle.runnable_programs.proofs.RunnableSources.{parameters_text}
 use Rattle.typed_tree.specs.Views.{program_view}
 use Rattle.ispc_debugger.specs.Runs.{IsRightForInput, lanes_of, told}
 

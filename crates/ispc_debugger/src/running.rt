@@ -12,7 +12,7 @@ ghost use Rattle.ispc_options.specs.Ranges.{AreInRange};
 ghost use Rattle.ispc_debugger.specs.Runs.{AreAcceptedAs, AreAcceptedOnce, AreNotAccepted, HaveOneTranscript, IsRight, asked_of, lanes_of, options_view};
 
 use crate::opening::open_session;
-use debug_machine::{AnswerWriter, CommandReader, READS};
+use debug_traits::{AnswerWriter, CommandReader, READS};
 use ispc_options::{Options, Width};
 use ispc_refusals::Refusal;
 use std::alloc::Global;

@@ -10,7 +10,7 @@ ghost use Rattle.transcript.specs.Endings.{end_of, ending_of};
 
 use crate::debugger::{LineDebugger, Turn};
 use arrayvec::ArrayVec;
-use debug_machine::{AnswerWriter, CommandReader, READS};
+use debug_traits::{AnswerWriter, CommandReader, READS};
 
 const LINE_FEED: u8 = 10;
 

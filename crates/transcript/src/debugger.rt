@@ -3,7 +3,7 @@ ghost use Rattle.std.specs.Prelude.{◌≡◌, false, List, ℕ};
 ghost use Rattle.gang_model.specs.Debugger.Debugger.{Debugger, Setting};
 ghost use Rattle.transcript.specs.Lines.{Says, fails};
 
-use debug_machine::AnswerWriter;
+use debug_traits::AnswerWriter;
 
 /// What a line led to: an answer was written, the line quits, or the writer failed.
 #[derive(Clone, Copy, Debug, PartialEq, Eq)]

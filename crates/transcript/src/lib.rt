@@ -6,6 +6,6 @@ mod debugger;
 mod session_lines;
 
 pub use answering::{Ending, answer_lines};
-pub use debug_machine::{AnswerWriter, CommandReader, READS, ReadFault, WriteFault};
+pub use debug_traits::{AnswerWriter, CommandReader, READS, ReadFault, WriteFault};
 pub use debugger::{LineDebugger, Turn};
 pub use session_lines::write_answer;

@@ -3,7 +3,7 @@ ghost use Rattle.std.specs.Prelude.{◌≡◌, false, is_err};
 ghost use Rattle.gang_model.specs.Debugger.Debugger as model;
 ghost use Rattle.gang_model.specs.Debugger.Debugger.{Debugger, Setting};
 ghost use Rattle.gang_model.specs.Texts.Text.{text};
-ghost use Rattle.debug_machine.specs.Devices.{Writes};
+ghost use Rattle.debug_traits.specs.Devices.{Writes};
 ghost use Rattle.debug_answers.specs.Meanings.{Means};
 ghost use Rattle.debug_session.specs.Sessions.{StandsFor};
 ghost use Rattle.transcript.specs.Lines.{Tells, fails};
@@ -11,8 +11,8 @@ ghost use Rattle.transcript.specs.Lines.{Tells, fails};
 use crate::debugger::{LineDebugger, Turn};
 use debug_answers::{Answer, Refusal};
 use debug_commands::{Command, read_command};
-use debug_machine::{AnswerWriter, RecordedMachine, WriteFault};
 use debug_session::Session;
+use debug_traits::{AnswerWriter, RecordedMachine, WriteFault};
 
 impl<M: RecordedMachine> LineDebugger for Session<M> {
     ghost use Rattle.debug_session.specs.Sessions.{StandsFor};

@@ -11,7 +11,7 @@ pub returns-clause-moved : goal.returns-clause-moved
 returns-clause-moved g c s d n st are some first =
     let stands = g.M.RecordedMachine.stands in
     let e = stepped_back d in
-    let there = c.take_step_back.ensures s d st some in
+    let there = c.take_step_back.ensures.back s d st some in
     let reached = c.reached_by-at.ensures s e there in
     let kept = c.kept_steps-none_kept.ensures.debugger s (bare e) there in
     let means = c.after_move.ensures.means s e (now s d) HistoryEnd there are first reached refl in
@@ -21,12 +21,19 @@ returns-clause-moved g c s d n st are some first =
 
 pub returns-clause-more : goal.returns-clause-more
 returns-clause-more g c s d st some =
-    let kept = c.kept_steps-none_kept.ensures.debugger s (bare (stepped_back d)) (c.take_step_back.ensures s d st some) in
+    let kept = c.kept_steps-none_kept.ensures.debugger s (bare (stepped_back d)) (c.take_step_back.ensures.back s d st some) in
     goes_on c.after_move.result _ _ (λ h. more c.kept_steps-none_kept.result (kept_steps (stepped_back d)) kept h) c.after_move.ensures.more
   where
     more : (k n : ℕ) → k ≡ n → (k == 0) ≡ false → 0 < n
     more k n e h = grind (arith, nat_tests)
 
+pub returns-clause-kept : goal.returns-clause-kept
+returns-clause-kept g c =
+    goes_on c.after_move.result _ _ (λ h. some c.kept_steps-none_kept.result _ c.kept_steps-none_kept.ensures.all h) c.after_move.ensures.more
+  where
+    some : (k n : ℕ) → k ≡ n → (k == 0) ≡ false → 0 < n
+    some k n e h = grind (arith, nat_tests)
+
 pub returns-clause-noted : goal.returns-clause-noted
 returns-clause-noted g c s d st are some first =
-    c.after_move.ensures.noted s (stepped_back d) (now s d) (c.take_step_back.ensures s d st some) are first
+    c.after_move.ensures.noted s (stepped_back d) (now s d) (c.take_step_back.ensures.back s d st some) are first

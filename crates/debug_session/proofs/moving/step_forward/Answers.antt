@@ -1,7 +1,7 @@
 use Rattle.std.proofs.Common.{refl, sym, ◌∙◌}
 use Rattle.gang_model.specs.Debugger.Events.{Step}
 use Rattle.gang_model.specs.Debugger.Debugger.{Here, forward, moved, now}
-use Rattle.debug_machine.specs.Machines.{fault_view}
+use Rattle.debug_traits.specs.Machines.{fault_view}
 use Rattle.debug_session.specs.Goals.{goal_view}
 use Rattle.debug_session.specs.Sessions.{bare}
 use Rattle.debug_session.proofs.Ending.{none_by}

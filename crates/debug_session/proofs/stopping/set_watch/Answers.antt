@@ -4,7 +4,7 @@ use Rattle.gang_model.specs.Debugger.Debugger.{Watch, Watches, add_stop, bad_par
 use Rattle.debug_commands.specs.Views.{target_view}
 use Rattle.debug_answers.specs.declared.stops.Stop.TheVariants as stop
 use Rattle.debug_answers.specs.Meanings.{IsWatch}
-use Rattle.debug_machine.specs.Machines.{ShowsNamed, file_variables}
+use Rattle.debug_traits.specs.Machines.{ShowsNamed, file_variables}
 use Rattle.debug_session.specs.Moves.{refusal_option}
 use Rattle.debug_session.specs.Sessions.{bare}
 use Rattle.debug_session.proofs.Listing.{listed_added, listed_full, listed_so, with_part}

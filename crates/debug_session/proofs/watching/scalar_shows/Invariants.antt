@@ -2,7 +2,7 @@
 use Rattle.std.proofs.Common.{◌≡◌, take}
 use Rattle.gang_model.specs.Types.Tree.{Variable}
 use Rattle.gang_model.specs.Debugger.Debugger.{Debugger, Setting, now, shown_words}
-use Rattle.debug_machine.specs.Machines.{IsShown}
+use Rattle.debug_traits.specs.Machines.{IsShown}
 use Rattle.debug_session.specs.Sessions.{bare}
 use Rattle.debug_session.proofs.watching.scalar_shows.Given as goal
 

@@ -4,7 +4,7 @@ use lib.Pointwise.{pointwise}
 use Rattle.gang_model.specs.Source.Names.{same_text}
 use Rattle.gang_model.specs.Debugger.Debugger.{now, part_shown, shown_words}
 use Rattle.gang_model.proofs.SameTexts.{pointwise-same_text}
-use Rattle.debug_machine.specs.Machines.{ShowsNamed}
+use Rattle.debug_traits.specs.Machines.{ShowsNamed}
 use Rattle.debug_session.specs.Sessions.{bare}
 use Rattle.debug_session.proofs.Bare.{of_bare}
 use Rattle.debug_session.proofs.watching.shows.Goals as goal

@@ -1,6 +1,6 @@
 use Rattle.std.proofs.Common.{sym, subst, ap, ◌∙◌, Some}
 use Rattle.gang_model.specs.Debugger.Debugger.{now, part_shown, shown_words}
-use Rattle.debug_machine.specs.Machines.{ShowsNamed}
+use Rattle.debug_traits.specs.Machines.{ShowsNamed}
 use Rattle.debug_session.specs.Sessions.{bare}
 use Rattle.debug_session.proofs.Bare.{of_bare}
 use Rattle.debug_session.proofs.watching.watched_words.Goals as goal

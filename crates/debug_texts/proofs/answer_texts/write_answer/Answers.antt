@@ -3,8 +3,8 @@ use Rattle.gang_model.specs.Debugger.Debugger as model
 use Rattle.gang_model.specs.Debugger.Debugger.{now}
 use Rattle.gang_model.specs.Texts.Text.{shown_line, text}
 use Rattle.debug_commands.specs.Views.{target_view}
-use Rattle.debug_machine.specs.Devices.{Writes}
-use Rattle.debug_machine.specs.Machines.{fault_view}
+use Rattle.debug_traits.specs.Devices.{Writes}
+use Rattle.debug_traits.specs.Machines.{fault_view}
 use Rattle.debug_answers.specs.Meanings.{Means}
 use Rattle.debug_answers.specs.declared.answer.Answer.TheVariants as answer
 use Rattle.debug_texts.proofs.Meant.{meant_text, moved_text, shown_at, with_events}

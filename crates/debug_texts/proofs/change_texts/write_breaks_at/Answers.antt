@@ -1,6 +1,6 @@
 use Rattle.std.proofs.Common.{◌≡◌, ◌∙◌, ◌∷◌, [], ◌++◌, ap, ap₂, refl, codes, decimal, subst, append_assoc, append-nil, ℕ, List}
 use Rattle.std.specs.List.{concat}
-use Rattle.debug_machine.specs.Devices.{Writes}
+use Rattle.debug_traits.specs.Devices.{Writes}
 use Rattle.debug_texts.proofs.change_texts.write_breaks_at.Goals as goal
 
 regroup : (a n b l e : List ℕ) → concat (a ∷ n ∷ b ∷ l ∷ e ∷ []) ≡ (((a ++ n) ++ b) ++ l) ++ e

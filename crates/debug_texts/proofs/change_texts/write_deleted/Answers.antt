@@ -2,7 +2,7 @@ use Rattle.std.proofs.Common.{◌≡◌, ◌∙◌, ◌∷◌, [], ◌++◌, ap,
 use Rattle.std.specs.List.{concat}
 use Rattle.gang_model.specs.Debugger.Debugger as model
 use Rattle.gang_model.specs.Texts.Text.{text}
-use Rattle.debug_machine.specs.Devices.{Writes}
+use Rattle.debug_traits.specs.Devices.{Writes}
 use Rattle.debug_texts.proofs.change_texts.write_deleted.Goals as goal
 
 regroup : (a n e : List ℕ) → concat (a ∷ n ∷ e ∷ []) ≡ (a ++ n) ++ e

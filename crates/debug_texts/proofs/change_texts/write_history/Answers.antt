@@ -1,6 +1,6 @@
 use Rattle.std.proofs.Common.{◌≡◌, ◌∙◌, ◌∷◌, [], ◌++◌, ap, refl, codes, decimal, subst, append_assoc, append-nil, ℕ, List}
 use Rattle.std.specs.List.{concat}
-use Rattle.debug_machine.specs.Devices.{Writes}
+use Rattle.debug_traits.specs.Devices.{Writes}
 use Rattle.debug_texts.proofs.change_texts.write_history.Goals as goal
 
 regroup : (a n e : List ℕ) → concat (a ∷ n ∷ e ∷ []) ≡ (a ++ n) ++ e

@@ -2,7 +2,7 @@ use Rattle.std.proofs.Common.{◌∙◌, ◌++◌, ◌-◌, sym, ap, append_asso
 use Rattle.std.proofs.lemmas.Result.{err_from_is_err_and}
 use Rattle.std.proofs.KnownBytes.{Appends-trans}
 use Rattle.gang_model.specs.Debugger.Debugger.{now}
-use Rattle.debug_machine.specs.Machines.{call_text}
+use Rattle.debug_traits.specs.Machines.{call_text}
 use Rattle.debug_texts.specs.Wording.{calls_text}
 use Rattle.debug_texts.proofs.Frames.{calls_at}
 use Rattle.debug_texts.proofs.Writing.{breaks_second, broke_early}

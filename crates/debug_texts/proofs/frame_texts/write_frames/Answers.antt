@@ -1,7 +1,7 @@
 use Rattle.std.proofs.Common.{◌-◌, subst}
 use Rattle.std.proofs.lemmas.Result.{err_from_is_err_and}
 use Rattle.gang_model.specs.Debugger.Debugger.{now}
-use Rattle.debug_machine.specs.Devices.{Writes}
+use Rattle.debug_traits.specs.Devices.{Writes}
 use Rattle.debug_texts.specs.Wording.{calls_text}
 use Rattle.debug_texts.proofs.Frames.{frames_parts}
 use Rattle.debug_texts.proofs.Writing.{breaks_first, writes_parts}

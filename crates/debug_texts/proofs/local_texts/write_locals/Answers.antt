@@ -1,7 +1,7 @@
 use Rattle.std.proofs.Common.{sym, subst, ◌∙◌}
 use Rattle.std.proofs.lemmas.Result.{err_from_is_err_and}
-use Rattle.debug_machine.specs.Machines.{listed}
-use Rattle.debug_machine.specs.Devices.{Writes}
+use Rattle.debug_traits.specs.Machines.{listed}
+use Rattle.debug_traits.specs.Devices.{Writes}
 use Rattle.debug_texts.proofs.Locals.{no_locals, some_locals}
 use Rattle.debug_texts.proofs.Writing.{breaks_first, writes_parts}
 use Rattle.debug_texts.proofs.local_texts.write_locals.Goals as goal

@@ -7,7 +7,7 @@ use Rattle.gang_types.specs.Masks.{lanes_of}
 use Rattle.gang_types.specs.MaskLaws.{length-lanes_of_word}
 use Rattle.gang_model.specs.Texts.Text.{bits}
 use Rattle.debug_texts.proofs.LaneDigits.{bits_more, bits_at, in_widest}
-use Rattle.debug_machine.proofs.Writing.{Broke, writes_err}
+use Rattle.debug_traits.proofs.Writing.{Broke, writes_err}
 use Rattle.debug_texts.proofs.Writing.{broke_early, broke_late}
 use Rattle.debug_texts.proofs.place_texts.write_lanes.Goals as goal
 

@@ -1,10 +1,10 @@
 use Rattle.std.proofs.Common.{sym, subst, map, codes}
 use Rattle.std.proofs.lemmas.Result.{err_from_is_err_and}
 use Rattle.std.specs.List.{concat}
-use Rattle.debug_machine.specs.Devices.{Writes}
-use Rattle.debug_machine.specs.Machines.{position_text}
+use Rattle.debug_traits.specs.Devices.{Writes}
+use Rattle.debug_traits.specs.Machines.{position_text}
 use Rattle.debug_texts.proofs.Pieces.{line_parts}
-use Rattle.debug_machine.proofs.Writing.{Broke, writes_err}
+use Rattle.debug_traits.proofs.Writing.{Broke, writes_err}
 use Rattle.debug_texts.proofs.Writing.{broke_early, broke_late, writes_rest}
 use Rattle.debug_texts.proofs.place_texts.write_place_line.Goals as goal
 

@@ -2,11 +2,11 @@ use Rattle.std.proofs.Common.{◌∙◌, sym, subst, ap}
 use Rattle.std.proofs.lemmas.Result.{err_from_is_err_and}
 use Rattle.gang_types.specs.Masks.{lanes_of}
 use Rattle.gang_model.specs.Texts.Text.{bits}
-use Rattle.debug_machine.specs.Devices.{Writes}
-use Rattle.debug_machine.specs.Machines.{position_text}
+use Rattle.debug_traits.specs.Devices.{Writes}
+use Rattle.debug_traits.specs.Machines.{position_text}
 use Rattle.debug_texts.specs.Wording.{place_front}
 use Rattle.debug_texts.proofs.Pieces.{place_parts}
-use Rattle.debug_machine.proofs.Writing.{Broke, writes_err}
+use Rattle.debug_traits.proofs.Writing.{Broke, writes_err}
 use Rattle.debug_texts.proofs.Writing.{broke_early, writes_rest}
 use Rattle.debug_texts.proofs.place_texts.write_position.Goals as goal
 

@@ -1,6 +1,6 @@
 use Rattle.std.proofs.Common.{◌∙◌, ◌∷◌, [], ap, codes, decimal, subst}
 use Rattle.std.specs.List.{concat}
-use Rattle.debug_machine.specs.Devices.{Writes}
+use Rattle.debug_traits.specs.Devices.{Writes}
 use Rattle.debug_texts.proofs.Pieces.{line_pieces}
 use Rattle.debug_texts.proofs.stop_texts.write_breakpoint.Goals as goal
 

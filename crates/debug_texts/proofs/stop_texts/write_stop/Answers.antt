@@ -1,6 +1,6 @@
 use Rattle.std.proofs.Common.{◌∙◌, ap, subst, decimal}
 use Rattle.debug_answers.specs.Meanings.{IsStop}
-use Rattle.debug_machine.specs.Devices.{Writes}
+use Rattle.debug_traits.specs.Devices.{Writes}
 use Rattle.debug_texts.proofs.Stops.{watch_line}
 use Rattle.debug_texts.proofs.stop_texts.write_stop.Goals as goal
 

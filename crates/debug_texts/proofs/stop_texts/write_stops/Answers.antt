@@ -1,5 +1,5 @@
 use Rattle.std.proofs.Common.{rules, ◌<◌, length, sym, subst}
-use Rattle.debug_machine.specs.Devices.{Writes}
+use Rattle.debug_traits.specs.Devices.{Writes}
 use Rattle.debug_texts.proofs.Stops.{some_stops}
 use Rattle.debug_texts.proofs.stop_texts.write_stops.Goals as goal
 

@@ -4,7 +4,7 @@ use Rattle.std.proofs.KnownBytes.{Appends-trans}
 use Rattle.std.specs.Io.KnownBytes.{Appends}
 use Rattle.std.specs.List.{concat}
 use Rattle.std.specs.Borrow.{Bor}
-use Rattle.debug_machine.proofs.Writing.{Broke, writes_err}
+use Rattle.debug_traits.proofs.Writing.{Broke, writes_err}
 use Rattle.debug_texts.proofs.Writing.{broke_early, broke_late}
 use Rattle.debug_texts.proofs.Pieces.{pieces_more, pieces_at}
 use Rattle.debug_texts.proofs.texts.write_pieces.Goals as goal

@@ -3,7 +3,7 @@ use Rattle.std.proofs.Common.{◌≡◌, false, take}
 use Rattle.std.specs.Io.KnownBytes.{Appends}
 use Rattle.gang_model.specs.Types.Tree.{Variable}
 use Rattle.gang_model.specs.Debugger.Debugger.{Debugger, Setting, now, shown_words}
-use Rattle.debug_machine.specs.Machines.{IsShown}
+use Rattle.debug_traits.specs.Machines.{IsShown}
 use Rattle.debug_texts.specs.Wording.{values_text}
 use Rattle.debug_texts.proofs.value_texts.write_words.Given as goal
 

@@ -9,7 +9,7 @@ use Rattle.gang_machine.proofs.machine.Machine.named_variable.Goals.{in-Some, in
 pub returns-in-Some-local : goal.returns-in-Some-local
 returns-in-Some-local g c s d stands =
     let name = c.args.name.now in
-    let there : SeesLocal g.row.W (file_variables c.args.self.now.program.globals.items) s d name c.match-next.local =
+    let there : SeesLocal g.row.W (file_variables c.args.self.now.seen.program.globals.items) s d name c.match-next.local =
     elim c.match-next.branch [
       | in-Some w ↦ sees_local g.row.W _ _ s d name _ c.match-next.local (w.in-Some.ensures.step s d stands).sees w.local_named-local.ensures w.local-is
       | in-None w ↦ sees_local g.row.W _ _ s d name None c.match-next.local (c.next.ensures.ended w.in-None.is s d stands).sees tt w.local-is
@@ -19,11 +19,11 @@ returns-in-Some-local g c s d stands =
 pub returns-in-None-local : goal.returns-in-None-local
 returns-in-None-local g c s d stands =
     let name = c.args.name.now in
-    let there : SeesLocal g.row.W (file_variables c.args.self.now.program.globals.items) s d name c.match-next.local =
+    let there : SeesLocal g.row.W (file_variables c.args.self.now.seen.program.globals.items) s d name c.match-next.local =
     elim c.match-next.branch [
       | in-Some w ↦ sees_local g.row.W _ _ s d name _ c.match-next.local (w.in-Some.ensures.step s d stands).sees w.local_named-local.ensures w.local-is
       | in-None w ↦ sees_local g.row.W _ _ s d name None c.match-next.local (c.next.ensures.ended w.in-None.is s d stands).sees tt w.local-is
     ] in
-    let sees = subst (λ m. Sees there.0 (file_variables m.program.globals.items) s d) (sym c.self.view_is) there.1 in
+    let sees = subst (λ m. Sees there.0 (file_variables m.seen.program.globals.items) s d) (sym c.self.view_is) there.1 in
     sees_file g.row.W there.0 _ s d sees name c.file_named.result (subst (SeesFound g.row.W (named name there.0)) c.in-None-local.is there.2)
     (subst (λ gs. SeesFound g.row.W (named name (file_variables gs)) c.file_named.result) c.deref.ensures.value c.file_named.ensures)

@@ -1,5 +1,5 @@
 use Rattle.std.proofs.Common.{subst, sym}
-use Rattle.debug_machine.specs.Machines.{ShowsNext}
+use Rattle.debug_traits.specs.Machines.{ShowsNext}
 use Rattle.gang_machine.specs.Nexts.{listed_left}
 use Rattle.gang_machine.proofs.Finding.{all_listed, none_behind, none_left, none_listed, shows_left}
 use Rattle.gang_machine.proofs.machine.Machine.next_variable.Goals as goal
@@ -10,7 +10,7 @@ returns-in_err-function-clause-all g c s d stands =
 
 pub returns-in_err-function-clause-next : goal.returns-in_err-function-clause-next
 returns-in_err-function-clause-next g c s d stands =
-    subst (λ r. ShowsNext s d (listed_left c.args.kind c.args.self.now s d) c.args.from r) (sym c.from_residual.ensures)
+    subst (λ r. ShowsNext s d (listed_left c.args.kind c.args.self.now.seen s d) c.args.from r) (sym c.from_residual.ensures)
     (none_left g.row.W c.args.kind _ s d c.args.from (c.next.ensures.ended c.in_err-function.was s d stands))
 
 pub returns-in_err-listed-clause-all : goal.returns-in_err-listed-clause-all
@@ -19,7 +19,7 @@ returns-in_err-listed-clause-all g c s d stands =
 
 pub returns-in_err-listed-clause-next : goal.returns-in_err-listed-clause-next
 returns-in_err-listed-clause-next g c s d stands =
-    subst (λ r. ShowsNext s d (listed_left c.args.kind c.args.self.now s d) c.args.from r) (sym c.from_residual-in_err-listed.ensures)
+    subst (λ r. ShowsNext s d (listed_left c.args.kind c.args.self.now.seen s d) c.args.from r) (sym c.from_residual-in_err-listed.ensures)
     (none_behind g.row.W c.args.kind _ s d _ _ c.args.from (c.in_ok-function.ensures.step s d stands) c.in_err-listed.ensures.next)
 
 pub returns-clause-all : goal.returns-clause-all

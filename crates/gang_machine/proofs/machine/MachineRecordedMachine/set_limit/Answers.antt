@@ -1,6 +1,6 @@
 use Rattle.std.proofs.Common.{subst, sym}
-use Rattle.debug_machine.specs.Machines.{Limits, LimitsWords}
-use Rattle.gang_machine.specs.Standings.{Stands, history_of, view_of}
+use Rattle.debug_traits.specs.Machines.{Limits, LimitsWords}
+use Rattle.gang_machine.specs.Standings.{Stands, counted, history_of, view_of}
 use Rattle.gang_machine.proofs.Limiting.{machine_limited, stands_limits}
 use Rattle.gang_machine.proofs.machine.MachineRecordedMachine.set_limit.Goals as goal
 
@@ -13,9 +13,9 @@ pub returns-clause-limit : goal.returns-clause-limit
 returns-clause-limit g c s d stands =
     let m = c.self.inside in
     let history = g.T.Timeline.history c.limited.new.words.store.timeline in
-    subst (λ l. Limits Stands s d c.args.limit c.limited.result (view_of g.row.W m.entry m.compiled.program m.lines.items l history)) (sym c.limited.ensures.layout)
+    subst (λ l. Limits Stands s d c.args.limit c.limited.result (counted (view_of g.row.W m.entry m.compiled.program m.lines.items l history) m.mover.moves.count)) (sym c.limited.ensures.layout)
     (stands_limits g.row.W m.entry m.compiled.program m.words.layout m.lines.items (g.T.Timeline.history m.words.store.timeline) s d (subst (λ m. Stands m s d) (sym c.self.view_is) stands)
-    c.args.limit c.limited.result history c.limited.ensures.limited)
+    m.mover.moves.count c.args.limit c.limited.result history c.limited.ensures.limited)
 
 pub returns-clause-words : goal.returns-clause-words
 returns-clause-words g c =

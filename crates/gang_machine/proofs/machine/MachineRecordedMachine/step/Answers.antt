@@ -1,5 +1,5 @@
 use Rattle.std.proofs.Common.{subst, sym}
-use Rattle.debug_machine.specs.Machines.{StepsWords}
+use Rattle.debug_traits.specs.Machines.{StepsWords}
 use Rattle.gang_machine.specs.Standings.{Stands, history_of}
 use Rattle.gang_machine.proofs.Stepping.{machine_stepped, stands_stepped, words_stepped}
 use Rattle.gang_machine.proofs.machine.MachineRecordedMachine.step.Goals as goal
@@ -19,4 +19,4 @@ pub returns-clause-step : goal.returns-clause-step
 returns-clause-step g c s d stands =
     let m = c.self.inside in
     stands_stepped g.T.Timeline.history g.row.W m.compiled m.words c.step.new.words c.self.invariant m.entry m.lines.items s d (subst (λ m. Stands m s d) (sym c.self.view_is) stands)
-    c.step.result c.step.ensures.steps
+    _ c.step.result c.step.ensures.steps

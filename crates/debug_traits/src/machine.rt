@@ -1,12 +1,12 @@
 //! A machine whose events are recorded.
-ghost use Rattle.std.specs.Prelude.{◌≡◌, ℕ, ◌<◌, ◌≤◌, false, is_none, length, List, slice_get, slice_index, IfSome, None};
+ghost use Rattle.std.specs.Prelude.{◌≡◌, ℕ, suc, ◌<◌, ◌≤◌, false, is_none, length, List, slice_get, slice_index, IfSome, None};
 ghost use Rattle.undo_log.specs.History.{steps_in};
 ghost use Rattle.gang_types.specs.Masks.{IsGangWidth};
 ghost use Rattle.gang_model.specs.Types.Tree.{Variable};
 ghost use Rattle.gang_model.specs.Debugger.Positions.{line_now};
 ghost use Rattle.gang_model.specs.Debugger.Debugger.{Debugger, Setting, bad_part, depth, found, has_ended, kept_steps, least_from, now, shown_words, step_lines};
 ghost use Rattle.gang_model.specs.Texts.Text.{where_text};
-ghost use Rattle.debug_machine.specs.Machines.{Finds, FindsInFile, IsPart, IsShown, Limits, LimitsWords, Pokes, PokesWords, ShowsNamed, ShowsNext, Steps, StepsWords, Undoes, UndoesWords, call_text, depth_of, file_variables, line_of_position, listed, listed_parameters, position_line, position_text};
+ghost use Rattle.debug_traits.specs.Machines.{Finds, FindsInFile, IsPart, IsShown, Limits, LimitsWords, Pokes, PokesWords, ShowsNamed, ShowsNext, Steps, StepsWords, Undoes, UndoesWords, call_text, depth_of, file_variables, line_of_position, listed, listed_parameters, position_line, position_text};
 
 use gang_types::{FaultName, IntType, Mask, Place, Rate, VarId};
 use std::alloc::AllocError;
@@ -83,6 +83,9 @@ pub trait RecordedMachine {
     // All its words, and the words before each event that can be taken back.
     ghost history: { Self → History };
 
+    // How many times it has moved: how often a step was tried, and how often an event was to be taken back.
+    ghost moves: { Self → ℕ };
+
     // The local variables in scope from a place on, parameters left out, where it stands for such a debugger.
     ghost locals_from: { Self → Setting → Debugger → ℕ → List Variable };
 
@@ -92,18 +95,21 @@ pub trait RecordedMachine {
     /// Does the next step and records it.
     fn step(&mut self) -> StepEnd
         ensures step { (s : Setting) (d : Debugger) → stands self.old s d → Steps stands s d result self.new }
-        ensures words { StepsWords (history self.old) result (history self.new) };
+        ensures words { StepsWords (history self.old) result (history self.new) }
+        ensures moves { moves self.new ≡ suc (moves self.old) };
 
     /// Takes the newest event back.
     fn undo(&mut self) -> Result<Undone, NoHistory>
         ensures undo { (s : Setting) (d : Debugger) → stands self.old s d → Undoes stands s d result self.new }
-        ensures words { UndoesWords (history self.old) result (history self.new) };
+        ensures words { UndoesWords (history self.old) result (history self.new) }
+        ensures moves { moves self.new ≡ suc (moves self.old) };
 
     /// Sets a scalar, in all lanes or in one, or an element of an array, and records it.
     fn poke(&mut self, shown: Shown, at: Option<u32>, word: u64)
         ensures poke { (s : Setting) (d : Debugger) (v : Variable) → stands self.old s d → IsShown s d v shown → IsPart at shown
             → Pokes stands s d v shown at word self.new }
-        ensures words { PokesWords (history self.old) (history self.new) };
+        ensures words { PokesWords (history self.old) (history self.new) }
+        ensures moves { moves self.new ≡ moves self.old };
 
     /// The number of events that can be taken back.
     fn kept(&self) -> usize
@@ -129,7 +135,8 @@ pub trait RecordedMachine {
     fn set_limit(&mut self, limit: usize) -> Result<(), AllocError>
         requires { (1 ≤ limit) × (limit ≤ 65536) }
         ensures limit { (s : Setting) (d : Debugger) → stands self.old s d → Limits stands s d limit result self.new }
-        ensures words { LimitsWords (history self.old) limit result (history self.new) };
+        ensures words { LimitsWords (history self.old) limit result (history self.new) }
+        ensures moves { moves self.new ≡ moves self.old };
 
     /// Where it stands, unless the program has ended.
     fn position(&self) -> Option<Position<'_>>

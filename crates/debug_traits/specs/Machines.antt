@@ -13,13 +13,13 @@ use Rattle.gang_model.specs.Debugger.Events.{Event, Step, Poke}
 use Rattle.gang_model.specs.Debugger.Positions.{scope_now}
 use Rattle.gang_model.specs.Debugger.Debugger.{Debugger, Setting, bad_part, found, global_named, limited, moved, now, poked_by, shown_words, taken_back}
 use Rattle.gang_model.specs.Texts.Text.{Bytes, bits, call_line, line, line_and_column}
-use Rattle.debug_machine.specs.declared.machine.Fault.{Fault}
-use Rattle.debug_machine.specs.declared.machine.NamedVariable.{NamedVariable}
-use Rattle.debug_machine.specs.declared.machine.NextLocal.{NextLocal}
-use Rattle.debug_machine.specs.declared.machine.Position.{Position}
-use Rattle.debug_machine.specs.declared.machine.Shown.{Shown}
-use Rattle.debug_machine.specs.declared.machine.StepEnd.{StepEnd}
-use Rattle.debug_machine.specs.declared.machine.StepEnd.TheVariants as end
+use Rattle.debug_traits.specs.declared.machine.Fault.{Fault}
+use Rattle.debug_traits.specs.declared.machine.NamedVariable.{NamedVariable}
+use Rattle.debug_traits.specs.declared.machine.NextLocal.{NextLocal}
+use Rattle.debug_traits.specs.declared.machine.Position.{Position}
+use Rattle.debug_traits.specs.declared.machine.Shown.{Shown}
+use Rattle.debug_traits.specs.declared.machine.StepEnd.{StepEnd}
+use Rattle.debug_traits.specs.declared.machine.StepEnd.TheVariants as end
 
 -- ---- names
 
@@ -140,6 +140,12 @@ abbrev pub undone_after : StepEnd → Option Undone
 undone_after end.Done = Some undone.Step
 undone_after (end.Fault fault) = None
 undone_after end.Ended = None
+
+-- how many moves a step is that is taken back where it was done
+abbrev pub tried_moves : StepEnd → ℕ
+tried_moves end.Done = 2
+tried_moves (end.Fault fault) = 1
+tried_moves end.Ended = 1
 
 -- All words are those before the event that was taken back, and of the events before it the newest are kept, all but the oldest where as many were
 -- kept as can be.

@@ -1,7 +1,7 @@
 //! Where commands come from, and where answers go.
 ghost use Rattle.std.specs.Prelude.{◌≡◌, ℕ, ◌+◌, ◌<◌, ◌≤◌, Bool, true, false, List, Option, length, MatchResult, IfOk};
 ghost use Rattle.std.specs.Io.KnownBytes.{ReadConsumes, WriteAppends};
-ghost use Rattle.debug_machine.specs.Devices.{Writes, pieces_in, tells_of_write};
+ghost use Rattle.debug_traits.specs.Devices.{Writes, pieces_in, tells_of_write};
 
 use thiserror::Error;
 

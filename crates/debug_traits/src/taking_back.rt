@@ -1,7 +1,7 @@
 //! An event that is taken back at once: all words are again those before it.
-ghost use Rattle.std.specs.Prelude.{◌≡◌, Ok};
+ghost use Rattle.std.specs.Prelude.{◌≡◌, ◌+◌, Ok};
 ghost use Rattle.undo_log.specs.declared.timeline.Undone.TheVariants.{Poke};
-ghost use Rattle.debug_machine.specs.Machines.{AreBack, HasStepBack, undone_after};
+ghost use Rattle.debug_traits.specs.Machines.{AreBack, HasStepBack, tried_moves, undone_after};
 
 use crate::machine::{RecordedMachine, Shown, StepEnd};
 use undo_log::{NoHistory, Undone};
@@ -13,6 +13,7 @@ use undo_log::{NoHistory, Undone};
 pub fn step_and_undo<M: RecordedMachine>(machine: &mut M) -> (StepEnd, Option<Undone>)
     ensures event { result.1 ≡ undone_after result.0 }
     ensures words { HasStepBack result.0 (M.history machine.old) (M.history machine.new) }
+    ensures moves { M.moves machine.new ≡ M.moves machine.old + tried_moves result.0 }
 {
     let limit = machine.limit();
     prove!(1 <= limit);
@@ -31,6 +32,7 @@ pub fn poke_and_undo<M: RecordedMachine>(
 ) -> Result<Undone, NoHistory>
     ensures event { result ≡ Ok Poke }
     ensures words { AreBack (M.history machine.old) (M.history machine.new) }
+    ensures moves { M.moves machine.new ≡ M.moves machine.old + 1 }
 {
     let limit = machine.limit();
     prove!(1 <= limit);

@@ -1,7 +1,7 @@
 -- what is gone from rest was written
 use Rattle.std.proofs.Common.{◌≡◌, ℕ, List, ◌++◌, length, false}
 use Rattle.std.specs.Io.KnownBytes.{Appends}
-use Rattle.debug_machine.proofs.devices.AnswerWriter.write_all.Given as goal
+use Rattle.debug_traits.proofs.devices.AnswerWriter.write_all.Given as goal
 
 abbrev pub invariant-loop-rest : goal.invariant-loop-rest
 invariant-loop-rest g l = (done : List ℕ) × (l.initial.rest ≡ done ++ l.rest)

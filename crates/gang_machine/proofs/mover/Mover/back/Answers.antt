@@ -1,4 +1,4 @@
-use Rattle.gang_machine.proofs.machine.taken_back.Goals as goal
+use Rattle.gang_machine.proofs.mover.Mover.back.Goals as goal
 
 pub returns-clause-answer : goal.returns-clause-answer
 returns-clause-answer g c = c.back.ensures.answer

@@ -3,8 +3,8 @@ use Rattle.std.proofs.lemmas.List.{take_rest}
 use Rattle.std.proofs.lemmas.Result.{err_from_is_err_and}
 use Rattle.std.specs.Io.KnownBytes.{Appends}
 use Rattle.std.proofs.KnownBytes.{Appends-trans, Appends-kept}
-use Rattle.debug_machine.proofs.Writing.{broke_at, writes_err, took_none, took_some}
-use Rattle.debug_machine.proofs.devices.AnswerWriter.write_all.Goals as goal
+use Rattle.debug_traits.proofs.Writing.{broke_at, writes_err, took_none, took_some}
+use Rattle.debug_traits.proofs.devices.AnswerWriter.write_all.Goals as goal
 
 moves_front : (all done rest : List ℕ) (n : ℕ) → all ≡ done ++ rest → all ≡ (done ++ take n rest) ++ take (length rest - n) (drop n rest)
 moves_front all done rest n e =
