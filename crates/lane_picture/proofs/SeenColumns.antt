@@ -3,8 +3,8 @@ use Rattle.std.proofs.Common.{◌≡◌, refl, sym, ap, ◌∙◌, subst, ℕ, z
 use Rattle.gang_model.specs.Types.Tree.{Program}
 use Rattle.gang_model.specs.Running.State.{State}
 use Rattle.gang_model.specs.Texts.Text.{where_text}
-use Rattle.debug_machine.specs.declared.machine.Position.{Position}
-use Rattle.debug_machine.specs.Machines.{position_text}
+use Rattle.debug_traits.specs.declared.machine.Position.{Position}
+use Rattle.debug_traits.specs.Machines.{position_text}
 use Rattle.lane_picture.specs.declared.columns.Column.{Column}
 use Rattle.lane_picture.specs.Seen.{AreColumns, IsColumnOf, StandsAt, next_state, state_after}
 

@@ -1,7 +1,7 @@
 -- What the drawing of a picture does to a session.
 use Rattle.std.specs.Prelude.{◌≡◌, ℕ, ◌≤◌, Bool, true, false}
 use Rattle.gang_model.specs.Debugger.Debugger.{Debugger, Setting, now}
-use Rattle.debug_machine.specs.Machines.{fault_view}
+use Rattle.debug_traits.specs.Machines.{fault_view}
 use Rattle.debug_session.specs.declared.session.Session.{Session}
 use Rattle.lane_picture.specs.declared.picture.PictureEnd.{PictureEnd}
 use Rattle.lane_picture.specs.declared.picture.PictureEnd.TheVariants as end

@@ -7,7 +7,7 @@ use Rattle.gang_model.specs.Running.Step.{step}
 use Rattle.gang_model.specs.Debugger.Events.{gone}
 use Rattle.gang_model.specs.Debugger.Debugger.{Debugger, Setting, now}
 use Rattle.gang_model.specs.Texts.Text.{Bytes, bits, line_and_column, where_text}
-use Rattle.debug_machine.specs.declared.machine.Position.{Position}
+use Rattle.debug_traits.specs.declared.machine.Position.{Position}
 use Rattle.debug_session.specs.declared.session.Session.{Session}
 use Rattle.lane_picture.specs.declared.columns.Column.{Column}
 use Rattle.lane_picture.specs.declared.columns.StepsEnd.{StepsEnd}

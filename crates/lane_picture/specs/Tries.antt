@@ -2,7 +2,7 @@
 use Rattle.std.specs.Prelude.{◌≡◌, ℕ, ◌≤◌, false, Option, Some, None}
 use Rattle.gang_model.specs.Running.Step.{Goes, Fails, step}
 use Rattle.gang_model.specs.Debugger.Debugger.{Debugger, Setting, has_ended, now}
-use Rattle.debug_machine.specs.Machines.{fault_view}
+use Rattle.debug_traits.specs.Machines.{fault_view}
 use Rattle.debug_session.specs.declared.session.Session.{Session}
 use Rattle.command_lists.specs.Lists.{HasDone}
 use Rattle.lane_picture.specs.declared.columns.StepsEnd.{StepsEnd}

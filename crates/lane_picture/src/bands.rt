@@ -6,7 +6,7 @@ use crate::layout::Layout;
 use crate::parts::Part::{Number, Text};
 use crate::parts::write_parts;
 use crate::source::{StepKind, kind_at};
-use debug_machine::{AnswerWriter, WriteFault};
+use debug_traits::{AnswerWriter, WriteFault};
 
 /// How much darker, in hundredths, a column gets with each frame more, and how many frames count.
 const DARKER: usize = 6;

@@ -8,8 +8,8 @@ ghost use Rattle.lane_picture.specs.Tries.{HasBegun, Tries, end_view};
 
 use debug_answers::Answer;
 use debug_commands::{Command, Target};
-use debug_machine::{Fault, Position, RecordedMachine, Shown};
 use debug_session::Session;
+use debug_traits::{Fault, Position, RecordedMachine, Shown};
 use gang_types::{IntType, Mask, Place, Rate};
 use std::alloc::{AllocError, Global};
 

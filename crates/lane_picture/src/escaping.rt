@@ -1,7 +1,7 @@
 //! Any bytes as text of XML.
 ghost use Rattle.std.specs.Prelude.{◌≡◌, false, is_err};
 
-use debug_machine::{AnswerWriter, WriteFault};
+use debug_traits::{AnswerWriter, WriteFault};
 use std::str;
 
 /// What stands for a byte that cannot stand in XML.

@@ -7,7 +7,7 @@ use crate::parts::Part::{Any, Number, Text};
 use crate::parts::write_parts;
 use crate::source::{MOST_SHOWN, shown_part};
 use crate::words::{fault_words, lane_colour, lane_fill};
-use debug_machine::{AnswerWriter, WriteFault};
+use debug_traits::{AnswerWriter, WriteFault};
 
 const STYLE: &[u8] = b"<style>
 text{font:13px monospace;white-space:pre}

@@ -2,7 +2,7 @@
 ghost use Rattle.std.specs.Prelude.{◌≡◌, false, is_err};
 
 use crate::escaping::write_escaped;
-use debug_machine::{AnswerWriter, WriteFault};
+use debug_traits::{AnswerWriter, WriteFault};
 use itoa::Buffer;
 
 /// A part of what is written.

@@ -15,8 +15,8 @@ use crate::source::lines_of;
 use crate::strip::{longest_value, write_strip};
 use crate::tracks::write_tracks;
 use debug_commands::Target;
-use debug_machine::{AnswerWriter, Fault, RecordedMachine, WriteFault};
 use debug_session::Session;
+use debug_traits::{AnswerWriter, Fault, RecordedMachine, WriteFault};
 use std::alloc::{AllocError, Global};
 
 /// Whether a picture stands alone or in a page.

@@ -7,7 +7,7 @@ use crate::parts::Part::{Any, Number, Text};
 use crate::parts::write_parts;
 use crate::words::value_colour;
 use debug_commands::Target;
-use debug_machine::{AnswerWriter, WriteFault};
+use debug_traits::{AnswerWriter, WriteFault};
 use gang_types::{IntType, value};
 use itoa::Buffer;
 

@@ -7,7 +7,7 @@ use crate::parts::Part::{Number, Text};
 use crate::parts::write_parts;
 use crate::source::{StepKind, kind_at};
 use crate::words::{fault_words, lane_colour, lane_fill};
-use debug_machine::{AnswerWriter, Fault, WriteFault};
+use debug_traits::{AnswerWriter, Fault, WriteFault};
 
 /// The most lanes of a gang.
 const WIDEST: usize = 16;

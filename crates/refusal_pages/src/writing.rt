@@ -1,11 +1,11 @@
 //! A page on a writer.
 ghost use Rattle.std.specs.Prelude.{◌≡◌, false};
-ghost use Rattle.debug_machine.specs.Devices.{Writes};
+ghost use Rattle.debug_traits.specs.Devices.{Writes};
 ghost use Rattle.refusal_pages.specs.Pages.{page_text};
 
 use crate::page::Page;
-use debug_machine::{AnswerWriter, WriteFault};
 use debug_texts::write_pieces;
+use debug_traits::{AnswerWriter, WriteFault};
 
 /// Writes a page: its heading, an empty line, and its text.
 ///
