@@ -1,0 +1,9 @@
+mod DigitValues
+mod FramesReadBack
+mod HeadLengths
+mod HeadLines
+mod HeaderLines
+mod Rows
+mod UnreadBytes
+mod WholeHeads
+mod WrittenFrames

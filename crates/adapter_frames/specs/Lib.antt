@@ -1,1 +1,4 @@
 pub mod Frames
+pub mod Heads
+pub mod Reading
+pub mod Places

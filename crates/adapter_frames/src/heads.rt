@@ -1,9 +1,13 @@
 //! The heads of frames: lines `NAME: VALUE`, each ended by CR LF, and an empty line.
-ghost use Rattle.std.specs.Prelude.{◌≡◌, ℕ, ◌+◌, ◌<◌, ◌≤◌, IfSome, length};
+ghost use Rattle.std.specs.Prelude.{◌≡◌, ◌-◌, ◌<◌, ◌==◌, MatchOption, MatchResult, bytes_eq, codes, false, fold, length, map, option_map, position};
+ghost use Rattle.std.specs.Char.{is_ascii_digit, to_ascii_lowercase};
+ghost use Rattle.std.specs.List.{list_all};
+ghost use Rattle.adapter_frames.specs.Heads.{Headed, IsAtFault, has_line_end, line_says, number_of, value_of};
+ghost use Rattle.adapter_frames.specs.Places.{EndsAt, HaveNoHead, HeadAt, IsPending, LineAt, SaysLength, clipped, clipped_says, found_with};
 
 use thiserror::Error;
 
-/// The most bytes of a head.
+/// The most bytes of a head, without its empty line.
 pub(crate) const MOST_HEAD: usize = 4_096;
 
 /// The most bytes of a message.
@@ -34,9 +38,13 @@ pub(crate) struct Head {
 }
 
 /// The head of the frame that some bytes begin with, if it is whole.
-pub(crate) fn read_head(bytes: &[u8]) -> Result<Option<Head>, HeadFault> {
+pub(crate) fn read_head(bytes: &[u8]) -> Result<Option<Head>, HeadFault>
+    ensures { MatchResult result
+        (λ found. MatchOption found (IsPending bytes.now) (λ head. HeadAt bytes.now head.start head.length))
+        (λ fault. IsAtFault fault bytes.now) }
+{
     let Some(end) = end_of_head(bytes) else {
-        return if bytes.len() > MOST_HEAD {
+        return if bytes.len() >= MOST_HEAD + 2 {
             Err(HeadFault::HeadTooLong)
         } else {
             Ok(None)
@@ -57,7 +65,7 @@ pub(crate) fn read_head(bytes: &[u8]) -> Result<Option<Head>, HeadFault> {
 
 /// Where the empty line begins that ends a head, if it is there.
 fn end_of_head(bytes: &[u8]) -> Option<usize>
-    ensures { IfSome result (λ end. end + 2 ≤ length bytes.now) }
+    ensures { MatchOption result (HaveNoHead bytes.now) (EndsAt bytes.now) }
 {
     let mut rest = bytes;
     let mut at = 0;
@@ -73,60 +81,95 @@ fn end_of_head(bytes: &[u8]) -> Option<usize>
 
 /// How many bytes the first line has, its CR LF not counted, if it is whole.
 fn first_line(bytes: &[u8]) -> Option<usize>
-    ensures { IfSome result (λ line. line + 2 ≤ length bytes.now) }
+    ensures { MatchOption result (has_line_end bytes.now ≡ false) (LineAt bytes.now) }
 {
-    let mut last = 0;
-    for (index, byte) in bytes.iter().enumerate() {
-        if last == b'\r' && *byte == b'\n' && index > 0 {
-            return Some(index - 1);
+    for at in 0..bytes.len() {
+        if bytes[at..].starts_with(b"\r\n") {
+            return Some(at);
         }
-        last = *byte;
     }
     None
 }
 
-/// The length that the lines of a head name.
-fn length_in(head: &[u8]) -> Result<usize, HeadFault> {
+/// The length that the lines of a head say.
+fn length_in(head: &[u8]) -> Result<usize, HeadFault>
+    ensures { SaysLength head.now result }
+{
     let mut found = None;
     let mut rest = head;
     while let Some(line) = first_line(rest) {
-        match (length_of(&rest[..line])?, found) {
-            (Some(_), Some(_)) => return Err(HeadFault::TwoLengths),
-            (Some(length), None) => found = Some(length),
-            (None, _) => {}
-        }
+        found = found_with(found, &rest[..line])?;
         rest = &rest[line + 2..];
     }
     found.ok_or(HeadFault::NoLength)
 }
 
-/// The length that a header names, if it is the one that does.
-fn length_of(line: &[u8]) -> Result<Option<usize>, HeadFault> {
-    let Some(colon) = line.iter().position(|byte| *byte == b':') else {
-        return Err(HeadFault::BadHeader);
-    };
-    let (name, value) = line.split_at(colon);
-    if name.eq_ignore_ascii_case(b"content-length") {
-        let length = number(value[1..].trim_ascii())?;
-        Ok(Some(length))
-    } else {
-        Ok(None)
+/// The length that was found so far, with that of a further line.
+fn found_with(found: Option<usize>, line: &[u8]) -> Result<Option<usize>, HeadFault>
+    ensures { result ≡ found_with found (clipped_says (line_says line.now)) }
+{
+    match (length_of(line)?, found) {
+        (Some(_), Some(_)) => Err(HeadFault::TwoLengths),
+        (Some(length), None) => Ok(Some(length)),
+        (None, found) => Ok(found),
     }
 }
 
+/// The length that a header says, if it is the one that does.
+fn length_of(line: &[u8]) -> Result<Option<usize>, HeadFault>
+    ensures { result ≡ clipped_says (line_says line.now) }
+{
+    let Some(colon) = colon_in(line) else {
+        return Err(HeadFault::BadHeader);
+    };
+    if !is_length(&line[..colon]) {
+        return Ok(None);
+    }
+    match number(line[colon + 1..].trim_ascii()) {
+        Some(length) => Ok(Some(length)),
+        None => Err(HeadFault::BadLength),
+    }
+}
+
+/// Where the first colon stands.
+fn colon_in(line: &[u8]) -> Option<usize>
+    ensures { result ≡ position (λ byte. byte == 58) line.now }
+{
+    line.iter().position(|byte| *byte == b':')
+}
+
+/// Whether a header of this name says the length.
+fn is_length(name: &[u8]) -> bool
+    ensures { result ≡ bytes_eq (map to_ascii_lowercase name.now) (codes "content-length") }
+{
+    name.eq_ignore_ascii_case(b"content-length")
+}
+
 /// The decimal number that bytes spell; one that is far too large counts as the greatest.
-fn number(digits: &[u8]) -> Result<usize, HeadFault> {
-    if digits.is_empty() {
-        return Err(HeadFault::BadLength);
+fn number(digits: &[u8]) -> Option<usize>
+    ensures { result ≡ option_map clipped (number_of digits.now) }
+{
+    if digits.is_empty() || !are_digits(digits) {
+        None
+    } else {
+        Some(value(digits))
     }
-    let mut number = 0usize;
+}
+
+fn are_digits(bytes: &[u8]) -> bool
+    ensures { result ≡ list_all is_ascii_digit bytes.now }
+{
+    bytes.iter().all(|byte| byte.is_ascii_digit())
+}
+
+fn value(digits: &[u8]) -> usize
+    ensures { result ≡ clipped (value_of 0 digits.now) }
+{
+    let mut value = 0usize;
     for digit in digits {
-        if !digit.is_ascii_digit() {
-            return Err(HeadFault::BadLength);
-        }
-        number = number
+        value = value
             .saturating_mul(10)
-            .saturating_add((*digit - b'0') as usize);
+            .saturating_add(usize::from(digit.saturating_sub(b'0')));
     }
-    Ok(number)
+    value
 }

@@ -1,5 +1,8 @@
 //! The messages that a reader gives.
-ghost use Rattle.std.specs.Prelude.{◌≡◌};
+ghost use Rattle.std.specs.Prelude.{◌≡◌, IfErr, IfNone, IfOk, IfSome, ◌⊎◌};
+ghost use Rattle.std.specs.Io.KnownBytes.{IsAtEnd, Keeps};
+ghost use Rattle.adapter_frames.specs.Places.{HeadAt};
+ghost use Rattle.adapter_frames.specs.declared.reading.FrameFault.TheVariants.{Memory};
 
 use crate::heads::{Head, HeadFault, read_head};
 use std::alloc::{AllocError, Global};
@@ -20,14 +23,10 @@ pub enum FrameFault {
 }
 
 impl From<AllocError> for FrameFault {
+    ghost from_gives = { λ _ fault. fault ≡ Memory };
+
     fn from(_: AllocError) -> Self {
         FrameFault::Memory
-    }
-}
-
-impl From<HeadFault> for FrameFault {
-    fn from(fault: HeadFault) -> Self {
-        FrameFault::Head(fault)
     }
 }
 
@@ -40,8 +39,12 @@ pub struct FrameReader<R> {
 }
 
 impl<R: Read> FrameReader<R> {
+    ghost use Rattle.adapter_frames.specs.Reading.{Ended, Fails, Gives, IsReadBack, Takes, kept, reader_of, unread};
+
     /// A reader of the messages that another one gives.
-    pub fn new(alloc: Global, reader: R) -> Self {
+    pub fn new(alloc: Global, reader: R) -> Self
+        ensures { unread R.remaining result ≡ R.remaining reader }
+    {
         FrameReader {
             reader,
             bytes: Vec::new(alloc),
@@ -53,8 +56,16 @@ impl<R: Read> FrameReader<R> {
     /// # Errors
     ///
     /// Its head is refused, the input ends inside it or cannot be read, or out of memory. The head of a refused frame, and
-    /// all that was read behind it, is let go.
-    pub fn next_message(&mut self, alloc: Global) -> Result<Option<Vec<u8>>, FrameFault> {
+    /// all that was read behind it, is let go; nothing else is.
+    pub fn next_message(&mut self, alloc: Global) -> Result<Option<Vec<u8>>, FrameFault>
+        ensures message { IfOk result (λ given. IfSome given
+            (λ message. Gives (unread R.remaining self.old) (unread R.remaining self.new) message.items)) }
+        ensures end { IfOk result (λ given. IfNone given
+            (Keeps (unread R.remaining self.old) (unread R.remaining self.new) × IsAtEnd (unread R.remaining self.new))) }
+        ensures fault { IfErr result
+            (Fails (unread R.remaining self.old) (unread R.remaining self.new) (kept self.new) (R.remaining (reader_of self.new))) }
+        ensures read_back { IsReadBack (unread R.remaining self.old) (unread R.remaining self.new) result }
+    {
         for _ in 0..u64::MAX {
             if let Some(message) = self.taken(alloc)? {
                 return Ok(Some(message));
@@ -67,7 +78,9 @@ impl<R: Read> FrameReader<R> {
     }
 
     /// At the end of the input: no message, where nothing of one was read.
-    fn ended(&self) -> Result<Option<Vec<u8>>, FrameFault> {
+    fn ended(&self) -> Result<Option<Vec<u8>>, FrameFault>
+        ensures { Ended (kept self.now) result }
+    {
         if self.bytes.is_empty() {
             Ok(None)
         } else {
@@ -76,7 +89,12 @@ impl<R: Read> FrameReader<R> {
     }
 
     /// Reads some bytes more, and says how many.
-    fn read_piece(&mut self) -> Result<usize, FrameFault> {
+    fn read_piece(&mut self) -> Result<usize, FrameFault>
+        ensures keeps { Keeps (unread R.remaining self.old) (unread R.remaining self.new) }
+        ensures end { IfOk result (λ count. count ≡ 0 → (kept self.new ≡ kept self.old) × IsAtEnd (R.remaining (reader_of self.new))) }
+        ensures fault { IfErr result (λ fault. (fault ≡ FrameFault.Read) ⊎ (fault ≡ FrameFault.Memory)) }
+    {
+        self.bytes.reserve(4096)?;
         let mut piece = [0; 4096];
         match self.reader.read(&mut piece) {
             Ok(count) => {
@@ -88,7 +106,10 @@ impl<R: Read> FrameReader<R> {
     }
 
     /// The message of the frame that was read, if it is whole.
-    fn taken(&mut self, alloc: Global) -> Result<Option<Vec<u8>>, FrameFault> {
+    fn taken(&mut self, alloc: Global) -> Result<Option<Vec<u8>>, FrameFault>
+        ensures taken { Takes (kept self.old) (kept self.new) result }
+        ensures reader { reader_of self.new ≡ reader_of self.old }
+    {
         match read_head(self.bytes.as_slice()) {
             Err(fault) => {
                 self.bytes.clear();
@@ -100,10 +121,12 @@ impl<R: Read> FrameReader<R> {
     }
 
     /// The message behind a head, if it is whole, and what stands behind it is kept.
-    fn cut(&mut self, alloc: Global, head: Head) -> Result<Option<Vec<u8>>, FrameFault> {
-        let Some(rest) = self.bytes.get(head.start..) else {
-            return Ok(None);
-        };
+    fn cut(&mut self, alloc: Global, head: Head) -> Result<Option<Vec<u8>>, FrameFault>
+        requires { HeadAt (kept self.old) head.start head.length }
+        ensures cut { Takes (kept self.old) (kept self.new) result }
+        ensures reader { reader_of self.new ≡ reader_of self.old }
+    {
+        let rest = &self.bytes[head.start..];
         if rest.len() < head.length {
             return Ok(None);
         }

@@ -1,5 +1,5 @@
 -- What a request says.
-use Rattle.std.specs.Prelude.{◌≡◌, ℕ, Bool, false, List, [], ◌∷◌, map, Option, Some, None, codes, option_and_then, option_map, unwrap_or}
+use Rattle.std.specs.Prelude.{◌≡◌, ℕ, ◌^◌, Bool, true, false, List, [], ◌∷◌, map, Option, Some, None, codes, if◌then◌else◌, nat_lt, option_and_then, option_map, unwrap_or}
 use Rattle.std.specs.Borrow.{Bor}
 use Rattle.serde_json.specs.Data.{Data, Items, item, no_items}
 use Rattle.serde_json.specs.Find.{as_array, as_bool, as_number, as_str, as_u64, get, pointer}
@@ -22,6 +22,16 @@ number_at path message = option_and_then as_u64 (option_and_then as_number (poin
 abbrev pub flag_at : (path : Bytes) → Data → Option Bool
 flag_at path message = option_and_then as_bool (pointer path message)
 
+-- two values, if there are both
+abbrev pub both : {A B : Type 0} → Option A → Option B → Option (A × B)
+both None second = None
+both (Some x) None = None
+both (Some x) (Some y) = Some (x, y)
+
+-- the number and the command of a message, if it has both
+abbrev pub head_of : Data → Option (ℕ × Bytes)
+head_of message = both (option_and_then as_u64 (option_and_then as_number (get (codes "seq") message))) (option_and_then as_str (get (codes "command") message))
+
 -- a text that may be there
 abbrev pub text_of : Option (Bor Bytes) → Option Bytes
 text_of text = option_map (λ t. t.now) text
@@ -34,6 +44,7 @@ pub record IsLaunch (message : Data) (launch : Launch) : Type 0 where
   pub width : number_at (codes "/arguments/width") message ≡ launch.width
   pub history : number_at (codes "/arguments/history") message ≡ launch.history
   pub steps : number_at (codes "/arguments/steps") message ≡ launch.steps
+  pub stops_on_entry : unwrap_or (flag_at (codes "/arguments/stopOnEntry") message) true ≡ launch.stops_on_entry
 
 -- whether an expression stands in the console
 abbrev pub in_console : Option Bytes → Bool
@@ -46,9 +57,13 @@ in_front None others = None
 in_front (Some x) None = None
 in_front (Some x) (Some xs) = Some (x ∷ xs)
 
+-- a number that a line can have
+abbrev pub as_line : ℕ → Option ℕ
+as_line n = if nat_lt n (2 ^ 32) then Some n else None
+
 -- the line of a breakpoint
 abbrev pub line_in : Data → Option ℕ
-line_in d = option_and_then as_u64 (option_and_then as_number (get (codes "line") d))
+line_in d = option_and_then as_line (option_and_then as_u64 (option_and_then as_number (get (codes "line") d)))
 
 -- the target of a watch
 abbrev pub target_in : Data → Option Bytes

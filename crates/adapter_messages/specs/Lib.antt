@@ -1,3 +1,5 @@
 pub mod Arguments
+pub mod Faults
 pub mod Messages
 pub mod Names
+pub mod Replies

@@ -1,7 +1,9 @@
 //! The arguments of requests.
-ghost use Rattle.std.specs.Prelude.{◌≡◌, [], ◌∷◌, ◌++◌, IfOk, OnOk, Some, map, option_map};
+ghost use Rattle.std.specs.Prelude.{◌≡◌, [], ◌∷◌, ◌++◌, IfErr, IfOk, None, OnErr, OnOk, Some, codes, map, option_map};
 ghost use Rattle.serde_json.specs.View.{items_view, view};
 ghost use Rattle.adapter_messages.specs.Arguments.{breakpoints_of, flag_at, line_in, lines_in, number_at, target_in, targets_in, text_at};
+ghost use Rattle.adapter_messages.specs.Faults.{IsListRefused, NamesArgument};
+ghost use Rattle.adapter_messages.specs.declared.requests.RequestFault.TheVariants.{Memory};
 
 use crate::requests::RequestFault;
 use serde_json::Value;
@@ -43,7 +45,8 @@ fn breakpoints_of(message: &Value) -> &[Value]
 
 /// The lines of the breakpoints that a message lists.
 pub(crate) fn lines_of(alloc: Global, message: &Value) -> Result<Vec<u32>, RequestFault>
-    ensures { IfOk result (λ lines. lines_in (breakpoints_of (view message.now)) ≡ Some lines.items) }
+    ensures read { IfOk result (λ lines. lines_in (breakpoints_of (view message.now)) ≡ Some lines.items) }
+    ensures refused { IfErr result (IsListRefused (codes "line") (lines_in (breakpoints_of (view message.now)))) }
 {
     let mut lines = Vec::new(alloc);
     for breakpoint in breakpoints_of(message) {
@@ -55,7 +58,9 @@ pub(crate) fn lines_of(alloc: Global, message: &Value) -> Result<Vec<u32>, Reque
 
 /// The line of a breakpoint.
 fn line_of(breakpoint: &Value) -> Result<u32, RequestFault>
-    ensures { IfOk result (λ line. line_in (view breakpoint.now) ≡ Some line) }
+    ensures read { IfOk result (λ line. line_in (view breakpoint.now) ≡ Some line) }
+    ensures missing { OnErr result (line_in (view breakpoint.now) ≡ None) }
+    ensures named { IfErr result (NamesArgument (codes "line")) }
 {
     let line = breakpoint.get("line").and_then(Value::as_u64);
     match line.and_then(|line| u32::try_from(line).ok()) {
@@ -66,7 +71,8 @@ fn line_of(breakpoint: &Value) -> Result<u32, RequestFault>
 
 /// The targets of the watches that a message lists.
 pub(crate) fn targets_of(alloc: Global, message: &Value) -> Result<Vec<&str>, RequestFault>
-    ensures { IfOk result (λ targets. targets_in (breakpoints_of (view message.now)) ≡ Some (map (λ target. target.now) targets.items)) }
+    ensures read { IfOk result (λ targets. targets_in (breakpoints_of (view message.now)) ≡ Some (map (λ target. target.now) targets.items)) }
+    ensures refused { IfErr result (IsListRefused (codes "dataId") (targets_in (breakpoints_of (view message.now)))) }
 {
     let mut targets = Vec::new(alloc);
     for watch in breakpoints_of(message) {
@@ -78,7 +84,9 @@ pub(crate) fn targets_of(alloc: Global, message: &Value) -> Result<Vec<&str>, Re
 
 /// The target of a watch.
 fn target_of(watch: &Value) -> Result<&str, RequestFault>
-    ensures { IfOk result (λ target. target_in (view watch.now) ≡ Some target.now) }
+    ensures read { IfOk result (λ target. target_in (view watch.now) ≡ Some target.now) }
+    ensures missing { OnErr result (target_in (view watch.now) ≡ None) }
+    ensures named { IfErr result (NamesArgument (codes "dataId")) }
 {
     match watch.get("dataId").and_then(Value::as_str) {
         Some(target) => Ok(target),
@@ -88,7 +96,8 @@ fn target_of(watch: &Value) -> Result<&str, RequestFault>
 
 /// Puts an item behind a list.
 fn push<T: Drop>(list: &mut Vec<T>, item: T) -> Result<(), RequestFault>
-    ensures { OnOk result (list.new.items ≡ list.old.items ++ item ∷ []) }
+    ensures ok { OnOk result (list.new.items ≡ list.old.items ++ item ∷ []) }
+    ensures err { IfErr result (λ fault. fault ≡ Memory) }
 {
     match list.push(item) {
         Ok(()) => Ok(()),

@@ -1,10 +1,19 @@
 //! What replies tell, as JSON.
+ghost use Rattle.std.specs.Prelude.{◌≡◌, IfOk, codes};
+ghost use Rattle.serde_json.specs.Data.{no_members, object};
+ghost use Rattle.serde_json.specs.View.{view};
+ghost use Rattle.adapter_messages.specs.Replies.{array_of, body_of, breakpoint, capabilities, file_name, file_scope, frames, known_scope, not_watchable, only, scopes, source, variable, watchable};
+ghost use Rattle.adapter_messages.specs.Replies as spec;
+
 use adapter_requests::{Breakpoint, Frame, Reply, Variable};
-use serde_json::{Map, Value, json};
+use serde_json::{Map, Value, json, push};
 use std::alloc::{AllocError, Global};
+use std::path::Path;
 
 /// What a reply tells; an object without members where it tells nothing.
-pub(crate) fn body_of(alloc: Global, program: &str, reply: &Reply) -> Result<Value, AllocError> {
+pub(crate) fn body_of(alloc: Global, program: &str, reply: &Reply) -> Result<Value, AllocError>
+    ensures { IfOk result (λ v. view v ≡ body_of program.now reply.now) }
+{
     match reply {
         Reply::Capabilities => capabilities(alloc),
         Reply::Breakpoints(made) => breakpoints(alloc, made),
@@ -20,13 +29,22 @@ pub(crate) fn body_of(alloc: Global, program: &str, reply: &Reply) -> Result<Val
         }
         Reply::Moved(_) => json!(in alloc; {"allThreadsContinued": true}),
         Reply::Done | Reply::Ended | Reply::Refused(_) | Reply::OutOfMemory => {
-            Ok(Value::Object(Map::new(alloc)))
+            Ok(nothing(alloc))
         }
     }
 }
 
+/// An object without members.
+fn nothing(alloc: Global) -> Value
+    ensures { view result ≡ object no_members }
+{
+    Value::Object(Map::new(alloc))
+}
+
 /// What the adapter can do.
-fn capabilities(alloc: Global) -> Result<Value, AllocError> {
+fn capabilities(alloc: Global) -> Result<Value, AllocError>
+    ensures { IfOk result (λ v. view v ≡ capabilities) }
+{
     json!(in alloc; {
         "supportsConfigurationDoneRequest": true,
         "supportsDataBreakpoints": true,
@@ -38,16 +56,21 @@ fn capabilities(alloc: Global) -> Result<Value, AllocError> {
 }
 
 /// The breakpoints or watches that were asked for.
-fn breakpoints(alloc: Global, made: &[Breakpoint]) -> Result<Value, AllocError> {
+fn breakpoints(alloc: Global, made: &[Breakpoint]) -> Result<Value, AllocError>
+    ensures { IfOk result (λ v. view v ≡ only (codes "breakpoints") (array_of breakpoint made.now)) }
+{
     let mut list = Vec::new(alloc);
     for breakpoint in made {
-        list.push(breakpoint_value(alloc, *breakpoint)?)?;
+        let shown = breakpoint_value(alloc, breakpoint)?;
+        push(&mut list, shown)?;
     }
     json!(in alloc; {"breakpoints": Value::Array(list)})
 }
 
 /// A breakpoint or watch that was asked for.
-fn breakpoint_value(alloc: Global, breakpoint: Breakpoint) -> Result<Value, AllocError> {
+fn breakpoint_value(alloc: Global, breakpoint: &Breakpoint) -> Result<Value, AllocError>
+    ensures { IfOk result (λ v. view v ≡ spec.breakpoint breakpoint.now) }
+{
     match (breakpoint.number, breakpoint.line) {
         (Some(id), Some(line)) => json!(in alloc; {"id": id, "line": line, "verified": true}),
         (Some(id), None) => json!(in alloc; {"id": id, "verified": true}),
@@ -56,7 +79,9 @@ fn breakpoint_value(alloc: Global, breakpoint: Breakpoint) -> Result<Value, Allo
 }
 
 /// A target that can be watched.
-fn watchable(alloc: Global, target: &str) -> Result<Value, AllocError> {
+fn watchable(alloc: Global, target: &str) -> Result<Value, AllocError>
+    ensures { IfOk result (λ v. view v ≡ watchable target.now) }
+{
     json!(in alloc; {
         "accessTypes": ["write"],
         "canPersist": false,
@@ -66,7 +91,9 @@ fn watchable(alloc: Global, target: &str) -> Result<Value, AllocError> {
 }
 
 /// A variable that cannot be watched.
-fn not_watchable(alloc: Global) -> Result<Value, AllocError> {
+fn not_watchable(alloc: Global) -> Result<Value, AllocError>
+    ensures { IfOk result (λ v. view v ≡ not_watchable) }
+{
     json!(in alloc; {
         "dataId": null,
         "description": "only scalars of the file, their lanes and elements of arrays are watched"
@@ -74,17 +101,22 @@ fn not_watchable(alloc: Global) -> Result<Value, AllocError> {
 }
 
 /// The frames, the top one first.
-fn frames(alloc: Global, program: &str, made: &[Frame]) -> Result<Value, AllocError> {
+fn frames(alloc: Global, program: &str, made: &[Frame]) -> Result<Value, AllocError>
+    ensures { IfOk result (λ v. view v ≡ frames program.now made.now) }
+{
     let mut list = Vec::new(alloc);
     for frame in made {
-        list.push(frame_value(alloc, program, frame)?)?;
+        let shown = frame_value(alloc, program, frame)?;
+        push(&mut list, shown)?;
     }
     let total = made.len();
     json!(in alloc; {"stackFrames": Value::Array(list), "totalFrames": total})
 }
 
 /// A frame.
-fn frame_value(alloc: Global, program: &str, frame: &Frame) -> Result<Value, AllocError> {
+fn frame_value(alloc: Global, program: &str, frame: &Frame) -> Result<Value, AllocError>
+    ensures { IfOk result (λ v. view v ≡ spec.frame program.now frame.now) }
+{
     let source = source_value(alloc, program)?;
     json!(in alloc; {
         "column": frame.column,
@@ -96,34 +128,68 @@ fn frame_value(alloc: Global, program: &str, frame: &Frame) -> Result<Value, All
 }
 
 /// The program's source.
-fn source_value(alloc: Global, program: &str) -> Result<Value, AllocError> {
-    let name = match program.rsplit_once('/') {
-        Some((_, name)) => name,
-        None => program,
-    };
+fn source_value(alloc: Global, program: &str) -> Result<Value, AllocError>
+    ensures { IfOk result (λ v. view v ≡ source program.now) }
+{
+    let name = file_name(program);
     json!(in alloc; {"name": name, "path": program})
 }
 
+/// The last part of a path, or the path where it has none.
+fn file_name(path: &str) -> &str
+    ensures { result.now ≡ file_name path.now }
+{
+    match Path::new(path).file_name() {
+        Some(name) => name,
+        None => path,
+    }
+}
+
 /// The scopes of a frame.
-fn scopes(alloc: Global) -> Result<Value, AllocError> {
-    json!(in alloc; {"scopes": [
-        {"expensive": false, "name": "Locals", "presentationHint": "locals", "variablesReference": 1u64},
-        {"expensive": false, "name": "Arguments", "presentationHint": "arguments", "variablesReference": 3u64},
-        {"expensive": false, "name": "File", "variablesReference": 2u64}
-    ]})
+fn scopes(alloc: Global) -> Result<Value, AllocError>
+    ensures { IfOk result (λ v. view v ≡ only (codes "scopes") scopes) }
+{
+    let locals = known_scope(alloc, "Locals", "locals", 1)?;
+    let arguments = known_scope(alloc, "Arguments", "arguments", 3)?;
+    let file = file_scope(alloc)?;
+    json!(in alloc; {"scopes": [locals, arguments, file]})
+}
+
+/// A scope of a kind that the protocol knows.
+fn known_scope(alloc: Global, name: &str, kind: &str, reference: u64) -> Result<Value, AllocError>
+    ensures { IfOk result (λ v. view v ≡ known_scope name.now kind.now reference) }
+{
+    json!(in alloc; {
+        "expensive": false,
+        "name": name,
+        "presentationHint": kind,
+        "variablesReference": reference
+    })
+}
+
+/// The variables of the file.
+fn file_scope(alloc: Global) -> Result<Value, AllocError>
+    ensures { IfOk result (λ v. view v ≡ file_scope) }
+{
+    json!(in alloc; {"expensive": false, "name": "File", "variablesReference": 2u64})
 }
 
 /// Variables.
-fn variables(alloc: Global, found: &[Variable]) -> Result<Value, AllocError> {
+fn variables(alloc: Global, found: &[Variable]) -> Result<Value, AllocError>
+    ensures { IfOk result (λ v. view v ≡ only (codes "variables") (array_of variable found.now)) }
+{
     let mut list = Vec::new(alloc);
     for variable in found {
-        list.push(variable_value(alloc, variable)?)?;
+        let shown = variable_value(alloc, variable)?;
+        push(&mut list, shown)?;
     }
     json!(in alloc; {"variables": Value::Array(list)})
 }
 
 /// A variable.
-fn variable_value(alloc: Global, variable: &Variable) -> Result<Value, AllocError> {
+fn variable_value(alloc: Global, variable: &Variable) -> Result<Value, AllocError>
+    ensures { IfOk result (λ v. view v ≡ spec.variable variable.now) }
+{
     let name = variable.name.as_str();
     json!(in alloc; {
         "evaluateName": name,

@@ -1,7 +1,8 @@
 //! Replies and events as JSON.
-ghost use Rattle.std.specs.Prelude.{◌≡◌, IfOk, codes, string_bytes};
+ghost use Rattle.std.specs.Prelude.{◌≡◌, IfOk, option_map};
 ghost use Rattle.serde_json.specs.View.{view};
 ghost use Rattle.adapter_messages.specs.Messages.{event, failure, reason_text, response};
+ghost use Rattle.adapter_messages.specs.Replies.{message_of, output_body, refusal, stop_body};
 
 use crate::bodies::body_of;
 use crate::requests::Head;
@@ -20,14 +21,24 @@ pub fn reply_message(
     head: Head<'_>,
     program: &str,
     reply: &Reply,
-) -> Result<Value, AllocError> {
+) -> Result<Value, AllocError>
+    ensures { IfOk result (λ v. view v ≡ message_of number head.entry.number head.entry.command.now program.now reply.now) }
+{
+    if let Some(text) = refusal(reply) {
+        return failure_message(alloc, number, head, text);
+    }
+    let body = body_of(alloc, program, reply)?;
+    response_message(alloc, number, head, body)
+}
+
+/// Why a reply refuses its request, if it does.
+fn refusal(reply: &Reply) -> Option<&str>
+    ensures { option_map (λ text. text.now) result ≡ refusal reply.now }
+{
     match reply {
-        Reply::Refused(text) => failure_message(alloc, number, head, text.as_str()),
-        Reply::OutOfMemory => failure_message(alloc, number, head, "out of memory"),
-        _ => {
-            let body = body_of(alloc, program, reply)?;
-            response_message(alloc, number, head, body)
-        }
+        Reply::Refused(text) => Some(text.as_str()),
+        Reply::OutOfMemory => Some("out of memory"),
+        _ => None,
     }
 }
 
@@ -92,7 +103,9 @@ pub fn event_message(
 }
 
 /// What the event of a stop tells: why the program stands still, and the debugger's text of it.
-pub fn stop_body(alloc: Global, reason: StopReason, text: &str) -> Result<Value, AllocError> {
+pub fn stop_body(alloc: Global, reason: StopReason, text: &str) -> Result<Value, AllocError>
+    ensures { IfOk result (λ v. view v ≡ stop_body reason text.now) }
+{
     let why = reason_text(reason);
     match reason {
         StopReason::Breakpoint(id) | StopReason::DataBreakpoint(id) => json!(in alloc; {
@@ -128,6 +141,8 @@ fn reason_text(reason: StopReason) -> &'static str
 }
 
 /// What the event of an output tells: a text for the console.
-pub fn output_body(alloc: Global, text: &str) -> Result<Value, AllocError> {
+pub fn output_body(alloc: Global, text: &str) -> Result<Value, AllocError>
+    ensures { IfOk result (λ v. view v ≡ output_body text.now) }
+{
     json!(in alloc; {"category": "console", "output": text})
 }

@@ -1,8 +1,10 @@
 //! Requests from JSON.
-ghost use Rattle.std.specs.Prelude.{◌≡◌, IfOk, IfSome, Some, codes, option_and_then};
+ghost use Rattle.std.specs.Prelude.{◌≡◌, IfErr, IfNone, IfOk, IfSome, None, OnErr, OnOk, Some, codes, option_and_then};
 ghost use Rattle.serde_json.specs.Find.{as_number, as_str, as_u64, get};
 ghost use Rattle.serde_json.specs.View.{view};
-ghost use Rattle.adapter_messages.specs.Arguments.{IsRequest, IsRequestNamed, text_of};
+ghost use Rattle.adapter_messages.specs.Arguments.{IsRequest, IsRequestNamed, head_of, text_of};
+ghost use Rattle.adapter_messages.specs.Faults.{IsRefused, IsRefusedNamed, NamesArgument, first_missing, missing, needs};
+ghost use Rattle.adapter_messages.specs.declared.requests.RequestFault.TheVariants.{Memory};
 
 use crate::arguments::{flag_at, lines_of, number_at, targets_of, text_at};
 use crate::names::{Name, named};
@@ -23,6 +25,8 @@ pub enum RequestFault {
 }
 
 impl From<AllocError> for RequestFault {
+    ghost from_gives = { λ _ fault. fault ≡ Memory };
+
     fn from(_: AllocError) -> Self {
         RequestFault::Memory
     }
@@ -37,9 +41,10 @@ pub struct Head<'a> {
 
 /// The number and the command of a message, if it has both.
 pub fn read_head(message: &Value) -> Option<Head<'_>>
-    ensures { IfSome result (λ head.
+    ensures found { IfSome result (λ head.
         (option_and_then as_u64 (option_and_then as_number (get (codes "seq") (view message.now))) ≡ Some head.number)
         × (option_and_then as_str (get (codes "command") (view message.now)) ≡ Some head.command.now)) }
+    ensures none { IfNone result (head_of (view message.now) ≡ None) }
 {
     let number = message.get("seq").and_then(Value::as_u64)?;
     let command = message.get("command").and_then(Value::as_str)?;
@@ -56,7 +61,9 @@ pub fn read_request<'a>(
     command: &'a str,
     message: &'a Value,
 ) -> Result<Request<'a>, RequestFault>
-    ensures { IfOk result (λ request. IsRequest command.now (view message.now) request) }
+    ensures accepted { IfOk result (λ request. IsRequest command.now (view message.now) request) }
+    ensures complete { OnOk result (missing command.now (view message.now) ≡ None) }
+    ensures refused { IfErr result (IsRefused command.now (view message.now)) }
 {
     let Some(name) = named(command) else {
         return Ok(Request::Unknown(command));
@@ -88,7 +95,9 @@ pub fn read_request<'a>(
 
 /// A launch.
 fn read_launch(message: &Value) -> Result<Request<'_>, RequestFault>
-    ensures { IfOk result (λ request. IsRequestNamed Name.Launch (view message.now) request) }
+    ensures accepted { IfOk result (λ request. IsRequestNamed Name.Launch (view message.now) request) }
+    ensures complete { OnOk result (first_missing (needs Name.Launch (view message.now)) ≡ None) }
+    ensures refused { IfErr result (IsRefusedNamed Name.Launch (view message.now)) }
 {
     let program = needed(text_at(message, "/arguments/program"), "program")?;
     Ok(Request::Launch(Launch {
@@ -104,7 +113,9 @@ fn read_launch(message: &Value) -> Result<Request<'_>, RequestFault>
 
 /// The breakpoints of a source.
 fn read_breakpoints(alloc: Global, message: &Value) -> Result<Request<'_>, RequestFault>
-    ensures { IfOk result (λ request. IsRequestNamed Name.SetBreakpoints (view message.now) request) }
+    ensures accepted { IfOk result (λ request. IsRequestNamed Name.SetBreakpoints (view message.now) request) }
+    ensures complete { OnOk result (first_missing (needs Name.SetBreakpoints (view message.now)) ≡ None) }
+    ensures refused { IfErr result (IsRefusedNamed Name.SetBreakpoints (view message.now)) }
 {
     let lines = lines_of(alloc, message)?;
     Ok(Request::SetBreakpoints {
@@ -115,7 +126,9 @@ fn read_breakpoints(alloc: Global, message: &Value) -> Result<Request<'_>, Reque
 
 /// Whether a variable can be watched.
 fn read_information(message: &Value) -> Result<Request<'_>, RequestFault>
-    ensures { IfOk result (λ request. IsRequestNamed Name.DataBreakpointInfo (view message.now) request) }
+    ensures accepted { IfOk result (λ request. IsRequestNamed Name.DataBreakpointInfo (view message.now) request) }
+    ensures complete { OnOk result (first_missing (needs Name.DataBreakpointInfo (view message.now)) ≡ None) }
+    ensures refused { IfErr result (IsRefusedNamed Name.DataBreakpointInfo (view message.now)) }
 {
     let name = needed(text_at(message, "/arguments/name"), "name")?;
     Ok(Request::DataBreakpointInfo { name })
@@ -123,7 +136,9 @@ fn read_information(message: &Value) -> Result<Request<'_>, RequestFault>
 
 /// The watches.
 fn read_watches(alloc: Global, message: &Value) -> Result<Request<'_>, RequestFault>
-    ensures { IfOk result (λ request. IsRequestNamed Name.SetDataBreakpoints (view message.now) request) }
+    ensures accepted { IfOk result (λ request. IsRequestNamed Name.SetDataBreakpoints (view message.now) request) }
+    ensures complete { OnOk result (first_missing (needs Name.SetDataBreakpoints (view message.now)) ≡ None) }
+    ensures refused { IfErr result (IsRefusedNamed Name.SetDataBreakpoints (view message.now)) }
 {
     let targets = targets_of(alloc, message)?;
     Ok(Request::SetDataBreakpoints { targets })
@@ -131,7 +146,9 @@ fn read_watches(alloc: Global, message: &Value) -> Result<Request<'_>, RequestFa
 
 /// The variables of a reference.
 fn read_variables(message: &Value) -> Result<Request<'_>, RequestFault>
-    ensures { IfOk result (λ request. IsRequestNamed Name.Variables (view message.now) request) }
+    ensures accepted { IfOk result (λ request. IsRequestNamed Name.Variables (view message.now) request) }
+    ensures complete { OnOk result (first_missing (needs Name.Variables (view message.now)) ≡ None) }
+    ensures refused { IfErr result (IsRefusedNamed Name.Variables (view message.now)) }
 {
     match number_at(message, "/arguments/variablesReference") {
         Some(reference) => Ok(Request::Variables { reference }),
@@ -141,7 +158,9 @@ fn read_variables(message: &Value) -> Result<Request<'_>, RequestFault>
 
 /// A variable that is set.
 fn read_set_variable(message: &Value) -> Result<Request<'_>, RequestFault>
-    ensures { IfOk result (λ request. IsRequestNamed Name.SetVariable (view message.now) request) }
+    ensures accepted { IfOk result (λ request. IsRequestNamed Name.SetVariable (view message.now) request) }
+    ensures complete { OnOk result (first_missing (needs Name.SetVariable (view message.now)) ≡ None) }
+    ensures refused { IfErr result (IsRefusedNamed Name.SetVariable (view message.now)) }
 {
     let name = needed(text_at(message, "/arguments/name"), "name")?;
     let value = needed(text_at(message, "/arguments/value"), "value")?;
@@ -150,7 +169,9 @@ fn read_set_variable(message: &Value) -> Result<Request<'_>, RequestFault>
 
 /// An expression that is evaluated.
 fn read_evaluate(message: &Value) -> Result<Request<'_>, RequestFault>
-    ensures { IfOk result (λ request. IsRequestNamed Name.Evaluate (view message.now) request) }
+    ensures accepted { IfOk result (λ request. IsRequestNamed Name.Evaluate (view message.now) request) }
+    ensures complete { OnOk result (first_missing (needs Name.Evaluate (view message.now)) ≡ None) }
+    ensures refused { IfErr result (IsRefusedNamed Name.Evaluate (view message.now)) }
 {
     let expression = needed(text_at(message, "/arguments/expression"), "expression")?;
     let is_console = match text_at(message, "/arguments/context") {
@@ -165,7 +186,9 @@ fn read_evaluate(message: &Value) -> Result<Request<'_>, RequestFault>
 
 /// An argument that must be there.
 fn needed<'a>(text: Option<&'a str>, argument: &'static str) -> Result<&'a str, RequestFault>
-    ensures { IfOk result (λ given. text_of text.entry ≡ Some given.now) }
+    ensures given { IfOk result (λ given. text_of text.entry ≡ Some given.now) }
+    ensures missing { OnErr result (text_of text.entry ≡ None) }
+    ensures named { IfErr result (NamesArgument argument.now) }
 {
     match text {
         Some(given) => Ok(given),

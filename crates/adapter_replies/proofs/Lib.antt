@@ -1,0 +1,4 @@
+pub mod CallFrames
+pub mod PlaceTexts
+pub mod Rows
+pub mod ToldVariables

@@ -1,2 +1,6 @@
+pub mod Frames
+pub mod References
 pub mod Shown
 pub mod Stopped
+pub mod Told
+pub mod Variables

@@ -1,4 +1,6 @@
 //! The references by which an editor asks for variables.
+ghost use Rattle.std.specs.Prelude.{◌≡◌};
+ghost use Rattle.adapter_replies.specs.References.{part_of, place_of};
 
 /// What a reference stands for.
 #[derive(Clone, Copy, Debug, PartialEq, Eq)]
@@ -31,19 +33,22 @@ pub(crate) const ARGUMENTS: u64 = 3;
 const GREATEST: u64 = 0x7fff_ffff;
 
 /// What a reference stands for.
-pub(crate) fn place_of(reference: u64) -> Place {
+pub(crate) fn place_of(reference: u64) -> Place
+    ensures { result ≡ place_of reference }
+{
     match reference {
         LOCALS => Place::Locals,
         FILE => Place::File,
         ARGUMENTS => Place::Arguments,
-        0 => Place::Nothing,
-        _ if reference > GREATEST => Place::Nothing,
+        _ if reference == 0 || reference > GREATEST => Place::Nothing,
         _ => part_of(reference.saturating_sub(4)),
     }
 }
 
 /// The variable whose lanes or elements have the reference of this number among those of variables.
-fn part_of(number: u64) -> Place {
+fn part_of(number: u64) -> Place
+    ensures { result ≡ part_of number }
+{
     let place = (number / 3) as usize;
     match number % 3 {
         0 => Place::Local(place),

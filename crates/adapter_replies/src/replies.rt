@@ -1,15 +1,19 @@
 //! What a request is told.
-ghost use Rattle.std.specs.Prelude.{◌≡◌};
+ghost use Rattle.std.specs.Prelude.{◌≡◌, IfOk, IfSome, Some, string_bytes};
+ghost use Rattle.gang_model.specs.Debugger.Debugger as model;
+ghost use Rattle.gang_model.specs.Debugger.Debugger.{Debugger, Setting, now};
+ghost use Rattle.gang_model.specs.Texts.Text.{text};
+ghost use Rattle.debug_answers.specs.Meanings.{AreStops};
+ghost use Rattle.adapter_replies.specs.Told.{IsAnswered, IsMoveTold, IsSetTold, IsToldOf, MeansLast, fixed_reply, is_ended, shown_values, told_stop};
 
 use crate::frames::frames;
-use crate::scopes::variables;
+use crate::scopes::{has_parts, variables};
 use crate::stops::stop_of;
-use crate::texts::{answer_text, behind_equals};
+use crate::texts::{answer_text, value_text};
 use adapter_requests::{Breakpoint, Reply, Request, Stop, StopReason};
 use debug_answers::{Answer, NumberedStop, Refusal, Stop as Kept};
 use debug_commands::{Command, Target, read_command};
-use debug_machine::{RecordedMachine, Shown};
-use gang_types::Rate;
+use debug_traits::RecordedMachine;
 use std::alloc::{AllocError, Global};
 
 /// What a request is told once its commands are done, by the machine, the breakpoints and watches, and the last answer.
@@ -24,7 +28,14 @@ pub fn reply_to<M: RecordedMachine>(
     request: &Request<'_>,
     is_program: bool,
     last: Option<Answer<'_>>,
-) -> Result<Reply, AllocError> {
+) -> Result<Reply, AllocError>
+    ensures stands { (s : Setting) (d : Debugger) → M.stands machine.now s d
+        → IfOk result (λ told. IsToldOf s d (M.locals_from machine.now s d) (M.parameters_from machine.now s d) request.now told) }
+    ensures answered { (s : Setting) (at d : Debugger) (meant : model.Answer) → M.stands machine.now s at → at.events ≡ d.events → AreStops s stops.now d.stops
+        → MeansLast s d last.entry meant
+        → IfOk result (λ told. IsAnswered last.entry (text s meant d) (shown_values (now s d) meant) request.now told) }
+    ensures fixed { IfSome (fixed_reply request.now) (λ reply. IfOk result (λ told. told ≡ reply)) }
+{
     match request {
         Request::SetBreakpoints { source: _, lines } => {
             let made = breakpoints(alloc, machine, stops, lines, is_program)?;
@@ -75,19 +86,31 @@ fn moved<M: RecordedMachine>(
     machine: &M,
     stops: &[NumberedStop],
     last: Option<Answer<'_>>,
-) -> Result<Reply, AllocError> {
+) -> Result<Reply, AllocError>
+    ensures { (s : Setting) (at d : Debugger) (meant : model.Answer) → M.stands machine.now s at → at.events ≡ d.events → AreStops s stops.now d.stops
+        → MeansLast s d last.entry meant → IfOk result (λ told. IsMoveTold last.entry (text s meant d) told) }
+{
     let Some(answer) = last else {
         return Ok(Reply::Done);
     };
-    if let Answer::Refused(Refusal::Ended) = answer {
+    if is_ended(&answer) {
         return Ok(Reply::Ended);
     }
     let text = answer_text(alloc, &answer, machine, stops)?;
     Ok(told(text, stop_of(&answer)))
 }
 
+/// Whether an answer refuses to move since the program has ended.
+fn is_ended(answer: &Answer<'_>) -> bool
+    ensures { result ≡ is_ended answer.now }
+{
+    matches!(answer, Answer::Refused(Refusal::Ended))
+}
+
 /// A stop, or a refusal where nothing moved.
-fn told(text: String, reason: Option<StopReason>) -> Reply {
+fn told(text: String, reason: Option<StopReason>) -> Reply
+    ensures { told_stop result ≡ Some (reason, string_bytes text) }
+{
     match reason {
         Some(reason) => Reply::Moved(Stop { reason, text }),
         None => Reply::Refused(text),
@@ -100,15 +123,17 @@ fn set<M: RecordedMachine>(
     machine: &M,
     stops: &[NumberedStop],
     last: Option<Answer<'_>>,
-) -> Result<Reply, AllocError> {
+) -> Result<Reply, AllocError>
+    ensures { (s : Setting) (at d : Debugger) (meant : model.Answer) → M.stands machine.now s at → at.events ≡ d.events → AreStops s stops.now d.stops
+        → MeansLast s d last.entry meant → IfOk result (λ told. IsSetTold last.entry (text s meant d) (shown_values (now s d) meant) told) }
+{
     let Some(answer) = last else {
         return Ok(Reply::Done);
     };
-    let text = answer_text(alloc, &answer, machine, stops)?;
-    match answer {
-        Answer::Refused(_) => Ok(Reply::Refused(text)),
-        _ => Ok(Reply::Set(behind_equals(alloc, text.as_str())?)),
+    if let Answer::Shows { target, shown } = answer {
+        return Ok(Reply::Set(value_text(alloc, machine, shown, target.at)?));
     }
+    Ok(Reply::Refused(answer_text(alloc, &answer, machine, stops)?))
 }
 
 /// The value of an expression, or the answer to a line of the console; or why there is none.
@@ -122,14 +147,15 @@ fn evaluated<M: RecordedMachine>(
     let Some(answer) = last else {
         return Ok(Reply::Done);
     };
-    let text = answer_text(alloc, &answer, machine, stops)?;
     let reason = stop_of(&answer);
+    let text = match answer {
+        Answer::Shows { target, shown } if !is_console => {
+            value_text(alloc, machine, shown, target.at)?
+        }
+        _ => answer_text(alloc, &answer, machine, stops)?,
+    };
     match answer {
         Answer::Refused(_) => Ok(Reply::Refused(text)),
-        Answer::Shows { .. } if !is_console => Ok(Reply::Evaluated {
-            text: behind_equals(alloc, text.as_str())?,
-            reason,
-        }),
         _ => Ok(Reply::Evaluated { text, reason }),
     }
 }
@@ -245,9 +271,4 @@ fn has_words<M: RecordedMachine>(machine: &M, stop: Kept) -> bool {
         (Some(named), Some(index)) => has_parts(named.shown)
             && (index as usize) < named.shown.count,
     }
-}
-
-/// Whether a variable has lanes or elements.
-fn has_parts(shown: Shown) -> bool {
-    shown.is_array || shown.rate == Rate::Varying
 }

@@ -1,15 +1,17 @@
 //! The texts of answers.
-ghost use Rattle.std.specs.Prelude.{◌≡◌, [], false, Some, IfOk, string_bytes};
+ghost use Rattle.std.specs.Prelude.{◌≡◌, [], drop, false, Some, IfOk, string_bytes};
+ghost use Rattle.gang_model.specs.Types.Tree.{Variable};
 ghost use Rattle.gang_model.specs.Debugger.Debugger as model;
-ghost use Rattle.gang_model.specs.Debugger.Debugger.{Debugger, Setting};
+ghost use Rattle.gang_model.specs.Debugger.Debugger.{Debugger, Setting, now, part_shown, shown_words};
 ghost use Rattle.gang_model.specs.Texts.Text.{text};
-ghost use Rattle.debug_answers.specs.Meanings.{AreStops, Means};
+ghost use Rattle.debug_traits.specs.Machines.{IsShown};
+ghost use Rattle.debug_answers.specs.Meanings.{AreStops, IsInside, Means};
 ghost use Rattle.adapter_replies.specs.Shown.{shown_text, without_end};
+ghost use Rattle.adapter_replies.specs.Variables.{values};
 
 use debug_answers::{Answer, NumberedStop};
-use debug_commands::Target;
-use debug_machine::{AnswerWriter, RecordedMachine, Shown, WriteFault};
-use debug_texts::write_answer;
+use debug_texts::{write_answer, write_values};
+use debug_traits::{AnswerWriter, RecordedMachine, Shown, WriteFault};
 use std::alloc::{AllocError, Global};
 
 /// Takes what is written. It fails where there is no memory.
@@ -68,21 +70,32 @@ fn without_end(bytes: &[u8]) -> &[u8]
     }
 }
 
-/// The values of a variable, or of a part of it.
+/// The values of a variable, or of a part of it, with blanks between.
 pub(crate) fn value_text<M: RecordedMachine>(
     alloc: Global,
-    target: Target<'_>,
-    shown: Shown,
     machine: &M,
-) -> Result<String, AllocError> {
-    let text = answer_text(alloc, &Answer::Shows { target, shown }, machine, &[])?;
-    behind_equals(alloc, text.as_str())
+    shown: Shown,
+    at: Option<u32>,
+) -> Result<String, AllocError>
+    ensures { (s : Setting) (d : Debugger) (v : Variable) → M.stands machine.now s d → IsShown s d v shown → IsInside at shown.count
+        → IfOk result (λ text. string_bytes text ≡ values v.type (part_shown at (shown_words (now s d) v))) }
+{
+    let mut writer = TextWriter {
+        bytes: Vec::new(alloc),
+        has_failed: false,
+    };
+    if write_values(at, shown, machine, &mut writer).is_err() {
+        return Err(AllocError);
+    }
+    String::from_utf8_lossy(alloc, behind_first(writer.bytes.as_slice()))
 }
 
-/// What stands behind the equals sign of a line.
-pub(crate) fn behind_equals(alloc: Global, text: &str) -> Result<String, AllocError> {
-    match text.split_once(" = ") {
-        Some((_, values)) => String::from_str(alloc, values),
-        None => Ok(String::new(alloc)),
+/// The bytes but the first one.
+fn behind_first(bytes: &[u8]) -> &[u8]
+    ensures { result.now ≡ drop 1 bytes.now }
+{
+    match bytes {
+        [_, rest @ ..] => rest,
+        [] => bytes,
     }
 }

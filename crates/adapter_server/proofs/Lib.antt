@@ -1,0 +1,2 @@
+mod ReadMessages
+mod ServedRequests

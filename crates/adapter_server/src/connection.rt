@@ -1,5 +1,8 @@
 //! A connection to an editor: the messages that it sends, and what it is told.
-use adapter_frames::{FrameFault, FrameReader, write_frame};
+ghost use Rattle.std.specs.Prelude.{◌≡◌, MatchResult};
+ghost use Rattle.serde_json.specs.View.{view};
+
+use adapter_frames::{FrameFault, FrameReader, HeadFault, write_frame};
 use adapter_messages::{
     Head, event_message, failure_message, output_body, reply_message, stop_body,
 };
@@ -43,6 +46,8 @@ pub struct Connection<R, O> {
 }
 
 impl<R: Read, O: Write> Connection<R, O> {
+    ghost use Rattle.adapter_server.specs.Serving.{LetsGo, Reads, ReadsJson, messages_of, unread};
+
     /// A connection by a reader and a writer.
     pub fn new(alloc: Global, reader: R, writer: O) -> Self {
         Connection {
@@ -55,7 +60,12 @@ impl<R: Read, O: Write> Connection<R, O> {
     }
 
     /// The next message that is JSON. What comes before it is refused, and the console is told why.
-    pub(crate) fn next_value(&mut self) -> Result<Value, Ended> {
+    #[tactic(auto, using(crate::proofs::ReadMessages::lets_more_go, crate::proofs::ReadMessages::reading))]
+    pub(crate) fn next_value(&mut self) -> Result<Value, Ended>
+        ensures { MatchResult result
+            (λ value. ReadsJson (unread R.remaining self.old) (unread R.remaining self.new) (view value))
+            (λ ended. LetsGo (unread R.remaining self.old) (unread R.remaining self.new)) }
+    {
         for _ in 0..u64::MAX {
             let message = self.next_message()?;
             match Value::from_slice(self.alloc, message.as_slice()) {
@@ -67,7 +77,9 @@ impl<R: Read, O: Write> Connection<R, O> {
     }
 
     /// Tells that a message is no JSON.
-    fn refuse_text(&mut self, fault: &JsonError) -> Result<(), Ended> {
+    fn refuse_text(&mut self, fault: &JsonError) -> Result<(), Ended>
+        ensures { messages_of self.new ≡ messages_of self.old }
+    {
         if fault.is_memory() {
             return Err(Ended::Memory);
         }
@@ -75,7 +87,12 @@ impl<R: Read, O: Write> Connection<R, O> {
     }
 
     /// The next message. Frames that come before it are refused, and the console is told why.
-    fn next_message(&mut self) -> Result<Vec<u8>, Ended> {
+    #[tactic(auto, using(crate::proofs::ReadMessages::lets_more_go, crate::proofs::ReadMessages::keeping))]
+    fn next_message(&mut self) -> Result<Vec<u8>, Ended>
+        ensures { MatchResult result
+            (λ message. Reads (unread R.remaining self.old) (unread R.remaining self.new) message.items)
+            (λ ended. LetsGo (unread R.remaining self.old) (unread R.remaining self.new)) }
+    {
         for _ in 0..u64::MAX {
             match self.messages.next_message(self.alloc) {
                 Ok(Some(message)) => return Ok(message),
@@ -86,13 +103,18 @@ impl<R: Read, O: Write> Connection<R, O> {
                     self.tell_console("a message is refused: Unfinished\n")?;
                     return Err(Ended::EndOfInput);
                 }
-                Err(FrameFault::Head(fault)) => {
-                    let text = format!(in self.alloc; "a message is refused: {fault}\n")?;
-                    self.tell_console(text.as_str())?;
-                }
+                Err(FrameFault::Head(fault)) => self.refuse_head(fault)?,
             }
         }
         Err(Ended::EndOfInput)
+    }
+
+    /// Tells why the head of a frame is refused.
+    fn refuse_head(&mut self, fault: HeadFault) -> Result<(), Ended>
+        ensures { messages_of self.new ≡ messages_of self.old }
+    {
+        let text = format!(in self.alloc; "a message is refused: {fault}\n")?;
+        self.tell_console(text.as_str())
     }
 
     /// Answers a request.
@@ -101,51 +123,67 @@ impl<R: Read, O: Write> Connection<R, O> {
         head: Head<'_>,
         program: &str,
         reply: &Reply,
-    ) -> Result<(), Ended> {
+    ) -> Result<(), Ended>
+        ensures { messages_of self.new ≡ messages_of self.old }
+    {
         let number = self.number();
         let message = reply_message(self.alloc, number, head, program, reply)?;
         self.send(&message)
     }
 
     /// Refuses a request.
-    pub(crate) fn refuse(&mut self, head: Head<'_>, text: &str) -> Result<(), Ended> {
+    pub(crate) fn refuse(&mut self, head: Head<'_>, text: &str) -> Result<(), Ended>
+        ensures { messages_of self.new ≡ messages_of self.old }
+    {
         let number = self.number();
         let message = failure_message(self.alloc, number, head, text)?;
         self.send(&message)
     }
 
     /// Tells of an event that has nothing to tell but its name.
-    pub(crate) fn tell(&mut self, name: &str) -> Result<(), Ended> {
+    pub(crate) fn tell(&mut self, name: &str) -> Result<(), Ended>
+        ensures { messages_of self.new ≡ messages_of self.old }
+    {
         let body = Value::Object(Map::new(self.alloc));
         self.tell_with(name, body)
     }
 
     /// Tells where and why the program stands still.
-    pub(crate) fn tell_stop(&mut self, reason: StopReason, text: &str) -> Result<(), Ended> {
+    pub(crate) fn tell_stop(&mut self, reason: StopReason, text: &str) -> Result<(), Ended>
+        ensures { messages_of self.new ≡ messages_of self.old }
+    {
         let body = stop_body(self.alloc, reason, text)?;
         self.tell_with("stopped", body)
     }
 
     /// Puts a text on the editor's console.
-    pub(crate) fn tell_console(&mut self, text: &str) -> Result<(), Ended> {
+    pub(crate) fn tell_console(&mut self, text: &str) -> Result<(), Ended>
+        ensures { messages_of self.new ≡ messages_of self.old }
+    {
         let body = output_body(self.alloc, text)?;
         self.tell_with("output", body)
     }
 
-    fn tell_with(&mut self, name: &str, body: Value) -> Result<(), Ended> {
+    fn tell_with(&mut self, name: &str, body: Value) -> Result<(), Ended>
+        ensures { messages_of self.new ≡ messages_of self.old }
+    {
         let number = self.number();
         let message = event_message(self.alloc, number, name, body)?;
         self.send(&message)
     }
 
     /// The number of a new message.
-    fn number(&mut self) -> u64 {
+    fn number(&mut self) -> u64
+        ensures { messages_of self.new ≡ messages_of self.old }
+    {
         let number = self.next;
         self.next = number.saturating_add(1);
         number
     }
 
-    fn send(&mut self, message: &Value) -> Result<(), Ended> {
+    fn send(&mut self, message: &Value) -> Result<(), Ended>
+        ensures { messages_of self.new ≡ messages_of self.old }
+    {
         let text = message.to_string(self.alloc)?;
         match write_frame(self.alloc, &mut self.writer, text.as_bytes()) {
             Ok(()) => Ok(()),

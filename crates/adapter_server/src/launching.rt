@@ -1,4 +1,7 @@
 //! What comes before a launch.
+ghost use Rattle.std.specs.Prelude.{◌≡◌, IfSome};
+ghost use Rattle.adapter_server.specs.Serving.{path_of};
+
 use crate::connection::{Connection, Ended};
 use adapter_messages::{Head, read_head, read_request};
 use adapter_requests::{Launch, Reply, Request};
@@ -15,7 +18,9 @@ pub struct LaunchMessage {
 
 impl LaunchMessage {
     /// How the program is to be run; none where memory is wanting.
-    pub fn launch(&self) -> Option<Launch<'_>> {
+    pub fn launch(&self) -> Option<Launch<'_>>
+        ensures { IfSome result (λ launch. launch.program.now ≡ path_of self.now) }
+    {
         match read_request(self.alloc, "launch", &self.message) {
             Ok(Request::Launch(launch)) => Some(launch),
             _ => None,

@@ -1,4 +1,8 @@
 //! The requests for a program that is launched.
+ghost use Rattle.std.specs.Prelude.{◌≡◌};
+ghost use Rattle.serde_json.specs.View.{view};
+ghost use Rattle.adapter_server.specs.Serving.{Answers, Asks, Begins, Follows, Serves, ServesAnew, messages_of, path_of, unread};
+
 use crate::connection::{Connection, Ended};
 use crate::launching::LaunchMessage;
 use adapter_messages::{Head, read_head, read_request};
@@ -6,9 +10,10 @@ use adapter_replies::answer_text;
 use adapter_requests::{Launch, Reply, Request, StopReason};
 use adapter_session::{answer_request, restore_stops};
 use debug_answers::Answer;
-use debug_machine::RecordedMachine;
 use debug_session::Session;
+use debug_traits::RecordedMachine;
 use serde_json::Value;
+use std::alloc::{AllocError, Global};
 use std::io::{Read, Write};
 
 /// What the requests for a program led to.
@@ -33,11 +38,14 @@ impl<R: Read, O: Write> Connection<R, O> {
     /// # Errors
     ///
     /// How the connection ended before that.
+    #[tactic(auto, using(crate::proofs::ReadMessages::serves_nothing, crate::proofs::ReadMessages::lets_nothing_go))]
     pub fn serve<M: RecordedMachine>(
         &mut self,
         launch: &LaunchMessage,
         session: &mut Session<M>,
-    ) -> Result<Served, Ended> {
+    ) -> Result<Served, Ended>
+        ensures { Serves M.stands (path_of launch.now) (unread R.remaining self.old) (unread R.remaining self.new) session.old session.new }
+    {
         self.reply(launch.head(), "", &Reply::Done)?;
         self.tell("initialized")?;
         self.go_on(launch, session)
@@ -54,8 +62,10 @@ impl<R: Read, O: Write> Connection<R, O> {
         launch: &LaunchMessage,
         old: &Session<M>,
         session: &mut Session<M>,
-    ) -> Result<Served, Ended> {
-        restore_stops(self.alloc, old, session)?;
+    ) -> Result<Served, Ended>
+        ensures { ServesAnew M.stands (path_of launch.now) (unread R.remaining self.old) (unread R.remaining self.new) old.now session.old session.new }
+    {
+        restore_stops(old, session);
         self.reply(self.restarting(), "", &Reply::Done)?;
         let Some(asked) = launch.launch() else {
             return Err(Ended::Memory);
@@ -86,11 +96,14 @@ impl<R: Read, O: Write> Connection<R, O> {
     /// # Errors
     ///
     /// How the connection ended before that.
+    #[tactic(auto, using(crate::proofs::ReadMessages::serves_nothing, crate::proofs::ReadMessages::lets_nothing_go))]
     pub fn go_on<M: RecordedMachine>(
         &mut self,
         launch: &LaunchMessage,
         session: &mut Session<M>,
-    ) -> Result<Served, Ended> {
+    ) -> Result<Served, Ended>
+        ensures { Serves M.stands (path_of launch.now) (unread R.remaining self.old) (unread R.remaining self.new) session.old session.new }
+    {
         let Some(asked) = launch.launch() else {
             return Err(Ended::Memory);
         };
@@ -106,12 +119,16 @@ impl<R: Read, O: Write> Connection<R, O> {
     }
 
     /// Answers a message.
+    #[tactic(auto, using(crate::proofs::ServedRequests::answers_nothing, crate::proofs::ServedRequests::answers_following))]
     fn answer<M: RecordedMachine>(
         &mut self,
         launch: &Launch<'_>,
         session: &mut Session<M>,
         message: &Value,
-    ) -> Result<Turn, Ended> {
+    ) -> Result<Turn, Ended>
+        ensures done { Answers M.stands launch.now.program.now (view message.now) session.old session.new }
+        ensures messages { messages_of self.new ≡ messages_of self.old }
+    {
         let Some(head) = read_head(message) else {
             self.tell_console("a message is refused: NoRequest\n")?;
             return Ok(Turn::Goes);
@@ -127,18 +144,22 @@ impl<R: Read, O: Write> Connection<R, O> {
     }
 
     /// Does a request and answers it, and tells what came of it; a restart is not answered.
+    #[tactic(auto, using(crate::proofs::ServedRequests::follows_nothing, crate::proofs::ServedRequests::follows_asking))]
     fn do_request<M: RecordedMachine>(
         &mut self,
         launch: &Launch<'_>,
         session: &mut Session<M>,
         head: Head<'_>,
         request: &Request<'_>,
-    ) -> Result<Turn, Ended> {
+    ) -> Result<Turn, Ended>
+        ensures done { Follows M.stands launch.now.program.now request.now session.old session.new }
+        ensures messages { messages_of self.new ≡ messages_of self.old }
+    {
         if let Request::Restart = request {
             self.restart = head.number;
             return Ok(Turn::Restarts);
         }
-        let reply = answer_request(self.alloc, launch.program, session, request)?;
+        let reply = ask(self.alloc, launch.program, session, request)?;
         self.reply(head, launch.program, &reply)?;
         self.tell_of(&reply)?;
         match request {
@@ -152,7 +173,9 @@ impl<R: Read, O: Write> Connection<R, O> {
     }
 
     /// Tells of what a reply leads to: a stop, or the end.
-    fn tell_of(&mut self, reply: &Reply) -> Result<(), Ended> {
+    fn tell_of(&mut self, reply: &Reply) -> Result<(), Ended>
+        ensures { messages_of self.new ≡ messages_of self.old }
+    {
         match reply {
             Reply::Moved(stop) => self.tell_stop(stop.reason, stop.text.as_str()),
             Reply::Evaluated {
@@ -165,11 +188,15 @@ impl<R: Read, O: Write> Connection<R, O> {
     }
 
     /// Begins the run: the program stops before its first step, or runs to where it stops by itself.
+    #[tactic(auto, using(crate::proofs::ServedRequests::begins_nothing, crate::proofs::ServedRequests::begins_asking))]
     fn begin<M: RecordedMachine>(
         &mut self,
         launch: &Launch<'_>,
         session: &mut Session<M>,
-    ) -> Result<(), Ended> {
+    ) -> Result<(), Ended>
+        ensures done { Begins M.stands launch.now.program.now session.old session.new }
+        ensures messages { messages_of self.new ≡ messages_of self.old }
+    {
         if launch.stops_on_entry {
             let text = answer_text(
                 self.alloc,
@@ -179,7 +206,19 @@ impl<R: Read, O: Write> Connection<R, O> {
             )?;
             return self.tell_stop(StopReason::Entry, text.as_str());
         }
-        let reply = answer_request(self.alloc, launch.program, session, &Request::Continue)?;
+        let reply = ask(self.alloc, launch.program, session, &Request::Continue)?;
         self.tell_of(&reply)
     }
+}
+
+/// Does a request.
+fn ask<M: RecordedMachine>(
+    alloc: Global,
+    program: &str,
+    session: &mut Session<M>,
+    request: &Request<'_>,
+) -> Result<Reply, AllocError>
+    ensures { Asks M.stands program.now request.now session.old session.new result }
+{
+    answer_request(alloc, program, session, request)
 }

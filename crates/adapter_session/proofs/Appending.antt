@@ -1,14 +1,6 @@
 -- A list that grows by one element.
-use Rattle.std.proofs.Common.{◌≡◌, ℕ, ◌+◌, ◌<◌, List, [], ◌∷◌, ◌++◌, map, length, take, get_or, ap, sym, ◌∙◌, add-one, append_assoc}
-use Rattle.std.proofs.Math.Seq.{take-suc}
-use Rattle.std.proofs.lemmas.List.{map-append}
-
--- what becomes of the elements up to an index and of the one there
-pub map_more : {A B : Type 0} (f : A → B) (xs : List A) (i : ℕ) (x : A) → i < length xs → map f (take (i + 1) xs) ≡ map f (take i xs) ++ f (get_or xs i x) ∷ []
-map_more f xs i x within =
-    ap (λ n. map f (take n xs)) (add-one i)
-    ∙ ap (map f) (take-suc xs i x within)
-    ∙ map-append f (take i xs) (get_or xs i x ∷ [])
+use Rattle.std.proofs.Common.{◌≡◌, ℕ, ◌+◌, ◌<◌, List, [], ◌∷◌, ◌++◌, map, length, take, get_or, ap, sym, ◌∙◌, append_assoc}
+use Rattle.std.proofs.lemmas.List.{map-append, map_more}
 
 -- what becomes of a list with one element more
 pub pushed : {A B : Type 0} (f : A → B) (xs ys : List A) (x : A) (y : B) (made : List B) → ys ≡ xs ++ x ∷ [] → f x ≡ y → map f xs ≡ made → map f ys ≡ made ++ y ∷ []

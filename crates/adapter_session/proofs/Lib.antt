@@ -1,3 +1,5 @@
 mod Appending
 mod DoneLines
+mod MadeAnew
+pub mod Rows
 pub mod StopNumbers

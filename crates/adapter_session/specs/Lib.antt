@@ -1,3 +1,4 @@
 pub mod Doing
 pub mod Given
 pub mod Requested
+pub mod Restored

@@ -10,8 +10,8 @@ use crate::lines::{command_lines, is_program};
 use adapter_replies::reply_to;
 use adapter_requests::{Reply, Request};
 use debug_answers::Answer;
-use debug_machine::RecordedMachine;
 use debug_session::Session;
+use debug_traits::RecordedMachine;
 use std::alloc::{AllocError, Global};
 
 /// Does the commands of a request, where the program's source has this path, and says what the request is told.

@@ -6,8 +6,8 @@ ghost use Rattle.adapter_session.specs.Doing.{Does, DoesLines};
 
 use debug_answers::{Answer, Refusal};
 use debug_commands::read_command;
-use debug_machine::RecordedMachine;
 use debug_session::Session;
+use debug_traits::RecordedMachine;
 
 /// Does command lines, one after another; the last one's answer is told, if there is a line.
 pub fn do_lines<'a, M: RecordedMachine>(

@@ -1,54 +1,50 @@
 //! Breakpoints and watches that are made anew.
-use crate::doing::do_lines;
+ghost use Rattle.std.specs.Prelude.{◌≡◌, ◌∷◌, []};
+ghost use Rattle.gang_model.specs.Debugger.Debugger as model;
+ghost use Rattle.gang_model.specs.Debugger.Debugger.{Debugger, Setting};
+ghost use Rattle.debug_answers.specs.Meanings.{IsStop};
+ghost use Rattle.debug_commands.specs.Views.{command_view};
+ghost use Rattle.debug_session.specs.Sessions.{StandsFor};
+ghost use Rattle.command_lists.specs.Lists.{HasDone};
+ghost use Rattle.adapter_session.specs.Restored.{made_anew, stop_commands};
+
 use debug_answers::Stop;
-use debug_machine::RecordedMachine;
+use debug_commands::{Command, Target};
 use debug_session::Session;
-use std::alloc::{AllocError, Global};
+use debug_traits::RecordedMachine;
 
-/// Makes the breakpoints and watches of a session anew in another one of the same program.
-///
-/// # Errors
-///
-/// Out of memory, and then nothing was done.
-pub fn restore_stops<M: RecordedMachine>(
-    alloc: Global,
-    old: &Session<M>,
-    session: &mut Session<M>,
-) -> Result<(), AllocError> {
-    let lines = stop_lines(alloc, old)?;
-    let _last = do_lines(session, lines.as_slice());
-    Ok(())
-}
-
-/// The lines that make the breakpoints and watches of a session.
-fn stop_lines<M: RecordedMachine>(
-    alloc: Global,
-    session: &Session<M>,
-) -> Result<Vec<String>, AllocError> {
-    let mut lines = Vec::new(alloc);
-    for entry in session.stops() {
-        lines.push(stop_line(alloc, session.machine(), entry.stop)?)?;
+/// Makes the breakpoints and watches of a session anew in another one of the same program, in the order of their numbers.
+pub fn restore_stops<M: RecordedMachine>(old: &Session<M>, session: &mut Session<M>)
+    ensures { (s : Setting) (d e : Debugger) → StandsFor M.stands old.now s d → StandsFor M.stands session.old s e
+        → HasDone M.stands s (stop_commands d.stops) e session.new }
+{
+    let stops = old.stops();
+    for index in 0..stops.len() {
+        make_anew(old.machine(), stops[index].stop, session);
     }
-    Ok(lines)
 }
 
-/// The line that makes a breakpoint or a watch.
-fn stop_line<M: RecordedMachine>(
-    alloc: Global,
-    machine: &M,
-    stop: Stop,
-) -> Result<String, AllocError> {
+/// Makes a breakpoint or a watch of the machine's program anew.
+fn make_anew<M: RecordedMachine>(machine: &M, stop: Stop, session: &mut Session<M>)
+    ensures { (s : Setting) (d e : Debugger) (meant : model.Stop) → M.stands machine.now s d → IsStop s stop meant → StandsFor M.stands session.old s e
+        → HasDone M.stands s (made_anew meant ∷ []) e session.new }
+{
+    let _answer = session.do_command(stop_command(machine, stop));
+}
+
+/// The command that makes a breakpoint or a watch.
+fn stop_command<M: RecordedMachine>(machine: &M, stop: Stop) -> Command<'_>
+    ensures { (s : Setting) (d : Debugger) (meant : model.Stop) → M.stands machine.now s d → IsStop s stop meant
+        → command_view result ≡ made_anew meant }
+{
     match stop {
-        Stop::Line(line) => format!(in alloc; "break {line}"),
-        Stop::Watch { variable, at } => {
-            let Some(named) = machine.file_variable(variable) else {
-                return Ok(String::new(alloc));
-            };
-            let name = String::from_utf8_lossy(alloc, named.name)?;
-            match at {
-                None => format!(in alloc; "watch {name}"),
-                Some(index) => format!(in alloc; "watch {name}[{index}]"),
-            }
-        }
+        Stop::Line(line) => Command::Break(line),
+        Stop::Watch { variable, at } => match machine.file_variable(variable) {
+            Some(named) => Command::Watch(Target {
+                name: named.name,
+                at,
+            }),
+            None => Command::Nothing,
+        },
     }
 }

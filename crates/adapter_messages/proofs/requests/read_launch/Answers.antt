@@ -1,12 +1,18 @@
-use Rattle.std.proofs.Common.{sym, ◌∙◌}
+use Rattle.std.proofs.Common.{true, Some, None, codes, ap, sym, ◌∙◌, is_some, if◌then◌else◌}
+use Rattle.std.specs.Prelude.{unwrap_or}
 use Rattle.adapter_messages.proofs.requests.read_launch.Goals as goal
 
-pub returns : goal.returns
-returns c = record {
-  program = sym c.text_at.ensures ∙ c.in_ok-program.ensures;
+pub returns-clause-accepted : goal.returns-clause-accepted
+returns-clause-accepted c = record {
+  program = sym c.text_at.ensures ∙ c.in_ok-program.ensures.given;
   input = sym c.text_at-2.ensures;
   entry = sym c.text_at-3.ensures;
   width = sym c.number_at.ensures;
   history = sym c.number_at-2.ensures;
   steps = sym c.number_at-3.ensures;
+  stops_on_entry = ap (λ given. unwrap_or given true) (sym c.flag_at.ensures) ∙ sym c.unwrap_or.ensures;
 }
+
+pub returns-clause-complete : goal.returns-clause-complete
+returns-clause-complete c =
+    ap (λ program. if is_some program then None else Some (codes "program")) (sym c.text_at.ensures ∙ c.in_ok-program.ensures.given)

@@ -1,6 +1,6 @@
 use Rattle.std.proofs.Common.{◌+◌, ◌++◌, ap, sym, ◌∙◌, map, string_bytes, take}
+use Rattle.std.proofs.lemmas.List.{map_more}
 use Rattle.adapter_session.specs.Requested.{only}
-use Rattle.adapter_session.proofs.Appending.{map_more}
 use Rattle.adapter_session.proofs.DoneLines.{does_more}
 use Rattle.adapter_session.proofs.doing.do_lines.Goals as goal
 

@@ -1,0 +1,64 @@
+-- Why a request is refused: the first of its arguments that is missing or of a wrong type.
+use Rattle.std.specs.Prelude.{◌≡◌, Bool, true, false, List, [], ◌∷◌, Option, Some, None, codes, if◌then◌else◌, is_some}
+use Rattle.serde_json.specs.Data.{Data}
+use Rattle.gang_model.specs.Texts.Text.{Bytes}
+use Rattle.adapter_messages.specs.declared.names.Name.{Name}
+use Rattle.adapter_messages.specs.declared.names.Name.TheVariants as name
+use Rattle.adapter_messages.specs.declared.requests.RequestFault.{RequestFault}
+use Rattle.adapter_messages.specs.declared.requests.RequestFault.TheVariants as fault
+use Rattle.adapter_messages.specs.Names.{named}
+use Rattle.adapter_messages.specs.Arguments.{breakpoints_of, lines_in, number_at, targets_in, text_at}
+
+-- the arguments that a request of a name needs, in their order, and whether a message has each of the right type
+abbrev pub needs : Name → Data → List (Bytes × Bool)
+needs name.Launch message = (codes "program", is_some (text_at (codes "/arguments/program") message)) ∷ []
+needs name.SetBreakpoints message = (codes "line", is_some (lines_in (breakpoints_of message))) ∷ []
+needs name.DataBreakpointInfo message = (codes "name", is_some (text_at (codes "/arguments/name") message)) ∷ []
+needs name.SetDataBreakpoints message = (codes "dataId", is_some (targets_in (breakpoints_of message))) ∷ []
+needs name.Variables message = (codes "variablesReference", is_some (number_at (codes "/arguments/variablesReference") message)) ∷ []
+needs name.SetVariable message = (codes "name", is_some (text_at (codes "/arguments/name") message)) ∷ (codes "value", is_some (text_at (codes "/arguments/value") message)) ∷ []
+needs name.Evaluate message = (codes "expression", is_some (text_at (codes "/arguments/expression") message)) ∷ []
+needs name message = []
+
+-- the first that is not there
+abbrev pub first_missing : List (Bytes × Bool) → Option Bytes
+first_missing [] = None
+first_missing (need ∷ others) = if need.1 then first_missing others else Some need.0
+
+-- whether a request of a name has a list, for which memory is needed
+abbrev pub has_list : Name → Bool
+has_list name.SetBreakpoints = true
+has_list name.SetDataBreakpoints = true
+has_list name = false
+
+-- a message that is a request of a name is refused
+abbrev pub IsRefusedNamed : Name → Data → RequestFault → Type 0
+IsRefusedNamed name message (fault.Argument argument) = first_missing (needs name message) ≡ Some argument.now
+IsRefusedNamed name message fault.Memory = has_list name ≡ true
+
+-- what is wrong with the arguments of a request whose name is known; one of another name has none
+abbrev pub missing_of : Option Name → Data → Option Bytes
+missing_of None message = None
+missing_of (Some name) message = first_missing (needs name message)
+
+-- the argument that a message with a command lacks
+abbrev pub missing : (command : Bytes) → Data → Option Bytes
+missing command message = missing_of (named command) message
+
+-- a message with a command is refused
+abbrev pub IsRefusedOf : Option Name → Data → RequestFault → Type 0
+IsRefusedOf None message fault = ⊥
+IsRefusedOf (Some name) message fault = IsRefusedNamed name message fault
+
+abbrev pub IsRefused : (command : Bytes) → Data → RequestFault → Type 0
+IsRefused command message fault = IsRefusedOf (named command) message fault
+
+-- a fault names an argument
+abbrev pub NamesArgument : (argument : Bytes) → RequestFault → Type 0
+NamesArgument argument (fault.Argument named) = named.now ≡ argument
+NamesArgument argument fault.Memory = ⊥
+
+-- a list is refused for an argument that one of it lacks, or out of memory
+abbrev pub IsListRefused : {A : Type 0} → (argument : Bytes) → (read : Option (List A)) → RequestFault → Type 0
+IsListRefused argument read (fault.Argument named) = (named.now ≡ argument) × (read ≡ None)
+IsListRefused argument read fault.Memory = Unit {0}

@@ -1,0 +1,168 @@
+-- What a request is told: the body of each reply, and of the events of a stop and of an output. Members stand in the order of their keys.
+use Rattle.std.specs.Prelude.{ℕ, true, false, List, map, Option, Some, None, codes, length, string_bytes, unwrap_or}
+use Rattle.std.specs.Path.{path_file_name}
+use Rattle.serde_json.specs.Data.{Data, Members, array, boolean, item, member, no_items, no_members, null, object, string}
+use Rattle.serde_json.specs.View.{items_of}
+use Rattle.gang_model.specs.Texts.Text.{Bytes}
+use Rattle.adapter_requests.specs.declared.reply.Breakpoint.{Breakpoint}
+use Rattle.adapter_requests.specs.declared.reply.Frame.{Frame}
+use Rattle.adapter_requests.specs.declared.reply.Reply.{Reply}
+use Rattle.adapter_requests.specs.declared.reply.Reply.TheVariants as reply
+use Rattle.adapter_requests.specs.declared.reply.StopReason.{StopReason}
+use Rattle.adapter_requests.specs.declared.reply.StopReason.TheVariants as reason
+use Rattle.adapter_requests.specs.declared.reply.Variable.{Variable}
+use Rattle.adapter_messages.specs.Messages.{failure, natural, reason_text, response}
+
+-- an array of what is shown for each of a list
+abbrev pub array_of : {A : Type 0} → (A → Data) → List A → Data
+array_of shown xs = array (items_of (map shown xs))
+
+-- an object of one member
+abbrev pub only : (name : Bytes) → Data → Data
+only name value = object (member name value no_members)
+
+-- what the adapter can do
+abbrev pub capabilities : Data
+capabilities = object
+    (member (codes "supportsConfigurationDoneRequest") (boolean true)
+    (member (codes "supportsDataBreakpoints") (boolean true)
+    (member (codes "supportsEvaluateForHovers") (boolean true)
+    (member (codes "supportsRestartRequest") (boolean true)
+    (member (codes "supportsSetVariable") (boolean true)
+    (member (codes "supportsStepBack") (boolean true) no_members))))))
+
+-- a breakpoint or a watch by its number, and by its line if it has one; without a number it is not there
+abbrev pub stop_place : (number line : Option ℕ) → Data
+stop_place (Some number) (Some line) = object (member (codes "id") (natural number) (member (codes "line") (natural line) (member (codes "verified") (boolean true) no_members)))
+stop_place (Some number) None = object (member (codes "id") (natural number) (member (codes "verified") (boolean true) no_members))
+stop_place None line = object (member (codes "message") (string (codes "nothing can stop here")) (member (codes "verified") (boolean false) no_members))
+
+-- a breakpoint or a watch that was asked for
+abbrev pub breakpoint : Breakpoint → Data
+breakpoint asked = stop_place asked.number asked.line
+
+-- a target that can be watched: where it is written
+abbrev pub watchable : (target : Bytes) → Data
+watchable target = object
+    (member (codes "accessTypes") (array (item (string (codes "write")) no_items))
+    (member (codes "canPersist") (boolean false)
+    (member (codes "dataId") (string target)
+    (member (codes "description") (string target) no_members))))
+
+-- a variable that cannot be watched
+abbrev pub not_watchable : Data
+not_watchable = object
+    (member (codes "dataId") null
+    (member (codes "description") (string (codes "only scalars of the file, their lanes and elements of arrays are watched")) no_members))
+
+-- the one thread: the gang
+abbrev pub gang : Data
+gang = object (member (codes "id") (natural 1) (member (codes "name") (string (codes "gang")) no_members))
+
+-- the last part of a path, or the path where it has none
+abbrev pub file_name : (path : Bytes) → Bytes
+file_name path = unwrap_or (path_file_name path) path
+
+-- the program's source, by its path
+abbrev pub source : (program : Bytes) → Data
+source program = object (member (codes "name") (string (file_name program)) (member (codes "path") (string program) no_members))
+
+-- a frame, whose number is its depth; lines and columns count from 1
+abbrev pub frame : (program : Bytes) → Frame → Data
+frame program shown = object
+    (member (codes "column") (natural shown.column)
+    (member (codes "id") (natural shown.depth)
+    (member (codes "line") (natural shown.line)
+    (member (codes "name") (string (string_bytes shown.name))
+    (member (codes "source") (source program) no_members)))))
+
+-- the frames, the top one first, and how many there are
+abbrev pub frames : (program : Bytes) → List Frame → Data
+frames program shown = object
+    (member (codes "stackFrames") (array_of (frame program) shown)
+    (member (codes "totalFrames") (natural (length shown)) no_members))
+
+-- a scope of a name and a reference, of which the protocol knows the kind
+abbrev pub known_scope : (name kind : Bytes) → (reference : ℕ) → Data
+known_scope name kind reference = object
+    (member (codes "expensive") (boolean false)
+    (member (codes "name") (string name)
+    (member (codes "presentationHint") (string kind)
+    (member (codes "variablesReference") (natural reference) no_members))))
+
+-- the variables of the file
+abbrev pub file_scope : Data
+file_scope = object
+    (member (codes "expensive") (boolean false)
+    (member (codes "name") (string (codes "File"))
+    (member (codes "variablesReference") (natural 2) no_members)))
+
+-- the scopes of a frame
+abbrev pub scopes : Data
+scopes = array
+    (item (known_scope (codes "Locals") (codes "locals") 1)
+    (item (known_scope (codes "Arguments") (codes "arguments") 3)
+    (item file_scope no_items)))
+
+-- a variable; the reference is that of its lanes or elements, 0 if it has none
+abbrev pub variable : Variable → Data
+variable shown = object
+    (member (codes "evaluateName") (string (string_bytes shown.name))
+    (member (codes "name") (string (string_bytes shown.name))
+    (member (codes "type") (string (string_bytes shown.type_name))
+    (member (codes "value") (string (string_bytes shown.value))
+    (member (codes "variablesReference") (natural shown.reference) no_members)))))
+
+-- what an expression, or a line of the console, is answered: a text without lanes or elements
+abbrev pub evaluated : (text : Bytes) → Data
+evaluated text = object (member (codes "result") (string text) (member (codes "variablesReference") (natural 0) no_members))
+
+-- what a reply tells of the program at a path
+abbrev pub body_of : (program : Bytes) → Reply → Data
+body_of program reply.Capabilities = capabilities
+body_of program (reply.Breakpoints asked) = only (codes "breakpoints") (array_of breakpoint asked.items)
+body_of program (reply.Watchable target) = watchable (string_bytes target)
+body_of program reply.NotWatchable = not_watchable
+body_of program reply.Threads = only (codes "threads") (array (item gang no_items))
+body_of program (reply.Frames shown) = frames program shown.items
+body_of program reply.Scopes = only (codes "scopes") scopes
+body_of program (reply.Variables shown) = only (codes "variables") (array_of variable shown.items)
+body_of program (reply.Set value) = only (codes "value") (string (string_bytes value))
+body_of program (reply.Evaluated text reason) = evaluated (string_bytes text)
+body_of program (reply.Moved stop) = only (codes "allThreadsContinued") (boolean true)
+body_of program reply = object no_members
+
+-- why a reply refuses its request, if it does
+abbrev pub refusal : Reply → Option Bytes
+refusal (reply.Refused text) = Some (string_bytes text)
+refusal reply.OutOfMemory = Some (codes "out of memory")
+refusal reply = None
+
+-- the message that refuses a request, or tells what it is told
+abbrev pub refused_or : (refusal : Option Bytes) → (seq request : ℕ) → (command : Bytes) → (body : Data) → Data
+refused_or None seq request command body = response seq request command body
+refused_or (Some text) seq request command body = failure seq request command text
+
+-- the whole message of a reply
+abbrev pub message_of : (seq request : ℕ) → (command program : Bytes) → Reply → Data
+message_of seq request command program reply = refused_or (refusal reply) seq request command (body_of program reply)
+
+-- the number of the breakpoint or the watch at which the program stands still, before other members
+abbrev pub hit_before : StopReason → Members → Members
+hit_before (reason.Breakpoint number) others = member (codes "hitBreakpointIds") (array (item (natural number) no_items)) others
+hit_before (reason.DataBreakpoint number) others = member (codes "hitBreakpointIds") (array (item (natural number) no_items)) others
+hit_before reason others = others
+
+-- what the event of a stop tells: why the one thread, and so each, stands still, and the debugger's text of it
+abbrev pub stop_body : StopReason → (text : Bytes) → Data
+stop_body reason text = object
+    (member (codes "allThreadsStopped") (boolean true)
+    (member (codes "description") (string text)
+    (hit_before reason
+    (member (codes "reason") (string (reason_text reason))
+    (member (codes "text") (string text)
+    (member (codes "threadId") (natural 1) no_members))))))
+
+-- what the event of an output tells: a text for the console
+abbrev pub output_body : (text : Bytes) → Data
+output_body text = object (member (codes "category") (string (codes "console")) (member (codes "output") (string text) no_members))

@@ -1,0 +1,115 @@
+-- Worked rows of what an editor is told.
+use Rattle.std.proofs.Common.{◌≡◌, refl, ap, true, false, [], ◌∷◌, ◌++◌, Some, None, codes, map, arith}
+use Rattle.std.specs.Fmt.{digits}
+use Rattle.std.proofs.lemmas.Str.{IsUtf8-from_ascii, utf8_lossy-IsUtf8}
+use Rattle.std.proofs.lemmas.Str.Ascii.{IsAscii-cons, IsAscii-nil}
+use Rattle.gang_types.specs.declared.places.VarId.TheVariants.{File}
+use Rattle.gang_types.specs.declared.types.IntType.TheVariants as t
+use Rattle.gang_types.specs.declared.types.Rate.TheVariants as rate
+use Rattle.gang_types.specs.Lanes.{Lanes}
+use Rattle.gang_types.specs.Values.{value_of}
+use Rattle.gang_model.specs.Types.Tree.{Function, Program, Standing, Variable}
+use Rattle.gang_model.specs.Running.State.{Frame}
+use Rattle.gang_model.specs.Texts.Text.{Bytes, bits}
+use Rattle.debug_answers.specs.declared.answer.Answer.TheVariants as answer
+use Rattle.debug_answers.specs.declared.answer.Refusal.TheVariants as refusal
+use Rattle.adapter_requests.specs.declared.reply.Reply.TheVariants as reply
+use Rattle.adapter_requests.specs.declared.reply.StopReason.TheVariants as reason
+use Rattle.adapter_requests.specs.declared.request.Request.TheVariants as request
+use Rattle.adapter_replies.specs.declared.places.Place.TheVariants as place
+use Rattle.adapter_replies.specs.Frames.{all_frames, call_frame, call_told, calls_told, frame_name, standing_frame}
+use Rattle.adapter_replies.specs.References.{place_of}
+use Rattle.adapter_replies.specs.Shown.{without_end}
+use Rattle.adapter_replies.specs.Stopped.{reason_of}
+use Rattle.adapter_replies.specs.Told.{IsMoveTold, fixed_reply}
+use Rattle.adapter_replies.specs.Variables.{told_parts, type_text, values, whole_text}
+
+-- ---- references
+
+parameters : place_of 3 ≡ place.Arguments
+parameters = refl
+
+first_local : place_of 4 ≡ place.Local 0
+first_local = refl
+
+second_parameter : place_of 9 ≡ place.Argument 1
+second_parameter = refl
+
+no_reference : place_of 0 ≡ place.Nothing
+no_reference = refl
+
+-- ---- variables
+
+-- the word of -1 is 2 ^ 64 - 1
+two_values : values t.Int8 (1 ∷ 18446744073709551615 ∷ []) ≡ codes "1 -1"
+unfolding digits value_of
+two_values = refl
+
+truth_values : values t.Bool (0 ∷ 1 ∷ []) ≡ codes "false true"
+truth_values = refl
+
+an_array : whole_text t.Int32 true (7 ∷ 8 ∷ 9 ∷ []) ≡ codes "3 elements"
+unfolding digits
+an_array = refl
+
+type_of_array : type_text rate.Varying t.Int32 true 4 ≡ codes "varying int32[4]"
+unfolding digits
+type_of_array = refl
+
+abbrev uniform_scalar : Variable
+uniform_scalar = record { name = codes "n"; id = File 0; type = t.Int32; rate = rate.Uniform; is_array = false; is_parameter = false; is_constant = false }
+
+abbrev varying_scalar : Variable
+varying_scalar = record { name = codes "x"; id = File 1; type = t.Int32; rate = rate.Varying; is_array = false; is_parameter = false; is_constant = false }
+
+no_parts : told_parts uniform_scalar (5 ∷ []) ≡ []
+no_parts = refl
+
+lane_values : map (λ told. told.value) (told_parts varying_scalar (5 ∷ 6 ∷ [])) ≡ codes "5" ∷ codes "6" ∷ []
+unfolding digits value_of
+lane_values = refl
+
+-- ---- frames
+
+abbrev some_lanes : Lanes
+some_lanes = true ∷ false ∷ true ∷ true ∷ []
+
+name_of_frame : frame_name (codes "f") some_lanes ≡ codes "f [1011]"
+name_of_frame = ap (λ name. name ++ codes " [" ++ bits some_lanes ++ codes "]") (utf8_lossy-IsUtf8 (codes "f") (IsUtf8-from_ascii (codes "f") (IsAscii-cons 102 [] (omega arith) IsAscii-nil)))
+
+-- a program that has ended has none
+ended : (p : Program) → all_frames p [] ≡ []
+ended p = refl
+
+no_function : (standing : Standing) → standing_frame (Some standing) None 2 some_lanes ≡ []
+no_function standing = refl
+
+depth_of_frame : (standing : Standing) (f : Function) → map (λ frame. frame.depth) (standing_frame (Some standing) (Some f) 2 some_lanes) ≡ 2 ∷ []
+depth_of_frame standing f = refl
+
+-- of two frames the outer one, at depth 1, by the call that it made; the only frame made none
+outer_of_two : (p : Program) (inner frame : Frame) → call_told p 1 (inner ∷ frame ∷ []) ≡ call_frame p inner.call frame.function 1 inner.lanes
+outer_of_two p inner frame = refl
+
+only_frame : (p : Program) (frame : Frame) → calls_told p (frame ∷ []) 1 ≡ []
+only_frame p frame = refl
+
+-- ---- what requests are told
+
+threads : fixed_reply request.Threads ≡ Some reply.Threads
+threads = refl
+
+frames_differ : fixed_reply request.StackTrace ≡ None
+frames_differ = refl
+
+no_move : (text : Bytes) → IsMoveTold None text reply.Done
+no_move text = refl
+
+move_behind_the_end : (text : Bytes) → IsMoveTold (Some (answer.Refused refusal.Ended)) text reply.Ended
+move_behind_the_end text = refl
+
+at_watch : reason_of (answer.AtWatch 3) ≡ Some (reason.DataBreakpoint 3)
+at_watch = refl
+
+last_line : without_end (codes "ok\n") ≡ codes "ok"
+last_line = refl

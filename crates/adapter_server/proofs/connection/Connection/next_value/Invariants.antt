@@ -1,0 +1,6 @@
+-- what was read so far was let go
+use Rattle.adapter_server.specs.Serving.{LetsGo, unread}
+use Rattle.adapter_server.proofs.connection.Connection.next_value.Given as goal
+
+abbrev pub invariant-loop : goal.invariant-loop
+invariant-loop g l = let left = g.R.Read.remaining in LetsGo (unread left l.fn.self) (unread left l.self)
