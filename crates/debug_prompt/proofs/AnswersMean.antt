@@ -52,6 +52,27 @@ made_number-means s d (answer.KeepsHistory n) meant is = sym (ap doing.made_numb
 made_number-means s d answer.Silent meant is = sym (ap doing.made_number is)
 made_number-means s d (answer.Refused r) meant is = sym (ap doing.made_number is)
 
+-- whether a goal is reached, or the end
+pub is_here-means : (s : Setting) (d : Debugger) (told : Answer) (meant : model.Answer) → Means s d told meant → given.is_here told ≡ doing.is_here meant
+is_here-means s d answer.Here meant is = sym (ap doing.is_here is)
+is_here-means s d (answer.AtBreakpoint n) meant is = sym (ap doing.is_here is)
+is_here-means s d (answer.AtWatch n) meant is = sym (ap doing.is_here is)
+is_here-means s d (answer.AtFault fault) meant is = sym (ap doing.is_here is)
+is_here-means s d answer.HistoryEnd meant is = sym (ap doing.is_here is)
+is_here-means s d answer.StepLimit meant is = sym (ap doing.is_here is)
+is_here-means s d answer.UndoneStep meant is = sym (ap doing.is_here is)
+is_here-means s d answer.UndonePoke meant is = sym (ap doing.is_here is)
+is_here-means s d (answer.Shows target shown) meant (v, is, inside, found) = sym (ap doing.is_here is)
+is_here-means s d (answer.BreaksAt n line) meant is = sym (ap doing.is_here is)
+is_here-means s d (answer.Watches n target) meant is = sym (ap doing.is_here is)
+is_here-means s d (answer.Deleted n) meant is = sym (ap doing.is_here is)
+is_here-means s d answer.ListsStops meant is = sym (ap doing.is_here is)
+is_here-means s d answer.ListsLocals meant is = sym (ap doing.is_here is)
+is_here-means s d answer.ListsFrames meant is = sym (ap doing.is_here is)
+is_here-means s d (answer.KeepsHistory n) meant is = sym (ap doing.is_here is)
+is_here-means s d answer.Silent meant is = sym (ap doing.is_here is)
+is_here-means s d (answer.Refused r) meant is = sym (ap doing.is_here is)
+
 -- whether a target is shown
 pub is_shown-means : (s : Setting) (d : Debugger) (told : Answer) (meant : model.Answer) → Means s d told meant → given.is_shown told ≡ doing.is_shown meant
 is_shown-means s d answer.Here meant is = sym (ap doing.is_shown is)

@@ -2,3 +2,4 @@ mod AnswersMean
 mod DoneCommands
 mod Displays
 mod WorkedLines
+mod PieceLaws

@@ -1,9 +1,12 @@
 -- Lines, and the commands that are done for them, computed.
-use Rattle.std.proofs.Common.{◌≡◌, refl}
-use Rattle.std.specs.Prelude.{ℕ, List, [], ◌∷◌, pos, Some, None, codes}
-use Rattle.gang_model.specs.Debugger.Debugger.{AtBreakpoint, Command, Debugger, DoBreak, DoDelete, DoPrint, DoSet, Ended, Refused, Setting}
+use Rattle.std.proofs.Common.{◌≡◌, refl, ap}
+use Rattle.std.specs.Prelude.{ℕ, true, false, List, [], ◌∷◌, pos, Some, None, codes, if◌then◌else◌}
+use Rattle.std.specs.List.{list_any}
+use Rattle.gang_model.specs.Debugger.Debugger.{AtBreakpoint, Command, Debugger, DoBreak, DoDelete, DoPrint, DoSet, Ended, Line, NoGoal, Refused, Setting, StepLimit, first_stop, forward, has_ended, now, on_line, reply, unless_refused}
+use Rattle.debug_answers.specs.declared.stops.Stop.TheVariants as stop
 use Rattle.debug_prompt.specs.Doing.{commands_of, follows, held_after, kept_after}
 use Rattle.debug_prompt.specs.Holding.{Held, held_at_start, nothing_kept}
+use Rattle.debug_prompt.specs.Pieces.{at_breakpoint, continued, is_watch}
 
 -- what is done for a line at the start
 at_start : Setting → Debugger → List ℕ → List Command
@@ -52,3 +55,18 @@ refused_row = refl
 undisplay_row : (s : Setting) (d : Debugger) → held_after nothing_kept some_held s d (codes "undisplay 1") ≡ record { temporaries = 2 ∷ 5 ∷ []; displays = []; next = 2 }
 unfolding some_held
 undisplay_row s d = refl
+
+-- a breakpoint ends a `continue` behind a piece, and no breakpoint does not
+breakpoint_row : at_breakpoint (first_stop (on_line (Some 9)) ((1, Line 7) ∷ (2, Line 9) ∷ [])) ≡ Some (AtBreakpoint 2)
+breakpoint_row = refl
+
+elsewhere_row : at_breakpoint (first_stop (on_line (Some 8)) ((1, Line 7) ∷ (2, Line 9) ∷ [])) ≡ None
+elsewhere_row = refl
+
+-- a watch among what is there
+watch_row : list_any is_watch (record { number = 1; stop = stop.Line 7 } ∷ record { number = 2; stop = stop.Watch 0 (Some 3) } ∷ []) ≡ true
+watch_row = refl
+
+-- with no move left the limit is reached
+none_left_row : (s : Setting) (d : Debugger) → has_ended (now s d) ≡ false → continued 0 s d ≡ reply StepLimit d
+none_left_row s d e = ap (λ ended. unless_refused (if ended then Some Ended else None) d (forward 0 s NoGoal)) e

@@ -2,7 +2,7 @@
 -- What a prompt does beside a command is done by commands too: what is displayed is printed, and a temporary breakpoint is deleted.
 use Rattle.std.specs.Prelude.{ℕ, ◌+◌, ◌==◌, ◌&&◌, Bool, true, false, not, nat_lt, List, [], ◌∷◌, ◌++◌, drop, length, filter, Option, Some, None, if◌then◌else◌}
 use Rattle.std.specs.List.{list_any}
-use Rattle.gang_model.specs.Debugger.Debugger.{Answer, AtBreakpoint, BreaksAt, Command, Debugger, DoBreak, DoContinue, DoDelete, DoFinish, DoNext, DoPrint, DoReverseContinue, DoReverseFinish, DoReverseNext, DoReverseStep, DoStep, DoUndo, Refused, Setting, Shows, Target, do_command}
+use Rattle.gang_model.specs.Debugger.Debugger.{Answer, AtBreakpoint, BreaksAt, Command, Debugger, DoBreak, DoContinue, DoDelete, DoFinish, DoNext, DoPrint, DoReverseContinue, DoReverseFinish, DoReverseNext, DoReverseStep, DoStep, DoUndo, Here, Refused, Setting, Shows, Target, do_command}
 use Rattle.gang_model.specs.Texts.CommandText.{command_of}
 use Rattle.prompt_lines.specs.declared.line.Kind.{Kind}
 use Rattle.prompt_lines.specs.declared.line.Kind.TheVariants as kind
@@ -59,6 +59,11 @@ stopped_number answer = None
 abbrev pub made_number : Answer → Option ℕ
 made_number (BreaksAt n line) = Some n
 made_number answer = None
+
+-- whether a goal is reached, or the end
+abbrev pub is_here : Answer → Bool
+is_here Here = true
+is_here answer = false
 
 -- whether a target is shown
 abbrev pub is_shown : Answer → Bool

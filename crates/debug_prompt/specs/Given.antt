@@ -16,6 +16,11 @@ abbrev pub made_number : Answer → Option ℕ
 made_number (answer.BreaksAt n line) = Some n
 made_number given = None
 
+-- whether a goal is reached, or the end
+abbrev pub is_here : Answer → Bool
+is_here answer.Here = true
+is_here given = false
+
 -- whether a target is shown
 abbrev pub is_shown : Answer → Bool
 is_shown (answer.Shows target shown) = true

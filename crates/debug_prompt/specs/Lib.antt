@@ -1,3 +1,4 @@
 pub mod Holding
 pub mod Doing
 pub mod Given
+pub mod Pieces

@@ -9,12 +9,13 @@ ghost use Rattle.debug_prompt.specs.Doing as spec;
 ghost use Rattle.debug_prompt.specs.Holding.{held};
 
 use crate::holding::Holding;
+use crate::pieces::go_on;
 use crate::readings::{break_of, delete_of, is_shown, made_number, print_of};
 use crate::turning::{Scene, do_own, follow, show_displays};
 use debug_answers::Answer;
 use debug_commands::{Command, read_command};
-use debug_machine::{AnswerWriter, RecordedMachine};
 use debug_session::Session;
+use debug_traits::{AnswerWriter, RecordedMachine};
 use prompt_lines::is_alone;
 use prompt_texts::{Before, Page, tell, tell_hexadecimal, tell_move, tell_unknown};
 
@@ -26,7 +27,7 @@ pub(crate) fn do_spelled<M: RecordedMachine, O: AnswerWriter + Drop>(
     session: &mut Session<M>,
     page: &mut Page<O>,
 )
-    ensures { (s : Setting) (d : Debugger) → StandsFor M.stands session.old s d
+    ensures { (s : Setting) (d : Debugger) → StandsFor M.stands session.old s d → s.limit ≡ scene.entry.most_steps
         → HasDone M.stands s (spec.own s d (held holding.now) (command_of text.now)) d session.new }
 {
     match read_command(text) {
@@ -64,7 +65,7 @@ pub(crate) fn go_until<M: RecordedMachine, O: AnswerWriter + Drop>(
     session: &mut Session<M>,
     page: &mut Page<O>,
 )
-    ensures { (s : Setting) (d : Debugger) → StandsFor M.stands session.old s d
+    ensures { (s : Setting) (d : Debugger) → StandsFor M.stands session.old s d → s.limit ≡ scene.entry.most_steps
         → HasDone M.stands s (if is_alone text.now then spec.done_with s d (held holding.now) (DoNext 1)
         else spec.until_line s d (held holding.now) (spec.break_of (command_of text.now))) d session.new }
 {
@@ -83,7 +84,7 @@ fn go_to_spelled<M: RecordedMachine, O: AnswerWriter + Drop>(
     session: &mut Session<M>,
     page: &mut Page<O>,
 )
-    ensures { (s : Setting) (d : Debugger) → StandsFor M.stands session.old s d
+    ensures { (s : Setting) (d : Debugger) → StandsFor M.stands session.old s d → s.limit ≡ scene.entry.most_steps
         → HasDone M.stands s (spec.until_line s d (held holding.now) (spec.break_of (command_of text.now))) d session.new }
 {
     if let Some(line) = break_of(text) {
@@ -101,7 +102,7 @@ fn go_to_line<M: RecordedMachine, O: AnswerWriter + Drop>(
     session: &mut Session<M>,
     page: &mut Page<O>,
 )
-    ensures { (s : Setting) (d : Debugger) → StandsFor M.stands session.old s d
+    ensures { (s : Setting) (d : Debugger) → StandsFor M.stands session.old s d → s.limit ≡ scene.entry.most_steps
         → HasDone M.stands s (spec.until_line s d (held holding.now) (Some line)) d session.new }
 {
     let answer = session.do_command(Command::Break(line));
@@ -119,11 +120,11 @@ fn go_to_stop<M: RecordedMachine, O: AnswerWriter + Drop>(
     session: &mut Session<M>,
     page: &mut Page<O>,
 )
-    ensures { (s : Setting) (d : Debugger) → StandsFor M.stands session.old s d
+    ensures { (s : Setting) (d : Debugger) → StandsFor M.stands session.old s d → s.limit ≡ scene.entry.most_steps
         → HasDone M.stands s (spec.going s (held holding.now) d (Some number)) d session.new }
 {
     let before = Before::note(session.machine());
-    let answer = session.do_command(Command::Continue);
+    let answer = go_on(scene.most_steps, session, page);
     let _ = session.do_command(Command::Delete(Some(number)));
     tell_until(&answer, number, &before, scene, session, page);
     follow(&answer, holding, scene, session, page);

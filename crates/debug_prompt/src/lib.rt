@@ -4,6 +4,7 @@
 mod doing;
 mod holding;
 mod looking;
+mod pieces;
 mod prompt;
 mod readings;
 mod turning;

@@ -3,8 +3,8 @@ use crate::holding::Holding;
 use crate::readings::is_move;
 use crate::turning::Scene;
 use debug_commands::{Command, read_command};
-use debug_machine::{AnswerWriter, RecordedMachine};
 use debug_session::Session;
+use debug_traits::{AnswerWriter, RecordedMachine};
 use prompt_lines::{Look, is_alone};
 use prompt_texts::{
     Page, list_lines, show_arguments, show_displayed, show_frame, show_help, show_here,

@@ -15,8 +15,8 @@ use crate::looking::Looking;
 use crate::readings::command_repeats;
 use crate::turning::Scene;
 use debug_commands::{Command, read_command};
-use debug_machine::{AnswerWriter, RecordedMachine};
 use debug_session::Session;
+use debug_traits::{AnswerWriter, RecordedMachine};
 use prompt_lines::{Kind, Look, PromptLine, Text, read_line};
 use prompt_texts::{Page, Source, show_here};
 use std::mem::replace;
@@ -38,18 +38,21 @@ pub struct Prompt {
     kept: PromptLine,
     holding: Holding,
     looking: Looking,
+    most_steps: u32,
 }
 
 impl Prompt {
-    /// A prompt before its first line.
-    pub fn new() -> Self
+    /// A prompt before its first line, over a session that makes so many moves for one forward command at most.
+    pub fn new(most_steps: u32) -> Self
         ensures kept { spelled result.kept ≡ nothing_kept }
         ensures held { held result.holding ≡ held_at_start }
+        ensures limit { result.most_steps ≡ most_steps }
     {
         Prompt {
             kept: nothing(),
             holding: Holding::new(),
             looking: Looking::new(),
+            most_steps,
         }
     }
 
@@ -63,8 +66,9 @@ impl Prompt {
         show_here(source, session, page);
     }
 
-    /// Does a line, its line feed not included, by a list of the debugger's commands, and shows what they came to. Where the
-    /// writer has failed, the commands are done, and nothing is shown any more.
+    /// Does a line, its line feed not included, by a list of the debugger's commands, and shows what they came to. A long
+    /// `continue` shows on a terminal how many moves it has made. Where the writer has failed, the commands are done, and nothing
+    /// is shown any more.
     pub fn do_line<M: RecordedMachine, O: AnswerWriter + Drop>(
         &mut self,
         line: &[u8],
@@ -72,10 +76,11 @@ impl Prompt {
         session: &mut Session<M>,
         page: &mut Page<O>,
     ) -> Turn
-        ensures done { (s : Setting) (d : Debugger) → StandsFor M.stands session.old s d
+        ensures done { (s : Setting) (d : Debugger) → StandsFor M.stands session.old s d → s.limit ≡ self.old.most_steps
             → HasDone M.stands s (spec.commands_of (spelled self.old.kept) (held self.old.holding) s d line.now) d session.new
             × (held self.new.holding ≡ spec.held_after (spelled self.old.kept) (held self.old.holding) s d line.now) }
         ensures kept { spelled self.new.kept ≡ spec.kept_after (spelled self.old.kept) line.now }
+        ensures limit { self.new.most_steps ≡ self.old.most_steps }
     {
         let read = read_line(line);
         let is_again = read.kind == Kind::Again;
@@ -87,6 +92,7 @@ impl Prompt {
                 line
             },
             source,
+            most_steps: self.most_steps,
         };
         do_meant(
             &meant,
@@ -155,7 +161,7 @@ fn do_meant<M: RecordedMachine, O: AnswerWriter + Drop>(
     session: &mut Session<M>,
     page: &mut Page<O>,
 )
-    ensures { (s : Setting) (d : Debugger) → StandsFor M.stands session.old s d
+    ensures { (s : Setting) (d : Debugger) → StandsFor M.stands session.old s d → s.limit ≡ scene.entry.most_steps
         → HasDone M.stands s (spec.commands_by line.now.kind s d (held holding.old) line.now.text.items) d session.new
         × (held holding.new ≡ spec.changed_by line.now.kind s d (held holding.old) line.now.text.items) }
 {

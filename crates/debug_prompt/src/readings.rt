@@ -98,6 +98,13 @@ pub(crate) fn made_number(answer: &Answer<'_>) -> Option<u32>
     }
 }
 
+/// Whether a goal is reached, or the end.
+pub(crate) fn is_here(answer: &Answer<'_>) -> bool
+    ensures { result ≡ given.is_here answer.now }
+{
+    matches!(answer, Answer::Here)
+}
+
 /// Whether a target is shown.
 pub(crate) fn is_shown(answer: &Answer<'_>) -> bool
     ensures { result ≡ given.is_shown answer.now }

@@ -4,24 +4,26 @@ ghost use Rattle.gang_model.specs.Debugger.Debugger.{Debugger, Setting, do_comma
 ghost use Rattle.gang_model.specs.Texts.CommandText.{command_of};
 ghost use Rattle.command_lists.specs.Lists.{HasDone};
 ghost use Rattle.debug_commands.specs.Views.{command_view};
-ghost use Rattle.debug_session.specs.Sessions.{StandsFor};
+ghost use Rattle.debug_session.specs.Sessions.{RepliesTo, StandsFor};
 ghost use Rattle.debug_prompt.specs.Doing as spec;
 ghost use Rattle.debug_prompt.specs.Given as given;
 ghost use Rattle.debug_prompt.specs.Holding.{entry_of, held};
 
 use crate::holding::{Displayed, Holding};
+use crate::pieces::go_on;
 use crate::readings::{is_move, is_refusal, print_of, stopped_number};
 use debug_answers::Answer;
 use debug_commands::Command;
-use debug_machine::{AnswerWriter, RecordedMachine};
 use debug_session::Session;
+use debug_traits::{AnswerWriter, RecordedMachine};
 use prompt_texts::{Before, Page, Source, tell, tell_move};
 
-/// The line that is done, as it was typed, and the source that is shown.
+/// The line that is done, as it was typed, the source that is shown, and the most moves of one forward command.
 #[derive(Clone, Copy)]
 pub(crate) struct Scene<'a> {
     pub(crate) line: &'a [u8],
     pub(crate) source: Source<'a>,
+    pub(crate) most_steps: u32,
 }
 
 /// Does a command, and what follows a move.
@@ -32,7 +34,7 @@ pub(crate) fn do_own<M: RecordedMachine, O: AnswerWriter + Drop>(
     session: &mut Session<M>,
     page: &mut Page<O>,
 )
-    ensures { (s : Setting) (d : Debugger) → StandsFor M.stands session.old s d
+    ensures { (s : Setting) (d : Debugger) → StandsFor M.stands session.old s d → s.limit ≡ scene.entry.most_steps
         → HasDone M.stands s (spec.done_with s d (held holding.now) (command_view command.entry)) d session.new }
 {
     if is_move(command) {
@@ -65,13 +67,29 @@ fn do_move<M: RecordedMachine, O: AnswerWriter + Drop>(
     page: &mut Page<O>,
 )
     requires { spec.moves (command_view command) ≡ true }
-    ensures { (s : Setting) (d : Debugger) → StandsFor M.stands session.old s d
+    ensures { (s : Setting) (d : Debugger) → StandsFor M.stands session.old s d → s.limit ≡ scene.entry.most_steps
         → HasDone M.stands s (command_view command.entry ∷ spec.follows (held holding.now) (do_command s (command_view command.entry) d).answer) d session.new }
 {
     let before = Before::note(session.machine());
-    let answer = session.do_command(command);
+    let answer = make_moves(command, scene, session, page);
     tell_move(&answer, scene.line, &before, scene.source, session, page);
     follow(&answer, holding, scene, session, page);
+}
+
+/// Does a command that moves: `continue` by pieces.
+fn make_moves<'a, M: RecordedMachine, O: AnswerWriter + Drop>(
+    command: Command<'a>,
+    scene: Scene<'_>,
+    session: &mut Session<M>,
+    page: &mut Page<O>,
+) -> Answer<'a>
+    ensures { (s : Setting) (d : Debugger) → StandsFor M.stands session.old s d → s.limit ≡ scene.entry.most_steps
+        → RepliesTo M.stands s (command_view command.entry) d result session.new }
+{
+    match command {
+        Command::Continue => go_on(scene.most_steps, session, page),
+        other => session.do_command(other),
+    }
 }
 
 /// What follows a move: the temporary breakpoint that stopped it goes, and all that is displayed is printed.

@@ -7,8 +7,8 @@ use crate::source::Source;
 use crate::values::{put_bits, put_values};
 use debug_answers::{Answer, Stop};
 use debug_commands::Target;
-use debug_machine::{AnswerWriter, Fault, RecordedMachine, Shown};
 use debug_session::Session;
+use debug_traits::{AnswerWriter, Fault, RecordedMachine, Shown};
 use gang_types::FaultName;
 
 /// Writes what a move came to: why it ended, where the program stands with the source around it, and what changed.

@@ -2,7 +2,7 @@
 use crate::page::Page;
 use crate::values::put_value;
 use arrayvec::ArrayVec;
-use debug_machine::{AnswerWriter, NamedVariable, RecordedMachine, Shown};
+use debug_traits::{AnswerWriter, NamedVariable, RecordedMachine, Shown};
 use gang_types::VarId;
 
 /// The most lanes of a gang.

@@ -1,6 +1,6 @@
 //! What commands there are, and what each does.
 use crate::page::Page;
-use debug_machine::AnswerWriter;
+use debug_traits::AnswerWriter;
 use prompt_help::{Topic, explanation, topic_of, topics};
 
 /// The width of the column that says how commands are used.

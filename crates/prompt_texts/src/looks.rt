@@ -6,8 +6,8 @@ use crate::places::{put_around, put_line, put_mark, put_place};
 use crate::source::Source;
 use debug_answers::Stop;
 use debug_commands::Target;
-use debug_machine::{AnswerWriter, RecordedMachine, Shown};
 use debug_session::Session;
+use debug_traits::{AnswerWriter, RecordedMachine, Shown};
 use gang_types::{IntType, Rate};
 
 /// The most parameters of a function.

@@ -1,7 +1,7 @@
 //! Where a frame stands: the place, the lanes, and the source around it.
 use crate::page::Page;
 use crate::source::Source;
-use debug_machine::{AnswerWriter, Position};
+use debug_traits::{AnswerWriter, Position};
 
 /// How many lines are shown before and behind a place.
 const AROUND: u32 = 2;

@@ -2,7 +2,7 @@
 use crate::page::Page;
 use crate::places::put_caret;
 use debug_answers::Refusal;
-use debug_machine::AnswerWriter;
+use debug_traits::AnswerWriter;
 use debug_words::{Marks, is_blank, next_word};
 use prompt_help::{explanation, topic_of};
 

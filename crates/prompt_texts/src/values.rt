@@ -1,6 +1,6 @@
 //! The values of a variable.
 use crate::page::Page;
-use debug_machine::{AnswerWriter, RecordedMachine, Shown};
+use debug_traits::{AnswerWriter, RecordedMachine, Shown};
 use gang_types::{IntType, value, width};
 
 /// Writes a blank and the value of a word.

@@ -7,6 +7,7 @@ use crate::files::read_texts;
 use crate::refusing::{Texts, refuse, refuse_arguments, refuse_words};
 use debug_prompt::{Prompt, Turn};
 use debug_streams::StreamWriter;
+use debug_traits::AnswerWriter;
 use ispc_debugger::{ProgramSession, open_session};
 use ispc_options::{Options, Paths, Width, read_options};
 use ispc_refusals::Refusal;
@@ -55,21 +56,41 @@ fn debug_wide<const W: usize>(rt: &HostRuntime, texts: Texts<'_>, options: &Opti
 {
     match open_session::<W>(rt.alloc(), texts.source.text, texts.input.text, options) {
         Err(refusal) => refuse(rt, &refusal, Some(texts)),
-        Ok(mut session) => talk::<W>(rt, texts.source, &mut session),
+        Ok(mut session) => talk::<W>(rt, texts.source, options.steps, &mut session),
     }
 }
 
-/// Does the lines of standard input, up to one that quits or the end. What is shown goes out line by line.
+/// Talks on standard output: on a terminal at once, and with the progress of a long `continue`; else line by line.
 fn talk<const W: usize>(
     rt: &HostRuntime,
     source: Source<'_>,
+    most_steps: u32,
     session: &mut ProgramSession<W>,
 ) -> ExitCode {
-    let Ok(lines) = LineWriter::new(rt.alloc(), rt.stdout()) else {
-        return refuse(rt, &Refusal::Memory, None);
-    };
-    let mut page = Page::new(StreamWriter::new(lines));
-    let mut prompt = Prompt::new();
+    let prompt = Prompt::new(most_steps);
+    if rt.stdout().is_terminal() {
+        let page = Page::on_terminal(StreamWriter::new(rt.stdout()));
+        return talk_on::<W, _>(rt, source, prompt, session, page);
+    }
+    match LineWriter::new(rt.alloc(), rt.stdout()) {
+        Err(_) => refuse(rt, &Refusal::Memory, None),
+        Ok(lines) => {
+            let page = Page::new(StreamWriter::new(lines));
+            talk_on::<W, _>(rt, source, prompt, session, page)
+        }
+    }
+}
+
+/// Does the lines of standard input, up to one that quits or the end.
+fn talk_on<const W: usize, O: AnswerWriter + Drop>(
+    rt: &HostRuntime,
+    source: Source<'_>,
+    prompt: Prompt,
+    session: &mut ProgramSession<W>,
+    page: Page<O>,
+) -> ExitCode {
+    let mut prompt = prompt;
+    let mut page = page;
     let mut line = Vec::new(rt.alloc());
     let mut reader = rt.reader();
     let is_asked = rt.stdin().is_terminal();
