@@ -1,6 +1,6 @@
 //! Elements of arrays, with values worked out by hand.
 use crate::trees::{Memory, binary, choice, element, read, value_of};
-use expression_machine::Stop;
+use expression_runs::Stop;
 use gang_types::{BinaryOp, FaultName, IntType, VarId, wrap};
 use std::alloc::{AllocError, Global};
 use typed_tree::Expr;

@@ -1,6 +1,6 @@
 //! Scalar expressions, with values worked out by hand.
 use crate::trees::{Memory, binary, choice, read, value_of};
-use expression_machine::Stop;
+use expression_runs::Stop;
 use gang_types::{BinaryOp, FaultName};
 use std::alloc::{AllocError, Global};
 use typed_tree::Expr;

@@ -1,6 +1,6 @@
 //! The library's calls with lanes 1 and 3 active, with values worked out by hand.
 use crate::trees::{Memory, binary, read, reduce, scan, value_of};
-use expression_machine::Stop;
+use expression_runs::Stop;
 use gang_types::{BinaryOp, FaultName, IntType, wrap};
 use std::alloc::{AllocError, Global};
 use typed_tree::{Expr, OneCall, Reduction, Scan, TwoCall};

@@ -1,6 +1,6 @@
 //! Expressions of as many operators, calls and indexings as one may have, of each kind, with values worked out by hand.
 use crate::trees::{Memory, binary, choice, element, read, reduce, scan, value_of};
-use expression_machine::Stop;
+use expression_runs::Stop;
 use gang_types::{BinaryOp, IntType, UnaryOp, VarId};
 use std::alloc::{AllocError, Global};
 use typed_tree::{Expr, OneCall, Reduction, Scan, TwoCall};

@@ -3,7 +3,7 @@ ghost use Rattle.gang_types.specs.Masks.{IsGangWidth};
 
 use expression_code::compile;
 use expression_instructions::Words;
-use expression_machine::{Stacks, Stop, evaluate};
+use expression_runs::{Stacks, Stop, evaluate};
 use gang_types::{BinaryOp, FaultName, IntType, Mask, Rate, VarId};
 use std::alloc::{AllocError, Global};
 use typed_tree::{Expr, Reduction, Scan, Var};

@@ -2,8 +2,8 @@
 use crate::still_machine::{ARRAY, Standing, StillMachine};
 use debug_answers::{Answer, NumberedStop, Refusal, Stop};
 use debug_commands::Target;
-use debug_machine::Fault;
 use debug_texts::write_answer;
+use debug_traits::Fault;
 use gang_types::FaultName;
 use tests_devices::PieceWriter;
 

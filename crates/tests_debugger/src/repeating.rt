@@ -2,7 +2,7 @@
 ghost use Rattle.std.specs.Prelude.{◌≡◌, false};
 ghost use Rattle.transcript.specs.Lines.{fails};
 
-use debug_machine::AnswerWriter;
+use debug_traits::AnswerWriter;
 use transcript::{LineDebugger, Turn};
 
 /// Answers each line by the line itself and a `;`, and counts the lines. It stands for no debugger of the definitions.

@@ -2,8 +2,8 @@
 use crate::two_frames::TwoFrames;
 use debug_answers::{Answer, Refusal};
 use debug_commands::{Command, Target};
-use debug_machine::RecordedMachine;
 use debug_session::Session;
+use debug_traits::RecordedMachine;
 use std::process::Abort;
 use std::test::Fail;
 

@@ -1,5 +1,5 @@
 //! A machine that stands still.
-use debug_machine::{NamedVariable, NextLocal, Position, RecordedMachine, Shown, StepEnd};
+use debug_traits::{Moves, NamedVariable, NextLocal, Position, RecordedMachine, Shown, StepEnd};
 use gang_types::{IntType, Mask, Place, Rate, VarId};
 use std::alloc::AllocError;
 use undo_log::{NoHistory, Undone};
@@ -40,6 +40,7 @@ pub enum Standing {
 pub struct StillMachine {
     at: Standing,
     has_poke: bool,
+    moves: Moves,
 }
 
 impl StillMachine {
@@ -47,6 +48,7 @@ impl StillMachine {
         StillMachine {
             at,
             has_poke: false,
+            moves: Moves::none(),
         }
     }
 
@@ -68,15 +70,19 @@ impl RecordedMachine for StillMachine {
 
     ghost history = { λ m. record { words = []; past = (if m.has_poke then (moment Poke [] ∷ []) else []); limit = 1; room = 0 } };
 
+    ghost moves = { λ m. m.moves.count };
+
     ghost locals_from = { λ _ _ _ _. [] };
 
     ghost parameters_from = { λ _ _ _ _. [] };
 
     fn step(&mut self) -> StepEnd {
+        self.moves.count_one();
         StepEnd::Ended
     }
 
     fn undo(&mut self) -> Result<Undone, NoHistory> {
+        self.moves.count_one();
         if !self.has_poke {
             return Err(NoHistory);
         }

@@ -1,7 +1,9 @@
 //! A machine of two functions, with an array, a constant and an index variable.
 ghost use Rattle.std.specs.Prelude.{◌≡◌, ◌≤◌, ◌<◌, ◌^◌, ◌-◌, IfSome, length};
 
-use debug_machine::{Fault, NamedVariable, NextLocal, Position, RecordedMachine, Shown, StepEnd};
+use debug_traits::{
+    Fault, Moves, NamedVariable, NextLocal, Position, RecordedMachine, Shown, StepEnd,
+};
 use gang_types::{FaultName, IntType, Mask, Place, Rate, VarId};
 use std::alloc::{AllocError, Global};
 use undo_log::{NoHistory, SnapshotRing, Timeline, Undone};
@@ -15,6 +17,7 @@ pub struct TwoFrames {
     faulty: Option<u64>,
     /// It finds no memory for more events than so many.
     most: usize,
+    moves: Moves,
     ghost sized: { length words.words ≡ 14 },
     ghost roomy: { words.room ≡ 2 ^ 64 - 1 },
 }
@@ -30,6 +33,7 @@ impl TwoFrames {
             words,
             faulty,
             most: 65_536,
+            moves: Moves::none(),
         })
     }
 
@@ -115,11 +119,14 @@ impl RecordedMachine for TwoFrames {
 
     ghost history = { λ m. m.words };
 
+    ghost moves = { λ m. m.moves.count };
+
     ghost locals_from = { λ _ _ _ _. [] };
 
     ghost parameters_from = { λ _ _ _ _. [] };
 
     fn step(&mut self) -> StepEnd {
+        self.moves.count_one();
         let at = self.words.word(0);
         if at >= 8 {
             return StepEnd::Ended;
@@ -141,6 +148,7 @@ impl RecordedMachine for TwoFrames {
     }
 
     fn undo(&mut self) -> Result<Undone, NoHistory> {
+        self.moves.count_one();
         match self.words.back() {
             Ok(back) => Ok(back.event),
             Err(none) => Err(none),

@@ -1,7 +1,7 @@
 //! Readers of known bytes, which give few at a time, or fail, or never end.
 ghost use Rattle.std.specs.Prelude.{◌≡◌, ◌≤◌, ◌<◌, Some, None, false};
 
-use debug_machine::{CommandReader, ReadFault};
+use debug_traits::{CommandReader, ReadFault};
 
 /// Gives some bytes, at most so many at a time, and fails once so many were given.
 #[derive(Drop)]

@@ -2,7 +2,7 @@
 ghost use Rattle.std.specs.Prelude.{◌≡◌, Some, [], false};
 
 use arrayvec::ArrayVec;
-use debug_machine::{AnswerWriter, WriteFault};
+use debug_traits::{AnswerWriter, WriteFault};
 
 /// Keeps what is written, at most so many bytes a call, and takes none past its room.
 #[derive(Drop)]

@@ -1,67 +1,58 @@
 //! What a line and a value may look like.
-use crate::read::{is_row, rows};
-use debug_inputs::InputFault;
+use crate::read::{Fault, is_refused, is_row, rows};
+use crate::told::holds;
 use gang_types::VarId;
-use std::alloc::Global;
-use std::test::*;
 
 const SOURCE: &[u8] = b"export void go(uniform int n) { }";
 
-/// Whether the input gives n this word and nothing else.
-fn gives(alloc: Global, input: &[u8], word: u64) -> bool {
-    is_row(&rows(alloc, SOURCE, input), VarId::Local(0), &[word])
-}
-
-fn is_bad(alloc: Global, input: &[u8], line: u32) -> bool {
-    matches!(&rows(alloc, SOURCE, input), Err(InputFault::BadLine(bad)) if *bad == line)
-}
-
-#[test]
-fn blanks_stand_anywhere_between_words(rt: HostRuntime) {
-    assert!(rt; gives(rt.alloc(), b"n=7", 7));
-    assert!(rt; gives(rt.alloc(), b" \t n \t= 7 \t ", 7));
-    assert!(rt; gives(rt.alloc(), b"n = 7\r\n\r\n", 7));
-    assert!(rt; gives(rt.alloc(), b"\n\n  \t\n# n = 1\n#\nn = 7", 7));
-}
+// Inputs that give n a word and nothing else: blanks anywhere between the words, and values in their spellings.
+const GIVEN: &[(&str, u64)] = &[
+    ("n=7", 7),
+    (" \t n \t= 7 \t ", 7),
+    ("n = 7\r\n\r\n", 7),
+    ("\n\n  \t\n# n = 1\n#\nn = 7", 7),
+    ("n = 0x7fFFffff", 2_147_483_647),
+    ("n = -1", u64::MAX),
+    ("n = -0", 0),
+    ("n = 007", 7),
+    ("n = 000000000000000000000000000000000000000012", 12),
+    ("n = true", 1),
+    ("n = false", 0),
+];
 
 #[test]
-fn lines_that_are_no_rows(rt: HostRuntime) {
-    assert!(rt; is_bad(rt.alloc(), b"n", 1));
-    assert!(rt; is_bad(rt.alloc(), b"n 7", 1));
-    assert!(rt; is_bad(rt.alloc(), b"n =", 1));
-    assert!(rt; is_bad(rt.alloc(), b"n = 7 7", 1));
-    assert!(rt; is_bad(rt.alloc(), b"= 7", 1));
-    assert!(rt; is_bad(rt.alloc(), b"n == 7", 1));
-    assert!(rt; is_bad(rt.alloc(), b"\n # n = 7", 2));
+fn lines_and_values_in_their_spellings(rt: HostRuntime) {
+    for &(input, word) in GIVEN {
+        let found = rows(rt.alloc(), SOURCE, input.as_bytes());
+        holds(&rt, is_row(&found, VarId::Local(0), &[word]), input);
+    }
 }
 
-#[test]
-fn values_in_their_spellings(rt: HostRuntime) {
-    assert!(rt; gives(rt.alloc(), b"n = 0x7fFFffff", 2_147_483_647));
-    assert!(rt; gives(rt.alloc(), b"n = -1", u64::MAX));
-    assert!(rt; gives(rt.alloc(), b"n = -0", 0));
-    assert!(rt; gives(rt.alloc(), b"n = 007", 7));
-    assert!(rt;
-        gives(
-            rt.alloc(),
-            b"n = 000000000000000000000000000000000000000012",
-            12
-        )
-    );
-    assert!(rt; gives(rt.alloc(), b"n = true", 1));
-    assert!(rt; gives(rt.alloc(), b"n = false", 0));
-}
+// Inputs with the line that is no row, or has a word that is no value.
+const BAD: &[(&str, u32)] = &[
+    ("n", 1),
+    ("n 7", 1),
+    ("n =", 1),
+    ("n = 7 7", 1),
+    ("= 7", 1),
+    ("n == 7", 1),
+    ("\n # n = 7", 2),
+    ("n = -0x1", 1),
+    ("n = 0X1", 1),
+    ("n = 0x", 1),
+    ("n = 0xg", 1),
+    ("n = -", 1),
+    ("n = - 1", 1),
+    ("n = --1", 1),
+    ("n = +1", 1),
+    ("n = 1a", 1),
+    ("n = True", 1),
+];
 
 #[test]
-fn words_that_are_no_values(rt: HostRuntime) {
-    assert!(rt; is_bad(rt.alloc(), b"n = -0x1", 1));
-    assert!(rt; is_bad(rt.alloc(), b"n = 0X1", 1));
-    assert!(rt; is_bad(rt.alloc(), b"n = 0x", 1));
-    assert!(rt; is_bad(rt.alloc(), b"n = 0xg", 1));
-    assert!(rt; is_bad(rt.alloc(), b"n = -", 1));
-    assert!(rt; is_bad(rt.alloc(), b"n = - 1", 1));
-    assert!(rt; is_bad(rt.alloc(), b"n = --1", 1));
-    assert!(rt; is_bad(rt.alloc(), b"n = +1", 1));
-    assert!(rt; is_bad(rt.alloc(), b"n = 1a", 1));
-    assert!(rt; is_bad(rt.alloc(), b"n = True", 1));
+fn lines_that_are_no_rows_and_words_that_are_no_values(rt: HostRuntime) {
+    for &(input, line) in BAD {
+        let is_so = is_refused(rt.alloc(), SOURCE, input.as_bytes(), Fault::BadLine(line));
+        holds(&rt, is_so, input);
+    }
 }

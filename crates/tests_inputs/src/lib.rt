@@ -10,4 +10,6 @@ mod read;
 #[cfg(test)]
 mod sizes;
 #[cfg(test)]
+mod told;
+#[cfg(test)]
 mod types;

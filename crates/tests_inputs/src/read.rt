@@ -42,3 +42,23 @@ pub(crate) fn has_row(rows: &[InputRow], number: usize, var: VarId, words: &[u64
         None => false,
     }
 }
+
+/// Why an input is refused, with what is wanting lent.
+#[derive(Clone, Copy)]
+pub(crate) enum Fault<'a> {
+    BadLine(u32),
+    Range(u32),
+    TooLarge(Option<u32>),
+    Missing(&'a [u8]),
+}
+
+/// Whether an input of the source is refused so.
+pub(crate) fn is_refused(alloc: Global, source: &[u8], input: &[u8], wanted: Fault<'_>) -> bool {
+    match (&rows(alloc, source, input), wanted) {
+        (Err(InputFault::BadLine(line)), Fault::BadLine(wanted)) => *line == wanted,
+        (Err(InputFault::Range(line)), Fault::Range(wanted)) => *line == wanted,
+        (Err(InputFault::TooLarge(line)), Fault::TooLarge(wanted)) => *line == wanted,
+        (Err(InputFault::Missing(name)), Fault::Missing(wanted)) => name.as_slice() == wanted,
+        _ => false,
+    }
+}

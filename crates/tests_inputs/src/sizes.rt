@@ -1,8 +1,7 @@
 //! An input at the limit of its size and past it.
-use crate::read::rows;
-use debug_inputs::InputFault;
+use crate::read::{Fault, is_refused};
+use crate::told::holds;
 use std::alloc::{AllocError, Global};
-use std::test::*;
 
 const SOURCE: &[u8] = b"export void go() { }";
 
@@ -19,14 +18,11 @@ fn blank_lines(alloc: Global, doublings: usize) -> Result<Vec<u8>, AllocError> {
 #[test]
 fn an_input_has_at_most_4_194_304_bytes(rt: HostRuntime) -> Result<(), AllocError> {
     let mut input = blank_lines(rt.alloc(), 22)?;
-    assert_eq!(rt; input.len(), 4_194_304);
+    holds(&rt, input.len() == 4_194_304, "the most bytes");
     input.push(b'x')?;
-    assert!(rt;
-        matches!(
-            &rows(rt.alloc(), SOURCE, &input),
-            Err(InputFault::TooLarge(None))
-        )
-    );
+    let fault = Fault::TooLarge(None);
+    let is_so = is_refused(rt.alloc(), SOURCE, &input, fault);
+    holds(&rt, is_so, "the fault of the last byte");
     Ok(())
 }
 
@@ -34,11 +30,8 @@ fn an_input_has_at_most_4_194_304_bytes(rt: HostRuntime) -> Result<(), AllocErro
 fn the_last_line_of_many_is_numbered(rt: HostRuntime) -> Result<(), AllocError> {
     let mut input = blank_lines(rt.alloc(), 10)?;
     input.push(b'x')?;
-    assert!(rt;
-        matches!(
-            &rows(rt.alloc(), SOURCE, &input),
-            Err(InputFault::BadLine(1_025))
-        )
-    );
+    let fault = Fault::BadLine(1_025);
+    let is_so = is_refused(rt.alloc(), SOURCE, &input, fault);
+    holds(&rt, is_so, "the fault of the last byte");
     Ok(())
 }

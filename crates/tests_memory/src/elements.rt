@@ -3,6 +3,7 @@ ghost use Rattle.std.specs.Prelude.{◌≤◌};
 ghost use Rattle.gang_types.specs.Masks.{IsGangWidth};
 
 use crate::plain;
+use crate::told::holds_by_mask;
 use gang_memory::{Part, gather, scatter};
 use gang_types::Mask;
 use std::alloc::{AllocError, Global};
@@ -39,23 +40,17 @@ fn same_at<const W: usize>(
     let loaded = gather(&store, part, mask, indices);
     let stored = scatter(&mut store, part, mask, indices, plain::values());
     if let Some(fault) = plain::missing(lanes, indices, len) {
-        assert!(rt; loaded == Err(fault), "loaded by mask {word} of {len}");
-        assert!(rt; stored == Err(fault), "stored by mask {word} of {len}");
-        assert!(rt;
-            store.as_slice() == plain::words_before().as_slice(),
-            "mask {word} of {len}"
-        );
+        holds_by_mask(rt, loaded == Err(fault), "the load's fault", word, len);
+        holds_by_mask(rt, stored == Err(fault), "the store's fault", word, len);
+        let is_kept = store.as_slice() == plain::words_before().as_slice();
+        holds_by_mask(rt, is_kept, "words kept", word, len);
     } else {
+        let wanted = plain::loaded(lanes, indices, len);
+        holds_by_mask(rt, loaded == Ok(wanted), "words loaded", word, len);
+        holds_by_mask(rt, stored == Ok(()), "the store", word, len);
         let words = plain::stored(lanes, indices, len);
-        assert!(rt;
-            loaded == Ok(plain::loaded(lanes, indices, len)),
-            "mask {word} of {len}"
-        );
-        assert!(rt; stored == Ok(()), "stored by mask {word} of {len}");
-        assert!(rt;
-            store.as_slice() == words.as_slice(),
-            "words after mask {word} of {len}"
-        );
+        let is_stored = store.as_slice() == words.as_slice();
+        holds_by_mask(rt, is_stored, "words stored", word, len);
     }
     Ok(())
 }

@@ -1,13 +1,14 @@
 //! The ends of the index types, and words that would name an element if they were cut: an index is a whole number of its
 //! type, and is compared with the length before it is cut.
 
+use crate::told::holds_at_index;
 use gang_memory::{Part, gather, part_from, scatter};
 use gang_types::{FaultName, IntType, Mask, wrap};
 use std::alloc::{AllocError, Global};
 use std::process::Abort;
 
 // Indices: a type, a value of it, and that value modulo 2 ^ 64, which is its word.
-const INDICES: [(IntType, i128, u64); 27] = [
+const INDICES: &[(IntType, i128, u64)] = &[
     (IntType::Int8, 127, 0x7f),
     (IntType::Int8, -1, 0xffff_ffff_ffff_ffff),
     (IntType::Int8, -128, 0xffff_ffff_ffff_ff80),
@@ -62,7 +63,7 @@ const INDICES: [(IntType, i128, u64); 27] = [
 ];
 
 // Lengths on both sides of each index that an array of such a length has.
-const LENGTHS: [usize; 14] = [
+const LENGTHS: &[usize] = &[
     0, 1, 2, 127, 128, 255, 256, 257, 32_767, 32_768, 65_535, 65_536, 65_537, 65_538,
 ];
 
@@ -97,19 +98,14 @@ fn elements_at(rt: &impl Abort, store: &mut Vec<u64>, len: usize, value: i128, w
     if 0 <= value && value < len as i128 {
         let slot = 1 + value as usize;
         let old = 1000 + slot as u64;
-        assert!(rt; loaded == Ok([0, old, 0, old]), "load at {value} of {len}");
-        assert!(rt; stored == Ok(()), "store at {value} of {len}");
-        assert!(rt; store[slot] == 4, "store at {value} of {len}");
+        holds_at_index(rt, loaded == Ok([0, old, 0, old]), "load", value, len);
+        holds_at_index(rt, stored == Ok(()), "store", value, len);
+        holds_at_index(rt, store[slot] == 4, "stored word", value, len);
         store[slot] = old;
     } else {
-        assert!(rt;
-            loaded == Err((1, FaultName::Index)),
-            "load at {value} of {len}"
-        );
-        assert!(rt;
-            stored == Err((1, FaultName::Index)),
-            "store at {value} of {len}"
-        );
+        let fault = (1, FaultName::Index);
+        holds_at_index(rt, loaded == Err(fault), "fault of a load", value, len);
+        holds_at_index(rt, stored == Err(fault), "fault of a store", value, len);
     }
 }
 
@@ -125,38 +121,36 @@ fn part_at(rt: &impl Abort, len: usize, value: i128, word: u64) {
             first: 1 + passed,
             len: len - passed,
         };
-        assert!(rt; part == Ok(rest), "part at {value} of {len}");
+        holds_at_index(rt, part == Ok(rest), "part", value, len);
     } else {
-        assert!(rt;
-            part == Err((1, FaultName::Index)),
-            "part at {value} of {len}"
-        );
+        let fault = (1, FaultName::Index);
+        holds_at_index(rt, part == Err(fault), "fault of a part", value, len);
     }
 }
 
 #[test]
 fn a_value_of_a_narrow_type_has_all_bits_of_its_sign(rt: HostRuntime) {
-    for (value_type, value, word) in INDICES {
-        assert!(&rt; wrap(value_type, value) == word, "the word of {value}");
+    for &(value_type, value, word) in INDICES {
+        holds_at_index(&rt, wrap(value_type, value) == word, "word", value, 0);
     }
 }
 
 #[test]
 fn an_index_names_the_element_of_its_value_or_none(rt: HostRuntime) -> Result<(), AllocError> {
     let mut store = words(rt.alloc())?;
-    for len in LENGTHS {
-        for (_, value, word) in INDICES {
+    for &len in LENGTHS {
+        for &(_, value, word) in INDICES {
             elements_at(&rt, &mut store, len, value, word);
         }
-        assert!(&rt; is_as_before(&store), "other words after a length of {len}");
+        holds_at_index(&rt, is_as_before(&store), "other words", 0, len);
     }
     Ok(())
 }
 
 #[test]
 fn a_part_begins_at_the_value_of_its_index_or_nowhere(rt: HostRuntime) {
-    for len in LENGTHS {
-        for (_, value, word) in INDICES {
+    for &len in LENGTHS {
+        for &(_, value, word) in INDICES {
             part_at(&rt, len, value, word);
         }
     }

@@ -1,9 +1,11 @@
 //! Where the words of a program lie, worked out by hand.
 
+use crate::told::holds;
 use gang_memory::{Layout, Part};
 use gang_types::{IntType, Rate, VarId};
 use ispc_names_table::StepScopes;
 use std::alloc::{AllocError, Global as Memory};
+use std::process::Abort;
 use typed_tree::{Function, Global, Program, Variable};
 
 fn variable(alloc: Memory, id: VarId, rate: Rate, is_array: bool) -> Result<Variable, AllocError> {
@@ -45,22 +47,22 @@ fn function(alloc: Memory, count: usize) -> Result<Function, AllocError> {
     })
 }
 
-// A uniform variable, a varying one and an array of three elements; functions with two, three and no variables.
+// A uniform variable, a varying one and an array of three elements.
+const GLOBALS: &[(Rate, u64)] = &[(Rate::Uniform, 0), (Rate::Varying, 0), (Rate::Uniform, 3)];
+
+// How many variables each function has.
+const VARIABLES: &[usize] = &[2, 3, 0];
+
+// A program of these globals and functions.
 fn program(alloc: Memory) -> Result<Program, AllocError> {
-    let globals = [
-        global(alloc, 0, Rate::Uniform, 0)?,
-        global(alloc, 1, Rate::Varying, 0)?,
-        global(alloc, 2, Rate::Uniform, 3)?,
-    ];
-    let functions = [
-        function(alloc, 2)?,
-        function(alloc, 3)?,
-        function(alloc, 0)?,
-    ];
-    Ok(Program {
-        functions: Vec::from_array(alloc, functions)?,
-        globals: Vec::from_array(alloc, globals)?,
-    })
+    let mut program = empty_program(alloc);
+    for (number, &(rate, length)) in GLOBALS.iter().enumerate() {
+        program.globals.push(global(alloc, number, rate, length)?)?;
+    }
+    for &count in VARIABLES {
+        program.functions.push(function(alloc, count)?)?;
+    }
+    Ok(program)
 }
 
 fn empty_program(alloc: Memory) -> Program {
@@ -74,23 +76,52 @@ fn part(first: usize, len: usize) -> Part {
     Part { first, len }
 }
 
+// Whether these are the parts that are wanted.
+fn are(rt: &impl Abort, found: &[Part], wanted: &[Part], what: &str) {
+    holds(rt, found == wanted, what);
+}
+
 #[test]
 fn ranges_lie_one_behind_the_other(rt: HostRuntime) -> Result<(), AllocError> {
     let program = program(rt.alloc())?;
     let layout = Layout::plan::<4>(rt.alloc(), &program, &[5, 0], &[2], &[1, 6])?;
     let file = [part(0, 1), part(1, 4), part(5, 3)];
-    assert!(&rt; layout.file.as_slice() == file.as_slice());
-    assert!(&rt; layout.entry.as_slice() == [part(8, 5), part(13, 0)].as_slice());
-    assert!(&rt; layout.machine.as_slice() == [part(13, 2)].as_slice());
+    are(&rt, &layout.file, &file, "the file's variables");
+    are(
+        &rt,
+        &layout.entry,
+        &[part(8, 5), part(13, 0)],
+        "the entry's arrays",
+    );
+    are(&rt, &layout.machine, &[part(13, 2)], "the machine's words");
+    holds(
+        &rt,
+        layout.words == 15 + 64 * 19,
+        "how many words there are",
+    );
     // A frame has 7 words for its head and 4 for each of 3 variables.
     let frames = &layout.frames;
-    assert!(&rt; frames.first == 15 && frames.count == 64);
-    assert!(&rt; frames.variables == 3 && frames.head.len() == 2);
-    assert!(&rt; layout.words == 15 + 64 * 19);
-    assert!(&rt; frames.head::<4>(0, 0) == part(15, 1));
-    assert!(&rt; frames.head::<4>(2, 1) == part(15 + 2 * 19 + 1, 6));
-    assert!(&rt; frames.variable::<4>(0, 0) == part(22, 4));
-    assert!(&rt; frames.variable::<4>(63, 2) == part(layout.words - 4, 4));
+    holds(
+        &rt,
+        frames.first == 15 && frames.count == 64,
+        "where frames lie",
+    );
+    holds(&rt, frames.variables == 3, "how many variables a frame has");
+    holds(&rt, frames.head.len() == 2, "how many parts a head has");
+    let heads = [frames.head::<4>(0, 0), frames.head::<4>(2, 1)];
+    are(
+        &rt,
+        &heads,
+        &[part(15, 1), part(15 + 2 * 19 + 1, 6)],
+        "heads",
+    );
+    let variables = [frames.variable::<4>(0, 0), frames.variable::<4>(63, 2)];
+    are(
+        &rt,
+        &variables,
+        &[part(22, 4), part(layout.words - 4, 4)],
+        "variables",
+    );
     Ok(())
 }
 
@@ -99,22 +130,51 @@ fn a_wider_gang_has_more_words_for_each_variable(rt: HostRuntime) -> Result<(), 
     let program = program(rt.alloc())?;
     let layout = Layout::plan::<16>(rt.alloc(), &program, &[], &[], &[])?;
     let file = [part(0, 1), part(1, 16), part(17, 3)];
-    assert!(&rt; layout.file.as_slice() == file.as_slice());
-    assert!(&rt; layout.words == 20 + 64 * 48);
+    are(&rt, &layout.file, &file, "the file's variables");
+    holds(
+        &rt,
+        layout.words == 20 + 64 * 48,
+        "how many words there are",
+    );
     Ok(())
 }
 
+// How many words a program without functions and globals has, or none where memory is short.
+fn words(alloc: Memory, entry: &[usize], machine: &[usize], head: &[usize]) -> Option<usize> {
+    match Layout::plan::<4>(alloc, &empty_program(alloc), entry, machine, head) {
+        Ok(layout) => Some(layout.words),
+        Err(_) => None,
+    }
+}
+
 #[test]
-fn more_words_than_a_usize_counts_are_out_of_memory(rt: HostRuntime) -> Result<(), AllocError> {
-    let program = empty_program(rt.alloc());
+fn more_words_than_a_usize_counts_are_out_of_memory(rt: HostRuntime) {
+    let alloc = rt.alloc();
     let most = usize::MAX;
-    let whole = Layout::plan::<4>(rt.alloc(), &program, &[most], &[], &[])?;
-    assert!(&rt; whole.words == most);
-    assert!(&rt; Layout::plan::<4>(rt.alloc(), &program, &[most, 1], &[], &[]).is_err());
-    assert!(&rt; Layout::plan::<4>(rt.alloc(), &program, &[most], &[1], &[]).is_err());
-    let with_frames = Layout::plan::<4>(rt.alloc(), &program, &[most - 64], &[], &[1])?;
-    assert!(&rt; with_frames.words == most);
-    assert!(&rt; Layout::plan::<4>(rt.alloc(), &program, &[most - 63], &[], &[1]).is_err());
-    assert!(&rt; Layout::plan::<4>(rt.alloc(), &program, &[], &[], &[most / 32]).is_err());
-    Ok(())
+    holds(&rt, words(alloc, &[most], &[], &[]) == Some(most), "entry");
+    holds(
+        &rt,
+        words(alloc, &[most, 1], &[], &[]).is_none(),
+        "entry and 1",
+    );
+    holds(
+        &rt,
+        words(alloc, &[most], &[1], &[]).is_none(),
+        "machine's word",
+    );
+    holds(
+        &rt,
+        words(alloc, &[most - 64], &[], &[1]) == Some(most),
+        "heads",
+    );
+    holds(
+        &rt,
+        words(alloc, &[most - 63], &[], &[1]).is_none(),
+        "heads and 1",
+    );
+    holds(
+        &rt,
+        words(alloc, &[], &[], &[most / 32]).is_none(),
+        "large heads",
+    );
 }

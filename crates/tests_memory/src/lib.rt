@@ -14,4 +14,6 @@ mod plain;
 #[cfg(test)]
 mod records;
 #[cfg(test)]
+mod told;
+#[cfg(test)]
 mod worked_by_hand;

@@ -3,6 +3,7 @@ ghost use Rattle.std.specs.Prelude.{◌≤◌};
 ghost use Rattle.gang_types.specs.Masks.{IsGangWidth};
 
 use crate::plain;
+use crate::told::holds_by_mask;
 use gang_memory::{Part, packed_load, packed_store};
 use gang_types::Mask;
 use std::alloc::{AllocError, Global};
@@ -27,31 +28,20 @@ fn same_at<const W: usize>(
     let many = packed_load::<W, _>(&store, part, mask).map(|loaded| loaded.count);
     let stored = packed_store(&mut store, part, mask, plain::values::<W>());
     if let Some(fault) = plain::missing(lanes, below, len) {
-        assert!(rt; loaded == Err(fault), "loaded by mask {word} of {len}");
-        assert!(rt; many == Err(fault), "loaded by mask {word} of {len}");
-        assert!(rt; stored == Err(fault), "stored by mask {word} of {len}");
-        assert!(rt;
-            store.as_slice() == plain::words_before().as_slice(),
-            "mask {word} of {len}"
-        );
+        holds_by_mask(rt, loaded == Err(fault), "the load's fault", word, len);
+        holds_by_mask(rt, many == Err(fault), "the count's fault", word, len);
+        holds_by_mask(rt, stored == Err(fault), "the store's fault", word, len);
+        let is_kept = store.as_slice() == plain::words_before().as_slice();
+        holds_by_mask(rt, is_kept, "words kept", word, len);
     } else {
+        let wanted = plain::loaded(lanes, below, len);
+        holds_by_mask(rt, loaded == Ok(wanted), "words loaded", word, len);
+        let count = plain::count(lanes);
+        holds_by_mask(rt, many == Ok(count), "how many are loaded", word, len);
+        holds_by_mask(rt, stored == Ok(count), "how many are stored", word, len);
         let words = plain::stored(lanes, below, len);
-        assert!(rt;
-            loaded == Ok(plain::loaded(lanes, below, len)),
-            "mask {word} of {len}"
-        );
-        assert!(rt;
-            many == Ok(plain::count(lanes)),
-            "loaded by mask {word} of {len}"
-        );
-        assert!(rt;
-            stored == Ok(plain::count(lanes)),
-            "stored by mask {word} of {len}"
-        );
-        assert!(rt;
-            store.as_slice() == words.as_slice(),
-            "words after mask {word} of {len}"
-        );
+        let is_stored = store.as_slice() == words.as_slice();
+        holds_by_mask(rt, is_stored, "words stored", word, len);
     }
     Ok(())
 }

@@ -1,6 +1,7 @@
 //! Three events over three words, in each kind of record.
 ghost use Rattle.std.specs.Prelude.{◌≡◌, ◌≤◌, length};
 
+use crate::told::holds;
 use std::alloc::AllocError;
 use std::process::Abort;
 use undo_log::{Back, DeltaRing, NoHistory, SnapshotRing, Timeline, Undone};
@@ -39,8 +40,8 @@ fn goes_back<T: Timeline>(
     requires { length (T.history timeline.old).words ≡ 3 }
 {
     for (answer, words) in rows {
-        assert!(rt; timeline.back() == *answer);
-        assert!(rt; words_of(timeline) == *words);
+        holds(rt, timeline.back() == *answer, "what taking back answers");
+        holds(rt, words_of(timeline) == *words, "the words behind it");
     }
 }
 
@@ -50,8 +51,9 @@ fn forgets_past_two<T: Timeline>(rt: &impl Abort, timeline: &mut T, written: [us
     requires room { 2 ≤ (T.history timeline.old).room }
 {
     make_events(timeline);
-    assert!(rt; timeline.kept() == 2 && timeline.kept_steps() == 1);
-    assert!(rt; words_of(timeline) == [6, 9, 4]);
+    let kept = (timeline.kept(), timeline.kept_steps());
+    holds(rt, kept == (2, 1), "how many are kept");
+    holds(rt, words_of(timeline) == [6, 9, 4], "the words");
     let rows = [
         (taken_back(Undone::Step, written[0]), [6, 9, 0]),
         (taken_back(Undone::Poke, written[1]), [6, 0, 0]),
@@ -66,7 +68,8 @@ fn takes_all_back<T: Timeline>(rt: &impl Abort, timeline: &mut T, written: [usiz
     requires room { 2 ≤ (T.history timeline.old).room }
 {
     make_events(timeline);
-    assert!(rt; timeline.kept() == 3 && timeline.kept_steps() == 2);
+    let kept = (timeline.kept(), timeline.kept_steps());
+    holds(rt, kept == (3, 2), "how many are kept");
     let rows = [
         (taken_back(Undone::Step, written[0]), [6, 9, 0]),
         (taken_back(Undone::Poke, written[1]), [6, 0, 0]),
@@ -123,7 +126,8 @@ fn a_set_that_changes_nothing_is_written_back(rt: HostRuntime) -> Result<(), All
 fn the_rooms(rt: HostRuntime) -> Result<(), AllocError> {
     let snapshots = SnapshotRing::new(rt.alloc(), 3, 2)?;
     let deltas = DeltaRing::new(rt.alloc(), 3, 2, 5)?;
-    assert!(&rt; snapshots.room() == usize::MAX && deltas.room() == 5);
+    holds(&rt, snapshots.room() == usize::MAX, "room of snapshots");
+    holds(&rt, deltas.room() == 5, "room of changes");
     Ok(())
 }
 
@@ -140,11 +144,17 @@ fn changes_its_limit<T: Timeline>(
 {
     timeline.set_limit(3)?;
     make_events(timeline);
-    assert!(rt; timeline.limit() == 3 && timeline.kept() == 3);
-    assert!(rt; timeline.set_limit(smaller).is_ok());
-    assert!(rt; timeline.limit() == smaller && timeline.kept() == smaller);
+    let limited = (timeline.limit(), timeline.kept());
+    holds(rt, limited == (3, 3), "a limit of 3");
+    holds(
+        rt,
+        timeline.set_limit(smaller).is_ok(),
+        "a smaller limit is set",
+    );
+    let limited = (timeline.limit(), timeline.kept());
+    holds(rt, limited == (smaller, smaller), "a smaller limit");
     timeline.set_limit(4)?;
-    assert!(rt; timeline.kept() == smaller);
+    holds(rt, timeline.kept() == smaller, "a larger limit");
     Ok(())
 }
 

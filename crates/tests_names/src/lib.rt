@@ -13,3 +13,5 @@ mod names;
 mod resolution;
 #[cfg(test)]
 mod steps;
+#[cfg(test)]
+mod told;

@@ -1,119 +1,63 @@
-//! Limits that a tree passes.
-use gang_model::{GlobalForm, RefusalNumber, SourceRefusal, Spec};
-use gang_types::{IntType, Place};
+//! Limits that a tree passes, which is read from its source.
+use crate::told::holds;
+use gang_model::{RefusalNumber, SourceRefusal};
+use gang_types::Place;
+use ispc_lexer::{source_end, tokens};
+use ispc_parser::parse;
 use source_answers::SourceFault;
 use source_limits::limit_refusal;
-use source_tree::{Function, GlobalVariable, Item, Param, Stmt, Tree};
-use std::alloc::Global;
-use std::test::*;
+use std::alloc::{AllocError, Global};
 
-fn at(col: u32) -> Place {
-    Place { line: 1, col }
+/// The first limit that a source passes.
+fn refusal(alloc: Global, source: &[u8]) -> Result<Option<SourceRefusal>, SourceFault> {
+    let tokens = tokens(alloc, source)?;
+    let tree = parse(alloc, &tokens, source_end(source))?;
+    Ok(limit_refusal(&tree))
 }
 
-fn spec(is_exported: bool, value_type: Option<IntType>) -> Spec {
-    Spec {
-        is_exported,
-        is_static: false,
-        is_inline: false,
-        is_constant: false,
-        rate: None,
-        value_type,
-    }
-}
-
-/// A function of one parameter that declares variables at the columns 1 up to `locals`.
-fn function(
-    alloc: Global,
-    is_exported: bool,
-    name: &[u8],
-    locals: u32,
-) -> Result<Item, SourceFault> {
-    let mut params = Vec::new(alloc);
-    params.push(Param {
-        place: at(1),
-        name: b"a".to_vec(alloc)?,
-        spec: spec(false, Some(IntType::Int32)),
-        is_array: false,
-    })?;
-    let mut body = Vec::new(alloc);
-    for col in 0..locals {
-        body.push(Stmt::Declare {
-            place: at(1),
-            spec: spec(false, Some(IntType::Int32)),
-            name_place: at(col),
-            name: b"x".to_vec(alloc)?,
-            value: None,
-        })?;
-    }
-    let mut block = Vec::new(alloc);
-    block.push(Stmt::Block(body))?;
-    Ok(Item::Function(Function {
-        place: at(1),
-        name: name.to_vec(alloc)?,
-        spec: spec(is_exported, None),
-        params,
-        body: block,
-        closing: at(2),
-    }))
-}
-
-fn array(alloc: Global, col: u32, length: u64) -> Result<Item, SourceFault> {
-    Ok(Item::Global(GlobalVariable {
-        place: at(col),
-        name: b"g".to_vec(alloc)?,
-        spec: spec(false, Some(IntType::Int32)),
-        form: GlobalForm::Array(length),
-    }))
-}
-
-fn refused(col: u32) -> Option<SourceRefusal> {
-    Some(SourceRefusal {
+fn refused(line: u32, col: u32) -> Result<Option<SourceRefusal>, SourceFault> {
+    Ok(Some(SourceRefusal {
         number: RefusalNumber::S13,
-        place: at(col),
-    })
+        place: Place { line, col },
+    }))
 }
 
-fn refusal_of_two(
+/// Puts a function of one parameter behind the source. Its variables stand in a block, each in a line of its own, at column 5.
+fn add_function(source: &mut Vec<u8>, head: &[u8], locals: usize) -> Result<(), AllocError> {
+    source.extend_from_slice(head)?;
+    for _ in 0..locals {
+        source.extend_from_slice(b"int x;\n")?;
+    }
+    source.extend_from_slice(b"} }\n")
+}
+
+/// The first limit that two functions with so many variables beside their parameter pass.
+fn of_two_functions(
     alloc: Global,
-    first: Item,
-    second: Item,
+    first: usize,
+    second: usize,
 ) -> Result<Option<SourceRefusal>, SourceFault> {
-    let mut items = Vec::new(alloc);
-    items.push(first)?;
-    items.push(second)?;
-    Ok(limit_refusal(&Tree { items }))
+    let mut source = Vec::new(alloc);
+    add_function(&mut source, b"export void f(int a) { {\n", first)?;
+    add_function(&mut source, b"export void g(int a) { {\n", second)?;
+    refusal(alloc, &source)
 }
 
-/// 256 variables, of which one is a parameter; then one more, which stands at column 255.
-fn variables(alloc: Global) -> Result<bool, SourceFault> {
-    let all = refusal_of_two(
-        alloc,
-        function(alloc, true, b"f", 255)?,
-        function(alloc, true, b"g", 255)?,
-    )?;
-    let past = refusal_of_two(
-        alloc,
-        function(alloc, true, b"f", 255)?,
-        function(alloc, true, b"g", 256)?,
-    )?;
-    Ok(all.is_none() && past == refused(255))
-}
-
-/// Arrays of 2 ^ 20 words together, and of one more.
-fn words(alloc: Global) -> Result<bool, SourceFault> {
-    let all = refusal_of_two(alloc, array(alloc, 5, 1048575)?, array(alloc, 9, 1)?)?;
-    let past = refusal_of_two(alloc, array(alloc, 5, 1048575)?, array(alloc, 9, 2)?)?;
-    let largest = refusal_of_two(alloc, array(alloc, 5, 1)?, array(alloc, 9, u64::MAX)?)?;
-    Ok(all.is_none() && past == refused(9) && largest == refused(9))
-}
-
+// The first function has lines 1 to 257, and the 256th variable of the second stands in line 258 + 256.
 #[test]
 fn a_function_has_256_variables(rt: HostRuntime) {
-    assert!(rt; variables(rt.alloc()) == Ok(true));
+    let all = of_two_functions(rt.alloc(), 255, 255);
+    holds(&rt, all == Ok(None), "256 variables");
+    let past = of_two_functions(rt.alloc(), 255, 256);
+    holds(&rt, past == refused(514, 5), "257 variables");
 }
 
 #[test]
 fn arrays_have_2_to_the_20_words(rt: HostRuntime) {
-    assert!(rt; words(rt.alloc()) == Ok(true));
+    let all = refusal(rt.alloc(), b"int g[1048575];\n    int g[1];");
+    holds(&rt, all == Ok(None), "2 ^ 20 words");
+    let past = refusal(rt.alloc(), b"int g[1048575];\n    int g[2];");
+    holds(&rt, past == refused(2, 9), "a word more");
+    let largest = refusal(rt.alloc(), b"int g[1];\n    int g[18446744073709551615];");
+    holds(&rt, largest == refused(2, 9), "2 ^ 64 words");
 }

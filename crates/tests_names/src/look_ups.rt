@@ -1,4 +1,5 @@
 //! Two variables of one name, an inner one in a block, and a step in the block and one behind it.
+use crate::told::holds_at;
 use gang_types::Place;
 use ispc_names_table::{Declaration, Standing, StepScopes};
 use std::alloc::{AllocError, Global};
@@ -34,37 +35,41 @@ fn table(alloc: Global) -> Result<StepScopes, AllocError> {
     })
 }
 
+// At a step the number of a name's variable.
+const FOUND: &[(usize, &str, Option<usize>)] = &[
+    (0, "x", Some(2)),
+    (1, "x", Some(0)),
+    (0, "y", Some(1)),
+    (0, "z", None),
+    (2, "x", None),
+];
+
 #[test]
 fn the_innermost_of_a_name_is_found(rt: HostRuntime) -> Result<(), AllocError> {
     let table = table(rt.alloc())?;
-    let rows: [(usize, &[u8], Option<usize>); 5] = [
-        (0, b"x", Some(2)),
-        (1, b"x", Some(0)),
-        (0, b"y", Some(1)),
-        (0, b"z", None),
-        (2, b"x", None),
-    ];
-    for (step, name, found) in rows {
-        assert!(&rt; table.find(step, name) == found, "at step {step}");
+    for &(step, name, found) in FOUND {
+        let is_so = table.find(step, name.as_bytes()) == found;
+        holds_at(&rt, is_so, name, step);
     }
     Ok(())
 }
 
+// At a step the variable that is listed under a number.
+const LISTED: &[(usize, usize, Option<usize>)] = &[
+    (0, 0, Some(1)),
+    (0, 1, Some(2)),
+    (0, 2, None),
+    (1, 0, Some(0)),
+    (1, 1, Some(1)),
+];
+
 #[test]
 fn what_is_hidden_is_not_listed(rt: HostRuntime) -> Result<(), AllocError> {
     let table = table(rt.alloc())?;
-    let rows = [
-        (0, 0, Some(1)),
-        (0, 1, Some(2)),
-        (0, 2, None),
-        (1, 0, Some(0)),
-        (1, 1, Some(1)),
-    ];
-    for (step, number, listed) in rows {
-        assert!(&rt;
-            table.listed(step, number) == listed,
-            "{number} at step {step}"
-        );
+    for &(step, number, listed) in LISTED {
+        let is_so = table.listed(step, number) == listed;
+        let case = if step == 0 { "step 0" } else { "step 1" };
+        holds_at(&rt, is_so, case, number);
     }
     Ok(())
 }

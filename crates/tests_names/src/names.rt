@@ -1,40 +1,14 @@
 //! Scopes, and faults of names in expressions.
-use gang_model::{Infix, RefusalNumber, SourceRefusal};
-use gang_types::{BinaryOp, Place, VarId};
+use crate::told::{holds, refused};
+use gang_model::RefusalNumber::{S5, S12};
+use gang_model::{RefusalNumber, SourceRefusal};
+use gang_types::VarId;
+use ispc_lexer::{source_end, tokens};
 use ispc_names_faults::{arguments_fault, expression_fault};
 use ispc_names_scopes::{FunctionNames, Scopes, StatementCall, is_library_name, statement_call};
+use ispc_parser_expressions::{arguments, expression};
 use source_answers::SourceFault;
-use source_tree::{Arg, Expr};
 use std::alloc::Global;
-use std::test::*;
-
-fn at(col: u32) -> Place {
-    Place { line: 1, col }
-}
-
-fn refused(number: RefusalNumber, col: u32) -> Option<SourceRefusal> {
-    Some(SourceRefusal {
-        number,
-        place: at(col),
-    })
-}
-
-fn name(alloc: Global, text: &[u8], col: u32) -> Result<Expr, SourceFault> {
-    Ok(Expr::Name {
-        place: at(col),
-        name: text.to_vec(alloc)?,
-    })
-}
-
-fn call(alloc: Global, text: &[u8], arg: Expr, col: u32) -> Result<Expr, SourceFault> {
-    let mut args = Vec::new(alloc);
-    args.push(Arg::Value(arg))?;
-    Ok(Expr::Call {
-        place: at(col),
-        name: text.to_vec(alloc)?,
-        args,
-    })
-}
 
 /// A function `f` and the parameter `a`.
 fn surroundings(alloc: Global) -> Result<(FunctionNames, Scopes), SourceFault> {
@@ -63,55 +37,63 @@ fn shadowing(alloc: Global) -> Result<bool, SourceFault> {
     Ok(fresh && hidden && back && last && gone)
 }
 
-/// `a + b`, with `b` unknown at column 5.
-fn unknown(alloc: Global) -> Result<bool, SourceFault> {
-    let (functions, scopes) = surroundings(alloc)?;
-    let sum = Expr::Binary {
-        operator: Infix::Op(BinaryOp::Add),
-        left: Box::new(alloc, name(alloc, b"a", 1)?)?,
-        right: Box::new(alloc, name(alloc, b"b", 5)?)?,
-    };
-    Ok(expression_fault(&sum, &functions, &scopes) == refused(RefusalNumber::S5, 5))
-}
-
-/// `f(a)` inside an expression, `f(b)` with its fault inside, and `abs(a)` and `programIndex` without a fault.
-fn calls(alloc: Global) -> Result<bool, SourceFault> {
-    let (functions, scopes) = surroundings(alloc)?;
-    let nested = call(alloc, b"f", name(alloc, b"a", 3)?, 1)?;
-    let inside = call(alloc, b"f", name(alloc, b"b", 3)?, 1)?;
-    let library = call(alloc, b"abs", name(alloc, b"programIndex", 5)?, 1)?;
-    let mut args = Vec::new(alloc);
-    args.push(Arg::Part {
-        place: at(2),
-        name: b"c".to_vec(alloc)?,
-    })?;
-    Ok(
-        expression_fault(&nested, &functions, &scopes) == refused(RefusalNumber::S12, 1)
-            && expression_fault(&inside, &functions, &scopes) == refused(RefusalNumber::S5, 3)
-            && expression_fault(&library, &functions, &scopes).is_none()
-            && arguments_fault(&args, &functions, &scopes) == refused(RefusalNumber::S5, 2),
-    )
-}
-
 #[test]
 fn inner_declarations_hide_outer_ones(rt: HostRuntime) {
-    assert!(rt; shadowing(rt.alloc()) == Ok(true));
+    holds(&rt, shadowing(rt.alloc()) == Ok(true), "shadowing");
+}
+
+/// The fault of an expression in these surroundings.
+fn fault(alloc: Global, text: &[u8]) -> Result<Option<SourceRefusal>, SourceFault> {
+    let (functions, scopes) = surroundings(alloc)?;
+    let tokens = tokens(alloc, text)?;
+    let (expr, _) = expression(alloc, 64, &tokens, source_end(text))?;
+    Ok(expression_fault(&expr, &functions, &scopes))
+}
+
+// Expressions with the number and the column of their faults.
+const REFUSED: &[(&str, RefusalNumber, u32)] = &[
+    // A name that nothing declares.
+    ("a + b", S5, 5),
+    // A call inside an expression, and one with its fault inside.
+    ("f(a)", S12, 1),
+    ("f(b)", S5, 3),
+];
+
+#[test]
+fn faults_of_expressions(rt: HostRuntime) {
+    for &(text, number, col) in REFUSED {
+        let found = fault(rt.alloc(), text.as_bytes());
+        holds(&rt, found == Ok(Some(refused(number, col))), text);
+    }
+    let library = fault(rt.alloc(), b"abs(programIndex)");
+    holds(&rt, library == Ok(None), "abs(programIndex)");
+}
+
+/// The fault of arguments in these surroundings.
+fn fault_of_arguments(alloc: Global, text: &[u8]) -> Result<Option<SourceRefusal>, SourceFault> {
+    let (functions, scopes) = surroundings(alloc)?;
+    let tokens = tokens(alloc, text)?;
+    let (args, _) = arguments(alloc, 64, &tokens, source_end(text))?;
+    Ok(arguments_fault(&args, &functions, &scopes))
 }
 
 #[test]
-fn names_that_nothing_declares(rt: HostRuntime) {
-    assert!(rt; unknown(rt.alloc()) == Ok(true));
-}
-
-#[test]
-fn calls_inside_expressions(rt: HostRuntime) {
-    assert!(rt; calls(rt.alloc()) == Ok(true));
+fn faults_of_arguments(rt: HostRuntime) {
+    let found = fault_of_arguments(rt.alloc(), b"&c)");
+    holds(&rt, found == Ok(Some(refused(S5, 2))), "&c");
 }
 
 #[test]
 fn library_names(rt: HostRuntime) {
-    assert!(rt; is_library_name(b"reduce_add") && is_library_name(b"packmask"));
-    assert!(rt; !is_library_name(b"assert") && !is_library_name(b"reduce"));
-    assert!(rt; statement_call(b"packed_load_active") == Some(StatementCall::PackedLoad));
-    assert!(rt; statement_call(b"abs").is_none());
+    holds(&rt, is_library_name(b"reduce_add"), "reduce_add");
+    holds(&rt, is_library_name(b"packmask"), "packmask");
+    holds(&rt, !is_library_name(b"assert"), "assert");
+    holds(&rt, !is_library_name(b"reduce"), "reduce");
+    let packed = statement_call(b"packed_load_active");
+    holds(
+        &rt,
+        packed == Some(StatementCall::PackedLoad),
+        "packed_load_active",
+    );
+    holds(&rt, statement_call(b"abs").is_none(), "abs");
 }

@@ -1,6 +1,7 @@
 //! Sources with and without faults of names, and what their names stand for.
-use gang_model::{RefusalNumber, SourceRefusal};
-use gang_types::{FuncId, Place, Spot, VarId};
+use crate::told::{holds, holds_at, refused};
+use gang_model::RefusalNumber;
+use gang_types::{FuncId, Spot, VarId};
 use ispc_lexer::{source_end, tokens};
 use ispc_names::{Named, resolve};
 use ispc_parser::parse;
@@ -20,50 +21,59 @@ fn step(function: usize, number: usize) -> Spot {
     }
 }
 
+const SOURCE: &[u8] =
+    b"int g; void e() { } int x; void f(int a) { int x = a; { int g = x; a = g; } }";
+
+// At a step, or in the file, the variable of a name.
+const FOUND: &[(Option<(usize, usize)>, &str, Option<VarId>)] = &[
+    (None, "g", Some(VarId::File(0))),
+    (None, "x", Some(VarId::File(1))),
+    (None, "a", None),
+    (Some((1, 1)), "g", Some(VarId::File(0))),
+    (Some((1, 2)), "g", Some(VarId::Local(2))),
+    (Some((1, 2)), "x", Some(VarId::Local(1))),
+    (Some((0, 0)), "x", Some(VarId::File(1))),
+];
+
 #[test]
 fn names_are_found_at_steps_and_in_the_file(rt: HostRuntime) -> Result<(), SourceFault> {
-    let source = b"int g; void e() { } int x; void f(int a) { int x = a; { int g = x; a = g; } }";
-    let named = named(rt.alloc(), source)?;
-    let rows: [(Option<Spot>, &[u8], Option<VarId>); 7] = [
-        (None, b"g", Some(VarId::File(0))),
-        (None, b"x", Some(VarId::File(1))),
-        (None, b"a", None),
-        (Some(step(1, 1)), b"g", Some(VarId::File(0))),
-        (Some(step(1, 2)), b"g", Some(VarId::Local(2))),
-        (Some(step(1, 2)), b"x", Some(VarId::Local(1))),
-        (Some(step(0, 0)), b"x", Some(VarId::File(1))),
-    ];
-    for (spot, name, variable) in rows {
-        assert!(&rt; named.find(spot, name) == variable);
+    let named = named(rt.alloc(), SOURCE)?;
+    for (row, &(at, name, variable)) in FOUND.iter().enumerate() {
+        let spot = match at {
+            Some((function, number)) => Some(step(function, number)),
+            None => None,
+        };
+        let is_so = named.find(spot, name.as_bytes()) == variable;
+        holds_at(&rt, is_so, name, row);
     }
     Ok(())
 }
 
+// At a function's step the variable of a number.
+const LISTED: &[(usize, usize, usize, Option<VarId>)] = &[
+    (1, 2, 2, Some(VarId::Local(2))),
+    (1, 2, 3, None),
+    (2, 0, 0, None),
+];
+
 #[test]
 fn variables_in_scope_are_listed_at_a_step(rt: HostRuntime) -> Result<(), SourceFault> {
-    let source = b"int g; void e() { } int x; void f(int a) { int x = a; { int g = x; a = g; } }";
-    let named = named(rt.alloc(), source)?;
-    let rows = [
-        (step(1, 2), 2, Some(VarId::Local(2))),
-        (step(1, 2), 3, None),
-        (step(2, 0), 0, None),
-    ];
-    for (spot, number, variable) in rows {
-        assert!(&rt; named.scope_at(spot, number) == variable, "number {number}");
+    let named = named(rt.alloc(), SOURCE)?;
+    for &(function, at, number, variable) in LISTED {
+        let is_so = named.scope_at(step(function, at), number) == variable;
+        holds_at(&rt, is_so, "a variable in scope", number);
     }
-    assert!(&rt; named.tables().len() == 2 && named.tree().items.len() == 4);
+    let lengths = (named.tables().len(), named.tree().items.len());
+    holds(&rt, lengths == (2, 4), "tables and items");
     let (tree, tables) = named.into_parts();
-    assert!(&rt; tree.items.len() == 4 && tables.len() == 2);
+    let lengths = (tables.len(), tree.items.len());
+    holds(&rt, lengths == (2, 4), "tables and items that are given up");
     Ok(())
 }
 
 #[test]
 fn a_fault_of_names_is_refused(rt: HostRuntime) {
-    let place = Place { line: 1, col: 12 };
-    let refusal = SourceRefusal {
-        number: RefusalNumber::S5,
-        place,
-    };
     let fault = named(rt.alloc(), b"void f() { x = 1; }").err();
-    assert!(&rt; fault == Some(SourceFault::Refused(refusal)));
+    let refusal = refused(RefusalNumber::S5, 12);
+    holds(&rt, fault == Some(SourceFault::Refused(refusal)), "x = 1");
 }

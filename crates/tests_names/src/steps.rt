@@ -1,4 +1,5 @@
 //! Functions with their steps: what is listed at each, by the names of the variables.
+use crate::told::{holds, holds_at};
 use gang_types::Place;
 use ispc_lexer::{source_end, tokens};
 use ispc_names_steps::steps_of;
@@ -7,7 +8,6 @@ use ispc_parser::parse;
 use source_answers::SourceFault;
 use source_tree::Item;
 use std::alloc::Global;
-use std::process::Abort;
 
 fn steps(alloc: Global, source: &[u8]) -> Result<StepScopes, SourceFault> {
     let tokens = tokens(alloc, source)?;
@@ -30,86 +30,100 @@ fn lists(steps: &StepScopes, step: usize, numbers: &[usize]) -> bool {
     steps.listed(step, numbers.len()).is_none()
 }
 
-/// The steps of the source's function list these variables, each row those of a step.
-fn list(
-    rt: &impl Abort,
-    alloc: Global,
-    source: &[u8],
-    rows: &[(usize, &[usize])],
-) -> Result<StepScopes, SourceFault> {
-    let steps = steps(alloc, source)?;
-    for &(step, numbers) in rows {
-        assert!(rt; lists(&steps, step, numbers), "at step {step}");
+/// The steps of a function with the variables that are listed there.
+type Rows = &'static [(usize, &'static [usize])];
+
+// Sources with what is listed at the steps of their function.
+const LISTED: &[(&str, Rows)] = &[
+    // A block ends its variables.
+    (
+        BLOCKS,
+        &[
+            (0, &[0]),
+            (1, &[0, 1]),
+            (2, &[0, 2]),
+            (3, &[0, 1]),
+            (4, &[0, 1]),
+        ],
+    ),
+    // A `for` variable is in scope at test and update.
+    (LOOP, &[(0, &[]), (1, &[0]), (2, &[0]), (3, &[0]), (4, &[])]),
+    // The closing brace lists what stands before a return.
+    (
+        "void f() { int x = 1; { return; } int y = 2; }",
+        &[(2, &[0]), (3, &[0])],
+    ),
+    // Index variables are in scope in the body.
+    (INDICES, &[(0, &[]), (1, &[0, 1]), (2, &[])]),
+    // Labels and the end of a switch are no steps.
+    (
+        SWITCHES,
+        &[
+            (0, &[]),
+            (1, &[]),
+            (2, &[0]),
+            (3, &[]),
+            (4, &[]),
+            (5, &[]),
+            (6, &[1]),
+            (7, &[]),
+            (8, &[]),
+        ],
+    ),
+    // A return in a switch is seen.
+    (
+        "void f() { int x = 1; switch (x) { case 0: return; } int y = 2; }",
+        &[(1, &[0]), (2, &[0]), (3, &[0]), (4, &[0])],
+    ),
+];
+
+const BLOCKS: &str = "void f(int a) { int x = 1; { int x = 2; a = x; } a = x; }";
+
+const LOOP: &str = "void f() { for (int i = 0; i < 3; i++) { int x = i; } }";
+
+const INDICES: &str = "void f() { foreach (i = 0 ... 4, j = 0 ... 2) { int x = i; } }";
+
+const SWITCHES: &str =
+    "void f() { switch (1) { case 0: { int x = 1; x = 2; } switch (2) { case 0: ; default: break; } default: { int y = 2; y = 3; } } return; }";
+
+#[test]
+fn variables_are_listed_at_steps(rt: HostRuntime) -> Result<(), SourceFault> {
+    for &(source, rows) in LISTED {
+        let steps = steps(rt.alloc(), source.as_bytes())?;
+        for &(step, numbers) in rows {
+            holds_at(&rt, lists(&steps, step, numbers), source, step);
+        }
     }
-    Ok(steps)
+    Ok(())
 }
 
+// Sources with how many variables are declared in their function and how many steps it has.
+const COUNTS: &[(&str, usize, usize)] = &[(BLOCKS, 3, 5), (LOOP, 2, 5), (SWITCHES, 2, 9)];
+
 #[test]
-fn a_block_ends_its_variables(rt: HostRuntime) -> Result<(), SourceFault> {
-    let source = b"void f(int a) { int x = 1; { int x = 2; a = x; } a = x; }";
-    let rows: [(usize, &[usize]); 5] = [
-        (0, &[0]),
-        (1, &[0, 1]),
-        (2, &[0, 2]),
-        (3, &[0, 1]),
-        (4, &[0, 1]),
-    ];
-    let steps = list(&rt, rt.alloc(), source, &rows)?;
-    assert!(&rt; steps.declarations.len() == 3 && steps.standings.len() == 5);
+fn variables_and_steps_are_counted(rt: HostRuntime) -> Result<(), SourceFault> {
+    for &(source, declarations, standings) in COUNTS {
+        let steps = steps(rt.alloc(), source.as_bytes())?;
+        let counts = (steps.declarations.len(), steps.standings.len());
+        holds(&rt, counts == (declarations, standings), source);
+    }
     Ok(())
 }
 
 #[test]
-fn a_for_variable_is_in_scope_at_test_and_update(rt: HostRuntime) -> Result<(), SourceFault> {
-    let source = b"void f() { for (int i = 0; i < 3; i++) { int x = i; } }";
-    let rows: [(usize, &[usize]); 5] = [(0, &[]), (1, &[0]), (2, &[0]), (3, &[0]), (4, &[])];
-    let steps = list(&rt, rt.alloc(), source, &rows)?;
-    assert!(&rt; steps.standings.len() == 5);
+fn an_index_variable_is_found(rt: HostRuntime) -> Result<(), SourceFault> {
+    let steps = steps(rt.alloc(), INDICES.as_bytes())?;
+    holds(&rt, steps.find(1, b"j") == Some(1), INDICES);
     Ok(())
 }
 
 #[test]
-fn the_closing_brace_lists_what_stands_before_a_return(rt: HostRuntime) -> Result<(), SourceFault> {
-    let source = b"void f() { int x = 1; { return; } int y = 2; }";
-    let rows: [(usize, &[usize]); 2] = [(2, &[0]), (3, &[0])];
-    let _steps = list(&rt, rt.alloc(), source, &rows)?;
-    Ok(())
-}
-
-#[test]
-fn index_variables_are_in_scope_in_the_body(rt: HostRuntime) -> Result<(), SourceFault> {
-    let source = b"void f() { foreach (i = 0 ... 4, j = 0 ... 2) { int x = i; } }";
-    let rows: [(usize, &[usize]); 3] = [(0, &[]), (1, &[0, 1]), (2, &[])];
-    let steps = list(&rt, rt.alloc(), source, &rows)?;
-    assert!(&rt; steps.find(1, b"j") == Some(1));
-    Ok(())
-}
-
-#[test]
-fn labels_and_the_end_of_a_switch_are_no_steps(rt: HostRuntime) -> Result<(), SourceFault> {
-    let source =
-        b"void f() { switch (1) { case 0: { int x = 1; x = 2; } switch (2) { case 0: ; default: break; } default: { int y = 2; y = 3; } } return; }";
-    let rows: [(usize, &[usize]); 9] = [
-        (0, &[]),
-        (1, &[]),
-        (2, &[0]),
-        (3, &[]),
-        (4, &[]),
-        (5, &[]),
-        (6, &[1]),
-        (7, &[]),
-        (8, &[]),
-    ];
-    let steps = list(&rt, rt.alloc(), source, &rows)?;
-    assert!(&rt; steps.declarations.len() == 2 && steps.standings.len() == 9);
-    assert!(&rt; steps.standings[3].place == Place { line: 1, col: 55 });
-    Ok(())
-}
-
-#[test]
-fn a_return_in_a_switch_is_seen(rt: HostRuntime) -> Result<(), SourceFault> {
-    let source = b"void f() { int x = 1; switch (x) { case 0: return; } int y = 2; }";
-    let rows: [(usize, &[usize]); 4] = [(1, &[0]), (2, &[0]), (3, &[0]), (4, &[0])];
-    let _steps = list(&rt, rt.alloc(), source, &rows)?;
+fn a_step_has_its_place(rt: HostRuntime) -> Result<(), SourceFault> {
+    let steps = steps(rt.alloc(), SWITCHES.as_bytes())?;
+    let place = match steps.standings.get(3) {
+        Some(standing) => Some(standing.place),
+        None => None,
+    };
+    holds(&rt, place == Some(Place { line: 1, col: 55 }), SWITCHES);
     Ok(())
 }

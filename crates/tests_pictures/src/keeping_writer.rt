@@ -1,5 +1,5 @@
 //! A writer that keeps all that is written.
-use debug_machine::{AnswerWriter, WriteFault};
+use debug_traits::{AnswerWriter, WriteFault};
 use std::alloc::Global;
 
 /// Keeps what is written, and fails where memory does.

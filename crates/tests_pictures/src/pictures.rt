@@ -2,8 +2,8 @@
 use crate::keeping_writer::KeepingWriter;
 use crate::walking_machine::{PLACES, WalkingMachine};
 use debug_commands::Target;
-use debug_machine::Fault;
 use debug_session::Session;
+use debug_traits::Fault;
 use gang_types::FaultName;
 use lane_picture::{Form, PictureEnd, Subject, draw};
 use std::test::*;

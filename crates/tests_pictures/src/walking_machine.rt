@@ -1,5 +1,7 @@
 //! A machine that goes over some places.
-use debug_machine::{Fault, NamedVariable, NextLocal, Position, RecordedMachine, Shown, StepEnd};
+use debug_traits::{
+    Fault, Moves, NamedVariable, NextLocal, Position, RecordedMachine, Shown, StepEnd,
+};
 use gang_types::{IntType, Mask, Place, Rate, VarId};
 use std::alloc::AllocError;
 use undo_log::{NoHistory, Undone};
@@ -17,6 +19,7 @@ pub struct WalkingMachine {
     fault: Option<(u32, Fault)>,
     keeps_step: bool,
     keeps_poke: bool,
+    moves: Moves,
 }
 
 impl WalkingMachine {
@@ -28,6 +31,7 @@ impl WalkingMachine {
             fault,
             keeps_step: false,
             keeps_poke: false,
+            moves: Moves::none(),
         }
     }
 
@@ -51,11 +55,14 @@ impl RecordedMachine for WalkingMachine {
 
     ghost history = { λ m. record { words = []; past = (if m.keeps_step then (moment Step [] ∷ []) else (if m.keeps_poke then (moment Poke [] ∷ []) else [])); limit = 1; room = 0 } };
 
+    ghost moves = { λ m. m.moves.count };
+
     ghost locals_from = { λ _ _ _ _. [] };
 
     ghost parameters_from = { λ _ _ _ _. [] };
 
     fn step(&mut self) -> StepEnd {
+        self.moves.count_one();
         self.tries = self.tries.saturating_add(1);
         if self.at >= PLACES {
             return StepEnd::Ended;
@@ -72,6 +79,7 @@ impl RecordedMachine for WalkingMachine {
     }
 
     fn undo(&mut self) -> Result<Undone, NoHistory> {
+        self.moves.count_one();
         if self.keeps_step {
             self.keeps_step = false;
             self.keeps_poke = false;

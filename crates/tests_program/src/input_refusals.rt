@@ -1,98 +1,91 @@
 //! Inputs that a run is refused for, each with its text, and the first of two faults.
 use crate::inputs::SOURCE;
-use crate::runs::OPTIONS;
-use ispc_debugger::run;
-use ispc_refusals::write_refusal;
+use crate::running::is_refused_for;
+use crate::told::holds;
 use std::alloc::{AllocError, Global};
-use std::test::*;
-use tests_devices::{PieceReader, PieceWriter};
+use std::process::Abort;
 
-/// Whether a run of a source with this input is refused with this text, and writes nothing.
-fn is_refused_for(alloc: Global, source: &[u8], input: &[u8], text: &[u8]) -> bool {
-    let mut reader = PieceReader::new(b"step\n", 512, 1000);
-    let mut answers = PieceWriter::new(512, 512);
-    match run(alloc, source, input, &OPTIONS, &mut reader, &mut answers) {
-        Err(refusal) => {
-            let mut told = PieceWriter::new(512, 512);
-            let written = write_refusal(&refusal, &mut told);
-            written.is_ok() && told.bytes() == text && answers.calls() == 0
-        }
-        Ok(_) => false,
+/// Each input of the source is refused with its text.
+fn are_refused(rt: &impl Abort, alloc: Global, source: &[u8], rows: &[(&str, &str)]) {
+    for &(input, text) in rows {
+        let is_so = is_refused_for(alloc, source, input.as_bytes(), text.as_bytes());
+        holds(rt, is_so, input);
     }
 }
+
+const EACH_FAULT: &[(&str, &str)] = &[
+    ("n = 1\nn = 1", "input 2: I1 BadLine\n"),
+    ("t = 1\r\nt = 2\r\n", "input 2: I1 BadLine\n"),
+    ("z = 1", "input 1: I1 BadLine\n"),
+    ("go = 1", "input 1: I1 BadLine\n"),
+    ("n =", "input 1: I1 BadLine\n"),
+    ("n = 1 2", "input 1: I1 BadLine\n"),
+    ("n 1", "input 1: I1 BadLine\n"),
+    ("\n\n # n = 1", "input 3: I1 BadLine\n"),
+    ("t = 1 2 3 4", "input 1: I4 TooLarge\n"),
+    ("t = 1 2 3 200", "input 1: I4 TooLarge\n"),
+    ("\nt = 128", "input 2: I3 Range\n"),
+    ("n = 2147483648", "input 1: I3 Range\n"),
+    ("a = 1 -2147483649", "input 1: I3 Range\n"),
+    ("", "input: I2 Missing n\n"),
+    ("a =", "input: I2 Missing n\n"),
+    ("n = 1\nt =\n", "input: I2 Missing a\n"),
+];
 
 #[test]
 fn each_fault_of_an_input_is_told(rt: HostRuntime) {
-    let rows: [(&[u8], &[u8]); 16] = [
-        (b"n = 1\nn = 1", b"input 2: I1 BadLine\n"),
-        (b"t = 1\r\nt = 2\r\n", b"input 2: I1 BadLine\n"),
-        (b"z = 1", b"input 1: I1 BadLine\n"),
-        (b"go = 1", b"input 1: I1 BadLine\n"),
-        (b"n =", b"input 1: I1 BadLine\n"),
-        (b"n = 1 2", b"input 1: I1 BadLine\n"),
-        (b"n 1", b"input 1: I1 BadLine\n"),
-        (b"\n\n # n = 1", b"input 3: I1 BadLine\n"),
-        (b"t = 1 2 3 4", b"input 1: I4 TooLarge\n"),
-        (b"t = 1 2 3 200", b"input 1: I4 TooLarge\n"),
-        (b"\nt = 128", b"input 2: I3 Range\n"),
-        (b"n = 2147483648", b"input 1: I3 Range\n"),
-        (b"a = 1 -2147483649", b"input 1: I3 Range\n"),
-        (b"", b"input: I2 Missing n\n"),
-        (b"a =", b"input: I2 Missing n\n"),
-        (b"n = 1\nt =\n", b"input: I2 Missing a\n"),
-    ];
-    for (input, text) in rows {
-        assert!(rt; is_refused_for(rt.alloc(), SOURCE, input, text));
-    }
+    are_refused(&rt, rt.alloc(), SOURCE, EACH_FAULT);
 }
+
+const TWO_FAULTS: &[(&str, &str)] = &[
+    ("z = 1\nn = 3000000000", "input 1: I1 BadLine\n"),
+    ("n = 3000000000\nz = 1", "input 1: I3 Range\n"),
+    ("z = 1\nt = 1 2 3 4", "input 1: I1 BadLine\n"),
+    ("t = 1 2 3 4\nz = 1", "input 1: I4 TooLarge\n"),
+    ("n = 3000000000\nt = 1 2 3 4", "input 1: I3 Range\n"),
+    ("t = 1 2 3 4\nn = 3000000000", "input 1: I4 TooLarge\n"),
+    ("n = 1\nz = 1", "input 2: I1 BadLine\n"),
+    ("n = 1\nt = 128", "input 2: I3 Range\n"),
+    ("n = 1\nt = 1 2 3 4", "input 2: I4 TooLarge\n"),
+    ("t = 1 2 3 4 x", "input 1: I1 BadLine\n"),
+    ("t = 128 x", "input 1: I1 BadLine\n"),
+    ("n = 3000000000 1", "input 1: I1 BadLine\n"),
+];
 
 #[test]
 fn the_first_of_two_faults_is_told(rt: HostRuntime) {
-    let rows: [(&[u8], &[u8]); 12] = [
-        (b"z = 1\nn = 3000000000", b"input 1: I1 BadLine\n"),
-        (b"n = 3000000000\nz = 1", b"input 1: I3 Range\n"),
-        (b"z = 1\nt = 1 2 3 4", b"input 1: I1 BadLine\n"),
-        (b"t = 1 2 3 4\nz = 1", b"input 1: I4 TooLarge\n"),
-        (b"n = 3000000000\nt = 1 2 3 4", b"input 1: I3 Range\n"),
-        (b"t = 1 2 3 4\nn = 3000000000", b"input 1: I4 TooLarge\n"),
-        (b"n = 1\nz = 1", b"input 2: I1 BadLine\n"),
-        (b"n = 1\nt = 128", b"input 2: I3 Range\n"),
-        (b"n = 1\nt = 1 2 3 4", b"input 2: I4 TooLarge\n"),
-        (b"t = 1 2 3 4 x", b"input 1: I1 BadLine\n"),
-        (b"t = 128 x", b"input 1: I1 BadLine\n"),
-        (b"n = 3000000000 1", b"input 1: I1 BadLine\n"),
-    ];
-    for (input, text) in rows {
-        assert!(rt; is_refused_for(rt.alloc(), SOURCE, input, text));
-    }
+    are_refused(&rt, rt.alloc(), SOURCE, TWO_FAULTS);
 }
+
+const OTHER_VARIABLES: &[u8] =
+    b"const uniform int c = 1;\nint v = 1;\nuniform bool b;\nexport void go() { int x; }\n";
+
+const NOT_GIVEN: &[(&str, &str)] = &[
+    ("c = 1", "input 1: I1 BadLine\n"),
+    ("v = 1", "input 1: I1 BadLine\n"),
+    ("x = 1", "input 1: I1 BadLine\n"),
+    ("b = 2", "input 1: I3 Range\n"),
+    ("b = true\nb = true", "input 2: I1 BadLine\n"),
+];
 
 #[test]
 fn variables_that_an_input_may_not_give(rt: HostRuntime) {
-    let source =
-        b"const uniform int c = 1;\nint v = 1;\nuniform bool b;\nexport void go() { int x; }\n";
-    let rows: [(&[u8], &[u8]); 5] = [
-        (b"c = 1", b"input 1: I1 BadLine\n"),
-        (b"v = 1", b"input 1: I1 BadLine\n"),
-        (b"x = 1", b"input 1: I1 BadLine\n"),
-        (b"b = 2", b"input 1: I3 Range\n"),
-        (b"b = true\nb = true", b"input 2: I1 BadLine\n"),
-    ];
-    for (input, text) in rows {
-        assert!(rt; is_refused_for(rt.alloc(), source, input, text));
-    }
+    are_refused(&rt, rt.alloc(), OTHER_VARIABLES, NOT_GIVEN);
 }
+
+// Sources with the text of what is refused of them, or of the input that is given.
+const SOURCES: &[(&str, &str)] = &[
+    ("export void go() { x = 1; }", "1:20: S5 UnknownName\n"),
+    ("export void go(int n) { }", "1:20: S7 Rate\n"),
+    ("void go() { }", "entry: E1 NoEntry\n"),
+    ("export void go() { }", "input 1: I1 BadLine\n"),
+];
 
 #[test]
 fn the_source_is_judged_first_and_then_the_entry(rt: HostRuntime) {
-    let rows: [(&[u8], &[u8]); 4] = [
-        (b"export void go() { x = 1; }", b"1:20: S5 UnknownName\n"),
-        (b"export void go(int n) { }", b"1:20: S7 Rate\n"),
-        (b"void go() { }", b"entry: E1 NoEntry\n"),
-        (b"export void go() { }", b"input 1: I1 BadLine\n"),
-    ];
-    for (source, text) in rows {
-        assert!(rt; is_refused_for(rt.alloc(), source, b"n = 1", text));
+    for &(source, text) in SOURCES {
+        let is_so = is_refused_for(rt.alloc(), source.as_bytes(), b"n = 1", text.as_bytes());
+        holds(&rt, is_so, source);
     }
 }
 
@@ -112,6 +105,7 @@ fn many_values(alloc: Global, doublings: usize) -> Result<Vec<u8>, AllocError> {
 fn the_arrays_of_an_entry_have_at_most_1_048_576_words(rt: HostRuntime) -> Result<(), AllocError> {
     let mut input = many_values(rt.alloc(), 20)?;
     input.push(b'1')?;
-    assert!(rt; is_refused_for(rt.alloc(), SOURCE, &input, b"input 2: I4 TooLarge\n"));
+    let is_so = is_refused_for(rt.alloc(), SOURCE, &input, b"input 2: I4 TooLarge\n");
+    holds(&rt, is_so, "1,048,577 words");
     Ok(())
 }

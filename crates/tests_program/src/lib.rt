@@ -10,8 +10,12 @@ mod options;
 #[cfg(test)]
 mod reports;
 #[cfg(test)]
+mod running;
+#[cfg(test)]
 mod runs;
 #[cfg(test)]
 mod sessions;
 #[cfg(test)]
 mod sources;
+#[cfg(test)]
+mod told;

@@ -1,11 +1,13 @@
 //! A worked row through devices that fail or give little, and refusals.
+use crate::running::{AMPLE, Asked, Devices, OPTIONS, answers, is_told};
+use crate::told::{holds, holds_at};
 use gang_model::{RefusalNumber, SourceRefusal};
 use gang_types::Place;
 use ispc_debugger::run;
-use ispc_options::{Options, Width};
-use ispc_refusals::{Refusal, write_refusal};
+use ispc_options::Options;
+use ispc_refusals::Refusal;
 use ispc_script::split_script;
-use tests_devices::{BlankReader, PieceReader, PieceWriter};
+use tests_devices::{BlankReader, PieceWriter};
 use transcript::Ending;
 
 pub(crate) const SOURCE: &[u8] =
@@ -15,14 +17,6 @@ const COMMANDS: &[u8] = b"step\nstep\nprint x\nreverse-step\nprint x\n";
 
 const ANSWERS: &[u8] =
     b"at 3:5 go depth 1 lanes 1111\nat 4:1 go depth 1 lanes 1111\nx = 1 4 7 10\nat 3:5 go depth 1 lanes 1111\nx = 0 3 6 9\n";
-
-pub(crate) const OPTIONS: Options<'static> = Options {
-    width: Width::Four,
-    history: 64,
-    steps: 1_000_000,
-    entry: None,
-    lane_pure: false,
-};
 
 /// A source whose last statement faults in each lane.
 const FAULTY: &[u8] =
@@ -67,25 +61,46 @@ const EVERY_ANSWER: &[u8] = b"breakpoint 1 at line 4\n\
     step limit: at 4:5 go depth 1 lanes 1111\n\
     at 5:5 go depth 1 lanes 1111\n";
 
+// The worked run.
+const WORKED: Asked<'static> = Asked {
+    source: SOURCE,
+    input: b"",
+    commands: COMMANDS,
+};
+
+// The run with an answer of every kind.
+const EVERY: Asked<'static> = Asked {
+    source: FAULTY,
+    input: b"",
+    commands: EVERY_COMMAND,
+};
+
 #[test]
 fn runs_forwards_and_back(rt: HostRuntime) {
-    for most in [1, 2, 7, 29, 512] {
-        let mut reader = PieceReader::new(COMMANDS, most, 1000);
-        let mut writer = PieceWriter::new(most, 1000);
-        let end = run(rt.alloc(), SOURCE, b"", &OPTIONS, &mut reader, &mut writer);
-        assert_eq!(rt; end, Ok(Ending::EndOfCommands), "at {most}");
-        assert!(rt; writer.bytes() == ANSWERS, "at {most}");
+    for &most in &[1, 2, 7, 29, 512] {
+        let devices = Devices {
+            given: most,
+            taken: most,
+            ..AMPLE
+        };
+        let end = Ending::EndOfCommands;
+        let is_so = answers(rt.alloc(), WORKED, &OPTIONS, devices, end, ANSWERS);
+        holds_at(&rt, is_so, "pieces", most);
     }
 }
 
 #[test]
 fn stops_at_a_failed_write(rt: HostRuntime) {
     for room in 0..ANSWERS.len() {
-        let mut reader = PieceReader::new(COMMANDS, 7, 1000);
-        let mut writer = PieceWriter::new(3, room);
-        let end = run(rt.alloc(), SOURCE, b"", &OPTIONS, &mut reader, &mut writer);
-        assert_eq!(rt; end, Ok(Ending::WriteFault), "at {room}");
-        assert!(rt; writer.bytes() == &ANSWERS[..room], "at {room}");
+        let devices = Devices {
+            given: 7,
+            taken: 3,
+            room,
+            ..AMPLE
+        };
+        let (end, text) = (Ending::WriteFault, &ANSWERS[..room]);
+        let is_so = answers(rt.alloc(), WORKED, &OPTIONS, devices, end, text);
+        holds_at(&rt, is_so, "a failed write", room);
     }
 }
 
@@ -96,16 +111,20 @@ fn stops_at_a_failed_write_of_any_answer(rt: HostRuntime) {
         ..OPTIONS
     };
     for room in 0..EVERY_ANSWER.len() + 1 {
-        let mut reader = PieceReader::new(EVERY_COMMAND, 64, 1000);
-        let mut writer = PieceWriter::new(5, room);
-        let end = run(rt.alloc(), FAULTY, b"", &options, &mut reader, &mut writer);
-        let wanted = if room < EVERY_ANSWER.len() {
+        let devices = Devices {
+            given: 64,
+            taken: 5,
+            room,
+            ..AMPLE
+        };
+        let end = if room < EVERY_ANSWER.len() {
             Ending::WriteFault
         } else {
             Ending::EndOfCommands
         };
-        assert_eq!(rt; end, Ok(wanted), "at {room}");
-        assert!(rt; writer.bytes() == &EVERY_ANSWER[..room], "at {room}");
+        let text = &EVERY_ANSWER[..room];
+        let is_so = answers(rt.alloc(), EVERY, &options, devices, end, text);
+        holds_at(&rt, is_so, "a failed write of any answer", room);
     }
 }
 
@@ -163,33 +182,43 @@ const GROWN: &[u8] = b"at 7:1 go depth 1 lanes 1111\n\
     C3 NoHistory\n\
     t = 1\n";
 
+// A run of the source that counts.
+fn counting<'a>(commands: &'a [u8]) -> Asked<'a> {
+    Asked {
+        source: COUNTING,
+        input: b"",
+        commands,
+    }
+}
+
 #[test]
 fn changes_the_history_limit(rt: HostRuntime) {
-    let rows: [(u32, &[u8], &[u8]); 2] = [(4, CHANGING, CHANGED), (3, GROWING, GROWN)];
-    for (history, commands, answers) in rows {
-        let options = Options { history, ..OPTIONS };
-        let mut reader = PieceReader::new(commands, 64, 1000);
-        let mut writer = PieceWriter::new(512, 1000);
-        let end = run(
-            rt.alloc(),
-            COUNTING,
-            b"",
-            &options,
-            &mut reader,
-            &mut writer,
-        );
-        assert_eq!(rt; end, Ok(Ending::EndOfCommands), "with {history}");
-        assert!(rt; writer.bytes() == answers, "with {history}");
-    }
+    let end = Ending::EndOfCommands;
+    let options = Options {
+        history: 4,
+        ..OPTIONS
+    };
+    let asked = counting(CHANGING);
+    let is_changed = answers(rt.alloc(), asked, &options, AMPLE, end, CHANGED);
+    holds(&rt, is_changed, "a limit of 4 that changes");
+    let options = Options {
+        history: 3,
+        ..OPTIONS
+    };
+    let asked = counting(GROWING);
+    let is_grown = answers(rt.alloc(), asked, &options, AMPLE, end, GROWN);
+    holds(&rt, is_grown, "a limit of 3 that grows");
 }
 
 #[test]
 fn stops_at_a_failed_read(rt: HostRuntime) {
     for given in 0..COMMANDS.len() {
-        let mut reader = PieceReader::new(COMMANDS, 1, given);
-        let mut writer = PieceWriter::new(100, 1000);
-        let end = run(rt.alloc(), SOURCE, b"", &OPTIONS, &mut reader, &mut writer);
-        assert_eq!(rt; end, Ok(Ending::ReadFault), "at {given}");
+        let devices = Devices {
+            given: 1,
+            until_fault: given,
+            taken: 100,
+            room: 1000,
+        };
         let written = match given {
             0..5 => 0,
             5..10 => 29,
@@ -197,7 +226,9 @@ fn stops_at_a_failed_read(rt: HostRuntime) {
             18..31 => 71,
             _ => 100,
         };
-        assert!(rt; writer.bytes() == &ANSWERS[..written], "at {given}");
+        let (end, text) = (Ending::ReadFault, &ANSWERS[..written]);
+        let is_so = answers(rt.alloc(), WORKED, &OPTIONS, devices, end, text);
+        holds_at(&rt, is_so, "a failed read", given);
     }
 }
 
@@ -206,62 +237,57 @@ fn reads_no_more_than_the_limit(rt: HostRuntime) {
     let mut reader = BlankReader::new();
     let mut writer = PieceWriter::new(100, 1000);
     let end = run(rt.alloc(), SOURCE, b"", &OPTIONS, &mut reader, &mut writer);
-    assert_eq!(rt; end, Ok(Ending::ReadFault));
-    assert_eq!(rt; reader.reads(), 16_777_216);
-    assert!(rt; writer.bytes().is_empty());
+    holds(&rt, end == Ok(Ending::ReadFault), "the end");
+    holds(&rt, reader.reads() == 16_777_216, "how often is read");
+    holds(&rt, writer.bytes().is_empty(), "what is written");
 }
+
+// The text of each refusal of a source at the place 12:345.
+const REFUSALS: &[(RefusalNumber, &str)] = &[
+    (RefusalNumber::S1, "12:345: S1 BadByte\n"),
+    (RefusalNumber::S2, "12:345: S2 BadNumber\n"),
+    (RefusalNumber::S3, "12:345: S3 Unexpected\n"),
+    (RefusalNumber::S4, "12:345: S4 TooDeep\n"),
+    (RefusalNumber::S5, "12:345: S5 UnknownName\n"),
+    (RefusalNumber::S6, "12:345: S6 Duplicate\n"),
+    (RefusalNumber::S7, "12:345: S7 Rate\n"),
+    (RefusalNumber::S8, "12:345: S8 Type\n"),
+    (RefusalNumber::S9, "12:345: S9 NoOverload\n"),
+    (RefusalNumber::S10, "12:345: S10 Ambiguous\n"),
+    (RefusalNumber::S11, "12:345: S11 BadControl\n"),
+    (RefusalNumber::S12, "12:345: S12 NestedCall\n"),
+    (RefusalNumber::S13, "12:345: S13 Limit\n"),
+];
 
 #[test]
 fn tells_each_refusal(rt: HostRuntime) {
     let place = Place { line: 12, col: 345 };
-    let rows: [(RefusalNumber, &[u8]); 13] = [
-        (RefusalNumber::S1, b"12:345: S1 BadByte\n"),
-        (RefusalNumber::S2, b"12:345: S2 BadNumber\n"),
-        (RefusalNumber::S3, b"12:345: S3 Unexpected\n"),
-        (RefusalNumber::S4, b"12:345: S4 TooDeep\n"),
-        (RefusalNumber::S5, b"12:345: S5 UnknownName\n"),
-        (RefusalNumber::S6, b"12:345: S6 Duplicate\n"),
-        (RefusalNumber::S7, b"12:345: S7 Rate\n"),
-        (RefusalNumber::S8, b"12:345: S8 Type\n"),
-        (RefusalNumber::S9, b"12:345: S9 NoOverload\n"),
-        (RefusalNumber::S10, b"12:345: S10 Ambiguous\n"),
-        (RefusalNumber::S11, b"12:345: S11 BadControl\n"),
-        (RefusalNumber::S12, b"12:345: S12 NestedCall\n"),
-        (RefusalNumber::S13, b"12:345: S13 Limit\n"),
-    ];
-    for (number, text) in rows {
-        let mut writer = PieceWriter::new(4, 512);
+    for &(number, text) in REFUSALS {
         let refusal = Refusal::Source(SourceRefusal { number, place });
-        let told = write_refusal(&refusal, &mut writer);
-        assert!(rt; told.is_ok());
-        assert!(rt; writer.bytes() == text);
+        holds(&rt, is_told(&refusal, 4, 512, true, text.as_bytes()), text);
     }
-    let mut writer = PieceWriter::new(512, 512);
-    let script = write_refusal(&Refusal::NoScript, &mut writer);
-    assert!(rt; script.is_ok());
-    assert!(rt; writer.bytes() == b"script: E2 NoScript\n".as_slice());
-    let mut writer = PieceWriter::new(512, 512);
-    let entry = write_refusal(&Refusal::NoEntry, &mut writer);
-    assert!(rt; entry.is_ok());
-    assert!(rt; writer.bytes() == b"entry: E1 NoEntry\n".as_slice());
-    let mut short = PieceWriter::new(512, 3);
-    let cut = write_refusal(&Refusal::Memory, &mut short);
-    assert!(rt; cut.is_err());
-    assert!(rt; short.bytes() == b"mem".as_slice());
+    let script = is_told(&Refusal::NoScript, 512, 512, true, b"script: E2 NoScript\n");
+    holds(&rt, script, "no script");
+    let entry = is_told(&Refusal::NoEntry, 512, 512, true, b"entry: E1 NoEntry\n");
+    holds(&rt, entry, "no entry");
+    let cut = is_told(&Refusal::Memory, 512, 3, false, b"mem");
+    holds(&rt, cut, "a cut refusal");
 }
+
+// Scripts with their sources and commands.
+const SCRIPTS: &[(&str, Option<(&[u8], &[u8])>)] = &[
+    ("a\n%%\nb\n%%\n", Some((b"a\n", b"b\n%%\n"))),
+    ("%%\nb", Some((b"", b"b"))),
+    ("a\n%%", Some((b"a\n", b""))),
+    ("a\n%%%\n%% \n", None),
+    ("a%%\nb", None),
+    ("", None),
+    ("%", None),
+];
 
 #[test]
 fn splits_scripts(rt: HostRuntime) {
-    let rows: [(&[u8], Option<(&[u8], &[u8])>); 7] = [
-        (b"a\n%%\nb\n%%\n", Some((b"a\n", b"b\n%%\n"))),
-        (b"%%\nb", Some((b"", b"b"))),
-        (b"a\n%%", Some((b"a\n", b""))),
-        (b"a\n%%%\n%% \n", None),
-        (b"a%%\nb", None),
-        (b"", None),
-        (b"%", None),
-    ];
-    for (text, parts) in rows {
-        assert!(rt; split_script(text) == parts);
+    for &(text, parts) in SCRIPTS {
+        holds(&rt, split_script(text.as_bytes()) == parts, text);
     }
 }

@@ -2,7 +2,7 @@
 ghost use Rattle.std.specs.Prelude.{◌≡◌, IfErr, false};
 
 use crate::wanted::WantedWriter;
-use debug_machine::CommandReader;
+use debug_traits::CommandReader;
 use ispc_debugger::run;
 use ispc_options::read_options;
 use ispc_refusals::{Refusal, write_refusal};

@@ -1,7 +1,7 @@
 //! A writer that takes what is wanted, and fails at anything else.
 ghost use Rattle.std.specs.Prelude.{◌≡◌, None, false};
 
-use debug_machine::{AnswerWriter, WriteFault};
+use debug_traits::{AnswerWriter, WriteFault};
 
 /// Takes the bytes of a text in order, and fails where something else is written.
 #[derive(Drop)]

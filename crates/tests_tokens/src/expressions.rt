@@ -1,340 +1,214 @@
 //! How marks group, and where a refusal stands. Tokens stand in line 1, each one column after the last.
 
-use gang_model::Mark::*;
-use gang_model::{Infix, Mark, RefusalNumber, SourceRefusal, Spec};
+use crate::told::holds;
+use gang_model::RefusalNumber::{S3, S4, S13};
+use gang_model::{Infix, RefusalNumber, SourceRefusal, Spec};
 use gang_types::{BinaryOp, IntType, Place, Rate, UnaryOp};
-use ispc_lexer::{Kind, Number, Token};
+use ispc_lexer::Token;
 use ispc_parser_expressions::{arguments, expression};
 use ispc_parser_words::take_spec;
 use source_answers::SourceFault;
 use source_tree::{Arg, Expr};
 use std::alloc::Global;
-use std::test::Fail;
-
-#[derive(Clone, Copy, Drop)]
-enum Word {
-    /// A name of one letter.
-    Name(u8),
-    Number(u64),
-    Mark(Mark),
-}
-
-use Word::{Mark as M, Name as N};
 
 const END: Place = Place { line: 9, col: 9 };
 
-fn token(alloc: Global, word: Word, col: u32) -> Result<Token, Fail> {
-    let kind = match word {
-        Word::Name(letter) => Kind::Name([letter].to_vec(alloc)?),
-        Word::Number(value) => Kind::Number(Number {
-            value,
-            is_unsigned: false,
-            is_long: false,
-        }),
-        Word::Mark(mark) => Kind::Mark(mark),
-    };
-    let place = Place { line: 1, col };
-    Ok(Token {
-        kind,
-        start: 0,
-        end: 0,
-        place,
-    })
-}
-
-fn tokens(alloc: Global, words: &[Word]) -> Result<Vec<Token>, Fail> {
-    let mut tokens = Vec::new(alloc);
+// The tokens of a text, of which each stands one column after the last.
+fn tokens(alloc: Global, text: &[u8]) -> Result<Vec<Token>, SourceFault> {
+    let mut tokens = ispc_lexer::tokens(alloc, text)?;
     let mut col = 0u32;
-    for word in words {
+    for token in &mut tokens {
         col = col.saturating_add(1);
-        tokens.push(token(alloc, *word, col)?)?;
+        token.place = Place { line: 1, col };
     }
     Ok(tokens)
 }
 
-fn infix_text(operator: Infix) -> &'static str {
+// A text so many times, and then another.
+fn repeated(alloc: Global, first: &str, count: usize, rest: &str) -> Result<Vec<u8>, SourceFault> {
+    let mut text = Vec::new(alloc);
+    for _ in 0..count {
+        text.extend_from_slice(first.as_bytes())?;
+    }
+    text.extend_from_slice(rest.as_bytes())?;
+    Ok(text)
+}
+
+fn infix_text(operator: Infix) -> &'static [u8] {
     match operator {
-        Infix::Op(BinaryOp::Add) => "+",
-        Infix::Op(BinaryOp::Sub) => "-",
-        Infix::Op(BinaryOp::Mul) => "*",
-        Infix::Op(BinaryOp::Div) => "/",
-        Infix::Op(BinaryOp::Rem) => "%",
-        Infix::Op(BinaryOp::And) => "&",
-        Infix::Op(BinaryOp::Or) => "|",
-        Infix::Op(BinaryOp::Xor) => "^",
-        Infix::Op(BinaryOp::Shl) => "<<",
-        Infix::Op(BinaryOp::Shr) => ">>",
-        Infix::Op(BinaryOp::Less) => "<",
-        Infix::Op(BinaryOp::LessEqual) => "<=",
-        Infix::Op(BinaryOp::Greater) => ">",
-        Infix::Op(BinaryOp::GreaterEqual) => ">=",
-        Infix::Op(BinaryOp::Equal) => "==",
-        Infix::Op(BinaryOp::NotEqual) => "!=",
-        Infix::AndAlso => "&&",
-        Infix::OrElse => "||",
+        Infix::Op(BinaryOp::Add) => b"+",
+        Infix::Op(BinaryOp::Sub) => b"-",
+        Infix::Op(BinaryOp::Mul) => b"*",
+        Infix::Op(BinaryOp::Div) => b"/",
+        Infix::Op(BinaryOp::Rem) => b"%",
+        Infix::Op(BinaryOp::And) => b"&",
+        Infix::Op(BinaryOp::Or) => b"|",
+        Infix::Op(BinaryOp::Xor) => b"^",
+        Infix::Op(BinaryOp::Shl) => b"<<",
+        Infix::Op(BinaryOp::Shr) => b">>",
+        Infix::Op(BinaryOp::Less) => b"<",
+        Infix::Op(BinaryOp::LessEqual) => b"<=",
+        Infix::Op(BinaryOp::Greater) => b">",
+        Infix::Op(BinaryOp::GreaterEqual) => b">=",
+        Infix::Op(BinaryOp::Equal) => b"==",
+        Infix::Op(BinaryOp::NotEqual) => b"!=",
+        Infix::AndAlso => b"&&",
+        Infix::OrElse => b"||",
     }
 }
 
-fn unary_text(operator: UnaryOp) -> &'static str {
+fn unary_text(operator: UnaryOp) -> &'static [u8] {
     match operator {
-        UnaryOp::Negate => "-",
-        UnaryOp::Plus => "+",
-        UnaryOp::Not => "!",
-        UnaryOp::Complement => "~",
+        UnaryOp::Negate => b"-",
+        UnaryOp::Plus => b"+",
+        UnaryOp::Not => b"!",
+        UnaryOp::Complement => b"~",
     }
 }
 
-fn write_name(out: &mut String, name: &[u8]) -> Result<(), Fail> {
-    for byte in name {
-        out.push(char::from(*byte))?;
+// Puts a text behind another; where memory is short it is not the one that is wanted.
+fn put(out: &mut Vec<u8>, text: &[u8]) {
+    let _ = out.extend_from_slice(text);
+}
+
+fn put_number(alloc: Global, out: &mut Vec<u8>, value: u64) {
+    if let Ok(text) = format!(in alloc; "{value}") {
+        put(out, text.as_bytes());
     }
-    Ok(())
 }
 
 /// Each operator with its operands in braces, parentheses as they are.
 #[cycle(write)]
-fn write_expr(alloc: Global, out: &mut String, expr: &Expr) -> Result<(), Fail> {
+fn write_expr(alloc: Global, out: &mut Vec<u8>, expr: &Expr) {
     match expr {
-        Expr::Number { number, .. } => {
-            let text = format!(in alloc; "{}", number.value)?;
-            out.push_str(text.as_str())?;
-        }
-        Expr::Truth { value, .. } => out.push_str(if *value { "true" } else { "false" })?,
-        Expr::Name { name, .. } => write_name(out, name.as_slice())?,
+        Expr::Number { number, .. } => put_number(alloc, out, number.value),
+        Expr::Truth { value, .. } => put(out, if *value { b"true" } else { b"false" }),
+        Expr::Name { name, .. } => put(out, name),
         Expr::Index { name, index, .. } => {
-            write_name(out, name.as_slice())?;
-            out.push('[')?;
-            write_expr(alloc, out, index)?;
-            out.push(']')?;
+            put(out, name);
+            write_between(alloc, out, b"[", index, b"]");
         }
         Expr::Call { name, args, .. } => {
-            write_name(out, name.as_slice())?;
-            out.push('(')?;
+            put(out, name);
+            put(out, b"(");
             for arg in args {
-                write_arg(alloc, out, arg)?;
-                out.push(',')?;
+                write_arg(alloc, out, arg);
             }
-            out.push(')')?;
+            put(out, b")");
         }
-        Expr::Paren { inner, .. } => {
-            out.push('(')?;
-            write_expr(alloc, out, inner)?;
-            out.push(')')?;
-        }
+        Expr::Paren { inner, .. } => write_between(alloc, out, b"(", inner, b")"),
         Expr::Unary {
             operator,
             operand,
             ..
         } => {
-            out.push('{')?;
-            out.push_str(unary_text(*operator))?;
-            write_expr(alloc, out, operand)?;
-            out.push('}')?;
+            put(out, b"{");
+            write_between(alloc, out, unary_text(*operator), operand, b"}");
         }
-        Expr::Cast { operand, .. } => {
-            out.push_str("{cast ")?;
-            write_expr(alloc, out, operand)?;
-            out.push('}')?;
-        }
+        Expr::Cast { operand, .. } => write_between(alloc, out, b"{cast ", operand, b"}"),
         Expr::Binary {
             operator,
             left,
             right,
         } => {
-            out.push('{')?;
-            write_expr(alloc, out, left)?;
-            out.push_str(infix_text(*operator))?;
-            write_expr(alloc, out, right)?;
-            out.push('}')?;
+            write_between(alloc, out, b"{", left, infix_text(*operator));
+            write_between(alloc, out, b"", right, b"}");
         }
         Expr::Choice {
             test,
             first,
             second,
         } => {
-            out.push('{')?;
-            write_expr(alloc, out, test)?;
-            out.push('?')?;
-            write_expr(alloc, out, first)?;
-            out.push(':')?;
-            write_expr(alloc, out, second)?;
-            out.push('}')?;
+            write_between(alloc, out, b"{", test, b"?");
+            write_between(alloc, out, b"", first, b":");
+            write_between(alloc, out, b"", second, b"}");
         }
     }
-    Ok(())
 }
 
 #[cycle(write)]
-fn write_arg(alloc: Global, out: &mut String, arg: &Arg) -> Result<(), Fail> {
+fn write_between(alloc: Global, out: &mut Vec<u8>, before: &[u8], expr: &Expr, behind: &[u8]) {
+    put(out, before);
+    write_expr(alloc, out, expr);
+    put(out, behind);
+}
+
+#[cycle(write)]
+fn write_arg(alloc: Global, out: &mut Vec<u8>, arg: &Arg) {
     match arg {
-        Arg::Value(value) => write_expr(alloc, out, value)?,
+        Arg::Value(value) => write_expr(alloc, out, value),
         Arg::Part { name, .. } => {
-            out.push('&')?;
-            write_name(out, name.as_slice())?;
+            put(out, b"&");
+            put(out, name);
         }
         Arg::PartFrom { name, index, .. } => {
-            out.push('&')?;
-            write_name(out, name.as_slice())?;
-            out.push('[')?;
-            write_expr(alloc, out, index)?;
-            out.push(']')?;
+            put(out, b"&");
+            put(out, name);
+            write_between(alloc, out, b"[", index, b"]");
         }
     }
-    Ok(())
+    put(out, b",");
 }
 
-/// The expression that the words spell, and how many tokens are left after it.
-fn read(alloc: Global, words: &[Word]) -> Result<(String, usize), Fail> {
-    let tokens = tokens(alloc, words)?;
-    let (expr, rest) = expression(alloc, 64, tokens.as_slice(), END)?;
-    let mut text = String::new(alloc);
-    write_expr(alloc, &mut text, &expr)?;
-    Ok((text, rest.len()))
-}
+// How an expression's marks group, and how many tokens are left after it.
+const GROUPS: &[(&str, &str, usize)] = &[
+    // From the left.
+    ("a - b - c ;", "{{a-b}-c}", 1),
+    // Each level binds tighter than the one before.
+    (
+        "a || a && a | a ^ a & a == a < a << a + a * - a",
+        "{a||{a&&{a|{a^{a&{a=={a<{a<<{a+{a*{-a}}}}}}}}}}}",
+        0,
+    ),
+    (
+        "- a * a + a << a < a == a & a ^ a | a && a || a",
+        "{{{{{{{{{{{-a}*a}+a}<<a}<a}==a}&a}^a}|a}&&a}||a}",
+        0,
+    ),
+    // Marks of one level are told apart.
+    ("a / a % a * a", "{{{a/a}%a}*a}", 0),
+    ("a >> a << a", "{{a>>a}<<a}", 0),
+    ("a > a <= a >= a", "{{{a>a}<=a}>=a}", 0),
+    ("a != a == a", "{{a!=a}==a}", 0),
+    ("! ~ + true", "{!{~{+true}}}", 0),
+    // Choices group from the right.
+    ("a ? b ? a : b : c ? a : b", "{a?{b?a:b}:{c?a:b}}", 0),
+    // A cast takes a unary expression.
+    ("( int8 uniform unsigned ) a + b", "{{cast a}+b}", 0),
+    ("( a ) - b", "{(a)-b}", 0),
+    // Calls have parts of arrays.
+    (
+        "a ( & b [ 1 ] , & c , b [ c ] ) + a ( )",
+        "{a(&b[1],&c,b[c],)+a()}",
+        0,
+    ),
+];
 
-/// Why the words spell no expression.
-fn refusal(alloc: Global, words: &[Word]) -> Result<Option<SourceFault>, Fail> {
-    let tokens = tokens(alloc, words)?;
-    Ok(expression(alloc, 64, tokens.as_slice(), END).err())
-}
-
-fn at(number: RefusalNumber, col: u32) -> Option<SourceFault> {
-    let place = Place { line: 1, col };
-    Some(SourceFault::Refused(SourceRefusal { number, place }))
-}
-
-fn at_end() -> Option<SourceFault> {
-    let number = RefusalNumber::S3;
-    Some(SourceFault::Refused(SourceRefusal { number, place: END }))
-}
-
-const A: Word = N(b'a');
-
-const B: Word = N(b'b');
-
-const C: Word = N(b'c');
-
-#[test]
-fn groups_from_the_left(rt: HostRuntime) -> Result<(), Fail> {
-    let (text, rest) = read(rt.alloc(), &[A, M(Minus), B, M(Minus), C, M(Semicolon)])?;
-    assert_eq!(rt; text.as_str(), "{{a-b}-c}");
-    assert_eq!(rt; rest, 1);
-    Ok(())
-}
-
-#[test]
-fn each_level_binds_tighter_than_the_one_before(rt: HostRuntime) -> Result<(), Fail> {
-    let words = [
-        A,
-        M(OrOr),
-        A,
-        M(AndAnd),
-        A,
-        M(Bar),
-        A,
-        M(Caret),
-        A,
-        M(Ampersand),
-        A,
-        M(EqualEqual),
-        A,
-        M(Less),
-        A,
-        M(ShiftLeft),
-        A,
-        M(Plus),
-        A,
-        M(Star),
-        M(Minus),
-        A,
-    ];
-    let (text, _) = read(rt.alloc(), &words)?;
-    let want = "{a||{a&&{a|{a^{a&{a=={a<{a<<{a+{a*{-a}}}}}}}}}}}";
-    assert_eq!(rt; text.as_str(), want);
-    let words = [
-        M(Minus),
-        A,
-        M(Star),
-        A,
-        M(Plus),
-        A,
-        M(ShiftLeft),
-        A,
-        M(Less),
-        A,
-        M(EqualEqual),
-        A,
-        M(Ampersand),
-        A,
-        M(Caret),
-        A,
-        M(Bar),
-        A,
-        M(AndAnd),
-        A,
-        M(OrOr),
-        A,
-    ];
-    let (text, _) = read(rt.alloc(), &words)?;
-    let want = "{{{{{{{{{{{-a}*a}+a}<<a}<a}==a}&a}^a}|a}&&a}||a}";
-    assert_eq!(rt; text.as_str(), want);
-    Ok(())
+// Whether a text spells the expression, with so many tokens after it.
+fn spells(alloc: Global, text: &str, wanted: &str, left: usize) -> Result<bool, SourceFault> {
+    let tokens = tokens(alloc, text.as_bytes())?;
+    let (expr, rest) = expression(alloc, 64, &tokens, END)?;
+    let mut out = Vec::new(alloc);
+    write_expr(alloc, &mut out, &expr);
+    Ok(out.as_slice() == wanted.as_bytes() && rest.len() == left)
 }
 
 #[test]
-fn marks_of_one_level_are_told_apart(rt: HostRuntime) -> Result<(), Fail> {
-    let words = [A, M(Slash), A, M(Percent), A, M(Star), A];
-    assert_eq!(rt; read(rt.alloc(), &words)?.0.as_str(), "{{{a/a}%a}*a}");
-    let words = [A, M(ShiftRight), A, M(ShiftLeft), A];
-    assert_eq!(rt; read(rt.alloc(), &words)?.0.as_str(), "{{a>>a}<<a}");
-    let words = [A, M(Greater), A, M(LessEqual), A, M(GreaterEqual), A];
-    assert_eq!(rt; read(rt.alloc(), &words)?.0.as_str(), "{{{a>a}<=a}>=a}");
-    let words = [A, M(NotEqual), A, M(EqualEqual), A];
-    assert_eq!(rt; read(rt.alloc(), &words)?.0.as_str(), "{{a!=a}==a}");
-    let words = [M(Exclamation), M(Tilde), M(Plus), M(True)];
-    assert_eq!(rt; read(rt.alloc(), &words)?.0.as_str(), "{!{~{+true}}}");
-    Ok(())
+fn marks_group_by_their_levels(rt: HostRuntime) {
+    for &(text, wanted, left) in GROUPS {
+        let is_so = spells(rt.alloc(), text, wanted, left) == Ok(true);
+        holds(&rt, is_so, text);
+    }
 }
 
-#[test]
-fn choices_group_from_the_right(rt: HostRuntime) -> Result<(), Fail> {
-    let words = [
-        A,
-        M(Question),
-        B,
-        M(Question),
-        A,
-        M(Colon),
-        B,
-        M(Colon),
-        C,
-        M(Question),
-        A,
-        M(Colon),
-        B,
-    ];
-    let (text, rest) = read(rt.alloc(), &words)?;
-    assert_eq!(rt; text.as_str(), "{a?{b?a:b}:{c?a:b}}");
-    assert_eq!(rt; rest, 0);
-    Ok(())
-}
-
-#[test]
-fn a_cast_takes_a_unary_expression(rt: HostRuntime) -> Result<(), Fail> {
-    let words = [
-        M(LeftParen),
-        M(Int8),
-        M(Uniform),
-        M(Unsigned),
-        M(RightParen),
-        A,
-        M(Plus),
-        B,
-    ];
-    assert_eq!(rt; read(rt.alloc(), &words)?.0.as_str(), "{{cast a}+b}");
-    let tokens = tokens(rt.alloc(), &words)?;
-    let (expr, _) = expression(rt.alloc(), 64, tokens.as_slice(), END)?;
-    let found = match &expr {
+// The rate and the type of the cast at the left of the text's operator.
+fn cast_at_left(
+    alloc: Global,
+    text: &str,
+) -> Result<Option<(Option<Rate>, Option<IntType>)>, SourceFault> {
+    let tokens = tokens(alloc, text.as_bytes())?;
+    let (expr, _) = expression(alloc, 64, &tokens, END)?;
+    Ok(match &expr {
         Expr::Binary { left, .. } => match &**left {
             Expr::Cast {
                 rate,
@@ -344,280 +218,181 @@ fn a_cast_takes_a_unary_expression(rt: HostRuntime) -> Result<(), Fail> {
             _ => None,
         },
         _ => None,
-    };
-    assert_eq!(rt; found, Some((Some(Rate::Uniform), Some(IntType::Uint8))));
-    let words = [M(LeftParen), A, M(RightParen), M(Minus), B];
-    assert_eq!(rt; read(rt.alloc(), &words)?.0.as_str(), "{(a)-b}");
-    Ok(())
+    })
 }
 
 #[test]
-fn calls_have_parts_of_arrays(rt: HostRuntime) -> Result<(), Fail> {
-    let words = [
-        A,
-        M(LeftParen),
-        M(Ampersand),
-        B,
-        M(LeftBracket),
-        Word::Number(1),
-        M(RightBracket),
-        M(Comma),
-        M(Ampersand),
-        C,
-        M(Comma),
-        B,
-        M(LeftBracket),
-        C,
-        M(RightBracket),
-        M(RightParen),
-        M(Plus),
-        A,
-        M(LeftParen),
-        M(RightParen),
-    ];
-    assert_eq!(rt;
-        read(rt.alloc(), &words)?.0.as_str(),
-        "{a(&b[1],&c,b[c],)+a()}"
-    );
-    let refused = refusal(rt.alloc(), &[M(Ampersand), B])?;
-    assert_eq!(rt; refused, at(RefusalNumber::S3, 1));
-    Ok(())
+fn a_cast_has_its_rate_and_its_type(rt: HostRuntime) {
+    let found = cast_at_left(rt.alloc(), "( int8 uniform unsigned ) a + b");
+    let wanted = Some((Some(Rate::Uniform), Some(IntType::Uint8)));
+    holds(&rt, found == Ok(wanted), "a cast");
+}
+
+// A refusal of this number at the token.
+fn at(number: RefusalNumber, col: u32) -> SourceFault {
+    let place = Place { line: 1, col };
+    SourceFault::Refused(SourceRefusal { number, place })
+}
+
+fn at_end() -> SourceFault {
+    let number = S3;
+    SourceFault::Refused(SourceRefusal { number, place: END })
+}
+
+// Why a text spells no expression.
+fn refusal(alloc: Global, text: &[u8]) -> Option<SourceFault> {
+    match tokens(alloc, text) {
+        Ok(tokens) => expression(alloc, 64, &tokens, END).err(),
+        Err(fault) => Some(fault),
+    }
+}
+
+// Expressions that end too early.
+const UNENDED: &[&str] = &["", "a +"];
+
+// The first token at which nothing can follow.
+const REFUSED: &[(&str, u32)] = &[
+    ("a + )", 3),
+    ("( a ;", 3),
+    ("a [ b )", 4),
+    ("a ( ,", 3),
+    ("a ( b , )", 5),
+    ("a ? b ;", 4),
+    ("...", 1),
+    ("& b", 1),
+    // A cast has a rate and one type.
+    ("( uniform ) a", 3),
+    ("( int int ) a", 3),
+    ("( int const ) a", 3),
+    ("( varying uniform ) a", 3),
+    ("( bool unsigned ) a", 3),
+    ("( unsigned uint ) a", 3),
+    ("( int a )", 3),
+];
+
+#[test]
+fn refusals_stand_where_nothing_can_follow(rt: HostRuntime) {
+    for text in UNENDED {
+        let is_so = refusal(rt.alloc(), text.as_bytes()) == Some(at_end());
+        holds(&rt, is_so, text);
+    }
+    for &(text, col) in REFUSED {
+        let is_so = refusal(rt.alloc(), text.as_bytes()) == Some(at(S3, col));
+        holds(&rt, is_so, text);
+    }
+}
+
+// A text so many times and another, and why they spell no expression: 64 nestings and 256 operators are the most.
+const LIMITS: &[(&str, usize, &str, Option<(RefusalNumber, u32)>)] = &[
+    ("- ", 64, "a", None),
+    ("- ", 65, "a", Some((S4, 65))),
+    ("( ", 65, "a", Some((S4, 65))),
+    ("( ", 64, "a [ b", Some((S4, 66))),
+    ("( ", 64, "a ( )", Some((S4, 66))),
+    ("( ", 64, "a ? b", Some((S4, 66))),
+    ("( ", 64, "( int", Some((S4, 65))),
+    ("a + ", 256, "a", None),
+    ("a + ", 257, "a", Some((S13, 514))),
+    ("a + ", 256, "a ? a : a", Some((S13, 514))),
+    ("a + ", 256, "a [ a ]", Some((S13, 513))),
+    ("a + ", 256, "( int ) a", Some((S13, 513))),
+    ("a + ", 256, "( a )", None),
+];
+
+// Whether a text so many times and another are refused so.
+fn is_limited(
+    alloc: Global,
+    first: &str,
+    count: usize,
+    rest: &str,
+    wanted: Option<SourceFault>,
+) -> Result<bool, SourceFault> {
+    let text = repeated(alloc, first, count, rest)?;
+    Ok(refusal(alloc, &text) == wanted)
 }
 
 #[test]
-fn refusals_stand_where_nothing_can_follow(rt: HostRuntime) -> Result<(), Fail> {
-    let alloc = rt.alloc();
-    assert_eq!(rt; refusal(alloc, &[])?, at_end());
-    assert_eq!(rt; refusal(alloc, &[A, M(Plus)])?, at_end());
-    assert_eq!(rt;
-        refusal(alloc, &[A, M(Plus), M(RightParen)])?,
-        at(RefusalNumber::S3, 3)
-    );
-    assert_eq!(rt;
-        refusal(alloc, &[M(LeftParen), A, M(Semicolon)])?,
-        at(RefusalNumber::S3, 3)
-    );
-    assert_eq!(rt;
-        refusal(alloc, &[A, M(LeftBracket), B, M(RightParen)])?,
-        at(RefusalNumber::S3, 4)
-    );
-    assert_eq!(rt;
-        refusal(alloc, &[A, M(LeftParen), M(Comma)])?,
-        at(RefusalNumber::S3, 3)
-    );
-    assert_eq!(rt;
-        refusal(alloc, &[A, M(LeftParen), B, M(Comma), M(RightParen)])?,
-        at(RefusalNumber::S3, 5)
-    );
-    assert_eq!(rt;
-        refusal(alloc, &[A, M(Question), B, M(Semicolon)])?,
-        at(RefusalNumber::S3, 4)
-    );
-    assert_eq!(rt; refusal(alloc, &[M(Dots)])?, at(RefusalNumber::S3, 1));
-    Ok(())
+fn the_65th_nesting_and_the_257th_operator_are_refused(rt: HostRuntime) {
+    for &(first, count, rest, refused) in LIMITS {
+        let wanted = refused.map(|(number, col)| at(number, col));
+        let is_so = is_limited(rt.alloc(), first, count, rest, wanted) == Ok(true);
+        assert!(&rt; is_so, "{first} {count} times, and {rest}");
+    }
+}
+
+// How many arguments two sums with 256 operators are, and how many tokens are left.
+fn counts_of_two_sums(alloc: Global) -> Result<(usize, usize), SourceFault> {
+    let mut text = repeated(alloc, "a + ", 256, "a , ")?;
+    let second = repeated(alloc, "a + ", 256, "a ) ;")?;
+    text.extend_from_slice(&second)?;
+    let tokens = tokens(alloc, &text)?;
+    let (args, rest) = arguments(alloc, 63, &tokens, END)?;
+    Ok((args.len(), rest.len()))
 }
 
 #[test]
-fn casts_have_a_rate_and_one_type(rt: HostRuntime) -> Result<(), Fail> {
-    let alloc = rt.alloc();
-    let open = M(LeftParen);
-    let close = M(RightParen);
-    assert_eq!(rt;
-        refusal(alloc, &[open, M(Uniform), close, A])?,
-        at(RefusalNumber::S3, 3)
+fn arguments_of_a_statement_count_alone(rt: HostRuntime) {
+    holds(
+        &rt,
+        counts_of_two_sums(rt.alloc()) == Ok((2, 2)),
+        "two sums",
     );
-    assert_eq!(rt;
-        refusal(alloc, &[open, M(Int), M(Int), close, A])?,
-        at(RefusalNumber::S3, 3)
-    );
-    assert_eq!(rt;
-        refusal(alloc, &[open, M(Int), M(Const), close, A])?,
-        at(RefusalNumber::S3, 3)
-    );
-    assert_eq!(rt;
-        refusal(alloc, &[open, M(Varying), M(Uniform), close, A])?,
-        at(RefusalNumber::S3, 3)
-    );
-    assert_eq!(rt;
-        refusal(alloc, &[open, M(Bool), M(Unsigned), close, A])?,
-        at(RefusalNumber::S3, 3)
-    );
-    assert_eq!(rt;
-        refusal(alloc, &[open, M(Unsigned), M(Uint), close, A])?,
-        at(RefusalNumber::S3, 3)
-    );
-    assert_eq!(rt;
-        refusal(alloc, &[open, M(Int), A, close])?,
-        at(RefusalNumber::S3, 3)
-    );
-    Ok(())
 }
 
-/// So many times the first word, and then the others.
-fn repeated(alloc: Global, first: Word, count: usize, others: &[Word]) -> Result<Vec<Word>, Fail> {
-    let mut words = Vec::new(alloc);
-    for _ in 0..count {
-        words.push(first)?;
-    }
-    for word in others {
-        words.push(*word)?;
-    }
-    Ok(words)
+fn spec(alloc: Global, text: &str) -> Result<(Spec, usize), SourceFault> {
+    let tokens = tokens(alloc, text.as_bytes())?;
+    let (spec, rest) = take_spec(&tokens, END)?;
+    Ok((spec, rest.len()))
 }
 
-#[test]
-fn the_65th_nesting_is_refused(rt: HostRuntime) -> Result<(), Fail> {
-    let alloc = rt.alloc();
-    let words = repeated(alloc, M(Minus), 64, &[A])?;
-    assert_eq!(rt; refusal(alloc, words.as_slice())?, None);
-    for mark in [Minus, LeftParen] {
-        let words = repeated(alloc, M(mark), 65, &[A])?;
-        assert_eq!(rt;
-            refusal(alloc, words.as_slice())?,
-            at(RefusalNumber::S4, 65)
-        );
-    }
-    let words = repeated(alloc, M(LeftParen), 64, &[A, M(LeftBracket), B])?;
-    assert_eq!(rt;
-        refusal(alloc, words.as_slice())?,
-        at(RefusalNumber::S4, 66)
-    );
-    let words = repeated(alloc, M(LeftParen), 64, &[A, M(LeftParen), M(RightParen)])?;
-    assert_eq!(rt;
-        refusal(alloc, words.as_slice())?,
-        at(RefusalNumber::S4, 66)
-    );
-    let words = repeated(alloc, M(LeftParen), 64, &[A, M(Question), B])?;
-    assert_eq!(rt;
-        refusal(alloc, words.as_slice())?,
-        at(RefusalNumber::S4, 66)
-    );
-    let words = repeated(alloc, M(LeftParen), 64, &[M(LeftParen), M(Int)])?;
-    assert_eq!(rt;
-        refusal(alloc, words.as_slice())?,
-        at(RefusalNumber::S4, 65)
-    );
-    Ok(())
-}
+const PLAIN: Spec = Spec {
+    is_exported: false,
+    is_static: false,
+    is_inline: false,
+    is_constant: false,
+    rate: None,
+    value_type: Some(IntType::Uint32),
+};
 
-/// `a + a + ..` with so many operators, and then the others.
-fn long_sum(alloc: Global, operators: usize, others: &[Word]) -> Result<Vec<Word>, Fail> {
-    let mut words = Vec::new(alloc);
-    words.push(A)?;
-    for _ in 0..operators {
-        words.push(M(Plus))?;
-        words.push(A)?;
-    }
-    for word in others {
-        words.push(*word)?;
-    }
-    Ok(words)
-}
+const SPECS: &[(&str, Spec)] = &[
+    (
+        "unsigned uniform export int8 static const inline a",
+        Spec {
+            is_exported: true,
+            is_static: true,
+            is_inline: true,
+            is_constant: true,
+            rate: Some(Rate::Uniform),
+            value_type: Some(IntType::Uint8),
+        },
+    ),
+    ("unsigned a", PLAIN),
+    ("int unsigned a", PLAIN),
+    ("uint a", PLAIN),
+    (
+        "void a",
+        Spec {
+            value_type: None,
+            ..PLAIN
+        },
+    ),
+];
 
 #[test]
-fn the_257th_operator_is_refused(rt: HostRuntime) -> Result<(), Fail> {
-    let alloc = rt.alloc();
-    let words = long_sum(alloc, 256, &[])?;
-    assert_eq!(rt; refusal(alloc, words.as_slice())?, None);
-    let words = long_sum(alloc, 257, &[])?;
-    assert_eq!(rt;
-        refusal(alloc, words.as_slice())?,
-        at(RefusalNumber::S13, 514)
-    );
-    let words = long_sum(alloc, 256, &[M(Question), A, M(Colon), A])?;
-    assert_eq!(rt;
-        refusal(alloc, words.as_slice())?,
-        at(RefusalNumber::S13, 514)
-    );
-    let words = long_sum(alloc, 256, &[M(LeftBracket), A, M(RightBracket)])?;
-    assert_eq!(rt;
-        refusal(alloc, words.as_slice())?,
-        at(RefusalNumber::S13, 513)
-    );
-    let words = long_sum(
-        alloc,
-        255,
-        &[M(Plus), M(LeftParen), M(Int), M(RightParen), A],
-    )?;
-    assert_eq!(rt;
-        refusal(alloc, words.as_slice())?,
-        at(RefusalNumber::S13, 513)
-    );
-    let words = long_sum(alloc, 255, &[M(Plus), M(LeftParen), A, M(RightParen)])?;
-    assert_eq!(rt; refusal(alloc, words.as_slice())?, None);
-    Ok(())
-}
-
-#[test]
-fn arguments_of_a_statement_count_alone(rt: HostRuntime) -> Result<(), Fail> {
-    let alloc = rt.alloc();
-    let mut words = long_sum(alloc, 256, &[M(Comma)])?;
-    let second = long_sum(alloc, 256, &[M(RightParen), M(Semicolon)])?;
-    for word in &second {
-        words.push(*word)?;
-    }
-    let tokens = tokens(alloc, words.as_slice())?;
-    let (args, rest) = arguments(alloc, 63, tokens.as_slice(), END)?;
-    assert_eq!(rt; args.len(), 2);
-    assert_eq!(rt; rest.len(), 2);
-    Ok(())
-}
-
-fn spec(alloc: Global, words: &[Word]) -> Result<Result<(Spec, usize), SourceFault>, Fail> {
-    let tokens = tokens(alloc, words)?;
-    match take_spec(tokens.as_slice(), END) {
-        Ok((spec, rest)) => Ok(Ok((spec, rest.len()))),
-        Err(fault) => Ok(Err(fault)),
+fn the_words_of_a_spec_stand_in_any_order(rt: HostRuntime) {
+    for &(text, wanted) in SPECS {
+        holds(&rt, spec(rt.alloc(), text) == Ok((wanted, 1)), text);
     }
 }
 
+// What is no spec: the token at which it is refused.
+const NO_SPECS: &[(&str, u32)] = &[("const int const a", 3), ("uniform a", 2), ("a", 1)];
+
 #[test]
-fn the_words_of_a_spec_stand_in_any_order(rt: HostRuntime) -> Result<(), Fail> {
-    let alloc = rt.alloc();
-    let words = [
-        M(Unsigned),
-        M(Uniform),
-        M(Export),
-        M(Int8),
-        M(Static),
-        M(Const),
-        M(Inline),
-        A,
-    ];
-    let want = Spec {
-        is_exported: true,
-        is_static: true,
-        is_inline: true,
-        is_constant: true,
-        rate: Some(Rate::Uniform),
-        value_type: Some(IntType::Uint8),
-    };
-    assert_eq!(rt; spec(alloc, &words)?, Ok((want, 1)));
-    let plain = Spec {
-        is_exported: false,
-        is_static: false,
-        is_inline: false,
-        is_constant: false,
-        rate: None,
-        value_type: Some(IntType::Uint32),
-    };
-    assert_eq!(rt; spec(alloc, &[M(Unsigned), A])?, Ok((plain, 1)));
-    assert_eq!(rt; spec(alloc, &[M(Int), M(Unsigned), A])?, Ok((plain, 1)));
-    assert_eq!(rt; spec(alloc, &[M(Uint), A])?, Ok((plain, 1)));
-    let nothing = Spec {
-        value_type: None,
-        ..plain
-    };
-    assert_eq!(rt; spec(alloc, &[M(Void), A])?, Ok((nothing, 1)));
-    assert_eq!(rt;
-        spec(alloc, &[M(Const), M(Int), M(Const), A])?.err(),
-        at(RefusalNumber::S3, 3)
-    );
-    assert_eq!(rt;
-        spec(alloc, &[M(Uniform), A])?.err(),
-        at(RefusalNumber::S3, 2)
-    );
-    assert_eq!(rt; spec(alloc, &[A])?.err(), at(RefusalNumber::S3, 1));
-    assert_eq!(rt; spec(alloc, &[])?.err(), at_end());
-    Ok(())
+fn a_spec_has_one_type_and_each_word_once(rt: HostRuntime) {
+    for &(text, col) in NO_SPECS {
+        let is_so = spec(rt.alloc(), text) == Err(at(S3, col));
+        holds(&rt, is_so, text);
+    }
+    holds(&rt, spec(rt.alloc(), "") == Err(at_end()), "no spec");
 }

@@ -4,4 +4,8 @@
 #[cfg(test)]
 mod expressions;
 #[cfg(test)]
+mod marks;
+#[cfg(test)]
 mod tokens;
+#[cfg(test)]
+mod told;

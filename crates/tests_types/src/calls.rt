@@ -1,12 +1,12 @@
 //! Which function a call means, by the costs of its arguments.
-use gang_model::{RefusalNumber, SourceRefusal};
+use crate::told::{holds, refused};
+use gang_model::RefusalNumber;
 use gang_types::Place;
 use ispc_lexer::{source_end, tokens};
 use ispc_parser::parse;
 use source_answers::SourceFault;
 use source_tree::{Expr, Function, Item, Stmt, Tree};
 use std::alloc::Global;
-use std::test::*;
 use type_check_calls::{Context, WholeCall, call_of, whole_call};
 use type_check_scopes::TypeScope;
 use typed_tree::{ResultFor, Stmt as TypedStmt};
@@ -50,40 +50,53 @@ fn meant(alloc: Global, source: &[u8]) -> Result<Option<usize>, SourceFault> {
     })
 }
 
-fn refused(number: RefusalNumber, col: u32) -> Result<Option<usize>, SourceFault> {
-    let place = Place { line: 1, col };
-    Err(SourceFault::Refused(SourceRefusal { number, place }))
-}
+// The number of the function that is called, or none of the source's.
+const MEANT: &[(&str, Option<usize>)] = &[
+    // The one that costs least.
+    (
+        "void f(int64 x){} void f(int x){} void g(){ f(1); }",
+        Some(1),
+    ),
+    // What is asserted is a truth value.
+    ("void g(){ assert(true); }", None),
+];
+
+// Calls that mean no function.
+const REFUSED: &[(&str, RefusalNumber, u32)] = &[
+    // Two that widen are a tie.
+    (
+        "void f(int64 x){} void f(int16 x){} void g(){ f((int8)1); }",
+        RefusalNumber::S10,
+        47,
+    ),
+    // So is the least sum with a dearer argument.
+    (
+        "void f(int16 a, int8 b, int8 c){} void f(int8 a, int16 b, int16 c){} void g(){ f((int8)programIndex, (int8)programIndex, (int8)programIndex); }",
+        RefusalNumber::S10,
+        80,
+    ),
+    // A varying value goes to no uniform parameter.
+    (
+        "void f(uniform int x){} void g(){ f(programIndex); }",
+        RefusalNumber::S9,
+        35,
+    ),
+];
 
 #[test]
 fn the_function_that_costs_least_is_called(rt: HostRuntime) {
-    let source = b"void f(int64 x){} void f(int x){} void g(){ f(1); }";
-    assert!(rt; meant(rt.alloc(), source) == Ok(Some(1)));
+    for &(source, wanted) in MEANT {
+        let found = meant(rt.alloc(), source.as_bytes());
+        holds(&rt, found == Ok(wanted), source);
+    }
 }
 
 #[test]
-fn two_functions_that_widen_are_a_tie(rt: HostRuntime) {
-    let source = b"void f(int64 x){} void f(int16 x){} void g(){ f((int8)1); }";
-    assert!(rt; meant(rt.alloc(), source) == refused(RefusalNumber::S10, 47));
-}
-
-#[test]
-fn the_least_sum_with_a_dearer_argument_is_a_tie(rt: HostRuntime) {
-    let source =
-        b"void f(int16 a, int8 b, int8 c){} void f(int8 a, int16 b, int16 c){} void g(){ f((int8)programIndex, (int8)programIndex, (int8)programIndex); }";
-    assert!(rt; meant(rt.alloc(), source) == refused(RefusalNumber::S10, 80));
-}
-
-#[test]
-fn a_varying_value_goes_to_no_uniform_parameter(rt: HostRuntime) {
-    let source = b"void f(uniform int x){} void g(){ f(programIndex); }";
-    assert!(rt; meant(rt.alloc(), source) == refused(RefusalNumber::S9, 35));
-}
-
-#[test]
-fn assert_takes_a_truth_value(rt: HostRuntime) {
-    let source = b"void g(){ assert(true); }";
-    assert!(rt; meant(rt.alloc(), source) == Ok(None));
+fn calls_that_mean_no_function_are_refused(rt: HostRuntime) {
+    for &(source, number, col) in REFUSED {
+        let found = meant(rt.alloc(), source.as_bytes());
+        holds(&rt, found == Err(refused(number, col)), source);
+    }
 }
 
 #[test]
@@ -92,5 +105,5 @@ fn a_number_is_no_call(rt: HostRuntime) {
         place: Place { line: 1, col: 1 },
         value: true,
     };
-    assert!(rt; whole_call(&[], &truth).is_none());
+    holds(&rt, whole_call(&[], &truth).is_none(), "a number");
 }

@@ -1,12 +1,12 @@
 //! The types of expressions, and where their faults stand. The place of a token is its column in line 1.
-use gang_model::{RefusalNumber, SourceRefusal};
-use gang_types::{IntType, Place, Rate, VarId};
+use crate::told::{holds, refused};
+use gang_model::RefusalNumber;
+use gang_types::{IntType, Rate, VarId};
 use ispc_lexer::{source_end, tokens};
 use ispc_parser_expressions::{arguments as read_arguments, expression as read_expression};
 use source_answers::SourceFault;
 use source_tree::Expr;
 use std::alloc::Global;
-use std::test::*;
 use type_check_expressions::{arguments, expression, given_value};
 use type_check_scopes::{Declared, TypeScope};
 
@@ -57,64 +57,69 @@ fn passed(alloc: Global, source: &[u8]) -> Result<usize, SourceFault> {
     arguments(alloc, &args, &scope).map(|given| given.len())
 }
 
-fn refusal(number: RefusalNumber, col: u32) -> SourceFault {
-    let place = Place { line: 1, col };
-    SourceFault::Refused(SourceRefusal { number, place })
+// Expressions with their types and rates.
+const TYPED: &[(&str, IntType, Rate)] = &[
+    // Operations have the joined type.
+    ("1 << programIndex", IntType::Int32, Rate::Varying),
+    ("true ? 1 : programIndex", IntType::Int32, Rate::Varying),
+    ("true + true", IntType::Int32, Rate::Uniform),
+    ("5000000000", IntType::Int64, Rate::Uniform),
+    // Variables have their own.
+    ("x + x", IntType::Int8, Rate::Uniform),
+    ("x << 1", IntType::Int8, Rate::Uniform),
+    ("a[x]", IntType::Int16, Rate::Uniform),
+    ("a[programIndex]", IntType::Int16, Rate::Varying),
+    ("(int8)1", IntType::Int8, Rate::Uniform),
+    (
+        "reduce_add((int8)programIndex)",
+        IntType::Int16,
+        Rate::Uniform,
+    ),
+];
+
+// Expressions with the numbers and columns of their faults.
+const REFUSED: &[(&str, RefusalNumber, u32)] = &[
+    // Those of casts stand at the parenthesis.
+    ("(uniform int8)programIndex", RefusalNumber::S7, 1),
+    ("(void)1", RefusalNumber::S8, 1),
+    // A name of no value.
+    ("y + z", RefusalNumber::S5, 1),
+    ("y[z]", RefusalNumber::S5, 3),
+    ("1 + (a)", RefusalNumber::S8, 5),
+    ("a[true]", RefusalNumber::S8, 3),
+    ("broadcast(x, programIndex)", RefusalNumber::S7, 14),
+];
+
+#[test]
+fn expressions_have_types_and_rates(rt: HostRuntime) {
+    for &(source, value_type, rate) in TYPED {
+        let found = typed(rt.alloc(), source.as_bytes());
+        holds(&rt, found == Ok((value_type, rate)), source);
+    }
 }
 
 #[test]
-fn operations_have_the_joined_type(rt: HostRuntime) {
-    let wide = Ok((IntType::Int32, Rate::Varying));
-    assert!(rt; typed(rt.alloc(), b"1 << programIndex") == wide);
-    assert!(rt; typed(rt.alloc(), b"true ? 1 : programIndex") == wide);
-    assert!(rt; typed(rt.alloc(), b"true + true") == Ok((IntType::Int32, Rate::Uniform)));
-    assert!(rt; typed(rt.alloc(), b"5000000000") == Ok((IntType::Int64, Rate::Uniform)));
-}
-
-#[test]
-fn variables_have_their_own_types(rt: HostRuntime) {
-    let small = Ok((IntType::Int8, Rate::Uniform));
-    assert!(rt; typed(rt.alloc(), b"x + x") == small);
-    assert!(rt; typed(rt.alloc(), b"x << 1") == small);
-    assert!(rt; typed(rt.alloc(), b"a[x]") == Ok((IntType::Int16, Rate::Uniform)));
-    assert!(rt; typed(rt.alloc(), b"a[programIndex]") == Ok((IntType::Int16, Rate::Varying)));
-}
-
-#[test]
-fn faults_of_casts_stand_at_the_parenthesis(rt: HostRuntime) {
-    assert!(rt; typed(rt.alloc(), b"(int8)1") == Ok((IntType::Int8, Rate::Uniform)));
-    assert!(rt;
-        typed(rt.alloc(), b"(uniform int8)programIndex") == Err(refusal(RefusalNumber::S7, 1))
-    );
-    assert!(rt; typed(rt.alloc(), b"(void)1") == Err(refusal(RefusalNumber::S8, 1)));
-}
-
-#[test]
-fn a_name_of_no_value_is_refused(rt: HostRuntime) {
-    assert!(rt; typed(rt.alloc(), b"y + z") == Err(refusal(RefusalNumber::S5, 1)));
-    assert!(rt; typed(rt.alloc(), b"y[z]") == Err(refusal(RefusalNumber::S5, 3)));
-    assert!(rt; typed(rt.alloc(), b"1 + (a)") == Err(refusal(RefusalNumber::S8, 5)));
-    assert!(rt; typed(rt.alloc(), b"a[true]") == Err(refusal(RefusalNumber::S8, 3)));
-}
-
-#[test]
-fn library_calls_have_their_results(rt: HostRuntime) {
-    assert!(rt;
-        typed(rt.alloc(), b"reduce_add((int8)programIndex)") == Ok((IntType::Int16, Rate::Uniform))
-    );
-    assert!(rt;
-        typed(rt.alloc(), b"broadcast(x, programIndex)") == Err(refusal(RefusalNumber::S7, 14))
-    );
+fn faults_of_expressions_stand_at_their_tokens(rt: HostRuntime) {
+    for &(source, number, col) in REFUSED {
+        let found = typed(rt.alloc(), source.as_bytes());
+        holds(&rt, found == Err(refused(number, col)), source);
+    }
 }
 
 #[test]
 fn a_varying_value_is_given_to_nothing_uniform(rt: HostRuntime) {
-    assert!(rt; given(rt.alloc(), b"1") == Ok(true));
-    assert!(rt; given(rt.alloc(), b"1 + programIndex") == Err(refusal(RefusalNumber::S7, 1)));
+    let number = given(rt.alloc(), b"1");
+    holds(&rt, number == Ok(true), "1");
+    let varying = given(rt.alloc(), b"1 + programIndex");
+    let fault = refused(RefusalNumber::S7, 1);
+    holds(&rt, varying == Err(fault), "1 + programIndex");
 }
 
 #[test]
 fn arguments_pass_arrays_and_variables(rt: HostRuntime) {
-    assert!(rt; passed(rt.alloc(), b"a, &x, &a[1])") == Ok(3));
-    assert!(rt; passed(rt.alloc(), b"&a[programIndex], &z)") == Err(refusal(RefusalNumber::S7, 4)));
+    let three = passed(rt.alloc(), b"a, &x, &a[1])");
+    holds(&rt, three == Ok(3), "a, &x, &a[1]");
+    let varying = passed(rt.alloc(), b"&a[programIndex], &z)");
+    let fault = refused(RefusalNumber::S7, 4);
+    holds(&rt, varying == Err(fault), "&a[programIndex], &z");
 }

@@ -16,4 +16,6 @@ mod sources;
 #[cfg(test)]
 mod switches;
 #[cfg(test)]
+mod told;
+#[cfg(test)]
 mod values;

@@ -1,9 +1,9 @@
 //! Library calls and their faults.
-use gang_model::{RefusalNumber, SourceRefusal};
+use crate::told::{holds, refused};
+use gang_model::RefusalNumber;
 use gang_types::{IntType, Place, Rate};
 use source_answers::SourceFault;
 use std::alloc::Global;
-use std::test::*;
 use type_check_library::called_value;
 use type_check_scopes::Passing;
 use type_check_values::Typed;
@@ -11,13 +11,6 @@ use typed_tree::{Expr, OneCall, Reduction};
 
 fn at(col: u32) -> Place {
     Place { line: 1, col }
-}
-
-fn refused(number: RefusalNumber, col: u32) -> SourceFault {
-    SourceFault::Refused(SourceRefusal {
-        number,
-        place: at(col),
-    })
 }
 
 /// Arguments of these types and rates, the first of them at column 5 and each later one two columns further.
@@ -38,78 +31,105 @@ fn called(alloc: Global, name: &[u8], values: &[(IntType, Rate)]) -> Result<Type
     called_value(alloc, at(1), name, given(alloc, values)?)
 }
 
-fn sums(alloc: Global) -> Result<bool, SourceFault> {
-    let sum = called(alloc, b"reduce_add", &[(IntType::Int8, Rate::Varying)])?;
-    Ok(
-        sum.value_type == IntType::Int16
-            && sum.rate == Rate::Uniform
-            && matches!(
-                &*sum.expr,
-                Expr::Reduce {
-                    function: Reduction::ReduceAdd,
-                    value_type: IntType::Int8,
-                    ..
-                }
-            ),
-    )
-}
-
-fn counts(alloc: Global) -> Result<bool, SourceFault> {
-    let lanes = called(alloc, b"popcnt", &[(IntType::Bool, Rate::Varying)])?;
-    let bits = called(alloc, b"popcnt", &[(IntType::Uint8, Rate::Varying)])?;
-    Ok(
-        lanes.rate == Rate::Uniform
-            && bits.rate == Rate::Varying
-            && matches!(
-                &*bits.expr,
-                Expr::OfOne {
-                    function: OneCall::PopCount,
-                    ..
-                }
-            ),
-    )
-}
-
-fn places(alloc: Global) -> Result<bool, SourceFault> {
-    let values = [
-        (IntType::Int64, Rate::Varying),
-        (IntType::Int8, Rate::Uniform),
-    ];
-    let extracted = called(alloc, b"extract", &values)?;
-    let broadcast = called(alloc, b"broadcast", &values)?;
-    Ok(
-        extracted.value_type == IntType::Int64
-            && extracted.rate == Rate::Uniform
-            && broadcast.rate == Rate::Varying,
-    )
-}
-
 fn fault_of(alloc: Global, name: &[u8], values: &[(IntType, Rate)]) -> Option<SourceFault> {
     called(alloc, name, values).err()
 }
 
-#[test]
-fn sums_are_wider(rt: HostRuntime) {
-    assert!(rt; sums(rt.alloc()) == Ok(true));
+const VARYING: (IntType, Rate) = (IntType::Int32, Rate::Varying);
+
+const PLACES: &[(IntType, Rate)] = &[
+    (IntType::Int64, Rate::Varying),
+    (IntType::Int8, Rate::Uniform),
+];
+
+// Calls with the types of their results, where one is wanted, and their rates.
+const CALLED: &[(&str, &[(IntType, Rate)], Option<IntType>, Rate)] = &[
+    // Sums are wider.
+    (
+        "reduce_add",
+        &[(IntType::Int8, Rate::Varying)],
+        Some(IntType::Int16),
+        Rate::Uniform,
+    ),
+    // Ones of lanes and of bits.
+    (
+        "popcnt",
+        &[(IntType::Bool, Rate::Varying)],
+        None,
+        Rate::Uniform,
+    ),
+    (
+        "popcnt",
+        &[(IntType::Uint8, Rate::Varying)],
+        None,
+        Rate::Varying,
+    ),
+    // Values of one lane.
+    ("extract", PLACES, Some(IntType::Int64), Rate::Uniform),
+    ("broadcast", PLACES, None, Rate::Varying),
+];
+
+fn is_kind(made: &Typed, value_type: Option<IntType>, rate: Rate) -> bool {
+    let is_typed = match value_type {
+        Some(wanted) => made.value_type == wanted,
+        None => true,
+    };
+    is_typed && made.rate == rate
 }
 
 #[test]
-fn ones_of_lanes_and_of_bits(rt: HostRuntime) {
-    assert!(rt; counts(rt.alloc()) == Ok(true));
+fn calls_have_types_and_rates(rt: HostRuntime) {
+    for &(name, values, value_type, rate) in CALLED {
+        let is_so = match called(rt.alloc(), name.as_bytes(), values) {
+            Ok(made) => is_kind(&made, value_type, rate),
+            Err(_) => false,
+        };
+        holds(&rt, is_so, name);
+    }
+}
+
+fn is_sum_of_int8(expr: &Expr) -> bool {
+    matches!(
+        expr,
+        Expr::Reduce {
+            function: Reduction::ReduceAdd,
+            value_type: IntType::Int8,
+            ..
+        }
+    )
+}
+
+fn is_count_of_bits(expr: &Expr) -> bool {
+    matches!(
+        expr,
+        Expr::OfOne {
+            function: OneCall::PopCount,
+            ..
+        }
+    )
 }
 
 #[test]
-fn values_of_one_lane(rt: HostRuntime) {
-    assert!(rt; places(rt.alloc()) == Ok(true));
+fn calls_become_functions_of_the_library(rt: HostRuntime) -> Result<(), SourceFault> {
+    let sum = called(rt.alloc(), b"reduce_add", &[(IntType::Int8, Rate::Varying)])?;
+    holds(&rt, is_sum_of_int8(&sum.expr), "reduce_add");
+    let bits = called(rt.alloc(), b"popcnt", &[(IntType::Uint8, Rate::Varying)])?;
+    holds(&rt, is_count_of_bits(&bits.expr), "popcnt");
+    Ok(())
 }
+
+// Calls with the numbers and columns of their faults.
+const REFUSED: &[(&str, &[(IntType, Rate)], RefusalNumber, u32)] = &[
+    ("min", &[VARYING], RefusalNumber::S9, 1),
+    ("extract", &[VARYING, VARYING], RefusalNumber::S7, 7),
+];
 
 #[test]
 fn refused_calls(rt: HostRuntime) {
-    let varying = (IntType::Int32, Rate::Varying);
-    let number = fault_of(rt.alloc(), b"min", &[varying]);
-    assert!(rt; number == Some(refused(RefusalNumber::S9, 1)));
-    let rate = fault_of(rt.alloc(), b"extract", &[varying, varying]);
-    assert!(rt; rate == Some(refused(RefusalNumber::S7, 7)));
-    let three = fault_of(rt.alloc(), b"shuffle", &[varying, varying, varying]);
-    assert!(rt; three.is_none());
+    for &(name, values, number, col) in REFUSED {
+        let fault = fault_of(rt.alloc(), name.as_bytes(), values);
+        holds(&rt, fault == Some(refused(number, col)), name);
+    }
+    let three = fault_of(rt.alloc(), b"shuffle", &[VARYING, VARYING, VARYING]);
+    holds(&rt, three.is_none(), "shuffle");
 }

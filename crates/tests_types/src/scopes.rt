@@ -2,12 +2,12 @@
 ghost use Rattle.std.specs.Prelude.{◌≡◌};
 ghost use Rattle.gang_types.specs.declared.places.VarId.TheVariants.{Local};
 
+use crate::told::holds;
 use gang_model::{RefusalNumber, SourceRefusal, Spec};
 use gang_types::{IntType, Place, Rate, VarId};
 use ispc_names_scopes::is_same;
 use source_answers::{SourceFault, both, refuse};
 use std::alloc::Global;
-use std::test::*;
 use type_check_scopes::{Declared, TypeScope, built_in, declared_with, index_variable};
 use typed_tree::Expr;
 
@@ -105,50 +105,64 @@ fn variables_of_functions(alloc: Global) -> Result<bool, SourceFault> {
 
 #[test]
 fn inner_declarations_hide_outer_ones(rt: HostRuntime) {
-    assert!(rt; shadowing(rt.alloc()) == Ok(true));
+    holds(&rt, shadowing(rt.alloc()) == Ok(true), "shadowing");
 }
 
 #[test]
 fn names_that_nothing_declares(rt: HostRuntime) {
-    assert!(rt; other_names(rt.alloc()) == Ok(true));
+    holds(&rt, other_names(rt.alloc()) == Ok(true), "other names");
 }
 
 #[test]
 fn variables_by_their_numbers(rt: HostRuntime) {
-    assert!(rt; variables_of_functions(rt.alloc()) == Ok(true));
+    holds(
+        &rt,
+        variables_of_functions(rt.alloc()) == Ok(true),
+        "numbers",
+    );
 }
 
 #[test]
 fn lesser_fault_of_two_parts(rt: HostRuntime) {
-    let early = refused(RefusalNumber::S7, 1, 9);
-    let late = refused(RefusalNumber::S2, 2, 1);
-    let first: Result<u8, SourceFault> = Err(SourceFault::Refused(late));
-    let second: Result<u8, SourceFault> = Err(SourceFault::Refused(early));
-    assert!(rt; both(first, second) == Err(SourceFault::Refused(early)));
-    assert!(rt; both(Ok(1), second) == Err(SourceFault::Refused(early)));
+    let early = SourceFault::Refused(refused(RefusalNumber::S7, 1, 9));
+    let late = SourceFault::Refused(refused(RefusalNumber::S2, 2, 1));
+    let first: Result<u8, SourceFault> = Err(late);
+    let second: Result<u8, SourceFault> = Err(early);
+    holds(&rt, both(first, second) == Err(early), "the earlier fault");
+    holds(&rt, both(Ok(1), second) == Err(early), "the one fault");
     let sound: Result<(u8, u8), SourceFault> = both(Ok(1), Ok(2));
-    assert!(rt; sound == Ok((1, 2)));
-    assert!(rt; refuse(Some(early)) == Err(SourceFault::Refused(early)) && refuse(None).is_ok());
+    holds(&rt, sound == Ok((1, 2)), "no fault");
+    let refusal = refused(RefusalNumber::S7, 1, 9);
+    holds(&rt, refuse(Some(refusal)) == Err(early), "a refusal");
+    holds(&rt, refuse(None).is_ok(), "no refusal");
 }
 
 #[test]
 fn what_declarations_are(rt: HostRuntime) {
     let number = declared_with(VarId::File(0), spec(Some(IntType::Uint16)), false, true);
-    assert!(rt; number.value_type == IntType::Uint16 && number.rate == Rate::Varying);
-    assert!(rt; number.is_parameter && !number.is_void);
-    assert!(rt; declared_with(VarId::File(0), spec(None), false, false).is_void);
+    let kind = (number.value_type, number.rate);
+    holds(&rt, kind == (IntType::Uint16, Rate::Varying), "a number");
+    holds(&rt, number.is_parameter && !number.is_void, "a parameter");
+    let nothing = declared_with(VarId::File(0), spec(None), false, false);
+    holds(&rt, nothing.is_void, "a void");
     let index = index_variable(VarId::Local(2), IntType::Int32, Rate::Varying);
-    assert!(rt; index.is_constant && index.id == VarId::Local(2));
+    let is_so = index.is_constant && index.id == VarId::Local(2);
+    holds(&rt, is_so, "an index variable");
+}
+
+// The rate of a name of the gang, and whether it is a lane's number.
+fn of_gang(name: &[u8]) -> Option<(Rate, bool)> {
+    match built_in(name) {
+        Some(value) => Some((value.rate, matches!(&value.expr, Expr::ProgramIndex))),
+        None => None,
+    }
 }
 
 #[test]
 fn names_of_the_gang(rt: HostRuntime) {
-    let lane = built_in(b"programIndex");
-    assert!(rt;
-        lane.is_some_and(|value| value.rate == Rate::Varying
-            && matches!(&value.expr, Expr::ProgramIndex))
-    );
-    let width = built_in(b"programCount");
-    assert!(rt; width.is_some_and(|value| value.rate == Rate::Uniform));
-    assert!(rt; built_in(b"program").is_none());
+    let lane = of_gang(b"programIndex");
+    holds(&rt, lane == Some((Rate::Varying, true)), "programIndex");
+    let width = of_gang(b"programCount");
+    holds(&rt, width == Some((Rate::Uniform, false)), "programCount");
+    holds(&rt, of_gang(b"program").is_none(), "program");
 }

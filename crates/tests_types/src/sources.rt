@@ -1,12 +1,12 @@
 //! Typed programs of sources, and the faults of types that are named. The place of a fault is its column in line 1.
-use gang_model::{RefusalNumber, SourceRefusal};
-use gang_types::{FuncId, IntType, Place, Rate, VarId};
+use crate::told::{holds, refused};
+use gang_model::RefusalNumber;
+use gang_types::{FuncId, IntType, Rate, VarId};
 use ispc_lexer::{source_end, tokens};
 use ispc_names::resolve;
 use ispc_parser::parse;
 use source_answers::SourceFault;
 use std::alloc::Global;
-use std::test::*;
 use type_check::{Checked, check, entry_of};
 
 fn checked(alloc: Global, source: &[u8]) -> Result<Checked, SourceFault> {
@@ -65,49 +65,78 @@ fn items(alloc: Global, source: &[u8]) -> Result<usize, SourceFault> {
     Ok(checked.tree().items.len())
 }
 
-fn refused(number: RefusalNumber, col: u32) -> Result<usize, SourceFault> {
-    let place = Place { line: 1, col };
-    Err(SourceFault::Refused(SourceRefusal { number, place }))
-}
+// The first word of the last variable of the file, and its number of elements.
+const WORDS: &[(&str, u64, u64)] = &[
+    ("uniform bool b = 2;", 1, 0),
+    ("uniform int64 m = -1;", u64::MAX, 0),
+    ("uniform int a[3];", 0, 3),
+];
 
 #[test]
 fn variables_of_the_file_have_words_and_lengths(rt: HostRuntime) {
-    assert!(rt; first_words(rt.alloc(), b"uniform bool b = 2;") == Ok(Some((1, 0))));
-    assert!(rt; first_words(rt.alloc(), b"uniform int64 m = -1;") == Ok(Some((u64::MAX, 0))));
-    assert!(rt; first_words(rt.alloc(), b"uniform int a[3];") == Ok(Some((0, 3))));
+    for &(source, word, length) in WORDS {
+        let found = first_words(rt.alloc(), source.as_bytes());
+        holds(&rt, found == Ok(Some((word, length))), source);
+    }
 }
 
 #[test]
 fn variables_of_the_file_have_numbers_and_types(rt: HostRuntime) {
     let source = b"uniform int8 a[3]; int v;";
     let last = (VarId::File(1), IntType::Int32, Rate::Varying);
-    assert!(rt; last_variable(rt.alloc(), source) == Ok(Some(last)));
-    assert!(rt; items(rt.alloc(), source) == Ok(2));
+    let found = last_variable(rt.alloc(), source);
+    holds(&rt, found == Ok(Some(last)), "the last variable");
+    holds(&rt, items(rt.alloc(), source) == Ok(2), "two items");
 }
 
 #[test]
 fn functions_have_results_and_variables(rt: HostRuntime) {
     let source = b"uniform int64 f(int a, uniform int b) { int c = a; return 1; }";
     let first = (IntType::Int64, Rate::Uniform, 3);
-    assert!(rt; first_function(rt.alloc(), source) == Ok(Some(first)));
+    let found = first_function(rt.alloc(), source);
+    holds(&rt, found == Ok(Some(first)), "the first function");
 }
+
+// The function that is asked for, by its name if it has one, and the number of the entry if it is one.
+const ENTRIES: &[(Option<&[u8]>, Option<FuncId>)] = &[
+    (None, Some(FuncId(1))),
+    (Some(b"e"), Some(FuncId(1))),
+    (Some(b"f"), None),
+];
 
 #[test]
 fn the_entry_is_exported_and_asked_for(rt: HostRuntime) {
     let source = b"int g; void f() { } export void e() { }";
-    assert!(rt; entry(rt.alloc(), source, None) == Ok(Some(FuncId(1))));
-    assert!(rt; entry(rt.alloc(), source, Some(b"e")) == Ok(Some(FuncId(1))));
-    assert!(rt; entry(rt.alloc(), source, Some(b"f")) == Ok(None));
+    for &(name, wanted) in ENTRIES {
+        let found = entry(rt.alloc(), source, name);
+        holds(&rt, found == Ok(wanted), "an entry, or none for `f`");
+    }
 }
+
+// The fault with the first place.
+const REFUSED: &[(&str, RefusalNumber, u32)] = &[
+    (
+        "int a[4]; export int f(int b) { return b; }",
+        RefusalNumber::S7,
+        5,
+    ),
+    (
+        "export void f(int b) { uniform int u = b; }",
+        RefusalNumber::S7,
+        19,
+    ),
+    (
+        "export int f() { return 1; } void v;",
+        RefusalNumber::S7,
+        12,
+    ),
+    ("void f(void v) { }", RefusalNumber::S8, 13),
+];
 
 #[test]
 fn the_fault_with_the_first_place_is_named(rt: HostRuntime) {
-    let source = b"int a[4]; export int f(int b) { return b; }";
-    assert!(rt; items(rt.alloc(), source) == refused(RefusalNumber::S7, 5));
-    let source = b"export void f(int b) { uniform int u = b; }";
-    assert!(rt; items(rt.alloc(), source) == refused(RefusalNumber::S7, 19));
-    let source = b"export int f() { return 1; } void v;";
-    assert!(rt; items(rt.alloc(), source) == refused(RefusalNumber::S7, 12));
-    let source = b"void f(void v) { }";
-    assert!(rt; items(rt.alloc(), source) == refused(RefusalNumber::S8, 13));
+    for &(source, number, col) in REFUSED {
+        let found = items(rt.alloc(), source.as_bytes());
+        holds(&rt, found == Err(refused(number, col)), source);
+    }
 }

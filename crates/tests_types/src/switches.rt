@@ -1,4 +1,5 @@
 //! The selector and the labels of a `switch`. What is judged stands in line 2, after a variable of the selector's type.
+use crate::told::holds_for;
 use gang_model::{RefusalNumber, SourceRefusal};
 use gang_types::Place;
 use ispc_lexer::{source_end, tokens};
@@ -6,7 +7,6 @@ use ispc_names::resolve;
 use ispc_parser::parse;
 use source_answers::SourceFault;
 use std::alloc::Global;
-use std::test::*;
 use type_check::{Checked, check};
 use typed_tree::Stmt;
 
@@ -59,144 +59,216 @@ fn last_step(alloc: Global, spec: &[u8], statements: &[u8]) -> Result<Option<usi
     }
 }
 
-/// S8 at this column of line 2.
-fn refused(col: u32) -> Result<(), SourceFault> {
-    Err(SourceFault::Refused(SourceRefusal {
-        number: RefusalNumber::S8,
-        place: Place { line: 2, col },
-    }))
+// What stands in a function with a variable `v` of the type, and the column of line 2 at which S8 refuses it, if it does.
+const JUDGED: &[(&str, &str, Option<u32>)] = &[
+    // Labels of signed types reach their ends.
+    ("int8", "switch (v) { case -128: case 127: ; }", None),
+    (
+        "uniform int8",
+        "switch (v) { case -128: case 127: ; }",
+        None,
+    ),
+    ("int16", "switch (v) { case -32768: case 32767: ; }", None),
+    (
+        "uniform int16",
+        "switch (v) { case -32768: case 32767: ; }",
+        None,
+    ),
+    (
+        "int",
+        "switch (v) { case -2147483648: case 2147483647: ; }",
+        None,
+    ),
+    (
+        "uniform int",
+        "switch (v) { case -2147483648: case 2147483647: ; }",
+        None,
+    ),
+    (
+        "int64",
+        "switch (v) { case -9223372036854775808: case 9223372036854775807: ; }",
+        None,
+    ),
+    (
+        "uniform int64",
+        "switch (v) { case -9223372036854775808: case 9223372036854775807: ; }",
+        None,
+    ),
+    // Labels of unsigned types reach their ends.
+    ("uint8", "switch (v) { case -0: case 255: ; }", None),
+    ("uniform uint8", "switch (v) { case -0: case 255: ; }", None),
+    ("uint16", "switch (v) { case 0: case 65535: ; }", None),
+    (
+        "uniform uint16",
+        "switch (v) { case 0: case 65535: ; }",
+        None,
+    ),
+    ("uint", "switch (v) { case 0: case 4294967295: ; }", None),
+    (
+        "uniform uint",
+        "switch (v) { case 0: case 4294967295: ; }",
+        None,
+    ),
+    (
+        "uint64",
+        "switch (v) { case 0: case 18446744073709551615: ; }",
+        None,
+    ),
+    (
+        "uniform uint64",
+        "switch (v) { case 0: case 18446744073709551615: ; }",
+        None,
+    ),
+    // Labels past the ends of signed types.
+    ("int8", "switch (v) { case 128: ; }", Some(14)),
+    ("uniform int8", "switch (v) { case -129: ; }", Some(14)),
+    ("int8", "switch (v) { case 300: ; }", Some(14)),
+    ("uniform int16", "switch (v) { case 32768: ; }", Some(14)),
+    ("int16", "switch (v) { case -32769: ; }", Some(14)),
+    (
+        "int",
+        "switch (v) { default: case 2147483648: ; }",
+        Some(23),
+    ),
+    (
+        "uniform int",
+        "switch (v) { default: case -2147483649: ; }",
+        Some(23),
+    ),
+    (
+        "uniform int64",
+        "switch (v) { case 9223372036854775808: ; }",
+        Some(14),
+    ),
+    (
+        "int64",
+        "switch (v) { case -9223372036854775809: ; }",
+        Some(14),
+    ),
+    // Labels past the ends of unsigned types.
+    ("uint8", "switch (v) { case -1: ; }", Some(14)),
+    ("uniform uint8", "switch (v) { case 256: ; }", Some(14)),
+    ("uniform uint16", "switch (v) { case -1: ; }", Some(14)),
+    ("uint16", "switch (v) { case 65536: ; }", Some(14)),
+    ("uint", "switch (v) { case -1: ; }", Some(14)),
+    (
+        "uniform uint",
+        "switch (v) { case 4294967296: ; }",
+        Some(14),
+    ),
+    ("uint64", "switch (v) { case -1: ; }", Some(14)),
+    (
+        "uniform uint64",
+        "switch (v) { case -18446744073709551615: ; }",
+        Some(14),
+    ),
+    // A selector is no bool.
+    ("bool", "switch (v) { case 1: ; }", Some(9)),
+    ("uniform bool", "switch (v) { case 1: ; }", Some(9)),
+    ("bool", "switch ((v)) { }", Some(9)),
+    ("int", "switch (1 < v) { case 300: ; }", Some(9)),
+    ("bool", "switch (+v) { case -1: ; }", None),
+    // A selector has its own type.
+    ("int8", "switch (v + 1u) { case 4294967295: ; }", None),
+    ("int8", "switch (v + 1u) { case -1: ; }", Some(19)),
+    ("int8", "switch (3) { case 2147483648: ; }", Some(14)),
+    ("int8", "switch (programIndex) { case 128: ; }", None),
+    // Each switch has labels of its own type.
+    (
+        "int8",
+        "int64 w = 1; switch (v) { case 1: switch (w) { case 300: ; } }",
+        None,
+    ),
+    (
+        "int8",
+        "int64 w = 1; switch (v) { case 1: switch (w) { case 300: ; } case 300: ; }",
+        Some(62),
+    ),
+    (
+        "int8",
+        "int64 w = 1; switch (w) { case 300: switch (v) { case 1: case 300: ; } }",
+        Some(58),
+    ),
+    // Labels are judged whichever lanes come there.
+    ("int8", "if (v > 1) switch (v) { case 128: ; }", Some(25)),
+    (
+        "int8",
+        "while (v > 1) { switch (v) { case 1: break; case 128: continue; } }",
+        Some(45),
+    ),
+    // Statements of segments are judged.
+    (
+        "int8",
+        "switch (v) { case 1: v[0] = 1; case 300: ; }",
+        Some(22),
+    ),
+    (
+        "int8",
+        "switch (v) { case 1: ; default: v[0] = 1; }",
+        Some(33),
+    ),
+];
+
+/// S8 at a column of line 2, or what is judged well.
+fn answer(col: Option<u32>) -> Result<(), SourceFault> {
+    match col {
+        Some(col) => Err(SourceFault::Refused(SourceRefusal {
+            number: RefusalNumber::S8,
+            place: Place { line: 2, col },
+        })),
+        None => Ok(()),
+    }
 }
 
 #[test]
-fn labels_of_signed_types_reach_their_ends(rt: HostRuntime) {
-    let alloc = rt.alloc();
-    let ends = b"switch (v) { case -128: case 127: ; }";
-    assert!(rt; judged(alloc, b"int8", ends) == Ok(()));
-    assert!(rt; judged(alloc, b"uniform int8", ends) == Ok(()));
-    assert!(rt;
-        labels(alloc, b"int8", ends) == Ok(Some((Some(0u64.wrapping_sub(128)), Some(127))))
-    );
-    let ends = b"switch (v) { case -32768: case 32767: ; }";
-    assert!(rt; judged(alloc, b"int16", ends) == Ok(()));
-    assert!(rt; judged(alloc, b"uniform int16", ends) == Ok(()));
-    let ends = b"switch (v) { case -2147483648: case 2147483647: ; }";
-    assert!(rt; judged(alloc, b"int", ends) == Ok(()));
-    assert!(rt; judged(alloc, b"uniform int", ends) == Ok(()));
-    let ends = b"switch (v) { case -9223372036854775808: case 9223372036854775807: ; }";
-    assert!(rt; judged(alloc, b"int64", ends) == Ok(()));
-    assert!(rt; judged(alloc, b"uniform int64", ends) == Ok(()));
+fn selectors_and_labels_are_judged(rt: HostRuntime) {
+    for &(spec, statements, col) in JUDGED {
+        let found = judged(rt.alloc(), spec.as_bytes(), statements.as_bytes());
+        holds_for(&rt, found == answer(col), spec, statements);
+    }
 }
 
-#[test]
-fn labels_of_unsigned_types_reach_their_ends(rt: HostRuntime) {
-    let alloc = rt.alloc();
-    let ends = b"switch (v) { case -0: case 255: ; }";
-    assert!(rt; judged(alloc, b"uint8", ends) == Ok(()));
-    assert!(rt; judged(alloc, b"uniform uint8", ends) == Ok(()));
-    assert!(rt; labels(alloc, b"uint8", ends) == Ok(Some((Some(0), Some(255)))));
-    let ends = b"switch (v) { case 0: case 65535: ; }";
-    assert!(rt; judged(alloc, b"uint16", ends) == Ok(()));
-    assert!(rt; judged(alloc, b"uniform uint16", ends) == Ok(()));
-    let ends = b"switch (v) { case 0: case 4294967295: ; }";
-    assert!(rt; judged(alloc, b"uint", ends) == Ok(()));
-    assert!(rt; judged(alloc, b"uniform uint", ends) == Ok(()));
-    let ends = b"switch (v) { case 0: case 18446744073709551615: ; }";
-    assert!(rt; judged(alloc, b"uint64", ends) == Ok(()));
-    assert!(rt; judged(alloc, b"uniform uint64", ends) == Ok(()));
-}
+// The words of the first two labels, of which one is none at `default`.
+const LABELS: &[(&str, &str, (Option<u64>, Option<u64>))] = &[
+    (
+        "int8",
+        "switch (v) { case -128: case 127: ; }",
+        (Some(0xffff_ffff_ffff_ff80), Some(127)),
+    ),
+    (
+        "uint8",
+        "switch (v) { case -0: case 255: ; }",
+        (Some(0), Some(255)),
+    ),
+    (
+        "int",
+        "switch (v) { default: case -1: ; }",
+        (None, Some(u64::MAX)),
+    ),
+];
 
 #[test]
-fn labels_past_the_ends_of_signed_types(rt: HostRuntime) {
-    let alloc = rt.alloc();
-    assert!(rt; judged(alloc, b"int8", b"switch (v) { case 128: ; }") == refused(14));
-    assert!(rt; judged(alloc, b"uniform int8", b"switch (v) { case -129: ; }") == refused(14));
-    assert!(rt; judged(alloc, b"int8", b"switch (v) { case 300: ; }") == refused(14));
-    assert!(rt; judged(alloc, b"uniform int16", b"switch (v) { case 32768: ; }") == refused(14));
-    assert!(rt; judged(alloc, b"int16", b"switch (v) { case -32769: ; }") == refused(14));
-    let high = b"switch (v) { default: case 2147483648: ; }";
-    assert!(rt; judged(alloc, b"int", high) == refused(23));
-    let low = b"switch (v) { default: case -2147483649: ; }";
-    assert!(rt; judged(alloc, b"uniform int", low) == refused(23));
-    let high = b"switch (v) { case 9223372036854775808: ; }";
-    assert!(rt; judged(alloc, b"uniform int64", high) == refused(14));
-    let low = b"switch (v) { case -9223372036854775809: ; }";
-    assert!(rt; judged(alloc, b"int64", low) == refused(14));
+fn labels_have_words_of_the_type_of_the_selector(rt: HostRuntime) {
+    for &(spec, statements, wanted) in LABELS {
+        let found = labels(rt.alloc(), spec.as_bytes(), statements.as_bytes());
+        holds_for(&rt, found == Ok(Some(wanted)), spec, statements);
+    }
 }
 
-#[test]
-fn labels_past_the_ends_of_unsigned_types(rt: HostRuntime) {
-    let alloc = rt.alloc();
-    assert!(rt; judged(alloc, b"uint8", b"switch (v) { case -1: ; }") == refused(14));
-    assert!(rt; judged(alloc, b"uniform uint8", b"switch (v) { case 256: ; }") == refused(14));
-    assert!(rt; judged(alloc, b"uniform uint16", b"switch (v) { case -1: ; }") == refused(14));
-    assert!(rt; judged(alloc, b"uint16", b"switch (v) { case 65536: ; }") == refused(14));
-    assert!(rt; judged(alloc, b"uint", b"switch (v) { case -1: ; }") == refused(14));
-    assert!(rt;
-        judged(alloc, b"uniform uint", b"switch (v) { case 4294967296: ; }") == refused(14)
-    );
-    assert!(rt; judged(alloc, b"uint64", b"switch (v) { case -1: ; }") == refused(14));
-    let low = b"switch (v) { case -18446744073709551615: ; }";
-    assert!(rt; judged(alloc, b"uniform uint64", low) == refused(14));
-}
-
-#[test]
-fn a_selector_is_no_bool(rt: HostRuntime) {
-    let alloc = rt.alloc();
-    let at_name = b"switch (v) { case 1: ; }";
-    assert!(rt; judged(alloc, b"bool", at_name) == refused(9));
-    assert!(rt; judged(alloc, b"uniform bool", at_name) == refused(9));
-    assert!(rt; judged(alloc, b"bool", b"switch ((v)) { }") == refused(9));
-    assert!(rt; judged(alloc, b"int", b"switch (1 < v) { case 300: ; }") == refused(9));
-    assert!(rt; judged(alloc, b"bool", b"switch (+v) { case -1: ; }") == Ok(()));
-}
-
-#[test]
-fn a_selector_has_its_own_type(rt: HostRuntime) {
-    let alloc = rt.alloc();
-    let inside = b"switch (v + 1u) { case 4294967295: ; }";
-    assert!(rt; judged(alloc, b"int8", inside) == Ok(()));
-    assert!(rt; judged(alloc, b"int8", b"switch (v + 1u) { case -1: ; }") == refused(19));
-    assert!(rt; judged(alloc, b"int8", b"switch (3) { case 2147483648: ; }") == refused(14));
-    assert!(rt; judged(alloc, b"int8", b"switch (programIndex) { case 128: ; }") == Ok(()));
-}
-
-#[test]
-fn each_switch_has_labels_of_its_own_type(rt: HostRuntime) {
-    let alloc = rt.alloc();
-    let inner = b"int64 w = 1; switch (v) { case 1: switch (w) { case 300: ; } }";
-    assert!(rt; judged(alloc, b"int8", inner) == Ok(()));
-    let both = b"int64 w = 1; switch (v) { case 1: switch (w) { case 300: ; } case 300: ; }";
-    assert!(rt; judged(alloc, b"int8", both) == refused(62));
-    let inner = b"int64 w = 1; switch (w) { case 300: switch (v) { case 1: case 300: ; } }";
-    assert!(rt; judged(alloc, b"int8", inner) == refused(58));
-}
-
-#[test]
-fn labels_are_judged_whichever_lanes_come_there(rt: HostRuntime) {
-    let alloc = rt.alloc();
-    let none = b"if (v > 1) switch (v) { case 128: ; }";
-    assert!(rt; judged(alloc, b"int8", none) == refused(25));
-    let looped = b"while (v > 1) { switch (v) { case 1: break; case 128: continue; } }";
-    assert!(rt; judged(alloc, b"int8", looped) == refused(45));
-}
-
-#[test]
-fn statements_of_segments_are_judged(rt: HostRuntime) {
-    let alloc = rt.alloc();
-    let bodies = b"switch (v) { case 1: v[0] = 1; case 300: ; }";
-    assert!(rt; judged(alloc, b"int8", bodies) == refused(22));
-    let bodies = b"switch (v) { case 1: ; default: v[0] = 1; }";
-    assert!(rt; judged(alloc, b"int8", bodies) == refused(33));
-}
+// The number of the last statement's step.
+const LAST_STEPS: &[(&str, &str, usize)] = &[
+    (
+        "int",
+        "switch (programIndex) { case 0: v += 1; case 2: v += 10; break; default: v += 100; } v += 1000;",
+        6,
+    ),
+    ("int", "switch (v) { } v += 1;", 2),
+];
 
 #[test]
 fn steps_of_segments_are_numbered(rt: HostRuntime) {
-    let alloc = rt.alloc();
-    let statements =
-        b"switch (programIndex) { case 0: v += 1; case 2: v += 10; break; default: v += 100; } v += 1000;";
-    assert!(rt; last_step(alloc, b"int", statements) == Ok(Some(6)));
-    let statements = b"switch (v) { } v += 1;";
-    assert!(rt; last_step(alloc, b"int", statements) == Ok(Some(2)));
-    let labels_of = b"switch (v) { default: case -1: ; }";
-    assert!(rt; labels(alloc, b"int", labels_of) == Ok(Some((None, Some(u64::MAX)))));
+    for &(spec, statements, wanted) in LAST_STEPS {
+        let found = last_step(rt.alloc(), spec.as_bytes(), statements.as_bytes());
+        holds_for(&rt, found == Ok(Some(wanted)), spec, statements);
+    }
 }

@@ -1,0 +1,12 @@
+//! How a test ends: its case is named, in one function for all, since each assertion is written out where it stands.
+use std::process::Abort;
+
+/// Ends the test where the case that is named is not so.
+pub(crate) fn holds(rt: &impl Abort, is_so: bool, case: &str) {
+    assert!(rt; is_so, "{case}");
+}
+
+/// Ends the test where the case that is named is not so at a number of bytes.
+pub(crate) fn holds_at(rt: &impl Abort, is_so: bool, case: &str, bytes: usize) {
+    assert!(rt; is_so, "{case}, at {bytes}");
+}
