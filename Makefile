@@ -18,6 +18,7 @@ test:
 
 # Emacs with dap-mode speaks with the adapter of the quick build. Both are installed from Debian's packages.
 test-editors:
+	apt-get update
 	apt-get install -y --no-install-recommends emacs-nox elpa-dap-mode
 	emacs --batch -l tools/testing/adapter_dap_mode.el examples/lanes.ispc crates/rinddecade/out/quick adapter
 

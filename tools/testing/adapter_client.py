@@ -11,82 +11,11 @@ import subprocess
 import sys
 import threading
 
+from .adapter_members import CAPABILITIES, EVENTS, MEMBERS, NUMBER, TEXT, THREAD, TRUTH, Wrong, need, need_body, need_members, need_stop
 from .tried import Result
 
 # How long a check may take.
 SECONDS = 60
-
-TEXT, NUMBER, TRUTH, LIST, MEMBERS = str, int, bool, list, dict
-
-# The members that each body must have, and those that it may have, with their types.
-BODIES = {
-    "initialize": ({}, {}),
-    "launch": ({}, {}),
-    "setBreakpoints": ({"breakpoints": LIST}, {}),
-    "setExceptionBreakpoints": ({}, {}),
-    "dataBreakpointInfo": ({"description": TEXT}, {"dataId": (TEXT, type(None)), "accessTypes": LIST, "canPersist": TRUTH}),
-    "setDataBreakpoints": ({"breakpoints": LIST}, {}),
-    "configurationDone": ({}, {}),
-    "threads": ({"threads": LIST}, {}),
-    "stackTrace": ({"stackFrames": LIST}, {"totalFrames": NUMBER}),
-    "scopes": ({"scopes": LIST}, {}),
-    "variables": ({"variables": LIST}, {}),
-    "setVariable": ({"value": TEXT}, {}),
-    "evaluate": ({"result": TEXT, "variablesReference": NUMBER}, {}),
-    "next": ({}, {"allThreadsContinued": TRUTH}),
-    "stepIn": ({}, {"allThreadsContinued": TRUTH}),
-    "stepOut": ({}, {"allThreadsContinued": TRUTH}),
-    "stepBack": ({}, {"allThreadsContinued": TRUTH}),
-    "reverseContinue": ({}, {"allThreadsContinued": TRUTH}),
-    "continue": ({"allThreadsContinued": TRUTH}, {}),
-    "restart": ({}, {}),
-    "disconnect": ({}, {}),
-}
-CAPABILITIES = [
-    "supportsConfigurationDoneRequest",
-    "supportsDataBreakpoints",
-    "supportsEvaluateForHovers",
-    "supportsRestartRequest",
-    "supportsSetVariable",
-    "supportsStepBack",
-]
-EVENTS = {
-    "initialized": ({}, {}),
-    "terminated": ({}, {}),
-    "output": ({"output": TEXT}, {"category": TEXT}),
-    "stopped": (
-        {"reason": TEXT},
-        {"description": TEXT, "text": TEXT, "threadId": NUMBER, "allThreadsStopped": TRUTH, "hitBreakpointIds": LIST},
-    ),
-}
-ITEMS = {
-    "breakpoints": ({"verified": TRUTH}, {"id": NUMBER, "line": NUMBER, "message": TEXT}),
-    "threads": ({"id": NUMBER, "name": TEXT}, {}),
-    "stackFrames": ({"id": NUMBER, "name": TEXT, "line": NUMBER, "column": NUMBER}, {"source": MEMBERS}),
-    "scopes": ({"name": TEXT, "variablesReference": NUMBER, "expensive": TRUTH}, {"presentationHint": TEXT}),
-    "variables": ({"name": TEXT, "value": TEXT, "variablesReference": NUMBER}, {"type": TEXT, "evaluateName": TEXT}),
-}
-
-
-class Wrong(Exception):
-    pass
-
-
-def need(holds, why):
-    if not holds:
-        raise Wrong(why)
-
-
-def need_members(what, given, needed, allowed):
-    """An object has all the members that it needs and no others than it may have, each of its type."""
-    need(isinstance(given, dict), f"{what} is {given!r} and no object")
-    for name, kind in needed.items():
-        need(name in given, f"{what} has no member {name}: {given}")
-    for name, value in given.items():
-        kind = needed.get(name) or allowed.get(name)
-        need(kind is not None, f"{what} has a member {name}: {given}")
-        is_truth_for_number = kind is NUMBER and isinstance(value, bool)
-        need(isinstance(value, kind) and not is_truth_for_number, f"the member {name} of {what} is {value!r}")
 
 
 class Client:
@@ -125,6 +54,10 @@ class Client:
         need(name in EVENTS, f"an event {name}")
         need_members(f"the event {name}", message, {"seq": NUMBER, "type": TEXT, "event": TEXT, "body": MEMBERS}, {})
         need_members(f"the body of {name}", message["body"], *EVENTS[name])
+        if name == "stopped":
+            need_stop(message["body"])
+        if name == "output":
+            need(message["body"]["category"] == "console", f"the category is {message['body']['category']}")
         self.events.append((name, message["body"]))
 
     def event(self, name):
@@ -158,21 +91,19 @@ class Client:
     def ask(self, command, **arguments):
         """The body of the response to a request, which must succeed."""
         message = self.answer(command, arguments)
-        need(message["success"], f"{command} is refused: {message}")
+        need(message["success"] and "message" not in message, f"{command} is refused: {message}")
         body = message.get("body", {})
         if command == "initialize":
             need(sorted(body) == CAPABILITIES and all(body.values()), f"the capabilities are {body}")
             return body
-        need_members(f"the body of {command}", body, *BODIES[command])
-        for name, items in body.items():
-            for item in items if name in ITEMS else []:
-                need_members(f"an item of {name}", item, *ITEMS[name])
+        need_body(command, arguments, body)
         return body
 
     def refused(self, command, **arguments):
         """The text by which a request is refused."""
         message = self.answer(command, arguments)
         need(not message["success"] and "message" in message, f"{command} is not refused: {message}")
+        need_members("the body of a refusal", message.get("body"), {"error": MEMBERS}, {})
         error = message["body"]["error"]
         need_members("the error", error, {"id": NUMBER, "format": TEXT}, {})
         need(error["format"] == message["message"], f"two texts: {message}")
@@ -197,14 +128,15 @@ class Client:
         return body["breakpoints"]
 
     def place(self):
-        frames = self.ask("stackTrace", threadId=1)["stackFrames"]
+        frames = self.ask("stackTrace", threadId=THREAD)["stackFrames"]
+        need(all(it["source"]["path"] == self.source for it in frames), f"another source: {frames}")
         return [(it["line"], it["column"], it["name"]) for it in frames]
 
     def variables(self, reference):
         return {it["name"]: it for it in self.ask("variables", variablesReference=reference)["variables"]}
 
-    def end(self):
-        self.ask("disconnect")
+    def end(self, command="disconnect"):
+        self.ask(command)
         self.process.stdin.close()
         need(self.process.wait(10) == 0, "the status is not 0")
 
@@ -341,7 +273,24 @@ def the_end(client, examples):
     same(client.place(), [(2, 5, "go [11111111]")])
     same(client.refused("stepBack", threadId=1), "C3 NoHistory")
     same(client.move("continue")["reason"], "breakpoint")
-    client.end()
+    client.end("terminate")
+
+
+# Requests that lack an argument or have one of a wrong type, each with the first such argument.
+INCOMPLETE = [
+    ("setBreakpoints", {"source": {}, "breakpoints": [{"line": 3}, {"line": -1}]}, "line"),
+    ("setBreakpoints", {"source": {}, "breakpoints": [{"line": 2**32}]}, "line"),
+    ("setBreakpoints", {"source": {}, "breakpoints": [{"line": "3"}]}, "line"),
+    ("dataBreakpointInfo", {"variablesReference": 2}, "name"),
+    ("setDataBreakpoints", {"breakpoints": [{"dataId": None}]}, "dataId"),
+    ("variables", {}, "variablesReference"),
+    ("variables", {"variablesReference": "1"}, "variablesReference"),
+    ("setVariable", {"variablesReference": 1}, "name"),
+    ("setVariable", {"variablesReference": 1, "name": "x"}, "value"),
+    ("setVariable", {"variablesReference": 1, "name": "x", "value": 7}, "value"),
+    ("evaluate", {}, "expression"),
+    ("evaluate", {"expression": ["x"]}, "expression"),
+]
 
 
 def wrong_requests(client, examples):
@@ -353,8 +302,8 @@ def wrong_requests(client, examples):
     client.launch(examples / "first.ispc")
     client.begin()
     same(client.refused("gotoTargets", line=3), "no request gotoTargets")
-    same(client.refused("evaluate"), "the argument `expression` is missing or of a wrong type")
-    same(client.refused("setBreakpoints", source={}, breakpoints=[{"line": -1}]), "the argument `line` is missing or of a wrong type")
+    for command, arguments, argument in INCOMPLETE:
+        same(client.refused(command, **arguments), f"the argument `{argument}` is missing or of a wrong type")
     for raw, name in [
         (b"Content-Length: 3\r\n\r\n\xff{]", "NoJson"),
         (b"Content-Length: 2\r\n\r\n{}", "NoRequest"),

@@ -1,14 +1,23 @@
-"""Commands that run, which are ended where the tests are stopped."""
+"""Commands that run, which are ended where the tests are stopped; and calls side by side."""
 
+import concurrent.futures
 import contextlib
 import os
 import signal
 import subprocess
 import threading
 
+from .processors import processors
+
 RUNNING = set()
 LOCK = threading.Lock()
 STOPPED = threading.Event()
+POOL = concurrent.futures.ThreadPoolExecutor(processors())
+
+
+def side_by_side(call, items):
+    """What a call gives for each item, in their order: as many at a time as there are processors, whoever asks."""
+    return list(POOL.map(call, items))
 
 
 def go_on():
@@ -22,14 +31,20 @@ def begun(words, folder, temporary=None, **streams):
     """A command that runs in a folder, and which stop_all ends."""
     go_on()
     more = {} if temporary is None else {"TMPDIR": str(temporary)}
-    with subprocess.Popen(words, cwd=folder, stdin=subprocess.DEVNULL, env={**os.environ, **more}, **streams) as process:
+    with subprocess.Popen(words, cwd=folder, stdin=subprocess.DEVNULL, env={**os.environ, **more}, **streams) as process, ended_early(process):
+        yield process
+
+
+@contextlib.contextmanager
+def ended_early(process):
+    """A process that stop_all ends."""
+    with LOCK:
+        RUNNING.add(process)
+    try:
+        yield
+    finally:
         with LOCK:
-            RUNNING.add(process)
-        try:
-            yield process
-        finally:
-            with LOCK:
-                RUNNING.discard(process)
+            RUNNING.discard(process)
 
 
 def called(words, folder):
@@ -42,6 +57,7 @@ def called(words, folder):
 def stop_all():
     """Ends what runs, and lets nothing more begin."""
     STOPPED.set()
+    POOL.shutdown(wait=False, cancel_futures=True)
     with LOCK:
         for process in RUNNING:
             process.send_signal(signal.SIGTERM)

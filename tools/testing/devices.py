@@ -96,26 +96,24 @@ def closed(built):
     return results
 
 
-def endless(built):
-    """Standard input that gives one blank, or the end of a line, for ever: it has no line %%, or it ends at the most reads that a run makes."""
-    results = []
-    with tempfile.TemporaryDirectory(prefix="endless-") as folder:
-        pathlib.Path(folder, "first.ispc").write_bytes(program.FIRST)
-        failing = hostile.library(folder)
-        if failing is None:
-            return [Result("standard input without end", False, ["cc does not make the library that gives it"])]
-        for words, what, wanted in (([], "script", (2, b"", NO_SCRIPT)), (["first.ispc"], "commands", (3, b"", READ_FAULT))):
-            for byte in BLANKS:
-                case = hostile.Case(Run(f"{bytes([byte])!r} for ever", b"", words), folder, built, failing)
-                came = case.ended(ENDLESS_BYTE=byte, SINGLE_BYTES=1)
-                results.append(case.result(f"as the {what}", [] if came == wanted else [f"{came!r}"]))
-    return results
+def endless(built, failing, is_proved):
+    """Tasks: standard input gives one blank, or the end of a line, for ever. It has no line %%, or it ends at the most reads that a run makes.
+
+    These reads take a program without optimization ten seconds, which it is asked for once.
+    """
+
+    def ends(words, what, wanted, byte):
+        def tried(case):
+            came = case.ended(ENDLESS_BYTE=byte, SINGLE_BYTES=1)
+            return case.result(f"as the {what}", [] if came == wanted else [f"{came!r}"])
+
+        return hostile.task(Run(f"{bytes([byte])!r} for ever", b"", words, data=FIRST), tried, built, failing)
+
+    script, commands = ([], "script", (2, b"", NO_SCRIPT)), (["first.ispc"], "commands", (3, b"", READ_FAULT))
+    of_commands = BLANKS if is_proved else BLANKS[:1]
+    return [*(ends(*commands, byte) for byte in of_commands), *(ends(*script, byte) for byte in BLANKS)]
 
 
 def of_any_build(built):
     """What a program that is built with checks is tried with too."""
     return writing(built) + reading(built) + closed(built)
-
-
-def results(built):
-    return of_any_build(built) + endless(built)

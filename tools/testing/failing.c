@@ -1,18 +1,23 @@
 /* Makes the program that it is loaded into meet what can fail. By these variables of the environment:
    REFUSED_ALLOCATION=N  the allocation of this number, from 1 on, is refused;
    ALLOCATIONS_FILE=NAME how many allocations were made is written there at the end;
+   CALLERS_FILE=NAME     the calls that stand round each allocation are written there, a line for each allocation: the places where they go on,
+                         counted from where the program lies, innermost first;
    WRITTEN_BYTES=N       standard output takes so many bytes, and fails then;
    READ_BYTES=N          standard input gives so many bytes, and fails then;
    ENDLESS_BYTE=N        standard input gives this byte for ever;
    SINGLE_BYTES=1        a read or write of these two moves one byte;
    STACK_BYTES=N         so much of the stack is taken before the program begins;
-   ENDS_FIRST=1          the program ends with status 0 before it begins. */
+   ADDRESS_BYTES=N       the system gives the program no more addresses than it has then, and so many bytes. */
 #define _GNU_SOURCE
 #include <dlfcn.h>
 #include <errno.h>
+#include <fcntl.h>
+#include <link.h>
 #include <stdio.h>
 #include <stdlib.h>
 #include <string.h>
+#include <sys/resource.h>
 #include <unistd.h>
 
 static long allocations, moved[2];
@@ -22,15 +27,42 @@ static long number(const char *name, long otherwise) {
     return said ? atol(said) : otherwise;
 }
 
-static int is_refused(void) {
+static int first_object(struct dl_phdr_info *object, size_t size, void *found) {
+    *(unsigned long *)found = object->dlpi_addr;
+    return 1;
+}
+
+/* The program keeps frame pointers: each frame has where the one before it lies, and behind that where the call goes on. */
+static void tell_callers(unsigned long *frame) {
+    static int file;
+    static unsigned long base;
+    const char *name = getenv("CALLERS_FILE");
+    if (!name) return;
+    if (!file) {
+        file = open(name, O_WRONLY | O_CREAT | O_TRUNC | O_APPEND, 0600);
+        dl_iterate_phdr(first_object, &base);
+    }
+    char line[4096];
+    int length = 0;
+    for (int depth = 0; depth < 200 && frame; depth += 1) {
+        length += snprintf(line + length, sizeof line - length, "%lx ", frame[1] - base);
+        unsigned long *outer = (unsigned long *)frame[0];
+        frame = outer > frame && outer < frame + (1 << 20) ? outer : NULL;
+    }
+    line[length++] = '\n';
+    if (write(file, line, length) != length) abort();
+}
+
+static int is_refused(unsigned long *frame) {
     allocations += 1;
+    tell_callers(frame);
     return allocations == number("REFUSED_ALLOCATION", 0);
 }
 
 void *malloc(size_t size) {
     static void *(*real)(size_t);
     if (!real) real = (void *(*)(size_t))dlsym(RTLD_NEXT, "malloc");
-    if (is_refused()) {
+    if (is_refused(__builtin_frame_address(0))) {
         errno = ENOMEM;
         return NULL;
     }
@@ -40,7 +72,7 @@ void *malloc(size_t size) {
 void *realloc(void *old, size_t size) {
     static void *(*real)(void *, size_t);
     if (!real) real = (void *(*)(void *, size_t))dlsym(RTLD_NEXT, "realloc");
-    if (is_refused()) {
+    if (is_refused(__builtin_frame_address(0))) {
         errno = ENOMEM;
         return NULL;
     }
@@ -88,11 +120,23 @@ ssize_t read(int file, void *bytes, size_t size) {
     return counted(0, real(file, bytes, most));
 }
 
+/* The first number of this file is how many pages of addresses are taken. */
+static void limit_addresses(long more) {
+    char pages[64] = "";
+    int file = open("/proc/self/statm", O_RDONLY);
+    if (file < 0 || read(file, pages, sizeof pages - 1) <= 0) abort();
+    close(file);
+    rlim_t most = atol(pages) * sysconf(_SC_PAGESIZE) + more;
+    struct rlimit limit = {most, most};
+    if (setrlimit(RLIMIT_AS, &limit)) abort();
+}
+
 __attribute__((constructor)) static void begin(void) {
     long size = number("STACK_BYTES", 0);
     volatile char *stack = __builtin_alloca(size + 1);
     for (long at = size; at >= 0; at -= 4096) stack[at] = 0;
-    if (number("ENDS_FIRST", 0)) _exit(0);
+    long most = number("ADDRESS_BYTES", -1);
+    if (most >= 0) limit_addresses(most);
 }
 
 __attribute__((destructor)) static void tell(void) {

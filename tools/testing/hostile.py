@@ -11,7 +11,8 @@ import subprocess
 import tempfile
 
 from . import examples, kinds, worked_rows
-from .tried import Result, Run, laid
+from .calls import go_on
+from .tried import SECONDS, Result, Run, laid
 
 LIBRARY = pathlib.Path(__file__).with_name("failing.c")
 MEMORY = (2, b"", b"memory\n")
@@ -23,6 +24,7 @@ GROWING = b"export void go() {\n    int x = 0;\n    x++;\n    x++;\n    x++;\n  
 STEPS, GROWTH, BACK = b"step 3\n", b"set record full insn-number-max 6\n", b"step 2\nreverse-step 5\n"
 GROWN = b"at 5:5 go depth 1 lanes 1111\nhistory 6\nat 7:1 go depth 1 lanes 1111\nhistory end: at 3:5 go depth 1 lanes 1111\n"
 REFUSED = b"at 5:5 go depth 1 lanes 1111\nC12 Memory\nat 7:1 go depth 1 lanes 1111\nhistory end: at 5:5 go depth 1 lanes 1111\n"
+GROWS = Run("a history limit that grows", STEPS + GROWTH + BACK, ["growing.ispc", "--history", "2"], data={"growing.ispc": GROWING})
 GROWTHS = re.compile(rb"set record full insn-number-max \d+\n")
 REFUSAL = re.compile(rb"(\d+):\d+: S\d+ [A-Z]\w+\n|entry: E1 NoEntry\n|input( \d+)?: I\d [A-Z]\w+( \w+)?\n")
 NO_END = re.compile(rb"\d+:\d+: S3 Unexpected\n")
@@ -46,7 +48,12 @@ class Case:
         variables = {name: str(value) for name, value in (self.variables | variables).items()}
         environment = {"LD_PRELOAD": self.failing, **variables}
         given = self.commands if commands is None else commands
-        ran = subprocess.run([self.program, *self.arguments], cwd=self.folder, env=environment, input=given, capture_output=True)
+        return self.called(environment, given)
+
+    def called(self, environment, given):
+        go_on()
+        how = {"cwd": self.folder, "env": environment, "input": given, "capture_output": True, "timeout": float(SECONDS)}
+        ran = subprocess.run([self.program, *self.arguments], **how)
         return ran.returncode, ran.stdout, ran.stderr
 
     def counted(self, commands=None):
@@ -101,9 +108,6 @@ class Case:
         same = self.ended(SINGLE_BYTES=1) == self.ended()
         return self.result("a byte a read and write", [] if same else ["it answers otherwise"])
 
-    def devices(self):
-        return [self.writes(), self.reads(), self.single_bytes()]
-
     def is_report(self):
         return "--lane-pure" in self.arguments
 
@@ -114,8 +118,7 @@ class Case:
     def of_source(self, text):
         """How a run of another source ends, after one step."""
         pathlib.Path(self.folder, self.arguments[0]).write_bytes(text)
-        ran = subprocess.run([self.program, *self.arguments], cwd=self.folder, env={}, input=b"step\n", capture_output=True)
-        return ran.returncode, ran.stdout, ran.stderr
+        return self.called({}, b"step\n")
 
     def damaged(self):
         """Each front of the source, and the source with each byte changed: a run, or a refusal that has a place in the text."""
@@ -148,40 +151,18 @@ class Case:
         return self.result("each front of the source", why)
 
 
-def every_kind(root, program, failing):
-    """The session with an answer of each kind, in which the last growth of the history limit is refused."""
-    session = kinds.session(root)
-    with tempfile.TemporaryDirectory(prefix="kinds-") as folder:
-        case = Case(session.run(), folder, program, failing)
-        _, before = case.counted(session.commands[: session.commands.index(kinds.GROWTH)])
-        without = case.commands_without_memory()
-        case.variables = {"REFUSED_ALLOCATION": before + 1}
-        came, wanted = case.ended(), (0, session.answers.replace(kinds.GROWN, kinds.REFUSED), b"")
-        why = [] if came == wanted and kinds.REFUSED in came[1] else [f"{came!r}"]
-        return [case.result("with a growth refused", why), without, *case.devices()]
+MEMORY_OF_RUNS, DEVICES_OF_RUNS = (Case.memory, Case.commands_without_memory), (Case.writes, Case.reads, Case.single_bytes)
+DAMAGE_OF_RUNS = (Case.damaged, Case.fronts)
 
 
-def growth(program, failing):
-    """A history limit that grows from 2 to 6: where its memory is refused, two steps are kept as before, and else four."""
-    run = Run("growing", STEPS + GROWTH + BACK, ["growing.ispc", "--history", "2"], data={"growing.ispc": GROWING})
-    with tempfile.TemporaryDirectory(prefix="growing-") as folder:
-        case = Case(run, folder, program, failing)
-        (_, before), (whole, count) = case.counted(STEPS + BACK), case.counted()
-        why = [] if whole == (0, GROWN, b"") and before < count else [f"a whole run: {whole!r}, {before} and {count} allocations"]
-        for number in range(before + 1, count + 1):
-            came = case.ended(REFUSED_ALLOCATION=number)
-            why += [] if came == (0, REFUSED, b"") else [f"allocation {number}: {came!r}"]
-    return Result(f"a history limit that grows: each of {count - before} allocations refused", not why, why)
+def task(run, tried, program, failing):
+    """What is tried with a run, in a folder of its own, as a call that gives the result."""
 
+    def done():
+        with tempfile.TemporaryDirectory(prefix="stored-") as folder:
+            return [tried(Case(run, folder, program, failing))]
 
-def library(folder):
-    """The library that makes things fail, compiled, or None where there is no compiler."""
-    made = os.path.join(folder, "failing.so")
-    try:
-        compiled = subprocess.run(["cc", "-O1", "-shared", "-fPIC", "-o", made, LIBRARY, "-ldl"], capture_output=True)
-    except FileNotFoundError:
-        return None
-    return made if compiled.returncode == 0 else None
+    return done
 
 
 def of_examples(root):
@@ -189,30 +170,82 @@ def of_examples(root):
     for run in examples.runs(root):
         if run.arguments and run.arguments[0] in run.data:
             is_report = "--lane-pure" in run.arguments
-            yield run, (Case.memory, *([] if is_report else [Case.commands_without_memory, Case.devices]), Case.damaged)
+            yield run, (Case.memory, *([] if is_report else [Case.commands_without_memory, *DEVICES_OF_RUNS]), Case.damaged)
 
 
 def of_rows(root):
     """A run of some worked rows, and what is tried with each."""
     for row in worked_rows.rows(root):
         source, given = row.parts[0]
-        tried = [Case.memory, Case.commands_without_memory, Case.devices] if row.name in ROWS else []
+        tried = [*MEMORY_OF_RUNS, *DEVICES_OF_RUNS] if row.name in ROWS else []
         tried += [Case.damaged] if row.name in DAMAGED_ROWS else []
         tried += [Case.fronts] if row.name == "StepAndBack" else []
         if tried:
             yield worked_rows.run_of(f"row {row.name}", source, given[0]), tried
 
 
-def results(root, program):
-    with tempfile.TemporaryDirectory(prefix="failing-") as made:
-        failing = library(made)
-        if failing is None:
-            return [Result("a library that makes things fail", False, ["cc does not make it"])]
-        found = []
-        for run, tried in [*of_examples(root), *of_rows(root)]:
-            with tempfile.TemporaryDirectory(prefix="stored-") as folder:
-                case = Case(run, folder, program, failing)
-                for it in tried:
-                    come = it(case)
-                    found += come if isinstance(come, list) else [come]
-        return [*found, growth(program, failing), *every_kind(root, program, failing)]
+def tasks(root, program, failing, chosen):
+    """What of these is tried with the runs of examples and rows."""
+    runs = [*of_examples(root), *of_rows(root)]
+    return [task(run, it, program, failing) for run, tried in runs for it in tried if it in chosen]
+
+
+def with_a_growth_refused(session, tried):
+    """What is tried with the session with an answer of each kind, where the last growth of the history limit is refused."""
+
+    def done(case):
+        _, before = case.counted(session.commands[: session.commands.index(kinds.GROWTH)])
+        case.variables = {"REFUSED_ALLOCATION": before + 1}
+        return tried(case)
+
+    return done
+
+
+def refused_growth(session):
+    """Whether all else than that growth is answered as ever."""
+
+    def tried(case):
+        came, wanted = case.ended(), (0, session.answers.replace(kinds.GROWN, kinds.REFUSED), b"")
+        return case.result("with a growth refused", [] if came == wanted and kinds.REFUSED in came[1] else [f"{came!r}"])
+
+    return with_a_growth_refused(session, tried)
+
+
+def growth(case):
+    """A history limit that grows from 2 to 6: where its memory is refused, two steps are kept as before, and else four."""
+    (_, before), (whole, count) = case.counted(STEPS + BACK), case.counted()
+    why = [] if whole == (0, GROWN, b"") and before < count else [f"a whole run: {whole!r}, {before} and {count} allocations"]
+    for number in range(before + 1, count + 1):
+        came = case.ended(REFUSED_ALLOCATION=number)
+        why += [] if came == (0, REFUSED, b"") else [f"allocation {number}: {came!r}"]
+    return case.result(f"each of {count - before} allocations refused", why)
+
+
+def library(folder):
+    """The library that makes things fail, compiled, or None where there is no compiler."""
+    made = os.path.join(folder, "failing.so")
+    try:
+        words = ["cc", "-O1", "-fno-omit-frame-pointer", "-shared", "-fPIC", "-o", made, LIBRARY, "-ldl"]
+        compiled = subprocess.run(words, capture_output=True)
+    except FileNotFoundError:
+        return None
+    return made if compiled.returncode == 0 else None
+
+
+def memory(root, program, failing):
+    """Tasks: each allocation of runs refused."""
+    session = kinds.session(root)
+    more = [(GROWS, growth), (session.run(), refused_growth(session)), (session.run(), Case.commands_without_memory)]
+    return [*tasks(root, program, failing, MEMORY_OF_RUNS), *(task(run, it, program, failing) for run, it in more)]
+
+
+def devices(root, program, failing):
+    """Tasks: the devices of runs fail, of the session with an answer of each kind among them."""
+    session = kinds.session(root)
+    first = [task(session.run(), with_a_growth_refused(session, it), program, failing) for it in DEVICES_OF_RUNS]
+    return [*first, *tasks(root, program, failing, DEVICES_OF_RUNS)]
+
+
+def damage(root, program, failing):
+    """Tasks: the sources of runs are damaged."""
+    return tasks(root, program, failing, DAMAGE_OF_RUNS)

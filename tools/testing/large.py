@@ -1,19 +1,27 @@
-"""The built program on large texts: sources of 65,536 bytes of each shape, each compiled in half a second of the processor, and in time that
-grows as they do; an input of a million values; and a million command lines, answered in little memory."""
+"""The built program on large texts: sources of 65,536 bytes of each shape, each compiled in time that grows as they do; an input of a million
+values; and a million command lines, answered in little memory.
 
+A proved program takes half a second of the processor at most for a source, and two for the input. One that is built without optimization is
+asked for no seconds.
+"""
+
+import os
 import pathlib
 import resource
 import subprocess
 import tempfile
-import time
 
+from .calls import ended_early, go_on
 from .tried import Result
 
 MOST_BYTES = 65_536
 SECONDS, ROUNDS = 0.5, 3
+MOST_SECONDS = 600  # of the processor, after which a run is ended
 PART, LEAST_SECONDS = 4, 0.004  # a source of a quarter of the bytes takes a quarter of the time, where that can be told
 MOST_VALUES, INPUT_SECONDS = 1 << 20, 2
-ADDRESS_SPACE = 8 << 20
+LINES = b"step\nprint x\ninfo locals\nundo\n"
+TURNS, MORE_SPACE = 250_000, 1 << 20  # of these lines; and the bytes that all may take beyond those of one
+PAGE, MOST_SPACE = 1 << 12, 1 << 26
 GO = "export void go() {\n"
 EMPTY = "export void go() { }\n"
 
@@ -25,6 +33,11 @@ def repeated(most, head, piece, tail):
         text += piece(number)
         number += 1
     return text + tail
+
+
+def short(number):
+    """A name of capital letters, another one for each number."""
+    return (short(number // 26 - 1) if number >= 26 else "") + chr(ord("A") + number % 26)
 
 
 def shapes(most=MOST_BYTES):
@@ -46,9 +59,9 @@ def shapes(most=MOST_BYTES):
     yield "loops", filled(GO, lambda number: "while (false) ;\n", "}\n"), b""
     yield "calls", filled("int f(int x) { return x; }\n" + GO + "int x = 0;\n", lambda number: "x = f(x);\n", "}\n"), b""
     yield "labels", filled(GO, lambda number: f"switch ({number}) {{ {labels_of}", "}\n"), b""
-    yield "functions", filled("", lambda number: f"void f{number}() {{ }}\n", EMPTY), b""
+    yield "functions", filled("", lambda number: f"void {short(number)}(){{}}", EMPTY), b""
     yield "overloads", filled(overloads, lambda number: f"void g{number}() {{ f((int8)1, 2); }}\n", EMPTY), b""
-    yield "variables of the file", filled("", lambda number: f"int g{number};\n", EMPTY), b""
+    yield "variables of the file", filled("", lambda number: f"int {short(number)};", EMPTY), b""
     yield "arrays", filled("", lambda number: f"uniform int a{number}[1];\n", EMPTY), b""
     yield "locals", filled("", lambda number: f"void f{number}() {{ {locals_of}}}\n", EMPTY), b""
     yield "one name", f"int {one_name};\n{EMPTY}", b""
@@ -56,72 +69,104 @@ def shapes(most=MOST_BYTES):
     yield "blanks", filled(EMPTY, lambda number: " ", "\n"), b""
 
 
-def timed(program, file, commands, before=None, words=()):
-    """The seconds of a run, its status, its output and its errors."""
-    began = time.monotonic()
-    ran = subprocess.run([program, file, *words], env={}, input=commands, capture_output=True, preexec_fn=before)
-    return time.monotonic() - began, ran.returncode, ran.stdout, ran.stderr
+def ended(program, file, commands, words=(), space=None):
+    """The processor's seconds of a run, its status, its output and its errors; in an address space of so many bytes, if they are given."""
+    go_on()
+
+    def limited():
+        resource.setrlimit(resource.RLIMIT_CPU, (MOST_SECONDS, MOST_SECONDS))
+        if space is not None:
+            resource.setrlimit(resource.RLIMIT_AS, (space, space))
+
+    with tempfile.TemporaryFile() as given, tempfile.TemporaryFile() as output, tempfile.TemporaryFile() as errors:
+        given.write(commands)
+        given.seek(0)
+        streams = {"stdin": given, "stdout": output, "stderr": errors}
+        process = subprocess.Popen([program, file, *words], env={}, preexec_fn=limited, **streams)
+        with ended_early(process):
+            _, status, used = os.wait4(process.pid, 0)
+        process.returncode = os.waitstatus_to_exitcode(status)
+        for it in (output, errors):
+            it.seek(0)
+        return used.ru_utime + used.ru_stime, process.returncode, output.read(), errors.read()
 
 
-def spent():
-    """The processor's seconds of the programs that have ended."""
-    used = resource.getrusage(resource.RUSAGE_CHILDREN)
-    return used.ru_utime + used.ru_stime
-
-
-def quickest(program, folder, text, refusal):
+def quickest(program, folder, text, refusal, rounds):
     """The least of the processor's seconds of some runs of a source, and why one of them did not end as it should."""
     file, seconds, why = pathlib.Path(folder, "large.ispc"), [], []
     file.write_text(text)
-    for _ in range(ROUNDS):
-        before = spent()
-        _, status, _, errors = timed(program, file, b"step\n")
-        seconds.append(spent() - before)
+    for _ in range(rounds):
+        spent, status, _, errors = ended(program, file, b"step\n")
+        seconds.append(spent)
         why += [] if (status, errors) == (2 if refusal else 0, refusal) else [f"status {status}, {errors!r}"]
     return min(seconds), why
 
 
-def compiled(program, folder, name, text, few, refusal):
-    """A source is judged in half a second, and in twice the seconds at most that a part of it takes for as many bytes."""
-    (seconds, why), (less, _) = quickest(program, folder, text, refusal), quickest(program, folder, few, refusal)
-    ratio = seconds / max(less, LEAST_SECONDS)
-    why += [f"{seconds:.2f} seconds"] if seconds > SECONDS else []
-    why += [f"{ratio:.1f} times the seconds of {len(few)} bytes"] if ratio > 2 * PART else []
+def compiled(program, folder, name, text, few, refusal, is_proved):
+    """A source is judged in twice the seconds at most that a part of it takes for as many bytes, and by a proved program in half a second.
+
+    Where it is not, it is tried again, and the least seconds count.
+    """
+    for rounds in (1, ROUNDS):
+        (seconds, why), (less, _) = quickest(program, folder, text, refusal, rounds), quickest(program, folder, few, refusal, rounds)
+        ratio = seconds / max(less, LEAST_SECONDS)
+        why += [f"{seconds:.2f} seconds"] if is_proved and seconds > SECONDS else []
+        why += [f"{ratio:.1f} times the seconds of {len(few)} bytes"] if ratio > 2 * PART else []
+        if not why:
+            break
     return Result(f"{len(text)} bytes of {name}", not why, why)
 
 
-def with_little_memory():
-    resource.setrlimit(resource.RLIMIT_AS, (ADDRESS_SPACE, ADDRESS_SPACE))
+def least_space(program, file):
+    """The least address space, up to a page, in which the lines are answered once; and their answers."""
+    _, status, once, _ = ended(program, file, LINES)
+    few, enough = 0, MOST_SPACE
+    while enough - few > PAGE:
+        space = (few + enough) // 2
+        if ended(program, file, LINES, space=space)[1:3] == (status, once):
+            enough = space
+        else:
+            few = space
+    return enough, once
 
 
 def many_commands(program, folder):
-    """A million lines, of 8 MB with their answers of 24 MB, in an address space of 8 MB."""
+    """A million lines, of 8 MB with their answers of 24 MB, in an address space 1 MB larger than the least in which four are answered."""
     file = pathlib.Path(folder, "first.ispc")
     file.write_text(GO + "int x = 3 * programIndex;\nx++;\n}\n")
-    lines = b"step\nprint x\ninfo locals\nundo\n"
-    _, status, once, _ = timed(program, file, lines)
-    _, many_status, output, _ = timed(program, file, lines * 250_000, with_little_memory)
-    is_right = (status, many_status) == (0, 0) and once.count(b"\n") == 4 and output == once * 250_000
-    return Result("a million command lines", is_right, [f"statuses {status}, {many_status}, {len(once)} and {len(output)} bytes"])
+    space, once = least_space(program, file)
+    _, status, output, _ = ended(program, file, LINES * TURNS, space=space + MORE_SPACE)
+    is_right = status == 0 and once.count(b"\n") == 4 and output == once * TURNS
+    return Result("a million command lines", is_right, [f"status {status} in {space} bytes and 1 MB, {len(once)} and {len(output)} bytes"])
 
 
-def inputs(program, folder):
-    """As many values as an entry's arrays may have, read in two seconds, the last of which is printed; and one more, which is I4."""
+def inputs(program, folder, is_proved):
+    """As many values as an entry's arrays may have, the last of which is printed, read in two seconds by a proved program; and one more: I4."""
     source, text = pathlib.Path(folder, "values.ispc"), pathlib.Path(folder, "values.input")
     source.write_text("export void go(uniform int8 a[]) { }\n")
     commands, words = b"print a[%d]\n" % (MOST_VALUES - 1), ["--input", text]
     text.write_bytes(b"a =" + b" 1" * (MOST_VALUES - 1) + b" 7\n")
-    seconds, *most = timed(program, source, commands, words=words)
+    seconds, *most = ended(program, source, commands, words)
     text.write_bytes(b"a =" + b" 1" * (MOST_VALUES + 1) + b"\n")
-    _, *many = timed(program, source, commands, words=words)
+    _, *many = ended(program, source, commands, words)
     why = [] if most == [0, b"a[%d] = 7\n" % (MOST_VALUES - 1), b""] else [f"{MOST_VALUES} values: {most!r}"]
     why += [] if many == [2, b"", b"input 1: I4 TooLarge\n"] else [f"{MOST_VALUES + 1} values: {many!r}"]
-    why += [f"{seconds:.2f} seconds"] if seconds > INPUT_SECONDS else []
+    why += [f"{seconds:.2f} seconds"] if is_proved and seconds > INPUT_SECONDS else []
     return Result(f"an input of {MOST_VALUES} values, and of one more", not why, why)
 
 
-def results(program):
-    with tempfile.TemporaryDirectory(prefix="large-") as folder:
-        pairs = zip(shapes(), shapes(MOST_BYTES // PART))
-        found = [compiled(program, folder, name, text, few, refusal) for (name, text, refusal), (_, few, _) in pairs]
-        return [*found, inputs(program, folder), many_commands(program, folder)]
+def of(call, program, *more):
+    """A task: what a call gives for a program in a folder."""
+
+    def done():
+        with tempfile.TemporaryDirectory(prefix="large-") as folder:
+            return [call(program, folder, *more)]
+
+    return done
+
+
+def tasks(program, is_proved):
+    """A task for each source, and one for the inputs."""
+    pairs = zip(shapes(), shapes(MOST_BYTES // PART))
+    sources = [of(compiled, program, name, text, few, refusal, is_proved) for (name, text, refusal), (_, few, _) in pairs]
+    return [of(inputs, program, is_proved), *sources]

@@ -3,12 +3,10 @@
 So each call that takes memory is the last one of some run: what it says where it finds none, and that it answers as ever where it does.
 """
 
-import tempfile
-
-from .hostile import MEMORY, Case, library
+from .hostile import MEMORY, task
 from .limits import declarations
 from .program import FIRST, HIDDEN, RATE
-from .tried import Result, Run
+from .tried import Run
 
 
 def runs_of_phases():
@@ -25,7 +23,7 @@ def runs_of_phases():
         (of("the tree", FIRST + b"("), b"5:1: S3"),
         (of("names", FIRST.replace(b"x += 1", b"y += 1")), b"3:5: S5"),
         (of("types", RATE), b"2:21: S7"),
-        (of("limits", declarations(257)), b"258:5: S13"),
+        (of("limits", b"uniform int a[1048577];\n" + FIRST), b"1:13: S13 Limit"),
         (of("an entry", HIDDEN), b"entry: E1"),
         (of_input("a bad line of an input", b"n = 5\nz = 1\n"), b"input 2: I1"),
         (of_input("a missing line of an input", b"n = 5\n"), b"input: I2"),
@@ -35,23 +33,23 @@ def runs_of_phases():
     ]
 
 
-def phases(program, failing):
-    """Each allocation refused of runs that end in each phase: `memory`, or what the whole run says."""
-    results = []
-    for run, errors in runs_of_phases():
-        with tempfile.TemporaryDirectory(prefix="phases-") as folder:
-            case = Case(run, folder, program, failing)
-            whole, given = case.refusals()
-            why = [f"allocation {at}: {it!r}" for at, it in enumerate(given, 1) if it not in (MEMORY, whole)]
-            why += [] if whole[2].startswith(errors) and (whole[0] == 2) == bool(errors) else [f"a whole run: {whole!r}"]
-            why += [] if given.count(MEMORY) > len(given) / 2 else [f"it says `memory` {given.count(MEMORY)} of {len(given)} times"]
-            results.append(case.result(f"each of {len(given)} allocations refused up to there, {given.count(MEMORY)} with `memory`", why))
-    return results
+def of_phase(errors):
+    """What is tried with a run that ends in a phase: each allocation is refused, and it says `memory`, or what the whole run says."""
+
+    def tried(case):
+        whole, given = case.refusals()
+        why = [f"allocation {at}: {it!r}" for at, it in enumerate(given, 1) if it not in (MEMORY, whole)]
+        why += [] if whole[2].startswith(errors) and (whole[0] == 2) == bool(errors) else [f"a whole run: {whole!r}"]
+        why += [] if given.count(MEMORY) > len(given) / 2 else [f"it says `memory` {given.count(MEMORY)} of {len(given)} times"]
+        return case.result(f"each of {len(given)} allocations refused up to there, {given.count(MEMORY)} with `memory`", why)
+
+    return tried
 
 
-def results(program):
-    with tempfile.TemporaryDirectory(prefix="phases-") as made:
-        failing = library(made)
-        if failing is None:
-            return [Result("each phase without memory", False, ["cc does not make the library that refuses it"])]
-        return phases(program, failing)
+def tasks(program, failing, is_proved):
+    """A task for each run; for a proved program, which is quick, also for one that takes memory thousands of times."""
+    runs = runs_of_phases()
+    if is_proved:
+        source = {"it.ispc": declarations(257)}
+        runs.append((Run("limits, with 257 variables", b"step\n", ["it.ispc"], data=source), b"258:5: S13 Limit"))
+    return [task(run, of_phase(errors), program, failing) for run, errors in runs]

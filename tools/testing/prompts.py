@@ -2,12 +2,18 @@
 
 A session begins with `=== NAME`, or `=== NAME | OPTIONS`. The source follows, then a line `%%`, what is shown before the first line, and
 the lines behind `> `, each with what is shown for it. Blank lines may stand at its end. docs/FROM_GDB.md has lines that users of GDB type:
-no line of its tables is answered that there is no such command, and those of a row that names one are answered with it.
+no line of its tables is answered that there is no such command, and those of a row that names one are answered with it. On a terminal a long
+`continue` shows how many moves it has made.
 """
 
+import os
+import pathlib
 import re
+import subprocess
+import tempfile
+import tty
 
-from .tried import Result, Run, shown
+from .tried import Result, Run, differences, shown
 
 CRATE = "rinddecade"
 HEAD, LINES, LINE = "=== ", "%%", "> "
@@ -27,6 +33,41 @@ export void go() {
     table[1] = 7;
     total += reduce_add(y);
 }
+"""
+
+
+# A loop of two moves a round, and what a terminal shows of two moves of `continue` with a limit of 100,500 moves.
+LONG = b"""export void go() {
+    uniform int n = 0;
+    while (n < 51000)
+        n += 1;
+    n = 7;
+}
+"""
+TYPED_LINES = b"break 5\ncontinue\ncontinue\n"
+PROGRESS, CLEARED = b"\r100,000 moves", b"\r                \r"
+SHOWN = b"""go at long.ispc:2:5, lanes ####
+       1  export void go() {
+->     2      uniform int n = 0;
+              ^
+       3      while (n < 51000)
+       4          n += 1;
+breakpoint 1 at line 5
+%s%sthe step limit of one command is reached: go at long.ispc:4:9, lanes ####
+       2      uniform int n = 0;
+       3      while (n < 51000)
+->     4          n += 1;
+                  ^
+       5      n = 7;
+       6  }
+  n = 50249
+%sbreakpoint 1: go at long.ispc:5:5, lanes ####
+       3      while (n < 51000)
+       4          n += 1;
+->     5      n = 7;
+              ^
+       6  }
+  n = 50249 -> 51000
 """
 
 
@@ -82,3 +123,26 @@ def runs(root):
     """A run for each session, and one for each line that users of GDB type."""
     page = [Run(f"{PAGE}: {line}", as_bytes([line]), ["debug", "go.ispc"], is_known, b"", data={"go.ispc": SOURCE}) for line in typed(root)]
     return [it.run() for it in sessions(root)] + page
+
+
+def results(program):
+    """A long `continue` on a terminal: it shows how many moves it has made, and takes that off the line before the answer."""
+    ours, theirs = os.openpty()
+    tty.setraw(theirs)
+    text = b""
+    with tempfile.TemporaryDirectory(prefix="long-") as folder:
+        pathlib.Path(folder, "long.ispc").write_bytes(LONG)
+        words = [program, "debug", "long.ispc", "--steps", "100500"]
+        with subprocess.Popen(words, cwd=folder, env={}, stdin=subprocess.PIPE, stdout=theirs) as process:
+            os.close(theirs)
+            process.stdin.write(TYPED_LINES)
+            process.stdin.close()
+            try:
+                while piece := os.read(ours, 65536):
+                    text += piece
+            except OSError:
+                pass  # Linux tells the end of a terminal so.
+    os.close(ours)
+    why = [f"status {process.returncode}"] if process.returncode else []
+    why += differences("the terminal", text, SHOWN % (PROGRESS, CLEARED, CLEARED))
+    return [Result("a long continue shows its progress on a terminal", not why, why)]

@@ -1,20 +1,20 @@
 """The built program in address spaces of each size, from too small to enough: it says `memory`, or does what it does with ample memory.
 
-The system takes its part of the space before the program begins: what it loads, and here 1 MB of stack, of which no program can say that the
-system refused it. A size at which the system does not begin the program with that stack and a little more is left out.
+The system limits its addresses as `ulimit -v` does, from the moment on at which it begins, with 1 MB of stack taken: of neither what the system
+loads nor the stack can a program say that the system refused it.
 """
 
 import pathlib
-import resource
 import subprocess
 import tempfile
 
 from . import examples, hostile, large
-from .tried import Result
+from .calls import go_on
+from .tried import SECONDS, Result
 
-# From 1 MB to 256 MB, each larger than the one before by the same ratio.
-SIZES = [int(2 ** (20 + number / 4)) for number in range(33)]
-STACK, SPARE = 1 << 20, 1 << 16
+# Bytes beyond those which a program begins with: none, and from 4 KB to 256 MB each larger than the one before by the same ratio.
+SIZES = [0, *(int(2 ** (12 + number / 2)) for number in range(33))]
+STACK = 1 << 20
 MOST_HISTORY = ["--history", "65536", "--width", "16"]
 GROWTH = b"step\nset record full insn-number-max 65536\nundo\n"
 REFUSED_GROWTH = (0, b"at 3:5 go depth 1 lanes 1111111111111111\nC12 Memory\nundone step: at 2:5 go depth 1 lanes 1111111111111111\n", b"")
@@ -28,23 +28,21 @@ class Space:
         self.name, self.call, self.folder, self.commands = name, [program, *words], folder, commands
         self.failing = failing
 
-    def ended(self, size, **variables):
+    def ended(self, **variables):
+        go_on()
         environment = {"LD_PRELOAD": self.failing, **{name: str(value) for name, value in variables.items()}}
-        limit = (lambda: resource.setrlimit(resource.RLIMIT_AS, (size, size))) if size else None
-        ran = subprocess.run(self.call, cwd=self.folder, env=environment, input=self.commands, capture_output=True, preexec_fn=limit)
+        how = {"cwd": self.folder, "env": environment, "input": self.commands, "capture_output": True, "timeout": float(SECONDS)}
+        ran = subprocess.run(self.call, **how)
         return ran.returncode, ran.stdout, ran.stderr
 
     def result(self, *others):
-        """At each size at which the system begins it, it says `memory`, or ends as with ample memory, or as one of the others."""
-        whole, came = self.ended(None), {}
-        for size in SIZES:
-            if self.ended(size, STACK_BYTES=STACK + SPARE, ENDS_FIRST=1) == (0, b"", b""):
-                came[size] = self.ended(size, STACK_BYTES=STACK)
+        """At each size it says `memory`, or ends as with ample memory, or as one of the others; without any it says `memory`."""
+        whole, came = self.ended(), {size: self.ended(ADDRESS_BYTES=size, STACK_BYTES=STACK) for size in SIZES}
         why = [f"{size} bytes: {it!r}" for size, it in came.items() if it not in (hostile.MEMORY, whole, *others)]
         few, enough = (sum(it == wanted for it in came.values()) for wanted in (hostile.MEMORY, whole))
         why += [] if whole[0] == 0 else [f"with ample memory: {whole!r}"]
-        why += [] if 0 < len(came) < len(SIZES) and enough else ["the sizes are not from too small to enough"]
-        return Result(f"{self.name}: {few} of {len(came)} sizes without memory, {len(SIZES) - len(came)} left out", not why, why)
+        why += [] if few and enough else [f"{few} sizes are too small, and {enough} are enough"]
+        return Result(f"{self.name}: {few} of {len(came)} sizes without memory", not why, why)
 
 
 def without(words, option):
@@ -52,28 +50,34 @@ def without(words, option):
     return [it for number, it in enumerate(words) if option not in words[max(number - 1, 0) : number + 1]]
 
 
-def of_examples(root, program, failing):
-    """Each example with the longest history and most lanes."""
-    found = []
+def of_examples(root):
+    """Each example with the longest history and most lanes: its name, words and commands, and the files that it has."""
     for name in examples.names(root):
-        words, _ = examples.with_input(name, examples.input_of(root, name))
+        words, data = examples.with_input(name, examples.input_of(root, name))
         words = [f"{name}.ispc", *without(examples.arguments(root, name), "--history"), *words, *MOST_HISTORY]
         commands = (root / f"examples/{name}.commands").read_bytes()
-        found.append(Space(name, program, failing, root / "examples", words, commands).result())
-    return found
+        yield name, words, commands, data | {f"{name}.ispc": root / f"examples/{name}.ispc"}
 
 
-def results(root, program):
-    with tempfile.TemporaryDirectory(prefix="spaces-") as folder:
-        failing = hostile.library(folder)
-        if failing is None:
-            return [Result("address spaces of each size", False, ["cc does not make the library that takes the stack"])]
-        found = of_examples(root, program, failing)
-        space = lambda name, words, commands: Space(name, program, failing, folder, words, commands)
-        pathlib.Path(folder, "growing.ispc").write_bytes(hostile.GROWING)
-        found.append(space("a history limit that grows", ["growing.ispc", "--width", "16"], GROWTH).result(REFUSED_GROWTH))
-        for name, text, _ in large.shapes():
-            if name in LARGE:
-                pathlib.Path(folder, "large.ispc").write_text(text)
-                found.append(space(f"{len(text)} bytes of {name}", ["large.ispc"], b"step\n").result())
-        return found
+def of_large_texts(most):
+    """Sources of at most so many bytes."""
+    for name, text, _ in large.shapes(most):
+        if name in LARGE:
+            yield f"{len(text)} bytes of {name}", ["large.ispc"], b"step\n", {"large.ispc": text.encode()}
+
+
+def tasks(root, program, failing, most):
+    """For each run its address spaces; the sources that are made have at most so many bytes."""
+    growing = ("a history limit that grows to the most", ["growing.ispc", "--width", "16"], GROWTH, {"growing.ispc": hostile.GROWING})
+
+    def of_run(name, words, commands, data, *others):
+        def done():
+            with tempfile.TemporaryDirectory(prefix="spaces-") as folder:
+                for file, content in data.items():
+                    pathlib.Path(folder, file).write_bytes(content if isinstance(content, bytes) else content.read_bytes())
+                return [Space(name, program, failing, folder, words, commands).result(*others)]
+
+        return done
+
+    larges = [of_run(*it) for it in of_large_texts(most)]
+    return [*larges, of_run(*growing, REFUSED_GROWTH), *(of_run(*it) for it in of_examples(root))]

@@ -1,0 +1,161 @@
+"""What the Debug Adapter Protocol says of the members of each reply and event, of their types and of their values."""
+
+TEXT, NUMBER, TRUTH, LIST, MEMBERS = str, int, bool, list, dict
+
+# The members that each body must have, and those that it may have, with their types.
+BODIES = {
+    "initialize": ({}, {}),
+    "launch": ({}, {}),
+    "setBreakpoints": ({"breakpoints": LIST}, {}),
+    "setExceptionBreakpoints": ({}, {}),
+    "dataBreakpointInfo": ({"dataId": (TEXT, type(None)), "description": TEXT}, {"accessTypes": LIST, "canPersist": TRUTH}),
+    "setDataBreakpoints": ({"breakpoints": LIST}, {}),
+    "configurationDone": ({}, {}),
+    "threads": ({"threads": LIST}, {}),
+    "stackTrace": ({"stackFrames": LIST}, {"totalFrames": NUMBER}),
+    "scopes": ({"scopes": LIST}, {}),
+    "variables": ({"variables": LIST}, {}),
+    "setVariable": ({"value": TEXT}, {}),
+    "evaluate": ({"result": TEXT, "variablesReference": NUMBER}, {}),
+    "next": ({}, {"allThreadsContinued": TRUTH}),
+    "stepIn": ({}, {"allThreadsContinued": TRUTH}),
+    "stepOut": ({}, {"allThreadsContinued": TRUTH}),
+    "stepBack": ({}, {"allThreadsContinued": TRUTH}),
+    "reverseContinue": ({}, {"allThreadsContinued": TRUTH}),
+    "continue": ({"allThreadsContinued": TRUTH}, {}),
+    "restart": ({}, {}),
+    "disconnect": ({}, {}),
+    "terminate": ({}, {}),
+}
+CAPABILITIES = [
+    "supportsConfigurationDoneRequest",
+    "supportsDataBreakpoints",
+    "supportsEvaluateForHovers",
+    "supportsRestartRequest",
+    "supportsSetVariable",
+    "supportsStepBack",
+]
+EVENTS = {
+    "initialized": ({}, {}),
+    "terminated": ({}, {}),
+    "output": ({"category": TEXT, "output": TEXT}, {}),
+    "stopped": (
+        {"reason": TEXT, "description": TEXT, "text": TEXT, "threadId": NUMBER, "allThreadsStopped": TRUTH},
+        {"hitBreakpointIds": LIST},
+    ),
+}
+ITEMS = {
+    "breakpoints": ({"verified": TRUTH}, {"id": NUMBER, "line": NUMBER, "message": TEXT}),
+    "threads": ({"id": NUMBER, "name": TEXT}, {}),
+    "stackFrames": ({"id": NUMBER, "name": TEXT, "line": NUMBER, "column": NUMBER, "source": MEMBERS}, {}),
+    "scopes": ({"name": TEXT, "variablesReference": NUMBER, "expensive": TRUTH}, {"presentationHint": TEXT}),
+    "variables": ({"name": TEXT, "value": TEXT, "variablesReference": NUMBER}, {"type": TEXT, "evaluateName": TEXT}),
+}
+
+# The words of the protocol, of which the adapter uses these, and the greatest reference that it has room for.
+HITS = ["breakpoint", "data breakpoint"]
+REASONS = ["entry", "step", "exception", "pause", *HITS]
+HINTS = ["locals", "arguments"]
+ACCESSES = ["write"]
+GREATEST = 2**31 - 1
+THREAD = 1
+
+
+class Wrong(Exception):
+    pass
+
+
+def need(holds, why):
+    if not holds:
+        raise Wrong(why)
+
+
+def need_members(what, given, needed, allowed):
+    """An object has all the members that it needs and no others than it may have, each of its type."""
+    need(isinstance(given, dict), f"{what} is {given!r} and no object")
+    for name, kind in needed.items():
+        need(name in given, f"{what} has no member {name}: {given}")
+    for name, value in given.items():
+        kind = needed.get(name) or allowed.get(name)
+        need(kind is not None, f"{what} has a member {name}: {given}")
+        is_truth_for_number = kind is NUMBER and isinstance(value, bool)
+        need(isinstance(value, kind) and not is_truth_for_number, f"the member {name} of {what} is {value!r}")
+
+
+def need_reference(what, value, least):
+    need(least <= value <= GREATEST, f"the variablesReference of {what} is {value}")
+
+
+def need_breakpoint(item):
+    """A breakpoint has a number where it is there, and else a message says why it is not."""
+    need(("id" in item) == item["verified"] and ("message" in item) != item["verified"], f"the breakpoint {item}")
+    need(item.get("id", 1) >= 1 and item.get("line", 1) >= 1, f"the numbers of the breakpoint {item}")
+
+
+def need_frame(item):
+    """A frame has a place that counts from 1, and the path of its source with its last part as the name."""
+    need(item["line"] >= 1 and item["column"] >= 1, f"the place of the frame {item}")
+    source = item["source"]
+    need_members("the source of a frame", source, {"name": TEXT, "path": TEXT}, {})
+    need(source["name"] == source["path"].rpartition("/")[2], f"the name of the source {source}")
+
+
+def need_scope(item):
+    need_reference("a scope", item["variablesReference"], 1)
+    need(item.get("presentationHint", HINTS[0]) in HINTS, f"the hint of the scope {item}")
+
+
+def need_variable(item):
+    need_reference("a variable", item["variablesReference"], 0)
+    need(item.get("evaluateName", item["name"]) == item["name"], f"the variable {item}")
+
+
+# What holds of each item, beside the types of its members.
+HOLDS = {"breakpoints": need_breakpoint, "stackFrames": need_frame, "scopes": need_scope, "variables": need_variable}
+# The member by which no two items are alike.
+DIFFERS = {"threads": "id", "stackFrames": "id", "scopes": "variablesReference", "variables": "name"}
+
+
+def need_items(name, items):
+    """Each item of a list of a reply has its members, and no two are alike."""
+    for item in items:
+        need_members(f"an item of {name}", item, *ITEMS[name])
+        HOLDS.get(name, lambda it: None)(item)
+    keys = [it[DIFFERS[name]] for it in items] if name in DIFFERS else []
+    need(len(keys) == len(set(keys)), f"two of {name} are alike: {items}")
+
+
+def need_stop(body):
+    """A stop is that of the one thread, by a word of the protocol, with the breakpoint where it stands at one."""
+    need(body["reason"] in REASONS, f"the reason is {body['reason']}")
+    need(body["threadId"] == THREAD and body["allThreadsStopped"], f"not every thread has stopped: {body}")
+    need(body["description"] == body["text"], f"two texts: {body}")
+    hits = body.get("hitBreakpointIds", [])
+    need(len(hits) == (body["reason"] in HITS) and all(type(it) is NUMBER for it in hits), f"the breakpoints of the stop {body}")
+
+
+def need_target(body):
+    """What can be watched says how, and what cannot does not."""
+    is_watched = body["dataId"] is not None
+    need(("accessTypes" in body) == is_watched and ("canPersist" in body) == is_watched, f"the target {body}")
+    need(body.get("accessTypes", ACCESSES) == ACCESSES, f"the accesses are {body}")
+
+
+# How many of what a request lists its reply lists.
+ASKED = {"setBreakpoints": "breakpoints", "setDataBreakpoints": "breakpoints"}
+
+
+def need_body(command, arguments, body):
+    """What the reply to a request tells has the members of its command, and what the protocol says of their values."""
+    need_members(f"the body of {command}", body, *BODIES[command])
+    for name, items in body.items():
+        if name in ITEMS:
+            need_items(name, items)
+    if command in ASKED:
+        need(len(body[ASKED[command]]) == len(arguments[ASKED[command]]), f"not each of {arguments} is answered: {body}")
+    if command == "dataBreakpointInfo":
+        need_target(body)
+    if command == "evaluate":
+        need_reference("an answer", body["variablesReference"], 0)
+    if command == "stackTrace":
+        need(body.get("totalFrames") == len(body["stackFrames"]), f"the number of the frames: {body}")
