@@ -96,11 +96,8 @@ def closed(built):
     return results
 
 
-def endless(built, failing, is_proved):
-    """Tasks: standard input gives one blank, or the end of a line, for ever. It has no line %%, or it ends at the most reads that a run makes.
-
-    These reads take a program without optimization ten seconds, which it is asked for once.
-    """
+def endless(built, failing):
+    """Tasks: standard input gives one blank, or the end of a line, for ever. It has no line %%, or it ends at the most reads that a run makes."""
 
     def ends(words, what, wanted, byte):
         def tried(case):
@@ -110,8 +107,7 @@ def endless(built, failing, is_proved):
         return hostile.task(Run(f"{bytes([byte])!r} for ever", b"", words, data=FIRST), tried, built, failing)
 
     script, commands = ([], "script", (2, b"", NO_SCRIPT)), (["first.ispc"], "commands", (3, b"", READ_FAULT))
-    of_commands = BLANKS if is_proved else BLANKS[:1]
-    return [*(ends(*commands, byte) for byte in of_commands), *(ends(*script, byte) for byte in BLANKS)]
+    return [ends(*words, byte) for words in (commands, script) for byte in BLANKS]
 
 
 def of_any_build(built):

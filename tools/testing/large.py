@@ -1,8 +1,7 @@
 """The built program on large texts: sources of 65,536 bytes of each shape, each compiled in time that grows as they do; an input of a million
 values; and a million command lines, answered in little memory.
 
-A proved program takes half a second of the processor at most for a source, and two for the input. One that is built without optimization is
-asked for no seconds.
+A source takes half a second of the processor at most, and the input two.
 """
 
 import os
@@ -102,15 +101,15 @@ def quickest(program, folder, text, refusal, rounds):
     return min(seconds), why
 
 
-def compiled(program, folder, name, text, few, refusal, is_proved):
-    """A source is judged in twice the seconds at most that a part of it takes for as many bytes, and by a proved program in half a second.
+def compiled(program, folder, name, text, few, refusal):
+    """A source is judged in half a second, and in twice the seconds at most that a part of it takes for as many bytes.
 
     Where it is not, it is tried again, and the least seconds count.
     """
     for rounds in (1, ROUNDS):
         (seconds, why), (less, _) = quickest(program, folder, text, refusal, rounds), quickest(program, folder, few, refusal, rounds)
         ratio = seconds / max(less, LEAST_SECONDS)
-        why += [f"{seconds:.2f} seconds"] if is_proved and seconds > SECONDS else []
+        why += [f"{seconds:.2f} seconds"] if seconds > SECONDS else []
         why += [f"{ratio:.1f} times the seconds of {len(few)} bytes"] if ratio > 2 * PART else []
         if not why:
             break
@@ -140,8 +139,8 @@ def many_commands(program, folder):
     return Result("a million command lines", is_right, [f"status {status} in {space} bytes and 1 MB, {len(once)} and {len(output)} bytes"])
 
 
-def inputs(program, folder, is_proved):
-    """As many values as an entry's arrays may have, the last of which is printed, read in two seconds by a proved program; and one more: I4."""
+def inputs(program, folder):
+    """As many values as an entry's arrays may have, the last of which is printed, read in two seconds; and one more: I4."""
     source, text = pathlib.Path(folder, "values.ispc"), pathlib.Path(folder, "values.input")
     source.write_text("export void go(uniform int8 a[]) { }\n")
     commands, words = b"print a[%d]\n" % (MOST_VALUES - 1), ["--input", text]
@@ -151,7 +150,7 @@ def inputs(program, folder, is_proved):
     _, *many = ended(program, source, commands, words)
     why = [] if most == [0, b"a[%d] = 7\n" % (MOST_VALUES - 1), b""] else [f"{MOST_VALUES} values: {most!r}"]
     why += [] if many == [2, b"", b"input 1: I4 TooLarge\n"] else [f"{MOST_VALUES + 1} values: {many!r}"]
-    why += [f"{seconds:.2f} seconds"] if is_proved and seconds > INPUT_SECONDS else []
+    why += [f"{seconds:.2f} seconds"] if seconds > INPUT_SECONDS else []
     return Result(f"an input of {MOST_VALUES} values, and of one more", not why, why)
 
 
@@ -165,8 +164,8 @@ def of(call, program, *more):
     return done
 
 
-def tasks(program, is_proved):
+def tasks(program):
     """A task for each source, and one for the inputs."""
     pairs = zip(shapes(), shapes(MOST_BYTES // PART))
-    sources = [of(compiled, program, name, text, few, refusal, is_proved) for (name, text, refusal), (_, few, _) in pairs]
-    return [of(inputs, program, is_proved), *sources]
+    sources = [of(compiled, program, name, text, few, refusal) for (name, text, refusal), (_, few, _) in pairs]
+    return [of(inputs, program), *sources]

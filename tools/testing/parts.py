@@ -1,6 +1,7 @@
 """The hostile use of the program, in parts that are tried side by side: without memory, with devices that fail, with damaged texts, with large ones.
 
-Each part takes a program without a sanitizer, which the library of failing.c makes fail; so it takes a C compiler.
+Each part takes a program without a sanitizer, which the library of failing.c makes fail; so it takes a C compiler. One takes, where it is there, the
+same program as it keeps the calls that stand round each allocation.
 """
 
 import subprocess
@@ -12,39 +13,38 @@ from .calls import side_by_side
 from .tried import Result
 
 NO_LIBRARY = "cc does not make the library that makes things fail"
-SMALL_TEXTS = large.MOST_BYTES // 8  # of a source that a program without optimization compiles in each address space
+MEMORY = "refused memory"
+
+def memory(root, built, failing, with_calls):
+    by_calls = callers.tasks(root, with_calls, failing) if with_calls else []
+    return hostile.memory(root, built, failing) + phases.tasks(built, failing) + by_calls
 
 
-def memory(root, built, failing, is_proved):
-    by_calls = [] if is_proved else callers.tasks(root, built, failing)
-    return hostile.memory(root, built, failing) + phases.tasks(built, failing, is_proved) + by_calls
+def address_spaces(root, built, failing, _):
+    return spaces.tasks(root, built, failing)
 
 
-def address_spaces(root, built, failing, is_proved):
-    return spaces.tasks(root, built, failing, large.MOST_BYTES if is_proved else SMALL_TEXTS)
+def failing_devices(root, built, failing, _):
+    return devices.endless(built, failing) + hostile.devices(root, built, failing)
 
 
-def failing_devices(root, built, failing, is_proved):
-    return devices.endless(built, failing, is_proved) + hostile.devices(root, built, failing)
-
-
-def damaged_sources(root, built, failing, is_proved):
+def damaged_sources(root, built, failing, _):
     return hostile.damage(root, built, failing)
 
 
-def command_lines(root, built, failing, is_proved):
+def command_lines(root, built, failing, _):
     return damaged_lines.tasks(root, built, failing)
 
 
-def arguments(root, built, failing, is_proved):
+def arguments(root, built, failing, _):
     return [lambda run=run: [result(built, run)] for run in program.runs_of_bytes()]
 
 
-def large_texts(root, built, failing, is_proved):
-    return large.tasks(built, is_proved)
+def large_texts(root, built, failing, _):
+    return large.tasks(built)
 
 
-def many_lines(root, built, failing, is_proved):
+def many_lines(root, built, failing, _):
     return [large.of(large.many_commands, built)]
 
 
@@ -54,20 +54,20 @@ PARTS = {
     "large texts": large_texts,
     "failing devices": failing_devices,
     "damaged sources": damaged_sources,
-    "refused memory": memory,
+    MEMORY: memory,
     "address spaces": address_spaces,
     "damaged command lines": command_lines,
     "arguments not in text": arguments,
 }
 
 
-def results(root, built, name, is_proved):
+def results(root, built, name, with_calls=None):
     """The results of a part."""
     with tempfile.TemporaryDirectory(prefix="failing-") as folder:
         failing = hostile.library(folder)
         if failing is None:
             return [Result(name, False, [NO_LIBRARY])]
-        tasks = PARTS[name](root, built, failing, is_proved)
+        tasks = PARTS[name](root, built, failing, with_calls)
         # A task alone waits for no other: it is the longest of all.
         given = [done(tasks[0])] if len(tasks) == 1 else side_by_side(done, tasks)
         return [it for found in given for it in found]

@@ -46,10 +46,7 @@ def of_phase(errors):
     return tried
 
 
-def tasks(program, failing, is_proved):
-    """A task for each run; for a proved program, which is quick, also for one that takes memory thousands of times."""
-    runs = runs_of_phases()
-    if is_proved:
-        source = {"it.ispc": declarations(257)}
-        runs.append((Run("limits, with 257 variables", b"step\n", ["it.ispc"], data=source), b"258:5: S13 Limit"))
-    return [task(run, of_phase(errors), program, failing) for run, errors in runs]
+def tasks(program, failing):
+    """A task for each run, and for one that takes memory thousands of times."""
+    many = Run("limits, with 257 variables", b"step\n", ["it.ispc"], data={"it.ispc": declarations(257)})
+    return [task(run, of_phase(errors), program, failing) for run, errors in [*runs_of_phases(), (many, b"258:5: S13 Limit")]]

@@ -59,15 +59,15 @@ def of_examples(root):
         yield name, words, commands, data | {f"{name}.ispc": root / f"examples/{name}.ispc"}
 
 
-def of_large_texts(most):
-    """Sources of at most so many bytes."""
-    for name, text, _ in large.shapes(most):
+def of_large_texts():
+    """Sources of as many bytes as one may have."""
+    for name, text, _ in large.shapes():
         if name in LARGE:
             yield f"{len(text)} bytes of {name}", ["large.ispc"], b"step\n", {"large.ispc": text.encode()}
 
 
-def tasks(root, program, failing, most):
-    """For each run its address spaces; the sources that are made have at most so many bytes."""
+def tasks(root, program, failing):
+    """For each run its address spaces."""
     growing = ("a history limit that grows to the most", ["growing.ispc", "--width", "16"], GROWTH, {"growing.ispc": hostile.GROWING})
 
     def of_run(name, words, commands, data, *others):
@@ -79,5 +79,5 @@ def tasks(root, program, failing, most):
 
         return done
 
-    larges = [of_run(*it) for it in of_large_texts(most)]
+    larges = [of_run(*it) for it in of_large_texts()]
     return [*larges, of_run(*growing, REFUSED_GROWTH), *(of_run(*it) for it in of_examples(root))]
