@@ -9,6 +9,8 @@ import threading
 
 RUN = ("data", "stdin", "stdout", "args", "status")
 LARGEST = 4_000_000_000
+# The bytes of disk below which nothing more is kept: a landing needs them itself.
+LEFT_FREE = 6_000_000_000
 
 
 def files_in(folder, parts):
@@ -38,7 +40,7 @@ class Store:
     def __init__(self):
         cache = os.environ.get("XDG_CACHE_HOME") or os.path.expanduser("~/.cache")
         self.top = os.environ.get("RINDDECADE_STORE") or f"{cache}/rinddecade"
-        self.held = threading.Lock()
+        self.held, self.is_full = threading.Lock(), False
         os.makedirs(self.top, exist_ok=True)
 
     def entry(self, name, digest):
@@ -63,13 +65,19 @@ class Store:
             os.replace(f"{entry}/record.new", f"{entry}/record.json")
 
     def keep(self, name, digest, folder, part):
-        """Keeps a part of a crate's out/ in the digest's entry; kept work only of the newest."""
+        """Keeps a part of a crate's out/ in the digest's entry, kept work only of the newest; returns whether the disk has room for it.
+
+        No verdict rests on what is kept: without it a later landing does again what this one did.
+        """
         entry = self.entry(name, digest)
         os.makedirs(entry, exist_ok=True)
-        pack(f"{folder}/out/{part}", f"{entry}/{part}.tar.gz")
+        if shutil.disk_usage(self.top).free < LEFT_FREE or not pack(f"{folder}/out/{part}", f"{entry}/{part}.tar.gz"):
+            self.is_full = True
+            return False
         for other in os.listdir(f"{self.top}/{name}") if part == "incremental" else []:
             if other != os.path.basename(entry) and os.path.exists(f"{self.top}/{name}/{other}/{part}.tar.gz"):
                 os.remove(f"{self.top}/{name}/{other}/{part}.tar.gz")
+        return True
 
     def lay(self, name, digest, folder, part):
         """Lays a part that was kept under the digest into a crate's out/, and returns whether there was one."""
@@ -97,13 +105,15 @@ class Store:
 
 
 def pack(folder, file):
-    """Packs a folder into a file, which is whole or not there."""
+    """Packs a folder into a file, which is whole or not there, and returns whether that went well."""
     with open(f"{file}.new", "wb") as it:
         tar = subprocess.Popen(["tar", "cf", "-", "-C", folder, "."], stdout=subprocess.PIPE)
         zipped = subprocess.run(["gzip", "-1"], stdin=tar.stdout, stdout=it)
     if tar.wait() or zipped.returncode:
-        raise OSError(f"cannot pack {folder}")
+        os.remove(f"{file}.new")
+        return False
     os.replace(f"{file}.new", file)
+    return True
 
 
 def unpack(file, folder):
