@@ -1,15 +1,18 @@
 # The work of the repository, from a clone with the toolchain's `rt` on the path.
 
-.PHONY: demo quick test test-editors prove gate build bench
+.PHONY: demo program test test-editors prove gate build bench
 
-# Builds the program without its proofs, and runs it on the first example and its commands.
+# Builds the program without its proofs, and shows the first example: its source, then each command with its answer; and where a picture is.
 demo:
-	@echo "This build is the unproved one: it is quick, and shows what the program does. 'make prove' proves it."
+	@echo "A build without proofs: it takes a minute or two, and shows what the program does. 'make prove' proves it."
+	@tools/quick_build ispc_cli
+	@echo "examples/first.ispc:"
 	@cat examples/first.ispc
-	@(cat examples/first.ispc; echo '%%'; cat examples/first.commands) | (cd crates/ispc_cli && rt try)
+	@crates/ispc_cli/out/quick examples/first.ispc < examples/first.commands | paste -d '\n' examples/first.commands - | sed '1~2s/^/> /'
+	@echo "A run as a picture, where lanes part and join: examples/lanes.svg"
 
-# Builds the programs that people call without their proofs: crates/ispc_cli/out/quick and its like.
-quick:
+# Builds both programs that people call without their proofs, in two to four minutes: crates/ispc_cli/out/quick and its like.
+program:
 	tools/quick_build
 
 # Every test and every stored run, without proofs.
@@ -32,6 +35,7 @@ gate:
 
 # Proves the program and builds it, and runs it once, on its stored run.
 build:
+	@echo "Proving the program and all below it takes an hour or more the first time, and minutes where little has changed."
 	cd crates/ispc_cli && rt run < stdin
 	@echo "The proved program is crates/ispc_cli/out/ispc_cli"
 
