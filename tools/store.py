@@ -109,6 +109,8 @@ def pack(folder, file):
     with open(f"{file}.new", "wb") as it:
         tar = subprocess.Popen(["tar", "cf", "-", "-C", folder, "."], stdout=subprocess.PIPE)
         zipped = subprocess.run(["gzip", "-1"], stdin=tar.stdout, stdout=it)
+        # (else tar would wait for a gzip that has failed)
+        tar.stdout.close()
     if tar.wait() or zipped.returncode:
         os.remove(f"{file}.new")
         return False
