@@ -1,7 +1,6 @@
 """The program without the sanitizer of its memory, which takes no more addresses than it needs, and with optimization about the time of a proved one.
 
-It is made from the code that rt try makes the program from, so it has the other checks of that one. The kit's compiler reads this code, and the
-system's links it. It is made twice: with optimization, and without, which keeps the calls that stand round each allocation.
+It is made from the code that rt try makes the program from. The kit's compiler reads this code, and the system's links it. It is made twice: with optimization, and without, which keeps the calls that stand round each allocation.
 """
 
 import concurrent.futures
