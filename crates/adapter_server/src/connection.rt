@@ -9,7 +9,7 @@ use adapter_messages::{
 use adapter_requests::{Reply, StopReason};
 use serde_json::{Error as JsonError, Map, Value};
 use std::alloc::{AllocError, Global};
-use std::io::{Read, Write};
+use std::io::{self, Read, Write};
 use thiserror::Error;
 
 /// How a connection ended.
@@ -187,6 +187,7 @@ impl<R: Read, O: Write> Connection<R, O> {
         let text = message.to_string(self.alloc)?;
         match write_frame(self.alloc, &mut self.writer, text.as_bytes()) {
             Ok(()) => Ok(()),
+            Err(fault) if fault.kind() == io::ErrorKind::OutOfMemory => Err(Ended::Memory),
             Err(_) => Err(Ended::WriteFault),
         }
     }

@@ -4,6 +4,7 @@ ghost use Rattle.ispc_options.specs.Ranges.{AreInRange};
 ghost use Rattle.ispc_debugger.specs.Runs.{lanes_of};
 
 use crate::files::file_front;
+use crate::refusing::refuse;
 use adapter_requests::Launch;
 use adapter_server::{Connection, Ended, LaunchMessage, Served};
 use debug_inputs::MOST_BYTES as MOST_INPUT;
@@ -13,7 +14,7 @@ use ispc_options::{Options, Width};
 use ispc_refusals::{Refusal, write_refusal};
 use ispc_script::MOST_BYTES;
 use std::alloc::AllocError;
-use std::io::{Read, Write};
+use std::io::{self, Read, Write};
 use std::process::ExitCode;
 
 /// The history limit, and the most moves of one command, where a launch has none.
@@ -26,9 +27,15 @@ pub(crate) fn adapt(rt: &HostRuntime) -> ExitCode {
     let mut connection = Connection::new(rt.alloc(), rt.stdin(), rt.stdout());
     match serve_launches(rt, &mut connection) {
         Ended::Disconnected | Ended::EndOfInput => ExitCode::SUCCESS,
-        Ended::Memory => ExitCode::from(2),
-        Ended::ReadFault => ExitCode::from(3),
-        Ended::WriteFault => ExitCode::from(4),
+        Ended::Memory => refuse(rt, &Refusal::Memory, None),
+        Ended::ReadFault => {
+            let _ = eprintln!(rt; "read fault");
+            ExitCode::from(3)
+        }
+        Ended::WriteFault => {
+            let _ = eprintln!(rt; "write fault");
+            ExitCode::from(4)
+        }
     }
 }
 
@@ -63,14 +70,12 @@ fn serve_next<R: Read + Drop, O: Write + Drop>(
         )?;
         return Ok(Served::Restarts);
     };
-    let source = file_front(rt, launch.program, MOST_BYTES);
-    let input = match launch.input {
-        None => Ok(Vec::new(rt.alloc())),
-        Some(path) => file_front(rt, path, MOST_INPUT),
-    };
-    let (Ok(source), Ok(input)) = (source, input) else {
-        connection.refuse_launch(&message, "the program or its input cannot be read")?;
-        return Ok(Served::Restarts);
+    let (source, input) = match texts_of(rt, &launch) {
+        Ok(texts) => texts,
+        Err(fault) => {
+            connection.refuse_launch(&message, why_unread(&fault))?;
+            return Ok(Served::Restarts);
+        }
     };
     let program = Program {
         source: source.as_slice(),
@@ -80,6 +85,25 @@ fn serve_next<R: Read + Drop, O: Write + Drop>(
         Width::Four => serve_wide::<4, R, O>(rt, connection, &message, program, &options),
         Width::Eight => serve_wide::<8, R, O>(rt, connection, &message, program, &options),
         Width::Sixteen => serve_wide::<16, R, O>(rt, connection, &message, program, &options),
+    }
+}
+
+/// The source and the input of a launch, an empty one where it names none.
+fn texts_of(rt: &HostRuntime, launch: &Launch<'_>) -> io::Result<(Vec<u8>, Vec<u8>)> {
+    let source = file_front(rt, launch.program, MOST_BYTES)?;
+    let input = match launch.input {
+        None => Vec::new(rt.alloc()),
+        Some(path) => file_front(rt, path, MOST_INPUT)?,
+    };
+    Ok((source, input))
+}
+
+/// Why a launch is refused whose files are not read.
+fn why_unread(fault: &io::Error) -> &'static str {
+    if fault.kind() == io::ErrorKind::OutOfMemory {
+        "memory"
+    } else {
+        "the program or its input cannot be read"
     }
 }
 
