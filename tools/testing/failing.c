@@ -1,8 +1,6 @@
 /* Makes the program that it is loaded into meet what can fail. By these variables of the environment:
    REFUSED_ALLOCATION=N  the allocation of this number, from 1 on, is refused;
    ALLOCATIONS_FILE=NAME how many allocations were made is written there at the end;
-   CALLERS_FILE=NAME     the calls that stand round each allocation are written there, a line for each allocation: the places where they go on,
-                         counted from where the program lies, innermost first;
    WRITTEN_BYTES=N       standard output takes so many bytes, and fails then;
    READ_BYTES=N          standard input gives so many bytes, and fails then;
    ENDLESS_BYTE=N        standard input gives this byte for ever;
@@ -13,7 +11,6 @@
 #include <dlfcn.h>
 #include <errno.h>
 #include <fcntl.h>
-#include <link.h>
 #include <stdio.h>
 #include <stdlib.h>
 #include <string.h>
@@ -27,42 +24,15 @@ static long number(const char *name, long otherwise) {
     return said ? atol(said) : otherwise;
 }
 
-static int first_object(struct dl_phdr_info *object, size_t size, void *found) {
-    *(unsigned long *)found = object->dlpi_addr;
-    return 1;
-}
-
-/* The program keeps frame pointers: each frame has where the one before it lies, and behind that where the call goes on. */
-static void tell_callers(unsigned long *frame) {
-    static int file;
-    static unsigned long base;
-    const char *name = getenv("CALLERS_FILE");
-    if (!name) return;
-    if (!file) {
-        file = open(name, O_WRONLY | O_CREAT | O_TRUNC | O_APPEND, 0600);
-        dl_iterate_phdr(first_object, &base);
-    }
-    char line[4096];
-    int length = 0;
-    for (int depth = 0; depth < 200 && frame; depth += 1) {
-        length += snprintf(line + length, sizeof line - length, "%lx ", frame[1] - base);
-        unsigned long *outer = (unsigned long *)frame[0];
-        frame = outer > frame && outer < frame + (1 << 20) ? outer : NULL;
-    }
-    line[length++] = '\n';
-    if (write(file, line, length) != length) abort();
-}
-
-static int is_refused(unsigned long *frame) {
+static int is_refused(void) {
     allocations += 1;
-    tell_callers(frame);
     return allocations == number("REFUSED_ALLOCATION", 0);
 }
 
 void *malloc(size_t size) {
     static void *(*real)(size_t);
     if (!real) real = (void *(*)(size_t))dlsym(RTLD_NEXT, "malloc");
-    if (is_refused(__builtin_frame_address(0))) {
+    if (is_refused()) {
         errno = ENOMEM;
         return NULL;
     }
@@ -72,7 +42,7 @@ void *malloc(size_t size) {
 void *realloc(void *old, size_t size) {
     static void *(*real)(void *, size_t);
     if (!real) real = (void *(*)(void *, size_t))dlsym(RTLD_NEXT, "realloc");
-    if (is_refused(__builtin_frame_address(0))) {
+    if (is_refused()) {
         errno = ENOMEM;
         return NULL;
     }

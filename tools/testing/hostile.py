@@ -15,6 +15,7 @@ from .calls import go_on
 from .tried import SECONDS, Result, Run, laid
 
 LIBRARY = pathlib.Path(__file__).with_name("failing.c")
+NO_LIBRARY = "cc does not make the library that makes things fail"
 MEMORY = (2, b"", b"memory\n")
 LEAST = 50  # how often a run of the least example says so
 PIECES = 3  # of a run at most so many allocations are done without, where a file is read in smaller pieces
@@ -225,7 +226,7 @@ def library(folder):
     """The library that makes things fail, compiled, or None where there is no compiler."""
     made = os.path.join(folder, "failing.so")
     try:
-        words = ["cc", "-O1", "-fno-omit-frame-pointer", "-shared", "-fPIC", "-o", made, LIBRARY, "-ldl"]
+        words = ["cc", "-O1", "-shared", "-fPIC", "-o", made, LIBRARY, "-ldl"]
         compiled = subprocess.run(words, capture_output=True)
     except FileNotFoundError:
         return None

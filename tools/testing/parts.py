@@ -1,73 +1,72 @@
-"""The hostile use of the program, in parts that are tried side by side: without memory, with devices that fail, with damaged texts, with large ones.
+"""The hostile use of the programs, in parts that are tried side by side: without memory, with devices that fail, with damaged texts, with large ones.
 
-Each part takes a program without a sanitizer, which the library of failing.c makes fail; so it takes a C compiler. One takes, where it is there, the
-same program as it keeps the calls that stand round each allocation.
+Each part takes a program without a sanitizer, which the library of failing.c makes fail; so it takes a C compiler.
 """
 
 import subprocess
 import tempfile
 
-from . import callers, damaged_lines, devices, hostile, large, phases, program, spaces
+from . import damaged_lines, devices, front_ends, hostile, large, phases, program, spaces
 from .built import result
 from .calls import side_by_side
 from .tried import Result
 
-NO_LIBRARY = "cc does not make the library that makes things fail"
-MEMORY = "refused memory"
 
-def memory(root, built, failing, with_calls):
-    by_calls = callers.tasks(root, with_calls, failing) if with_calls else []
-    return hostile.memory(root, built, failing) + phases.tasks(built, failing) + by_calls
+def memory(root, built, failing):
+    return hostile.memory(root, built, failing) + phases.tasks(built, failing)
 
 
-def address_spaces(root, built, failing, _):
+def address_spaces(root, built, failing):
     return spaces.tasks(root, built, failing)
 
 
-def failing_devices(root, built, failing, _):
+def failing_devices(root, built, failing):
     return devices.endless(built, failing) + hostile.devices(root, built, failing)
 
 
-def damaged_sources(root, built, failing, _):
+def damaged_sources(root, built, failing):
     return hostile.damage(root, built, failing)
 
 
-def command_lines(root, built, failing, _):
+def command_lines(root, built, failing):
     return damaged_lines.tasks(root, built, failing)
 
 
-def arguments(root, built, failing, _):
+def arguments(root, built, failing):
     return [lambda run=run: [result(built, run)] for run in program.runs_of_bytes()]
 
 
-def large_texts(root, built, failing, _):
+def large_texts(root, built, failing):
     return large.tasks(built)
 
 
-def many_lines(root, built, failing, _):
+def many_lines(root, built, failing):
     return [large.of(large.many_commands, built)]
 
 
-# Those with the longest tasks first.
+# By the program that they take; those with the longest tasks first.
 PARTS = {
-    "a million command lines": many_lines,
-    "large texts": large_texts,
-    "failing devices": failing_devices,
-    "damaged sources": damaged_sources,
-    MEMORY: memory,
-    "address spaces": address_spaces,
-    "damaged command lines": command_lines,
-    "arguments not in text": arguments,
+    program.CRATE: {
+        "a million command lines": many_lines,
+        "large texts": large_texts,
+        "failing devices": failing_devices,
+        "damaged sources": damaged_sources,
+        "refused memory": memory,
+        "address spaces": address_spaces,
+        "damaged command lines": command_lines,
+        "arguments not in text": arguments,
+    },
+    front_ends.CRATE: {"failing front ends": front_ends.tasks},
 }
 
 
-def results(root, built, name, with_calls=None):
-    """The results of a part."""
+def results(root, built, crate, name):
+    """The results of a part that takes the program of a crate."""
     with tempfile.TemporaryDirectory(prefix="failing-") as folder:
         failing = hostile.library(folder)
         if failing is None:
-            return [Result(name, False, [NO_LIBRARY])]
-        tasks = PARTS[name](root, built, failing, with_calls)
+            return [Result(name, False, [hostile.NO_LIBRARY])]
+        tasks = PARTS[crate][name](root, built, failing)
         # A task alone waits for no other: it is the longest of all.
         given = [done(tasks[0])] if len(tasks) == 1 else side_by_side(done, tasks)
         return [it for found in given for it in found]

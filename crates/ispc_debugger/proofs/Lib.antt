@@ -1,2 +1,2 @@
 mod Accepted
-mod Inputs
+pub mod Inputs

@@ -1,0 +1,64 @@
+//! Runs of a source, from the words of a command line to a picture.
+use crate::ends::{Ended, end_of, end_of_command};
+use crate::samples::{INPUT, OPTIONS, SOURCE};
+use debug_commands::Command;
+use ispc_debugger::{ProgramSession, open_session, run};
+use ispc_options::{read_options, wrong_arguments};
+use lane_picture::{Form, Subject, draw};
+use lane_report::report;
+use std::alloc::Global;
+use tests_devices::{PieceReader, PieceWriter};
+
+/// Makes the call of a name, if there is memory for what it is called on.
+pub(crate) fn call(alloc: Global, name: &str) -> Option<Ended> {
+    match name {
+        "ispc_options::read_options" => {
+            Some(end_of(&read_options(alloc, &["it.ispc", "--width", "8"])))
+        }
+        "ispc_options::wrong_arguments" => Some(end_of(&wrong_arguments(alloc, "it is wrong"))),
+        "lane_report::report" => Some(report_lanes(alloc)),
+        "ispc_debugger::open_session" => {
+            Some(end_of(&open_session::<4>(alloc, SOURCE, INPUT, &OPTIONS)))
+        }
+        "ispc_debugger::run" => Some(run_whole(alloc)),
+        "debug_session::Session::do_command" => Some(grow(&mut session(alloc)?)),
+        "lane_picture::draw" => Some(draw_picture(alloc, &mut session(alloc)?)),
+        _ => None,
+    }
+}
+
+/// A session before the first step, if there is memory for it.
+pub(crate) fn session(alloc: Global) -> Option<ProgramSession<4>> {
+    open_session::<4>(alloc, SOURCE, INPUT, &OPTIONS).ok()
+}
+
+/// Writes the report of the source.
+fn report_lanes(alloc: Global) -> Ended {
+    let mut writer = PieceWriter::new(512, 512);
+    end_of(&report(alloc, SOURCE, &mut writer))
+}
+
+/// Runs the source, and does a step.
+fn run_whole(alloc: Global) -> Ended {
+    let mut reader = PieceReader::new(b"step\n", 512, 512);
+    let mut writer = PieceWriter::new(512, 512);
+    end_of(&run(alloc, SOURCE, INPUT, &OPTIONS, &mut reader, &mut writer))
+}
+
+/// Raises the history limit.
+fn grow(session: &mut ProgramSession<4>) -> Ended {
+    end_of_command(session.do_command(Command::SetHistory(6)))
+}
+
+/// Draws a picture of the run.
+fn draw_picture(alloc: Global, session: &mut ProgramSession<4>) -> Ended {
+    let subject = Subject {
+        title: b"it.ispc",
+        source: SOURCE,
+        watched: None,
+        most_steps: 100,
+        form: Form::Image,
+    };
+    let mut writer = PieceWriter::new(512, 512);
+    end_of(&draw(alloc, session, &subject, &mut writer))
+}

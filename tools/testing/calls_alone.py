@@ -1,0 +1,137 @@
+"""Each public call that takes memory, by itself: each of its allocations is refused in turn.
+
+The program calls_alone makes a call on values that were made before, and then once more. Where an allocation of the first call is refused, it
+says that there was no memory, and the second one is done.
+"""
+
+import itertools
+import pathlib
+import re
+import subprocess
+import tempfile
+
+from . import built, hostile, plain
+from .calls import go_on, side_by_side
+from .tried import SECONDS, Result, runs, stored_run
+
+CRATE = "calls_alone"
+# A call, and how many of its allocations it does without: where it asks first for more than it needs.
+CALLS = {
+    "ispc_lexer::tokens": 0,
+    "ispc_parser::parse": 0,
+    "ispc_names_faults::names_fault": 0,
+    "ispc_names::resolve": 0,
+    "type_check::check": 0,
+    "lane_pure::is_pure_in_lanes": 0,
+    "type_check::is_lane_pure": 0,
+    "ispc_compiler::compile_source": 0,
+    "source_answers::boxed": 0,
+    "source_answers::both_boxed": 0,
+    "expression_code::compile": 0,
+    "mask_lowering::lower": 0,
+    "foreach_lowering::lower_rounds": 0,
+    "codegen::compile": 0,
+    "machine_names::step_lines": 0,
+    "gang_memory::Layout::plan": 0,
+    "debug_inputs::read_inputs": 0,
+    "machine_steps::entry_lengths": 0,
+    "gang_machine::PreparedProgram::new": 0,
+    "gang_machine::open": 0,
+    "undo_log::DeltaRing::new": 0,
+    "undo_log::DeltaRing::set_limit": 0,
+    "undo_log::SnapshotRing::new": 0,
+    "undo_log::SnapshotRing::set_limit": 0,
+    "ispc_options::read_options": 0,
+    "ispc_options::wrong_arguments": 0,
+    "lane_report::report": 0,
+    "ispc_debugger::open_session": 0,
+    "ispc_debugger::run": 0,
+    "debug_session::Session::do_command": 0,
+    "lane_picture::draw": 3,
+    "adapter_frames::FrameReader::next_message": 0,
+    "adapter_frames::write_frame": 0,
+    "adapter_messages::read_request": 0,
+    "adapter_messages::reply_message": 0,
+    "adapter_messages::failure_message": 0,
+    "adapter_messages::event_message": 0,
+    "adapter_messages::stop_body": 0,
+    "adapter_messages::output_body": 0,
+    "adapter_replies::reply_to": 0,
+    "adapter_replies::answer_text": 0,
+    "adapter_session::command_lines": 0,
+    "adapter_session::answer_request": 0,
+}
+# These keep the allocator, and take no memory.
+NONE_TAKEN = {"adapter_frames::FrameReader::new", "adapter_server::Connection::new"}
+# These are made by `tokens` and `check`.
+INNER = {"ispc_lexer::first_step", "type_check::typed_program"}
+# The parts of a layer, whose calls are made by those of the crate with the plain name; and the crates of tests.
+PARTS = re.compile(r"(ispc_parser|ispc_names|type_check|tests)_\w+")
+
+CALL = re.compile(r"^(?P<indent> *)pub fn (?P<name>\w+)(<[^(]*>)?\(\s*(&\w* ?\w+,\s*)?(&mut self,\s*)?alloc: Global\b", re.M)
+SUBJECT = re.compile(r"^impl(<.*?>)? (\w+ for )?(?P<name>\w+)", re.M)
+
+
+def public_calls(crate):
+    """The names of a crate's public functions that are given an allocator."""
+    for file in sorted((crate.folder / "src").rglob("*.rt")):
+        text = file.read_text(encoding="utf-8")
+        for found in CALL.finditer(text):
+            subjects = [it["name"] for it in SUBJECT.finditer(text, 0, found.start())]
+            yield "::".join([crate.name, *(subjects[-1:] if found["indent"] else []), found["name"]])
+
+
+def check(listed):
+    """One result: each public call that is given an allocator is made alone, but for the parts of a layer."""
+    wanted = {name for crate in listed if not PARTS.fullmatch(crate.name) for name in public_calls(crate)}
+    why = [f"{it} is not made alone" for it in sorted(wanted - CALLS.keys() - NONE_TAKEN - INNER)]
+    return Result("each public call that is given an allocator", not why, why)
+
+
+def ends(call, program, failing):
+    """How a run ends, with one allocation after another refused, up to the first that is not of the first call or of what goes before it."""
+    for number in itertools.count(1):
+        go_on()
+        how = {"env": {"LD_PRELOAD": failing, "REFUSED_ALLOCATION": str(number)}, "capture_output": True, "timeout": float(SECONDS)}
+        ran = subprocess.run([program, call], **how)
+        end = ran.returncode, ran.stdout.decode(errors="replace").split()
+        if end in (SECOND_REFUSED, SECOND_UNPREPARED):
+            return
+        yield end
+
+
+# What there was no memory for: the words of the command line, what the first call is made on, the first call, and the same of the second.
+WORDS = (1, [])
+UNPREPARED, REFUSED = (0, ["unprepared", "done"]), (0, ["memory", "done"])
+SECOND_UNPREPARED, SECOND_REFUSED = (0, ["done", "unprepared"]), (0, ["done", "memory"])
+BOTH = (0, ["done", "done"])
+
+
+def result(call, program, failing):
+    given, most = [], CALLS[call]
+    for end in ends(call, program, failing):
+        given.append(end)
+        # Past the allocations of a whole run nothing is refused.
+        if given.count(BOTH) > most or end not in (WORDS, UNPREPARED, REFUSED, BOTH):
+            break
+    why = [f"allocation {at}: {it}" for at, it in enumerate(given, 1) if it not in (WORDS, UNPREPARED, REFUSED, BOTH)]
+    if given.count(BOTH) > most or REFUSED not in given:
+        why.append(f"it goes on without {given.count(BOTH)} of its allocations, and says so of {given.count(REFUSED)}")
+    return Result(f"{call}: each of {given.count(REFUSED)} allocations refused", not why, why)
+
+
+def results(crate, listed):
+    """The result of the stored run, and of each call."""
+    stored = stored_run(crate)
+    with tempfile.TemporaryDirectory(prefix="alone-") as folder:
+        checked, made = built.taken(crate, stored * built.LOOKS, pathlib.Path(folder)), plain.Plain(folder)
+        if checked is None:
+            # Then it tells why.
+            return runs(crate, stored)
+        made.take(pathlib.Path(folder))
+        program, why = made.program()
+        failing = hostile.library(folder)
+        if program is None or failing is None:
+            return [Result(crate.name, False, why or [hostile.NO_LIBRARY])]
+        alone = side_by_side(lambda call: result(call, program, failing), CALLS)
+        return [*(built.ended(checked, it) for it in stored), check(listed), *alone]
