@@ -70,6 +70,15 @@ fn does(rt: &impl Abort, session: &mut Session<TwoFrames>, rows: &[(Command<'sta
     }
 }
 
+/// A command that is refused, and the line where the program stands.
+fn refused(
+    command: Command<'static>,
+    refusal: Refusal,
+    line: u32,
+) -> (Command<'static>, Said, u32) {
+    (command, Said::Refused(refusal), line)
+}
+
 fn whole(name: &'static [u8]) -> Target<'static> {
     Target { name, at: None }
 }
@@ -89,12 +98,8 @@ fn set(target: Target<'static>, value: i128) -> Command<'static> {
 fn moves_by_steps_and_frames(rt: HostRuntime) -> Result<(), Fail> {
     let mut session = Session::open(TwoFrames::new(rt.alloc(), 64, None)?, 100);
     let rows = [
-        (
-            Command::ReverseStep(1),
-            Said::Refused(Refusal::NoHistory),
-            10,
-        ),
-        (Command::Undo, Said::Refused(Refusal::NoHistory), 10),
+        refused(Command::ReverseStep(1), Refusal::NoHistory, 10),
+        refused(Command::Undo, Refusal::NoHistory, 10),
         (Command::Step(1), Said::Here, 11),
         (Command::Next(1), Said::Here, 12),
         (Command::ReverseNext(1), Said::Here, 11),
@@ -102,23 +107,15 @@ fn moves_by_steps_and_frames(rt: HostRuntime) -> Result<(), Fail> {
         (Command::Finish, Said::Here, 12),
         (Command::ReverseStep(1), Said::Here, 5),
         (Command::ReverseFinish, Said::Here, 11),
-        (Command::Finish, Said::Refused(Refusal::Outermost), 11),
-        (
-            Command::ReverseFinish,
-            Said::Refused(Refusal::Outermost),
-            11,
-        ),
+        refused(Command::Finish, Refusal::Outermost, 11),
+        refused(Command::ReverseFinish, Refusal::Outermost, 11),
         (Command::Undo, Said::Undone, 10),
-        (
-            Command::ReverseFinish,
-            Said::Refused(Refusal::NoHistory),
-            10,
-        ),
+        refused(Command::ReverseFinish, Refusal::NoHistory, 10),
         (Command::Next(3), Said::Here, 13),
         (Command::Continue, Said::Here, 0),
-        (Command::Step(1), Said::Refused(Refusal::Ended), 0),
-        (Command::Finish, Said::Refused(Refusal::Ended), 0),
-        (Command::ReverseFinish, Said::Refused(Refusal::Outermost), 0),
+        refused(Command::Step(1), Refusal::Ended, 0),
+        refused(Command::Finish, Refusal::Ended, 0),
+        refused(Command::ReverseFinish, Refusal::Outermost, 0),
         (Command::ReverseContinue, Said::HistoryEnd, 10),
     ];
     does(&rt, &mut session, &rows);
@@ -129,39 +126,19 @@ fn moves_by_steps_and_frames(rt: HostRuntime) -> Result<(), Fail> {
 fn stops_at_breakpoints_and_watches(rt: HostRuntime) -> Result<(), Fail> {
     let mut session = Session::open(TwoFrames::new(rt.alloc(), 64, None)?, 100);
     let rows = [
-        (Command::Break(15), Said::Refused(Refusal::NoLine), 10),
+        refused(Command::Break(15), Refusal::NoLine, 10),
         (Command::Break(1), Said::BreaksAt(1, 3), 10),
-        (
-            Command::Watch(whole(b"n")),
-            Said::Refused(Refusal::NoSuchName),
-            10,
-        ),
-        (
-            Command::Watch(whole(b"marks")),
-            Said::Refused(Refusal::NoSuchName),
-            10,
-        ),
-        (
-            Command::Watch(part(b"size", 0)),
-            Said::Refused(Refusal::NoSuchName),
-            10,
-        ),
-        (
-            Command::Watch(part(b"total", 4)),
-            Said::Refused(Refusal::OutOfRange),
-            10,
-        ),
+        refused(Command::Watch(whole(b"n")), Refusal::NoSuchName, 10),
+        refused(Command::Watch(whole(b"marks")), Refusal::NoSuchName, 10),
+        refused(Command::Watch(part(b"size", 0)), Refusal::NoSuchName, 10),
+        refused(Command::Watch(part(b"total", 4)), Refusal::OutOfRange, 10),
         (Command::Watch(whole(b"total")), Said::Watches(2), 10),
         (Command::Watch(part(b"marks", 2)), Said::Watches(3), 10),
         (Command::Watch(part(b"total", 0)), Said::Watches(4), 10),
         (Command::Break(4), Said::BreaksAt(5, 4), 10),
         (Command::Continue, Said::Breakpoint(1), 3),
         (Command::Continue, Said::Breakpoint(5), 4),
-        (
-            Command::Delete(Some(9)),
-            Said::Refused(Refusal::NoSuchNumber),
-            4,
-        ),
+        refused(Command::Delete(Some(9)), Refusal::NoSuchNumber, 4),
         (Command::Delete(Some(5)), Said::Deleted, 4),
         (Command::Continue, Said::Watch(3), 5),
         (Command::ReverseContinue, Said::Watch(3), 4),
@@ -182,57 +159,25 @@ fn shows_and_sets(rt: HostRuntime) -> Result<(), Fail> {
     let mut session = Session::open(TwoFrames::new(rt.alloc(), 64, None)?, 100);
     let rows = [
         (Command::Print(whole(b"marks")), Said::Shows(3), 10),
-        (
-            Command::Print(part(b"marks", 3)),
-            Said::Refused(Refusal::OutOfRange),
-            10,
-        ),
-        (
-            Command::Print(part(b"n", 0)),
-            Said::Refused(Refusal::NoSuchName),
-            10,
-        ),
-        (
-            Command::Print(whole(b"m")),
-            Said::Refused(Refusal::NoSuchName),
-            10,
-        ),
-        (
-            set(whole(b"marks"), 1),
-            Said::Refused(Refusal::NoSuchName),
-            10,
-        ),
-        (
-            set(part(b"marks", 3), 128),
-            Said::Refused(Refusal::OutOfRange),
-            10,
-        ),
-        (
-            set(part(b"marks", 1), 128),
-            Said::Refused(Refusal::OutOfRange),
-            10,
-        ),
-        (
-            set(whole(b"size"), 2147483648),
-            Said::Refused(Refusal::OutOfRange),
-            10,
-        ),
-        (set(whole(b"size"), 3), Said::Refused(Refusal::Constant), 10),
-        (set(part(b"i", 1), 3), Said::Refused(Refusal::Constant), 10),
+        refused(Command::Print(part(b"marks", 3)), Refusal::OutOfRange, 10),
+        refused(Command::Print(part(b"n", 0)), Refusal::NoSuchName, 10),
+        refused(Command::Print(whole(b"m")), Refusal::NoSuchName, 10),
+        refused(set(whole(b"marks"), 1), Refusal::NoSuchName, 10),
+        refused(set(part(b"marks", 3), 128), Refusal::OutOfRange, 10),
+        refused(set(part(b"marks", 1), 128), Refusal::OutOfRange, 10),
+        refused(set(whole(b"size"), 2147483648), Refusal::OutOfRange, 10),
+        refused(set(whole(b"size"), 3), Refusal::Constant, 10),
+        refused(set(part(b"i", 1), 3), Refusal::Constant, 10),
         (set(part(b"marks", 1), -128), Said::Shows(3), 10),
         (set(whole(b"total"), -1), Said::Shows(4), 10),
-        (
-            Command::ReverseStep(1),
-            Said::Refused(Refusal::NoHistory),
-            10,
-        ),
+        refused(Command::ReverseStep(1), Refusal::NoHistory, 10),
         (Command::Step(1), Said::Here, 11),
         (set(whole(b"n"), 5), Said::Shows(1), 11),
         (set(part(b"total", 3), 6), Said::Shows(4), 11),
         (Command::ReverseStep(1), Said::Here, 10),
         (Command::Undo, Said::UndonePoke, 10),
         (Command::Undo, Said::UndonePoke, 10),
-        (Command::Undo, Said::Refused(Refusal::NoHistory), 10),
+        refused(Command::Undo, Refusal::NoHistory, 10),
         (Command::InfoLocals, Said::Lists, 10),
         (Command::Backtrace, Said::Lists, 10),
         (Command::Nothing, Said::Silent, 10),
@@ -250,13 +195,9 @@ fn keeps_one_event(rt: HostRuntime) -> Result<(), Fail> {
         (Command::ReverseStep(2), Said::HistoryEnd, 3),
         (Command::Step(1), Said::Here, 4),
         (set(whole(b"n"), 7), Said::Shows(1), 4),
-        (
-            Command::ReverseStep(1),
-            Said::Refused(Refusal::NoHistory),
-            4,
-        ),
+        refused(Command::ReverseStep(1), Refusal::NoHistory, 4),
         (Command::Undo, Said::UndonePoke, 4),
-        (Command::Undo, Said::Refused(Refusal::NoHistory), 4),
+        refused(Command::Undo, Refusal::NoHistory, 4),
     ];
     does(&rt, &mut session, &rows);
     Ok(())
@@ -282,12 +223,8 @@ fn holds_sixty_four(rt: HostRuntime) -> Result<(), Fail> {
         let _ = session.do_command(Command::Break(12));
     }
     let rows = [
-        (Command::Break(12), Said::Refused(Refusal::TableFull), 10),
-        (
-            Command::Watch(whole(b"total")),
-            Said::Refused(Refusal::TableFull),
-            10,
-        ),
+        refused(Command::Break(12), Refusal::TableFull, 10),
+        refused(Command::Watch(whole(b"total")), Refusal::TableFull, 10),
         (Command::Delete(Some(1)), Said::Deleted, 10),
         (Command::Break(12), Said::BreaksAt(65, 12), 10),
         (Command::Continue, Said::Breakpoint(2), 12),
@@ -308,12 +245,8 @@ fn numbers_up_to_ten_million(rt: HostRuntime) -> Result<(), Fail> {
     }
     assert!(rt; are_numbered);
     let rows = [
-        (Command::Break(3), Said::Refused(Refusal::TableFull), 10),
-        (
-            Command::Watch(whole(b"total")),
-            Said::Refused(Refusal::TableFull),
-            10,
-        ),
+        refused(Command::Break(3), Refusal::TableFull, 10),
+        refused(Command::Watch(whole(b"total")), Refusal::TableFull, 10),
         (Command::Delete(None), Said::Deleted, 10),
         (Command::Continue, Said::Here, 0),
     ];
@@ -331,21 +264,9 @@ fn changes_the_history(rt: HostRuntime) -> Result<(), Fail> {
         (Command::SetHistory(6), Said::Keeps(6), 5),
         (Command::Step(2), Said::Here, 13),
         (Command::ReverseStep(2), Said::Here, 5),
-        (
-            Command::ReverseStep(1),
-            Said::Refused(Refusal::NoHistory),
-            5,
-        ),
-        (
-            Command::SetHistory(65_537),
-            Said::Refused(Refusal::OutOfRange),
-            5,
-        ),
-        (
-            Command::SetHistory(0),
-            Said::Refused(Refusal::OutOfRange),
-            5,
-        ),
+        refused(Command::ReverseStep(1), Refusal::NoHistory, 5),
+        refused(Command::SetHistory(65_537), Refusal::OutOfRange, 5),
+        refused(Command::SetHistory(0), Refusal::OutOfRange, 5),
         (Command::SetHistory(6), Said::Keeps(6), 5),
     ];
     does(&rt, &mut session, &rows);
@@ -366,7 +287,7 @@ fn keeps_more_events_from_the_limit_on(rt: HostRuntime) -> Result<(), Fail> {
         (Command::Undo, Said::Undone, 5),
         (Command::Undo, Said::Undone, 4),
         (Command::Undo, Said::Undone, 3),
-        (Command::Undo, Said::Refused(Refusal::NoHistory), 3),
+        refused(Command::Undo, Refusal::NoHistory, 3),
     ];
     does(&rt, &mut session, &rows);
     Ok(())
@@ -378,17 +299,9 @@ fn a_history_that_finds_no_memory_stays(rt: HostRuntime) -> Result<(), Fail> {
     let mut session = Session::open(machine, 100);
     let rows = [
         (Command::Step(4), Said::Here, 5),
-        (Command::SetHistory(4), Said::Refused(Refusal::Memory), 5),
-        (
-            Command::SetHistory(65_536),
-            Said::Refused(Refusal::Memory),
-            5,
-        ),
-        (
-            Command::SetHistory(65_537),
-            Said::Refused(Refusal::OutOfRange),
-            5,
-        ),
+        refused(Command::SetHistory(4), Refusal::Memory, 5),
+        refused(Command::SetHistory(65_536), Refusal::Memory, 5),
+        refused(Command::SetHistory(65_537), Refusal::OutOfRange, 5),
         (Command::Step(1), Said::Here, 12),
         (Command::ReverseStep(9), Said::HistoryEnd, 3),
         (Command::SetHistory(3), Said::Keeps(3), 3),

@@ -90,11 +90,7 @@ fn write_expr(alloc: Global, out: &mut Vec<u8>, expr: &Expr) {
         }
         Expr::Call { name, args, .. } => {
             put(out, name);
-            put(out, b"(");
-            for arg in args {
-                write_arg(alloc, out, arg);
-            }
-            put(out, b")");
+            write_args(alloc, out, args);
         }
         Expr::Paren { inner, .. } => write_between(alloc, out, b"(", inner, b")"),
         Expr::Unary {
@@ -124,6 +120,16 @@ fn write_expr(alloc: Global, out: &mut Vec<u8>, expr: &Expr) {
             write_between(alloc, out, b"", second, b"}");
         }
     }
+}
+
+/// Arguments in parentheses.
+#[cycle(write)]
+fn write_args(alloc: Global, out: &mut Vec<u8>, args: &[Arg]) {
+    put(out, b"(");
+    for arg in args {
+        write_arg(alloc, out, arg);
+    }
+    put(out, b")");
 }
 
 #[cycle(write)]
