@@ -1,5 +1,5 @@
 -- Worked rows of what an editor is told.
-use Rattle.std.proofs.Common.{◌≡◌, refl, ap, true, false, [], ◌∷◌, ◌++◌, Some, None, codes, map, arith}
+use Rattle.std.proofs.Common.{◌≡◌, refl, ap, Bool, true, false, [], ◌∷◌, ◌++◌, Some, None, codes, map, string_bytes, arith}
 use Rattle.std.specs.Fmt.{digits}
 use Rattle.std.proofs.lemmas.Str.{IsUtf8-from_ascii, utf8_lossy-IsUtf8}
 use Rattle.std.proofs.lemmas.Str.Ascii.{IsAscii-cons, IsAscii-nil}
@@ -19,9 +19,9 @@ use Rattle.adapter_requests.specs.declared.request.Request.TheVariants as reques
 use Rattle.adapter_replies.specs.declared.places.Place.TheVariants as place
 use Rattle.adapter_replies.specs.Frames.{all_frames, call_frame, call_told, calls_told, frame_name, standing_frame}
 use Rattle.adapter_replies.specs.References.{place_of}
-use Rattle.adapter_replies.specs.Shown.{without_end}
+use Rattle.adapter_replies.specs.Shown.{shown_text, without_end}
 use Rattle.adapter_replies.specs.Stopped.{reason_of}
-use Rattle.adapter_replies.specs.Told.{IsMoveTold, fixed_reply}
+use Rattle.adapter_replies.specs.Told.{IsEvaluated, IsMoveTold, fixed_reply}
 use Rattle.adapter_replies.specs.Variables.{told_parts, type_text, values, whole_text}
 
 -- ---- references
@@ -107,6 +107,23 @@ no_move text = refl
 
 move_behind_the_end : (text : Bytes) → IsMoveTold (Some (answer.Refused refusal.Ended)) text reply.Ended
 move_behind_the_end text = refl
+
+nothing_to_evaluate : (is_console : Bool) (text words : Bytes) → IsEvaluated is_console None text words reply.Done
+nothing_to_evaluate is_console text words = refl
+
+-- an expression is told its values alone, a line of the console its answer
+values_alone : (target : _) (shown : _) (told : _) (text : Bytes) → IsEvaluated false (Some (answer.Shows target shown)) text (string_bytes told) (reply.Evaluated told None)
+values_alone target shown told text = refl
+
+whole_answer : (target : _) (shown : _) (told : _) (text words : Bytes) → string_bytes told ≡ shown_text text → IsEvaluated true (Some (answer.Shows target shown)) text words (reply.Evaluated told None)
+whole_answer target shown told text words is = ap (λ line. Some (None, line)) is
+
+-- a refusal is told as one
+refused_expression : (told : _) (text words : Bytes) → string_bytes told ≡ shown_text text → IsEvaluated false (Some (answer.Refused refusal.NoSuchName)) text words (reply.Refused told)
+refused_expression told text words is = ap (λ line. Some (None, line)) is
+
+no_refused_value : (told : _) (why : _) (text words : Bytes) → IsEvaluated false (Some (answer.Refused refusal.NoSuchName)) text words (reply.Evaluated told why) → ⊥
+no_refused_value told why text words says = cc says
 
 at_watch : reason_of (answer.AtWatch 3) ≡ Some (reason.DataBreakpoint 3)
 at_watch = refl

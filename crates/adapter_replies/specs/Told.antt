@@ -80,6 +80,36 @@ IsSetTold (Some (answer.Shows target shown)) text values (reply.Set value) = str
 IsSetTold (Some (answer.Shows target shown)) text values told = ⊥
 IsSetTold (Some given) text values told = told_stop told ≡ Some (None, shown_text text)
 
+-- the text of what was evaluated, with the reason of a stop
+abbrev pub told_value : Reply → Option (Option StopReason × Bytes)
+told_value (reply.Evaluated text reason) = Some (reason, string_bytes text)
+told_value other = None
+
+-- whether an answer refuses a command
+abbrev pub is_refusal : Answer → Bool
+is_refusal (answer.Refused r) = true
+is_refusal other = false
+
+-- this text of an answer, with the reason of its stop, or as a refusal
+abbrev pub IsTextTold : (is_refusal : Bool) → Answer → (shown : Bytes) → Reply → Type 0
+IsTextTold true given shown told = told_stop told ≡ Some (None, shown)
+IsTextTold false given shown told = told_value told ≡ Some (reason_of given, shown)
+
+-- what a line of the console is told, with the text of its answer
+abbrev pub IsLineTold : Answer → (text : Bytes) → Reply → Type 0
+IsLineTold given text told = IsTextTold (is_refusal given) given (shown_text text) told
+
+-- what an expression is told: its values, or why there are none
+abbrev pub IsValueTold : Answer → (text values : Bytes) → Reply → Type 0
+IsValueTold (answer.Shows target shown) text values told = told_value told ≡ Some (None, values)
+IsValueTold given text values told = IsLineTold given text told
+
+-- what a request to evaluate is told
+abbrev pub IsEvaluated : (is_console : Bool) → Option Answer → (text values : Bytes) → Reply → Type 0
+IsEvaluated is_console None text values told = told ≡ reply.Done
+IsEvaluated true (Some given) text values told = IsLineTold given text told
+IsEvaluated false (Some given) text values told = IsValueTold given text values told
+
 -- the values that an answer shows
 abbrev pub shown_values : State → model.Answer → Bytes
 shown_values state (model.Shows target v) = values v.type (target_words state target v)
@@ -94,4 +124,5 @@ IsAnswered last text values request.Continue told = IsMoveTold last text told
 IsAnswered last text values request.StepBack told = IsMoveTold last text told
 IsAnswered last text values request.ReverseContinue told = IsMoveTold last text told
 IsAnswered last text values (request.SetVariable name value) told = IsSetTold last text values told
+IsAnswered last text values (request.Evaluate expression is_console) told = IsEvaluated is_console last text values told
 IsAnswered last text values other told = Unit {0}

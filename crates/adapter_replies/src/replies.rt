@@ -3,8 +3,8 @@ ghost use Rattle.std.specs.Prelude.{◌≡◌, IfOk, IfSome, Some, string_bytes}
 ghost use Rattle.gang_model.specs.Debugger.Debugger as model;
 ghost use Rattle.gang_model.specs.Debugger.Debugger.{Debugger, Setting, now};
 ghost use Rattle.gang_model.specs.Texts.Text.{text};
-ghost use Rattle.debug_answers.specs.Meanings.{AreStops};
-ghost use Rattle.adapter_replies.specs.Told.{IsAnswered, IsMoveTold, IsSetTold, IsToldOf, MeansLast, fixed_reply, is_ended, shown_values, told_stop};
+ghost use Rattle.debug_answers.specs.Meanings.{AreStops, Means};
+ghost use Rattle.adapter_replies.specs.Told.{IsAnswered, IsEvaluated, IsLineTold, IsMoveTold, IsSetTold, IsTextTold, IsToldOf, IsValueTold, MeansLast, fixed_reply, is_ended, is_refusal, shown_values, told_stop};
 
 use crate::frames::frames;
 use crate::scopes::{has_parts, variables};
@@ -143,21 +143,61 @@ fn evaluated<M: RecordedMachine>(
     stops: &[NumberedStop],
     is_console: bool,
     last: Option<Answer<'_>>,
-) -> Result<Reply, AllocError> {
+) -> Result<Reply, AllocError>
+    ensures { (s : Setting) (at d : Debugger) (meant : model.Answer) → M.stands machine.now s at → at.events ≡ d.events → AreStops s stops.now d.stops
+        → MeansLast s d last.entry meant → IfOk result (λ told. IsEvaluated is_console last.entry (text s meant d) (shown_values (now s d) meant) told) }
+{
     let Some(answer) = last else {
         return Ok(Reply::Done);
     };
-    let reason = stop_of(&answer);
-    let text = match answer {
-        Answer::Shows { target, shown } if !is_console => {
-            value_text(alloc, machine, shown, target.at)?
-        }
-        _ => answer_text(alloc, &answer, machine, stops)?,
-    };
-    match answer {
-        Answer::Refused(_) => Ok(Reply::Refused(text)),
-        _ => Ok(Reply::Evaluated { text, reason }),
+    if is_console {
+        line_of(alloc, machine, stops, answer)
+    } else {
+        value_of(alloc, machine, stops, answer)
     }
+}
+
+/// The answer to a line of the console.
+fn line_of<M: RecordedMachine>(
+    alloc: Global,
+    machine: &M,
+    stops: &[NumberedStop],
+    answer: Answer<'_>,
+) -> Result<Reply, AllocError>
+    ensures { (s : Setting) (at d : Debugger) (meant : model.Answer) → M.stands machine.now s at → at.events ≡ d.events → AreStops s stops.now d.stops
+        → Means s d answer.entry meant → IfOk result (λ told. IsLineTold answer.entry (text s meant d) told) }
+{
+    let text = answer_text(alloc, &answer, machine, stops)?;
+    Ok(told_line(text, &answer))
+}
+
+/// The text of an answer with the reason of its stop, or as a refusal.
+fn told_line(text: String, answer: &Answer<'_>) -> Reply
+    ensures { IsTextTold (is_refusal answer.now) answer.now (string_bytes text) result }
+{
+    let reason = stop_of(answer);
+    match answer {
+        Answer::Refused(_) => Reply::Refused(text),
+        _ => Reply::Evaluated { text, reason },
+    }
+}
+
+/// The value of an expression, or why there is none.
+fn value_of<M: RecordedMachine>(
+    alloc: Global,
+    machine: &M,
+    stops: &[NumberedStop],
+    answer: Answer<'_>,
+) -> Result<Reply, AllocError>
+    ensures { (s : Setting) (at d : Debugger) (meant : model.Answer) → M.stands machine.now s at → at.events ≡ d.events → AreStops s stops.now d.stops
+        → Means s d answer.entry meant → IfOk result (λ told. IsValueTold answer.entry (text s meant d) (shown_values (now s d) meant) told) }
+{
+    if let Answer::Shows { target, shown } = answer {
+        let text = value_text(alloc, machine, shown, target.at)?;
+        return Ok(Reply::Evaluated { text, reason: None });
+    }
+    let reply = line_of(alloc, machine, stops, answer)?;
+    Ok(reply)
 }
 
 /// The breakpoints on lines: each stands on the first line from there on that has a place.
