@@ -1,16 +1,14 @@
 //! `continue`, which may take long, in pieces.
-ghost use Rattle.std.specs.Prelude.{◌≡◌, ◌≤◌, ◌-◌, ℕ, List, Some};
+ghost use Rattle.std.specs.Prelude.{◌≡◌, ◌≤◌, ◌-◌, ℕ};
 ghost use Rattle.std.specs.List.{list_any};
-ghost use Rattle.gang_model.specs.Debugger.Debugger as model;
-ghost use Rattle.gang_model.specs.Debugger.Debugger.{Debugger, DoContinue, Setting, first_stop, on_line};
-ghost use Rattle.debug_answers.specs.Meanings.{AreStops, IsStop};
+ghost use Rattle.gang_model.specs.Debugger.Debugger.{Debugger, DoContinue, Setting};
 ghost use Rattle.debug_session.specs.Sessions.{Replied, RepliesTo, StandsFor};
 ghost use Rattle.debug_prompt.specs.Pieces.{GoesBy, MeansEnd, NoWatch, continued, ends_there, is_watch};
 
 use crate::readings::is_here;
 use debug_answers::{Answer, NumberedStop, Stop};
 use debug_commands::Command;
-use debug_session::Session;
+use debug_session::{Session, breakpoint_on};
 use debug_traits::{AnswerWriter, RecordedMachine};
 use prompt_texts::Page;
 
@@ -83,28 +81,6 @@ fn end_here<'a, M: RecordedMachine>(session: &Session<M>) -> Option<Answer<'a>>
     match breakpoint_on(position.place.line, session.stops()) {
         Some(number) => Some(Answer::AtBreakpoint(number)),
         None => None,
-    }
-}
-
-/// The least number of a breakpoint on a line.
-fn breakpoint_on(line: u32, stops: &[NumberedStop]) -> Option<u32>
-    ensures { (s : Setting) (meant : List (ℕ × model.Stop)) → AreStops s stops.now meant → result ≡ first_stop (on_line (Some line)) meant }
-{
-    for entry in stops {
-        if is_on_line(entry.stop, line) {
-            return Some(entry.number);
-        }
-    }
-    None
-}
-
-/// Whether this is a breakpoint on a line.
-fn is_on_line(stop: Stop, line: u32) -> bool
-    ensures { (s : Setting) (meant : model.Stop) → IsStop s stop meant → result ≡ on_line (Some line) meant }
-{
-    match stop {
-        Stop::Line(own) => line == own,
-        Stop::Watch { .. } => false,
     }
 }
 

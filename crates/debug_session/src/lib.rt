@@ -14,3 +14,4 @@ mod watching;
 
 pub use debug_answers::{Answer, NumberedStop, Refusal, Stop};
 pub use session::Session;
+pub use table::breakpoint_on;

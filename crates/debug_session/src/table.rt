@@ -85,18 +85,25 @@ impl StopTable {
         self.entries.clear();
     }
 
-    /// The least number of a breakpoint on a line.
+    /// The least number of a breakpoint on a line, if there is a line.
     pub(crate) fn breakpoint_on(&self, line: Option<u32>) -> Option<u32>
         ensures { (s : Setting) (meant : List (ℕ × model.Stop)) → AreStops s self.now.items meant → result ≡ first_stop (on_line line) meant }
     {
         let line = line?;
-        for entry in self.as_slice() {
-            if is_on_line(entry.stop, line) {
-                return Some(entry.number);
-            }
-        }
-        None
+        breakpoint_on(line, self.as_slice())
     }
+}
+
+/// The least number of a breakpoint on a line.
+pub fn breakpoint_on(line: u32, stops: &[NumberedStop]) -> Option<u32>
+    ensures { (s : Setting) (meant : List (ℕ × model.Stop)) → AreStops s stops.now meant → result ≡ first_stop (on_line (Some line)) meant }
+{
+    for entry in stops {
+        if is_on_line(entry.stop, line) {
+            return Some(entry.number);
+        }
+    }
+    None
 }
 
 /// Whether this is a breakpoint on a line.

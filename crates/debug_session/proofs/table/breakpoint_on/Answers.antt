@@ -1,6 +1,6 @@
 use Rattle.std.proofs.Common.{sym, ◌∙◌, false}
 use Rattle.debug_session.proofs.Turns.{first_stop_at, turn}
-use Rattle.debug_prompt.proofs.pieces.breakpoint_on.Goals as goal
+use Rattle.debug_session.proofs.table.breakpoint_on.Goals as goal
 
 pub loop-entry-preserved : goal.loop-entry-preserved
 loop-entry-preserved c s meant are =
