@@ -1,5 +1,5 @@
 -- Worked rows of what an editor is told.
-use Rattle.std.proofs.Common.{◌≡◌, refl, ap, Bool, true, false, [], ◌∷◌, ◌++◌, Some, None, codes, map, string_bytes, arith}
+use Rattle.std.proofs.Common.{◌≡◌, refl, ap, ℕ, Bool, true, false, List, [], ◌∷◌, ◌++◌, Some, None, codes, map, string_bytes, arith}
 use Rattle.std.specs.Fmt.{digits}
 use Rattle.std.proofs.lemmas.Str.{IsUtf8-from_ascii, utf8_lossy-IsUtf8}
 use Rattle.std.proofs.lemmas.Str.Ascii.{IsAscii-cons, IsAscii-nil}
@@ -10,6 +10,7 @@ use Rattle.gang_types.specs.Lanes.{Lanes}
 use Rattle.gang_types.specs.Values.{value_of}
 use Rattle.gang_model.specs.Types.Tree.{Function, Program, Standing, Variable}
 use Rattle.gang_model.specs.Running.State.{Frame}
+use Rattle.gang_model.specs.Debugger.Debugger.{Line, Setting, Stop}
 use Rattle.gang_model.specs.Texts.Text.{Bytes, bits}
 use Rattle.debug_answers.specs.declared.answer.Answer.TheVariants as answer
 use Rattle.debug_answers.specs.declared.answer.Refusal.TheVariants as refusal
@@ -21,7 +22,7 @@ use Rattle.adapter_replies.specs.Frames.{all_frames, call_frame, call_told, call
 use Rattle.adapter_replies.specs.References.{place_of}
 use Rattle.adapter_replies.specs.Shown.{shown_text, without_end}
 use Rattle.adapter_replies.specs.Stopped.{reason_of}
-use Rattle.adapter_replies.specs.Told.{IsEvaluated, IsMoveTold, fixed_reply}
+use Rattle.adapter_replies.specs.Told.{IsEvaluated, IsMoveTold, breakpoint_of, fixed_reply, told_breakpoint}
 use Rattle.adapter_replies.specs.Variables.{told_parts, type_text, values, whole_text}
 
 -- ---- references
@@ -107,6 +108,22 @@ no_move text = refl
 
 move_behind_the_end : (text : Bytes) → IsMoveTold (Some (answer.Refused refusal.Ended)) text reply.Ended
 move_behind_the_end text = refl
+
+-- ---- breakpoints
+
+abbrev on_two_lines : List (ℕ × Stop)
+on_two_lines = (2, Line 7) ∷ (3, Line 5) ∷ (4, Line 5) ∷ []
+
+least_number : breakpoint_of on_two_lines (Some 5) ≡ record { number = Some 3; line = Some 5 }
+least_number = refl
+
+no_number : breakpoint_of on_two_lines (Some 6) ≡ record { number = None; line = Some 6 }
+no_number = refl
+
+in_another_source : (s : Setting) → told_breakpoint s false on_two_lines 5 ≡ record { number = None; line = None }
+in_another_source s = refl
+
+-- ---- by the last answer
 
 nothing_to_evaluate : (is_console : Bool) (text words : Bytes) → IsEvaluated is_console None text words reply.Done
 nothing_to_evaluate is_console text words = refl

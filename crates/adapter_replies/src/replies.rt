@@ -1,10 +1,10 @@
 //! What a request is told.
-ghost use Rattle.std.specs.Prelude.{◌≡◌, IfOk, IfSome, Some, string_bytes};
+ghost use Rattle.std.specs.Prelude.{◌≡◌, ℕ, List, IfOk, IfSome, Some, map, string_bytes};
 ghost use Rattle.gang_model.specs.Debugger.Debugger as model;
 ghost use Rattle.gang_model.specs.Debugger.Debugger.{Debugger, Setting, now};
 ghost use Rattle.gang_model.specs.Texts.Text.{text};
 ghost use Rattle.debug_answers.specs.Meanings.{AreStops, Means};
-ghost use Rattle.adapter_replies.specs.Told.{IsAnswered, IsEvaluated, IsLineTold, IsMoveTold, IsSetTold, IsTextTold, IsToldOf, IsValueTold, MeansLast, fixed_reply, is_ended, is_refusal, shown_values, told_stop};
+ghost use Rattle.adapter_replies.specs.Told.{AreBreakpointsTold, IsAnswered, IsEvaluated, IsLineTold, IsMoveTold, IsSetTold, IsTextTold, IsToldOf, IsValueTold, MeansLast, fixed_reply, is_ended, is_refusal, shown_values, told_breakpoint, told_stop};
 
 use crate::frames::frames;
 use crate::scopes::{has_parts, variables};
@@ -13,8 +13,15 @@ use crate::texts::{answer_text, value_text};
 use adapter_requests::{Breakpoint, Reply, Request, Stop, StopReason};
 use debug_answers::{Answer, NumberedStop, Refusal, Stop as Kept};
 use debug_commands::{Command, Target, read_command};
+use debug_session::breakpoint_on;
 use debug_traits::RecordedMachine;
 use std::alloc::{AllocError, Global};
+
+/// What is told of a breakpoint that stands nowhere.
+const NO_BREAKPOINT: Breakpoint = Breakpoint {
+    number: None,
+    line: None,
+};
 
 /// What a request is told once its commands are done, by the machine, the breakpoints and watches, and the last answer.
 ///
@@ -34,6 +41,8 @@ pub fn reply_to<M: RecordedMachine>(
     ensures answered { (s : Setting) (at d : Debugger) (meant : model.Answer) → M.stands machine.now s at → at.events ≡ d.events → AreStops s stops.now d.stops
         → MeansLast s d last.entry meant
         → IfOk result (λ told. IsAnswered last.entry (text s meant d) (shown_values (now s d) meant) request.now told) }
+    ensures breakpoints { (s : Setting) (d : Debugger) (meant : List (ℕ × model.Stop)) → M.stands machine.now s d → AreStops s stops.now meant
+        → IfOk result (λ told. AreBreakpointsTold s is_program meant request.now told) }
     ensures fixed { IfSome (fixed_reply request.now) (λ reply. IfOk result (λ told. told ≡ reply)) }
 {
     match request {
@@ -200,33 +209,45 @@ fn value_of<M: RecordedMachine>(
     Ok(reply)
 }
 
-/// The breakpoints on lines: each stands on the first line from there on that has a place.
+/// The breakpoints that were asked for on lines.
 fn breakpoints<M: RecordedMachine>(
     alloc: Global,
     machine: &M,
     stops: &[NumberedStop],
     lines: &[u32],
     is_program: bool,
-) -> Result<Vec<Breakpoint>, AllocError> {
+) -> Result<Vec<Breakpoint>, AllocError>
+    ensures { (s : Setting) (d : Debugger) (meant : List (ℕ × model.Stop)) → M.stands machine.now s d → AreStops s stops.now meant
+        → IfOk result (λ made. made.items ≡ map (told_breakpoint s is_program meant) lines.now) }
+{
     let mut made = Vec::new(alloc);
     for line in lines {
-        let found = if is_program {
-            machine.line_from(*line)
-        } else {
-            None
-        };
-        made.push(breakpoint_on(stops, found))?;
+        made.push(breakpoint(machine, stops, *line, is_program))?;
     }
     Ok(made)
 }
 
-/// The breakpoint on a line, if there is one.
-fn breakpoint_on(stops: &[NumberedStop], line: Option<u32>) -> Breakpoint {
-    let number = match line {
-        Some(line) => number_of(stops, Kept::Line(line)),
-        None => None,
-    };
-    Breakpoint { number, line }
+/// The breakpoint that was asked for on a line: it stands on the first line from there on that has a place. Another source has
+/// none.
+fn breakpoint<M: RecordedMachine>(
+    machine: &M,
+    stops: &[NumberedStop],
+    line: u32,
+    is_program: bool,
+) -> Breakpoint
+    ensures { (s : Setting) (d : Debugger) (meant : List (ℕ × model.Stop)) → M.stands machine.now s d → AreStops s stops.now meant
+        → result ≡ told_breakpoint s is_program meant line }
+{
+    if !is_program {
+        return NO_BREAKPOINT;
+    }
+    match machine.line_from(line) {
+        None => NO_BREAKPOINT,
+        Some(line) => Breakpoint {
+            number: breakpoint_on(line, stops),
+            line: Some(line),
+        },
+    }
 }
 
 /// The number of a breakpoint or watch, if it is there.
