@@ -10,7 +10,7 @@ use Rattle.gang_types.specs.Lanes.{Lanes}
 use Rattle.gang_types.specs.Values.{value_of}
 use Rattle.gang_model.specs.Types.Tree.{Function, Program, Standing, Variable}
 use Rattle.gang_model.specs.Running.State.{Frame}
-use Rattle.gang_model.specs.Debugger.Debugger.{Line, Setting, Stop}
+use Rattle.gang_model.specs.Debugger.Debugger.{Line, Setting, Stop, Target, Watch}
 use Rattle.gang_model.specs.Texts.Text.{Bytes, bits}
 use Rattle.debug_answers.specs.declared.answer.Answer.TheVariants as answer
 use Rattle.debug_answers.specs.declared.answer.Refusal.TheVariants as refusal
@@ -18,11 +18,12 @@ use Rattle.adapter_requests.specs.declared.reply.Reply.TheVariants as reply
 use Rattle.adapter_requests.specs.declared.reply.StopReason.TheVariants as reason
 use Rattle.adapter_requests.specs.declared.request.Request.TheVariants as request
 use Rattle.adapter_replies.specs.declared.places.Place.TheVariants as place
+use Rattle.adapter_replies.specs.Breakpoints.{breakpoint_of, is_part, told_breakpoint, watches_target}
 use Rattle.adapter_replies.specs.Frames.{all_frames, call_frame, call_told, calls_told, frame_name, standing_frame}
 use Rattle.adapter_replies.specs.References.{place_of}
 use Rattle.adapter_replies.specs.Shown.{shown_text, without_end}
 use Rattle.adapter_replies.specs.Stopped.{reason_of}
-use Rattle.adapter_replies.specs.Told.{IsEvaluated, IsMoveTold, breakpoint_of, fixed_reply, told_breakpoint}
+use Rattle.adapter_replies.specs.Told.{IsEvaluated, IsMoveTold, fixed_reply}
 use Rattle.adapter_replies.specs.Variables.{told_parts, type_text, values, whole_text}
 
 -- ---- references
@@ -122,6 +123,44 @@ no_number = refl
 
 in_another_source : (s : Setting) → told_breakpoint s false on_two_lines 5 ≡ record { number = None; line = None }
 in_another_source s = refl
+
+-- ---- watches
+
+abbrev element : (index : ℕ) → Target
+element index = record { name = codes "a"; at = Some index }
+
+abbrev whole : Bytes → Target
+whole name = record { name = name; at = None }
+
+same_element : (v : Variable) → watches_target (element 2) (Watch (element 2) v) ≡ true
+same_element v = refl
+
+another_element : (v : Variable) → watches_target (element 2) (Watch (element 1) v) ≡ false
+another_element v = refl
+
+element_of_the_whole : (v : Variable) → watches_target (element 2) (Watch (whole (codes "a")) v) ≡ false
+element_of_the_whole v = refl
+
+another_name : (v : Variable) → watches_target (whole (codes "a")) (Watch (whole (codes "b")) v) ≡ false
+another_name v = refl
+
+no_watch_of_a_line : watches_target (whole (codes "a")) (Line 5) ≡ false
+no_watch_of_a_line = refl
+
+whole_scalar : is_part None false rate.Varying 4 ≡ true
+whole_scalar = refl
+
+whole_array : is_part None true rate.Uniform 4 ≡ false
+whole_array = refl
+
+last_element : is_part (Some 3) true rate.Uniform 4 ≡ true
+last_element = refl
+
+past_the_end : is_part (Some 4) true rate.Uniform 4 ≡ false
+past_the_end = refl
+
+part_of_a_scalar : is_part (Some 0) false rate.Uniform 1 ≡ false
+part_of_a_scalar = refl
 
 -- ---- by the last answer
 

@@ -1,3 +1,4 @@
+pub mod Breakpoints
 pub mod Frames
 pub mod References
 pub mod Shown

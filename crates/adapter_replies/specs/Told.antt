@@ -3,7 +3,7 @@ use Rattle.std.specs.Prelude.{◌≡◌, ℕ, Bool, true, false, List, [], map, 
 use Rattle.gang_model.specs.Types.Tree as tree
 use Rattle.gang_model.specs.Running.State.{State}
 use Rattle.gang_model.specs.Debugger.Debugger as model
-use Rattle.gang_model.specs.Debugger.Debugger.{Debugger, Setting, first_stop, least_from, now, on_line, step_lines, target_words}
+use Rattle.gang_model.specs.Debugger.Debugger.{Debugger, Setting, now, target_words}
 use Rattle.gang_model.specs.Texts.Text.{Bytes}
 use Rattle.debug_answers.specs.declared.answer.Answer.{Answer}
 use Rattle.debug_answers.specs.declared.answer.Answer.TheVariants as answer
@@ -15,6 +15,7 @@ use Rattle.adapter_requests.specs.declared.reply.Reply.{Reply}
 use Rattle.adapter_requests.specs.declared.reply.Reply.TheVariants as reply
 use Rattle.adapter_requests.specs.declared.request.Request.{Request}
 use Rattle.adapter_requests.specs.declared.request.Request.TheVariants as request
+use Rattle.adapter_replies.specs.Breakpoints.{IsWatchableTold, is_watchable, told_breakpoint, told_watch}
 use Rattle.adapter_replies.specs.Frames.{ToldFrame, all_frames, frame_view}
 use Rattle.adapter_replies.specs.References.{place_of, told_of}
 use Rattle.adapter_replies.specs.Shown.{shown_text}
@@ -35,6 +36,7 @@ told_variables other = None
 abbrev pub IsToldOf : Setting → Debugger → (locals parameters : ℕ → List tree.Variable) → Request → Reply → Type 0
 IsToldOf s d locals parameters request.StackTrace told = told_frames told ≡ Some (all_frames s.program (now s d).frames)
 IsToldOf s d locals parameters (request.Variables reference) told = told_variables told ≡ Some (told_of s d locals parameters (place_of reference))
+IsToldOf s d locals parameters (request.DataBreakpointInfo name) told = IsWatchableTold (is_watchable s d name.now) name.now told
 IsToldOf s d locals parameters other told = Unit {0}
 
 -- what a request is told that has the same reply always
@@ -49,24 +51,15 @@ fixed_reply other = None
 
 -- ---- by the breakpoints and watches
 
--- the breakpoint on a line with its number among those that there are
-abbrev pub breakpoint_of : List (ℕ × model.Stop) → Option ℕ → Breakpoint
-breakpoint_of stops None = record { number = None; line = None }
-breakpoint_of stops (Some line) = record { number = first_stop (on_line (Some line)) stops; line = Some line }
-
--- the one that was asked for on a line: it stands on the first line from there on that has a place; another source has none
-abbrev pub told_breakpoint : Setting → (is_program : Bool) → List (ℕ × model.Stop) → ℕ → Breakpoint
-told_breakpoint s false stops line = breakpoint_of stops None
-told_breakpoint s true stops line = breakpoint_of stops (least_from line (step_lines s.program))
-
 -- the breakpoints of a reply
 abbrev pub told_breakpoints : Reply → Option (List Breakpoint)
 told_breakpoints (reply.Breakpoints made) = Some made.items
 told_breakpoints other = None
 
--- what a request for breakpoints on lines is told, each of them in order
+-- what a request for breakpoints or watches is told, each of them in order
 abbrev pub AreBreakpointsTold : Setting → (is_program : Bool) → List (ℕ × model.Stop) → Request → Reply → Type 0
 AreBreakpointsTold s is_program stops (request.SetBreakpoints source lines) told = told_breakpoints told ≡ Some (map (told_breakpoint s is_program stops) lines.items)
+AreBreakpointsTold s is_program stops (request.SetDataBreakpoints targets) told = told_breakpoints told ≡ Some (map (λ target. told_watch stops target.now) targets.items)
 AreBreakpointsTold s is_program stops other told = Unit {0}
 
 -- ---- by the last answer

@@ -1,6 +1,7 @@
 //! What the requests of an editor are told, from where a debugger stands after them.
 #![tactic(auto)]
 
+mod breakpoints;
 mod frames;
 mod places;
 mod replies;

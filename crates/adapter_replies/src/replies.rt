@@ -1,27 +1,20 @@
 //! What a request is told.
-ghost use Rattle.std.specs.Prelude.{◌≡◌, ℕ, List, IfOk, IfSome, Some, map, string_bytes};
+ghost use Rattle.std.specs.Prelude.{◌≡◌, ℕ, List, IfOk, IfSome, Some, string_bytes};
 ghost use Rattle.gang_model.specs.Debugger.Debugger as model;
 ghost use Rattle.gang_model.specs.Debugger.Debugger.{Debugger, Setting, now};
 ghost use Rattle.gang_model.specs.Texts.Text.{text};
 ghost use Rattle.debug_answers.specs.Meanings.{AreStops, Means};
-ghost use Rattle.adapter_replies.specs.Told.{AreBreakpointsTold, IsAnswered, IsEvaluated, IsLineTold, IsMoveTold, IsSetTold, IsTextTold, IsToldOf, IsValueTold, MeansLast, fixed_reply, is_ended, is_refusal, shown_values, told_breakpoint, told_stop};
+ghost use Rattle.adapter_replies.specs.Told.{AreBreakpointsTold, IsAnswered, IsEvaluated, IsLineTold, IsMoveTold, IsSetTold, IsTextTold, IsToldOf, IsValueTold, MeansLast, fixed_reply, is_ended, is_refusal, shown_values, told_stop};
 
+use crate::breakpoints::{breakpoints, watchable, watches};
 use crate::frames::frames;
-use crate::scopes::{has_parts, variables};
+use crate::scopes::variables;
 use crate::stops::stop_of;
 use crate::texts::{answer_text, value_text};
-use adapter_requests::{Breakpoint, Reply, Request, Stop, StopReason};
-use debug_answers::{Answer, NumberedStop, Refusal, Stop as Kept};
-use debug_commands::{Command, Target, read_command};
-use debug_session::breakpoint_on;
+use adapter_requests::{Reply, Request, Stop, StopReason};
+use debug_answers::{Answer, NumberedStop, Refusal};
 use debug_traits::RecordedMachine;
 use std::alloc::{AllocError, Global};
-
-/// What is told of a breakpoint that stands nowhere.
-const NO_BREAKPOINT: Breakpoint = Breakpoint {
-    number: None,
-    line: None,
-};
 
 /// What a request is told once its commands are done, by the machine, the breakpoints and watches, and the last answer.
 ///
@@ -207,129 +200,4 @@ fn value_of<M: RecordedMachine>(
     }
     let reply = line_of(alloc, machine, stops, answer)?;
     Ok(reply)
-}
-
-/// The breakpoints that were asked for on lines.
-fn breakpoints<M: RecordedMachine>(
-    alloc: Global,
-    machine: &M,
-    stops: &[NumberedStop],
-    lines: &[u32],
-    is_program: bool,
-) -> Result<Vec<Breakpoint>, AllocError>
-    ensures { (s : Setting) (d : Debugger) (meant : List (ℕ × model.Stop)) → M.stands machine.now s d → AreStops s stops.now meant
-        → IfOk result (λ made. made.items ≡ map (told_breakpoint s is_program meant) lines.now) }
-{
-    let mut made = Vec::new(alloc);
-    for line in lines {
-        made.push(breakpoint(machine, stops, *line, is_program))?;
-    }
-    Ok(made)
-}
-
-/// The breakpoint that was asked for on a line: it stands on the first line from there on that has a place. Another source has
-/// none.
-fn breakpoint<M: RecordedMachine>(
-    machine: &M,
-    stops: &[NumberedStop],
-    line: u32,
-    is_program: bool,
-) -> Breakpoint
-    ensures { (s : Setting) (d : Debugger) (meant : List (ℕ × model.Stop)) → M.stands machine.now s d → AreStops s stops.now meant
-        → result ≡ told_breakpoint s is_program meant line }
-{
-    if !is_program {
-        return NO_BREAKPOINT;
-    }
-    match machine.line_from(line) {
-        None => NO_BREAKPOINT,
-        Some(line) => Breakpoint {
-            number: breakpoint_on(line, stops),
-            line: Some(line),
-        },
-    }
-}
-
-/// The number of a breakpoint or watch, if it is there.
-fn number_of(stops: &[NumberedStop], stop: Kept) -> Option<u32> {
-    for entry in stops {
-        if entry.stop == stop {
-            return Some(entry.number);
-        }
-    }
-    None
-}
-
-/// The watches of targets.
-fn watches<M: RecordedMachine>(
-    alloc: Global,
-    machine: &M,
-    stops: &[NumberedStop],
-    targets: &[&str],
-) -> Result<Vec<Breakpoint>, AllocError> {
-    let mut made = Vec::new(alloc);
-    for target in targets {
-        made.push(watch_on(alloc, machine, stops, target)?)?;
-    }
-    Ok(made)
-}
-
-/// The watch of a target, if there is one.
-fn watch_on<M: RecordedMachine>(
-    alloc: Global,
-    machine: &M,
-    stops: &[NumberedStop],
-    target: &str,
-) -> Result<Breakpoint, AllocError> {
-    let line = format!(in alloc; "watch {target}")?;
-    let number = match watched(machine, line.as_bytes()) {
-        Some(stop) => number_of(stops, stop),
-        None => None,
-    };
-    Ok(Breakpoint { number, line: None })
-}
-
-/// What a line watches, if it does.
-fn watched<M: RecordedMachine>(machine: &M, line: &[u8]) -> Option<Kept> {
-    match read_command(line) {
-        Some(Command::Watch(target)) => watch_of(machine, target),
-        _ => None,
-    }
-}
-
-/// The watch of a target, if it is one of a variable of the file.
-fn watch_of<M: RecordedMachine>(machine: &M, target: Target<'_>) -> Option<Kept> {
-    let variable = machine.find_in_file(target.name)?;
-    Some(Kept::Watch {
-        variable,
-        at: target.at,
-    })
-}
-
-/// Whether a variable can be watched: a scalar of the file, a lane of one or an element.
-fn watchable<M: RecordedMachine>(
-    alloc: Global,
-    machine: &M,
-    name: &str,
-) -> Result<Reply, AllocError> {
-    let line = format!(in alloc; "watch {name}")?;
-    match watched(machine, line.as_bytes()) {
-        Some(stop) if has_words(machine, stop) => {
-            Ok(Reply::Watchable(String::from_str(alloc, name)?))
-        }
-        _ => Ok(Reply::NotWatchable),
-    }
-}
-
-/// Whether a watch is of a whole scalar or of a lane or an element that is there.
-fn has_words<M: RecordedMachine>(machine: &M, stop: Kept) -> bool {
-    let Kept::Watch { variable, at } = stop else {
-        return false;
-    };
-    match (machine.file_variable(variable), at) {
-        (None, _) => false,
-        (Some(named), None) => !named.shown.is_array,
-        (Some(named), Some(index)) => has_parts(named.shown)
-            && (index as usize) < named.shown.count,
-    }
 }

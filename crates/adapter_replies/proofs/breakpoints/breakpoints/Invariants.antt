@@ -3,8 +3,8 @@ use Rattle.std.proofs.Common.{◌≡◌, ℕ, List, map, take}
 use Rattle.gang_model.specs.Debugger.Debugger as model
 use Rattle.gang_model.specs.Debugger.Debugger.{Debugger, Setting}
 use Rattle.debug_answers.specs.Meanings.{AreStops}
-use Rattle.adapter_replies.specs.Told.{told_breakpoint}
-use Rattle.adapter_replies.proofs.replies.breakpoints.Given as goal
+use Rattle.adapter_replies.specs.Breakpoints.{told_breakpoint}
+use Rattle.adapter_replies.proofs.breakpoints.breakpoints.Given as goal
 
 abbrev pub invariant-loop-line : goal.invariant-loop-line
 invariant-loop-line g l = (s : Setting) (d : Debugger) (meant : List (ℕ × model.Stop)) → g.M.RecordedMachine.stands l.machine s d → AreStops s l.fn.stops meant

@@ -1,0 +1,201 @@
+//! The breakpoints and watches that were asked for.
+ghost use Rattle.std.specs.Prelude.{◌≡◌, ℕ, List, IfOk, map};
+ghost use Rattle.gang_model.specs.Debugger.Debugger as model;
+ghost use Rattle.gang_model.specs.Debugger.Debugger.{Debugger, Setting, first_stop, global_named};
+ghost use Rattle.gang_model.specs.Texts.CommandText.{command_of};
+ghost use Rattle.debug_answers.specs.Meanings.{AreStops, IsStop};
+ghost use Rattle.debug_commands.specs.Views.{target_view};
+ghost use Rattle.gang_model.specs.Source.Names.{same_text};
+ghost use Rattle.adapter_replies.specs.Breakpoints.{IsWatchableTold, can_watch, has_name, has_target, is_part, is_watchable, same_index, told_breakpoint, told_watch, watches_target};
+
+use crate::scopes::has_parts;
+use adapter_requests::{Breakpoint, Reply};
+use debug_answers::{NumberedStop, Stop};
+use debug_commands::{Command, Target, read_command};
+use debug_session::breakpoint_on;
+use debug_traits::{RecordedMachine, Shown};
+use debug_words::is_same;
+use std::alloc::{AllocError, Global};
+
+/// What is told of a breakpoint that stands nowhere.
+const NO_BREAKPOINT: Breakpoint = Breakpoint {
+    number: None,
+    line: None,
+};
+
+/// The breakpoints that were asked for on lines.
+pub(crate) fn breakpoints<M: RecordedMachine>(
+    alloc: Global,
+    machine: &M,
+    stops: &[NumberedStop],
+    lines: &[u32],
+    is_program: bool,
+) -> Result<Vec<Breakpoint>, AllocError>
+    ensures { (s : Setting) (d : Debugger) (meant : List (ℕ × model.Stop)) → M.stands machine.now s d → AreStops s stops.now meant
+        → IfOk result (λ made. made.items ≡ map (told_breakpoint s is_program meant) lines.now) }
+{
+    let mut made = Vec::new(alloc);
+    for line in lines {
+        made.push(breakpoint(machine, stops, *line, is_program))?;
+    }
+    Ok(made)
+}
+
+/// The breakpoint that was asked for on a line: it stands on the first line from there on that has a place. Another source has
+/// none.
+fn breakpoint<M: RecordedMachine>(
+    machine: &M,
+    stops: &[NumberedStop],
+    line: u32,
+    is_program: bool,
+) -> Breakpoint
+    ensures { (s : Setting) (d : Debugger) (meant : List (ℕ × model.Stop)) → M.stands machine.now s d → AreStops s stops.now meant
+        → result ≡ told_breakpoint s is_program meant line }
+{
+    if !is_program {
+        return NO_BREAKPOINT;
+    }
+    match machine.line_from(line) {
+        None => NO_BREAKPOINT,
+        Some(line) => Breakpoint {
+            number: breakpoint_on(line, stops),
+            line: Some(line),
+        },
+    }
+}
+
+/// The watches of targets.
+pub(crate) fn watches<M: RecordedMachine>(
+    alloc: Global,
+    machine: &M,
+    stops: &[NumberedStop],
+    targets: &[&str],
+) -> Result<Vec<Breakpoint>, AllocError>
+    ensures { (s : Setting) (d : Debugger) (meant : List (ℕ × model.Stop)) → M.stands machine.now s d → AreStops s stops.now meant
+        → IfOk result (λ made. made.items ≡ map (λ target. told_watch meant target.now) targets.now) }
+{
+    let mut made = Vec::new(alloc);
+    for target in targets {
+        made.push(watch_on(alloc, machine, stops, target)?)?;
+    }
+    Ok(made)
+}
+
+/// The watch of a target, if there is one.
+fn watch_on<M: RecordedMachine>(
+    alloc: Global,
+    machine: &M,
+    stops: &[NumberedStop],
+    target: &str,
+) -> Result<Breakpoint, AllocError>
+    ensures { (s : Setting) (d : Debugger) (meant : List (ℕ × model.Stop)) → M.stands machine.now s d → AreStops s stops.now meant
+        → IfOk result (λ made. made ≡ told_watch meant target.now) }
+{
+    let line = format!(in alloc; "watch {target}")?;
+    let number = match read_command(line.as_bytes()) {
+        Some(Command::Watch(target)) => watch_number(machine, stops, target),
+        _ => None,
+    };
+    Ok(Breakpoint { number, line: None })
+}
+
+/// The least number of a watch of a target.
+fn watch_number<M: RecordedMachine>(
+    machine: &M,
+    stops: &[NumberedStop],
+    target: Target<'_>,
+) -> Option<u32>
+    ensures { (s : Setting) (d : Debugger) (meant : List (ℕ × model.Stop)) → M.stands machine.now s d → AreStops s stops.now meant
+        → result ≡ first_stop (watches_target (target_view target.entry)) meant }
+{
+    for entry in stops {
+        if is_watch_of(machine, entry.stop, target) {
+            return Some(entry.number);
+        }
+    }
+    None
+}
+
+/// Whether this is a watch of a target.
+fn is_watch_of<M: RecordedMachine>(machine: &M, stop: Stop, target: Target<'_>) -> bool
+    ensures { (s : Setting) (d : Debugger) (meant : model.Stop) → M.stands machine.now s d → IsStop s stop meant
+        → result ≡ watches_target (target_view target.entry) meant }
+{
+    match stop {
+        Stop::Line(_) => false,
+        Stop::Watch { variable, at } => {
+            is_named(machine, variable, target.name) && is_same_index(at, target.at)
+        }
+    }
+}
+
+/// Whether the variable of the file with this number has a name.
+fn is_named<M: RecordedMachine>(machine: &M, variable: usize, name: &[u8]) -> bool
+    ensures { (s : Setting) (d : Debugger) → M.stands machine.now s d → result ≡ has_name s variable name.now }
+{
+    match machine.file_variable(variable) {
+        None => false,
+        Some(named) => is_same(named.name, name),
+    }
+}
+
+/// Whether two indices are the same, or neither is there.
+fn is_same_index(one: Option<u32>, other: Option<u32>) -> bool
+    ensures { result ≡ same_index one other }
+{
+    match (one, other) {
+        (None, None) => true,
+        (Some(one), Some(other)) => one == other,
+        _ => false,
+    }
+}
+
+/// Whether a variable can be watched: a scalar of the file, a lane of one or an element.
+pub(crate) fn watchable<M: RecordedMachine>(
+    alloc: Global,
+    machine: &M,
+    name: &str,
+) -> Result<Reply, AllocError>
+    ensures { (s : Setting) (d : Debugger) → M.stands machine.now s d → IfOk result (IsWatchableTold (is_watchable s d name.now) name.now) }
+{
+    let line = format!(in alloc; "watch {name}")?;
+    if can_watch(machine, line.as_bytes()) {
+        Ok(Reply::Watchable(String::from_str(alloc, name)?))
+    } else {
+        Ok(Reply::NotWatchable)
+    }
+}
+
+/// Whether a line watches something that can be watched.
+fn can_watch<M: RecordedMachine>(machine: &M, line: &[u8]) -> bool
+    ensures { (s : Setting) (d : Debugger) → M.stands machine.now s d → result ≡ can_watch s d (command_of line.now) }
+{
+    match read_command(line) {
+        Some(Command::Watch(target)) => has_target(machine, target),
+        _ => false,
+    }
+}
+
+/// Whether a target is a scalar of the file, a lane of one or an element, and is there.
+fn has_target<M: RecordedMachine>(machine: &M, target: Target<'_>) -> bool
+    ensures { (s : Setting) (d : Debugger) → M.stands machine.now s d
+        → result ≡ has_target s d (target_view target.entry) (global_named s.program target.entry.name.now) }
+{
+    let Some(variable) = machine.find_in_file(target.name) else {
+        return false;
+    };
+    match machine.file_variable(variable) {
+        None => false,
+        Some(named) => has_part(named.shown, target.at),
+    }
+}
+
+/// Whether a variable is a scalar, or has the lane or the element at an index.
+fn has_part(shown: Shown, at: Option<u32>) -> bool
+    ensures { result ≡ is_part at shown.is_array shown.rate shown.count }
+{
+    match at {
+        None => !shown.is_array,
+        Some(index) => has_parts(shown) && (index as usize) < shown.count,
+    }
+}
