@@ -1,5 +1,5 @@
 -- What each request is told.
-use Rattle.std.specs.Prelude.{◌≡◌, ℕ, Bool, true, false, List, [], map, string_bytes, Option, Some, None}
+use Rattle.std.specs.Prelude.{◌≡◌, ℕ, Bool, true, false, List, [], ◌++◌, map, codes, string_bytes, Option, Some, None}
 use Rattle.gang_model.specs.Types.Tree as tree
 use Rattle.gang_model.specs.Running.State.{State}
 use Rattle.gang_model.specs.Debugger.Debugger as model
@@ -9,6 +9,7 @@ use Rattle.debug_answers.specs.declared.answer.Answer.{Answer}
 use Rattle.debug_answers.specs.declared.answer.Answer.TheVariants as answer
 use Rattle.debug_answers.specs.declared.answer.Refusal.TheVariants as refusal
 use Rattle.debug_answers.specs.Meanings.{Means}
+use Rattle.debug_session.specs.Sessions.{is_refused}
 use Rattle.adapter_requests.specs.declared.reply.Breakpoint.{Breakpoint}
 use Rattle.adapter_requests.specs.declared.reply.StopReason.{StopReason}
 use Rattle.adapter_requests.specs.declared.reply.Reply.{Reply}
@@ -48,6 +49,13 @@ fixed_reply request.SetExceptionBreakpoints = Some reply.Done
 fixed_reply request.ConfigurationDone = Some reply.Done
 fixed_reply request.Disconnect = Some reply.Done
 fixed_reply other = None
+
+-- why a request is refused that is of no use here, or not known
+abbrev pub refusal_text : Request → Option Bytes
+refusal_text (request.Launch launch) = Some (codes "the program is launched already")
+refusal_text request.Restart = Some (codes "the program is launched already")
+refusal_text (request.Unknown name) = Some (codes "no request " ++ name.now)
+refusal_text other = None
 
 -- ---- by the breakpoints and watches
 
@@ -101,19 +109,14 @@ abbrev pub told_value : Reply → Option (Option StopReason × Bytes)
 told_value (reply.Evaluated text reason) = Some (reason, string_bytes text)
 told_value other = None
 
--- whether an answer refuses a command
-abbrev pub is_refusal : Answer → Bool
-is_refusal (answer.Refused r) = true
-is_refusal other = false
-
 -- this text of an answer, with the reason of its stop, or as a refusal
-abbrev pub IsTextTold : (is_refusal : Bool) → Answer → (shown : Bytes) → Reply → Type 0
+abbrev pub IsTextTold : (is_refused : Bool) → Answer → (shown : Bytes) → Reply → Type 0
 IsTextTold true given shown told = told_stop told ≡ Some (None, shown)
 IsTextTold false given shown told = told_value told ≡ Some (reason_of given, shown)
 
 -- what a line of the console is told, with the text of its answer
 abbrev pub IsLineTold : Answer → (text : Bytes) → Reply → Type 0
-IsLineTold given text told = IsTextTold (is_refusal given) given (shown_text text) told
+IsLineTold given text told = IsTextTold (is_refused given) given (shown_text text) told
 
 -- what an expression is told: its values, or why there are none
 abbrev pub IsValueTold : Answer → (text values : Bytes) → Reply → Type 0

@@ -1,10 +1,11 @@
 //! What a request is told.
-ghost use Rattle.std.specs.Prelude.{◌≡◌, ℕ, List, IfOk, IfSome, Some, string_bytes};
+ghost use Rattle.std.specs.Prelude.{◌≡◌, ◌++◌, ℕ, List, IfOk, IfSome, None, Some, codes, string_bytes};
 ghost use Rattle.gang_model.specs.Debugger.Debugger as model;
 ghost use Rattle.gang_model.specs.Debugger.Debugger.{Debugger, Setting, now};
 ghost use Rattle.gang_model.specs.Texts.Text.{text};
 ghost use Rattle.debug_answers.specs.Meanings.{AreStops, Means};
-ghost use Rattle.adapter_replies.specs.Told.{AreBreakpointsTold, IsAnswered, IsEvaluated, IsLineTold, IsMoveTold, IsSetTold, IsTextTold, IsToldOf, IsValueTold, MeansLast, fixed_reply, is_ended, is_refusal, shown_values, told_stop};
+ghost use Rattle.debug_session.specs.Sessions.{is_refused};
+ghost use Rattle.adapter_replies.specs.Told.{AreBreakpointsTold, IsAnswered, IsEvaluated, IsLineTold, IsMoveTold, IsSetTold, IsTextTold, IsToldOf, IsValueTold, MeansLast, fixed_reply, is_ended, refusal_text, shown_values, told_stop};
 
 use crate::breakpoints::{breakpoints, watchable, watches};
 use crate::frames::frames;
@@ -37,6 +38,7 @@ pub fn reply_to<M: RecordedMachine>(
     ensures breakpoints { (s : Setting) (d : Debugger) (meant : List (ℕ × model.Stop)) → M.stands machine.now s d → AreStops s stops.now meant
         → IfOk result (λ told. AreBreakpointsTold s is_program meant request.now told) }
     ensures fixed { IfSome (fixed_reply request.now) (λ reply. IfOk result (λ told. told ≡ reply)) }
+    ensures refused { IfSome (refusal_text request.now) (λ text. IfOk result (λ told. told_stop told ≡ Some (None, text))) }
 {
     match request {
         Request::SetBreakpoints { source: _, lines } => {
@@ -73,12 +75,16 @@ pub fn reply_to<M: RecordedMachine>(
 }
 
 /// The refusal of a request that is not known.
-fn unknown(alloc: Global, name: &str) -> Result<Reply, AllocError> {
+fn unknown(alloc: Global, name: &str) -> Result<Reply, AllocError>
+    ensures { IfOk result (λ told. told_stop told ≡ Some (None, codes "no request " ++ name.now)) }
+{
     Ok(Reply::Refused(format!(in alloc; "no request {name}")?))
 }
 
 /// A refusal by this text.
-fn refused(alloc: Global, text: &str) -> Result<Reply, AllocError> {
+fn refused(alloc: Global, text: &str) -> Result<Reply, AllocError>
+    ensures { IfOk result (λ told. told_stop told ≡ Some (None, text.now)) }
+{
     Ok(Reply::Refused(String::from_str(alloc, text)?))
 }
 
@@ -175,7 +181,7 @@ fn line_of<M: RecordedMachine>(
 
 /// The text of an answer with the reason of its stop, or as a refusal.
 fn told_line(text: String, answer: &Answer<'_>) -> Reply
-    ensures { IsTextTold (is_refusal answer.now) answer.now (string_bytes text) result }
+    ensures { IsTextTold (is_refused answer.now) answer.now (string_bytes text) result }
 {
     let reason = stop_of(answer);
     match answer {
