@@ -1,7 +1,7 @@
 -- Lists that have so many elements and are known one by one.
-use Rattle.std.proofs.Common.{◌≡◌, refl, sym, ap, ap₂, ◌∙◌, ℕ, suc, ◌+◌, ◌<◌, ◌≤◌, Bool, true, false, ℤ, List, [], ◌∷◌, map, length, slice_index, slice_set, Option, is_some, inl, inr, arith}
+use Rattle.std.proofs.Common.{◌≡◌, refl, sym, ap, ap₂, ◌∙◌, ℕ, suc, ◌+◌, ◌<◌, ◌≤◌, Bool, true, false, ℤ, List, [], ◌∷◌, map, length, slice_index, slice_set, Option, None, is_some, inl, inr, arith}
 use Rattle.std.proofs.lemmas.Bool.{cases_lt}
-use Rattle.std.proofs.lemmas.List.{get_or-set_same, get_or-set_other}
+use Rattle.std.proofs.lemmas.List.{length-set, get_or-set_same, get_or-set_other}
 use Rattle.std.specs.Prelude.{◌&&◌}
 use Rattle.gang_types.specs.Lanes.{Lanes, has, lanes_where}
 use Rattle.gang_types.specs.LaneLaws.{same_lanes, has_past, length-lanes_where, has-lanes_where}
@@ -67,3 +67,34 @@ where_by_lane xs lanes test width e f h =
       | inl within ↦ h k within ∙ sym (has-lanes_where lanes test k)
       | inr past ↦ has_past xs k (omega (arith, e, past)) ∙ sym (has_past (lanes_where lanes test) k (omega (arith, f, past, length-lanes_where lanes test)))
     ])
+
+-- ---- words that are set lane by lane
+
+-- the words of a dimension in the lanes below one, by their slots, and 0 in the others
+pub record AreWordsBelow (j : ℕ) (slot : ℕ → Option (List ℤ)) (width lane : ℕ) (words : List ℕ) : Type 0 where
+  pub long : length words ≡ width
+  pub below : (k : ℕ) → k < lane → slice_index words k ≡ slot_word j (slot k)
+  pub past : (k : ℕ) → lane ≤ k → slice_index words k ≡ 0
+
+pub one_word_more : (old new : List ℕ) (j : ℕ) (slot : ℕ → Option (List ℤ)) (width i word : ℕ) → i < width → word ≡ slot_word j (slot i) → new ≡ slice_set old i word
+    → AreWordsBelow j slot width i old → AreWordsBelow j slot width (i + 1) new
+one_word_more old new j slot width i word within e is words = record {
+  long = ap length is ∙ (length-set old i word ∙ words.long);
+  below = λ k h. elim (cases_lt k i) [
+    | inl less ↦ ap (λ ws. slice_index ws k) is ∙ (get_or-set_other old i k word 0 (λ same. absurd (omega (arith, less, same))) ∙ words.below k less)
+    | inr more ↦
+        let same : k ≡ i = omega (arith, h, more) in
+        ap (λ ws. slice_index ws k) is ∙ (ap (slice_index (slice_set old i word)) same ∙ (get_or-set_same old i word 0 (omega (arith, within, words.long)) ∙ (e ∙ ap (λ n. slot_word j (slot n)) (sym same))))
+  ];
+  past = λ k h. ap (λ ws. slice_index ws k) is ∙ (get_or-set_other old i k word 0 (λ same. absurd (omega (arith, h, same))) ∙ words.past k (omega (arith, h)));
+}
+
+pub no_word_more : (words : List ℕ) (j : ℕ) (slot : ℕ → Option (List ℤ)) (width i : ℕ) → slot i ≡ None → AreWordsBelow j slot width i words → AreWordsBelow j slot width (i + 1) words
+no_word_more words j slot width i e known = record {
+  long = known.long;
+  below = λ k h. elim (cases_lt k i) [
+    | inl less ↦ known.below k less
+    | inr more ↦ let same : k ≡ i = omega (arith, h, more) in known.past k more ∙ sym (ap (λ n. slot_word j (slot n)) same ∙ ap (slot_word j) e)
+  ];
+  past = λ k h. known.past k (omega (arith, h));
+}

@@ -1,10 +1,9 @@
 //! The rounds of `foreach` and `foreach_tiled`, which are the places of a grid.
-ghost use Rattle.std.specs.Prelude.{◌≡◌, ◌<◌, map, is_some, IfSome};
-ghost use Rattle.gang_types.specs.Masks.{IsGangWidth, lanes_of};
-ghost use Rattle.gang_model.specs.Running.Rounds.{slot_word};
+ghost use Rattle.std.specs.Prelude.{◌≡◌, ◌<◌, IfSome};
+ghost use Rattle.gang_types.specs.Masks.{IsGangWidth};
 ghost use Rattle.foreach_lowering.specs.Grids as grids;
 ghost use Rattle.foreach_lowering.specs.Views.{grid_view, slot_view, taken_view};
-ghost use Rattle.foreach_lowering.specs.DomainViews.{IsDomainRound, domain_grid, domain_place, domain_slot};
+ghost use Rattle.foreach_lowering.specs.DomainViews.{IsDomainRound, domain_grid, domain_slot};
 
 use crate::bounds::{Bounds, IndexValues, Order};
 use crate::grid::Grid;
@@ -50,34 +49,6 @@ impl Domain {
         }
     }
 
-    /// The lanes that take index values at a place.
-    fn lanes_at<const W: usize>(self, place: Grid) -> Mask
-        requires { IsGangWidth W }
-        ensures { lanes_of W result ≡ map is_some (domain_place W self (grid_view place)) }
-    {
-        let mut lanes = Mask::none();
-        for lane in 0..W {
-            if self.slot::<W>(place, lane).is_some() {
-                lanes = lanes.with::<W>(lane);
-            }
-        }
-        lanes
-    }
-
-    /// The words of the index variable of a dimension at a place, 0 in lanes that take no index values.
-    fn words_at<const W: usize>(self, place: Grid, dimension: usize) -> [u64; W]
-        requires { IsGangWidth W }
-        ensures { result ≡ map (slot_word dimension) (domain_place W self (grid_view place)) }
-    {
-        let mut words = [0; W];
-        for lane in 0..W {
-            if let Some(values) = self.slot::<W>(place, lane) {
-                words[lane] = values.word(dimension);
-            }
-        }
-        words
-    }
-
     /// The next round where so much of the grid is left; none where nothing is left.
     pub fn next_round<const W: usize>(self, left: Grid) -> Option<DomainRound<W>>
         requires width { IsGangWidth W }
@@ -85,13 +56,21 @@ impl Domain {
         ensures { IsDomainRound W self (grid_view left) result }
     {
         let taken = self.grid::<W>().next(left)?;
+        let mut lanes = Mask::none();
+        let mut first = [0; W];
+        let mut second = [0; W];
+        let mut third = [0; W];
+        for lane in 0..W {
+            if let Some(values) = self.slot::<W>(taken.place, lane) {
+                lanes = lanes.with::<W>(lane);
+                first[lane] = values.word(0);
+                second[lane] = values.word(1);
+                third[lane] = values.word(2);
+            }
+        }
         Some(DomainRound {
-            lanes: self.lanes_at::<W>(taken.place),
-            indices: [
-                self.words_at(taken.place, 0),
-                self.words_at(taken.place, 1),
-                self.words_at(taken.place, 2),
-            ],
+            lanes,
+            indices: [first, second, third],
             left: taken.left,
         })
     }
