@@ -21,6 +21,7 @@ pub struct Active {
 }
 
 /// The step that comes next, unless no frame is left: the least number that a lane of the top frame waits for in its innermost level.
+#[inline(always)]
 pub fn next_step<const W: usize, T: Timeline + Drop>(
     compiled: &CompiledProgram,
     words: &MachineWords<T>,

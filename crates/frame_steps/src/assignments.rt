@@ -32,6 +32,7 @@ use typed_tree::Var;
 use undo_log::{Timeline, Undone};
 
 /// Where a variable of the file, or of the frame of this number, has its words.
+#[inline(always)]
 pub fn region_of(frame: usize, variable: VarId) -> Region
     ensures { region_view result ≡ region_of frame variable }
 {
@@ -127,6 +128,7 @@ pub fn change<const W: usize, T: Timeline + Drop>(
 }
 
 /// Assigns values to a scalar, and sends the lanes of the next step on: one event.
+#[inline(always)]
 fn assign_values<const W: usize, T: Timeline + Drop>(
     compiled: &CompiledProgram,
     active: Active,
@@ -150,6 +152,7 @@ fn assign_values<const W: usize, T: Timeline + Drop>(
 }
 
 /// What an operation makes of a variable's old words and operands.
+#[inline(always)]
 pub(crate) fn changed<const W: usize>(
     change: Change,
     lanes: Mask,

@@ -27,6 +27,7 @@ pub struct FrameStep {
 }
 
 /// What the lanes of a frame, which runs this function, wait for.
+#[inline(always)]
 pub fn frame_step<const W: usize, T: Timeline + Drop>(
     compiled: &CompiledProgram,
     words: &MachineWords<T>,
@@ -51,6 +52,7 @@ pub fn frame_step<const W: usize, T: Timeline + Drop>(
 }
 
 /// The level of the innermost form of a frame that is not over, 0 where all are over.
+#[inline(always)]
 pub fn innermost<const W: usize, T: Timeline + Drop>(
     compiled: &CompiledProgram,
     words: &MachineWords<T>,
@@ -93,6 +95,7 @@ fn is_over<const W: usize, T: Timeline + Drop>(
 }
 
 /// The number above all steps of a level of a frame.
+#[inline(always)]
 fn level_end<const W: usize, T: Timeline + Drop>(
     compiled: &CompiledProgram,
     words: &MachineWords<T>,

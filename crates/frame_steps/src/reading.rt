@@ -26,6 +26,7 @@ pub struct TopVariables<'a, const W: usize, T: Timeline + Drop> {
 impl<const W: usize, T: Timeline + Drop> Words<W> for TopVariables<'_, W, T> {
     ghost shows = { λ store state. HasRegions (regions_in T.history W store.words.now) store.frame state };
 
+    #[inline(always)]
     fn words(&self, variable: Var) -> [u64; W] {
         let layout = &self.words.layout;
         match variable.id {
@@ -58,6 +59,7 @@ impl<const W: usize, T: Timeline + Drop> Words<W> for TopVariables<'_, W, T> {
 
 /// The words of a region that has so many, one for each lane; its first one in each lane for a uniform variable. A word that the
 /// region does not have is 0.
+#[inline(always)]
 pub(crate) fn spread<const W: usize, T: Timeline + Drop>(
     words: &MachineWords<T>,
     region: Region,

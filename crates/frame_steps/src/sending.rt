@@ -10,6 +10,7 @@ use machine_words::{Head, LevelPart, MachineWords, Region};
 use undo_log::Timeline;
 
 /// Lanes of a level of a frame go on to a step. At most W words are set.
+#[inline(always)]
 pub fn send_on<const W: usize, T: Timeline + Drop>(
     frame: usize,
     level: usize,
@@ -24,6 +25,7 @@ pub fn send_on<const W: usize, T: Timeline + Drop>(
 }
 
 /// Lanes of a level of a frame go on, each to its own step. At most W words are set.
+#[inline(always)]
 pub(crate) fn send_each<const W: usize, T: Timeline + Drop>(
     frame: usize,
     level: usize,

@@ -6,6 +6,7 @@ ghost use Rattle.mask_states.specs.Masked.{least, waiting_for};
 use gang_types::Mask;
 
 /// The least of the numbers, at most this one.
+#[inline(always)]
 pub fn least<const W: usize>(end: u64, numbers: &[u64; W]) -> u64
     ensures { result ≡ least end numbers.now }
 {
@@ -17,6 +18,7 @@ pub fn least<const W: usize>(end: u64, numbers: &[u64; W]) -> u64
 }
 
 /// The lanes that wait for a step.
+#[inline(always)]
 pub fn waiting_for<const W: usize>(number: u64, numbers: &[u64; W]) -> Mask
     requires { IsGangWidth W }
     ensures { lanes_of W result ≡ waiting_for number numbers.now }

@@ -24,6 +24,7 @@ pub fn word_count<const W: usize>(rate: Rate) -> usize
 }
 
 /// In each lane of the mask the value of the scalar whose words begin at `first`, and 0 in the others.
+#[inline(always)]
 pub fn read_scalar<const W: usize, S: WordStore>(
     store: &S,
     first: usize,
@@ -42,6 +43,7 @@ pub fn read_scalar<const W: usize, S: WordStore>(
 }
 
 /// Assigns to the scalar whose words begin at `first`, in the lanes of the mask; a uniform one gets the value once.
+#[inline(always)]
 pub fn assign_scalar<const W: usize, S: WordStore>(
     store: &mut S,
     first: usize,

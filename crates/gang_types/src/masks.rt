@@ -12,6 +12,7 @@ pub struct Mask {
     word: u64,
 }
 
+#[inline(always)]
 fn every_bit<const W: usize>() -> u64
     requires { IsGangWidth W }
     ensures { result ≡ 2 ^ W - 1 }
@@ -19,6 +20,7 @@ fn every_bit<const W: usize>() -> u64
     (1 << W) - 1
 }
 
+#[inline(always)]
 fn one_bit(lane: usize) -> u64
     requires { lane < 64 }
     ensures { result ≡ 2 ^ lane }
@@ -28,6 +30,7 @@ fn one_bit(lane: usize) -> u64
 
 impl Mask {
     /// The set with no lane.
+    #[inline(always)]
     pub fn none() -> Self
         ensures { (w : ℕ) → lanes_of w result ≡ replicate w false }
     {
@@ -35,6 +38,7 @@ impl Mask {
     }
 
     /// The set of all lanes of the gang.
+    #[inline(always)]
     pub fn all<const W: usize>() -> Self
         requires { IsGangWidth W }
         ensures { lanes_of W result ≡ replicate W true }
@@ -45,6 +49,7 @@ impl Mask {
     }
 
     /// The set of one lane.
+    #[inline(always)]
     pub fn only<const W: usize>(lane: usize) -> Self
         requires width { IsGangWidth W }
         requires within { lane < W }
@@ -56,6 +61,7 @@ impl Mask {
     }
 
     /// The set that a word keeps: lane k is in it where bit k is 1.
+    #[inline(always)]
     pub fn from_word<const W: usize>(word: u64) -> Self
         requires { IsGangWidth W }
         ensures lanes { lanes_of W result ≡ lanes_of_word W word }
@@ -67,6 +73,7 @@ impl Mask {
     }
 
     /// The word that keeps the set: bit k is 1 for lane k, and no other bit is.
+    #[inline(always)]
     pub fn word<const W: usize>(self) -> u64
         requires { IsGangWidth W }
         ensures { result ≡ word_of_lanes (lanes_of W self) }
@@ -75,6 +82,7 @@ impl Mask {
     }
 
     /// Whether the lane is in the set.
+    #[inline(always)]
     pub fn has<const W: usize>(self, lane: usize) -> bool
         requires { IsGangWidth W }
         ensures { result ≡ has (lanes_of W self) lane }
@@ -83,6 +91,7 @@ impl Mask {
     }
 
     /// Whether the set has no lane.
+    #[inline(always)]
     pub fn is_empty<const W: usize>(self) -> bool
         requires { IsGangWidth W }
         ensures { result ≡ no_lane (lanes_of W self) }
@@ -91,6 +100,7 @@ impl Mask {
     }
 
     /// How many lanes the set has.
+    #[inline(always)]
     pub fn count<const W: usize>(self) -> usize
         requires { IsGangWidth W }
         ensures value { result ≡ count_by (λ b. b) (lanes_of W self) }
@@ -100,6 +110,7 @@ impl Mask {
     }
 
     /// The lowest lane of the set.
+    #[inline(always)]
     pub fn lowest<const W: usize>(self) -> usize
         requires width { IsGangWidth W }
         requires lane { no_lane (lanes_of W self) ≡ false }
@@ -110,6 +121,7 @@ impl Mask {
     }
 
     /// The lanes of both sets.
+    #[inline(always)]
     pub fn and(self, other: Mask) -> Self
         ensures { (w : ℕ) → lanes_of w result ≡ and (lanes_of w self) (lanes_of w other) }
     {
@@ -119,6 +131,7 @@ impl Mask {
     }
 
     /// The lanes of either set.
+    #[inline(always)]
     pub fn or(self, other: Mask) -> Self
         ensures { (w k : ℕ) → k < w → has (lanes_of w result) k ≡ (has (lanes_of w self) k || has (lanes_of w other) k) }
     {
@@ -128,6 +141,7 @@ impl Mask {
     }
 
     /// The lanes of the first set that are not in the second.
+    #[inline(always)]
     pub fn without(self, other: Mask) -> Self
         ensures { (w : ℕ) → lanes_of w result ≡ without (lanes_of w self) (lanes_of w other) }
     {
@@ -137,6 +151,7 @@ impl Mask {
     }
 
     /// The set with one lane more.
+    #[inline(always)]
     pub fn with<const W: usize>(self, lane: usize) -> Self
         requires width { IsGangWidth W }
         requires within { lane < W }
@@ -148,6 +163,7 @@ impl Mask {
     }
 
     /// The lanes of the set whose word is not 0.
+    #[inline(always)]
     pub fn where_true<const W: usize>(self, words: [u64; W]) -> Self
         requires { IsGangWidth W }
         ensures { lanes_of W result ≡ lanes_where (lanes_of W self) (λ k. not (slice_index words.entry k == 0)) }

@@ -8,6 +8,7 @@ use crate::regions::Region;
 use gang_memory::{Layout, Part};
 
 // The range of a region.
+#[inline(always)]
 pub(crate) fn range<const W: usize>(layout: &Layout, region: Region) -> Part
     requires width { IsGangWidth W }
     requires planned { IsPlanned W layout.now }

@@ -38,6 +38,7 @@ pub enum Region {
 
 impl Head {
     // The number of the part among those of a head.
+    #[inline(always)]
     pub(crate) fn part(self) -> usize
         requires { head_part (head_view self) < 2 ^ 64 }
         ensures { result ≡ head_part (head_view self) }

@@ -25,6 +25,7 @@ pub struct MachineWords<T: Timeline + Drop> {
 
 impl<T: Timeline + Drop> MachineWords<T> {
     /// One word of a region.
+    #[inline(always)]
     pub fn word<const W: usize>(&self, region: Region, index: usize) -> u64
         requires width { IsGangWidth W }
         requires laid { AreLaid T.history W self.now }
@@ -36,6 +37,7 @@ impl<T: Timeline + Drop> MachineWords<T> {
     }
 
     /// The words of a region that has one for each lane.
+    #[inline(always)]
     pub fn lanes<const W: usize>(&self, region: Region) -> [u64; W]
         requires width { IsGangWidth W }
         requires laid { AreLaid T.history W self.now }
@@ -47,6 +49,7 @@ impl<T: Timeline + Drop> MachineWords<T> {
     }
 
     /// Sets one word of a region.
+    #[inline(always)]
     pub fn set<const W: usize>(&mut self, region: Region, index: usize, value: u64)
         requires width { IsGangWidth W }
         requires laid { AreLaid T.history W self.old }
@@ -77,6 +80,7 @@ impl<T: Timeline + Drop> MachineWords<T> {
     }
 
     /// Sets the words of the lanes of the mask, in a region that has one for each lane.
+    #[inline(always)]
     pub fn set_lanes<const W: usize>(&mut self, region: Region, mask: Mask, values: [u64; W])
         requires width { IsGangWidth W }
         requires laid { AreLaid T.history W self.old }
@@ -93,6 +97,7 @@ impl<T: Timeline + Drop> MachineWords<T> {
     }
 
     /// Assigns to the scalar of a region, in the lanes of the mask; a uniform one gets the value once.
+    #[inline(always)]
     pub fn assign<const W: usize>(
         &mut self,
         region: Region,
@@ -120,6 +125,7 @@ impl<T: Timeline + Drop> MachineWords<T> {
 
     /// Declares the scalar of a region: it has the values in the lanes of the mask and 0 in the others; a uniform one gets the
     /// value once.
+    #[inline(always)]
     pub fn declare<const W: usize>(
         &mut self,
         region: Region,

@@ -77,6 +77,7 @@ impl DeltaRing {
     }
 
     /// Makes room for a mark: with `limit` events kept, the oldest goes.
+    #[inline(always)]
     fn make_room(&mut self)
         ensures room { length self.new.history.past < self.new.history.limit }
         ensures marked { (event : Undone) → marked event self.new.history ≡ marked event self.old.history }
@@ -144,6 +145,7 @@ impl Timeline for DeltaRing {
         let _ = self.changes.push_front(Change { index, old });
     }
 
+    #[inline(always)]
     fn mark(&mut self, event: Undone)
         ensures history { self.new.history ≡ marked event self.old.history }
         ensures left { left_of self.new.history.room self.new.counts ≡ self.old.history.room }
