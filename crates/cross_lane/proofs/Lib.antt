@@ -5,3 +5,4 @@ pub mod Joined
 pub mod Members
 pub mod Moves
 pub mod LaneTests
+pub mod FullMasks

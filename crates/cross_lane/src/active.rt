@@ -39,5 +39,8 @@ pub fn active_words<const W: usize>(mask: Mask, words: [u64; W]) -> [u64; W]
     requires { IsGangWidth W }
     ensures { result ≡ values_in (lanes_of W mask) words.entry }
 {
+    if mask.word::<W>() == (1 << W) - 1 {
+        return words;
+    }
     filled_outside(mask, 0, Simd::from_array(words)).to_array()
 }

@@ -13,7 +13,7 @@ use crate::machine::run;
 use crate::stacks::{ActiveLanes, push_mask, take};
 use crate::stop::Stop;
 use arrayvec::ArrayVec;
-use expression_instructions::{Instruction, Words};
+use expression_instructions::{Instruction, Words, leaf_words};
 use gang_types::Mask;
 
 /// The most vectors that the code of one expression may keep at one time.
@@ -58,6 +58,11 @@ pub fn evaluate<const W: usize, S: Words<W>>(
     requires { IsGangWidth W }
     ensures { (e : Expr) (state : State) → Computes e code.now → HasRoom (expr_view e) → S.shows words.now state → IsValue result (value (expr_view e) (lanes_of W mask) state) }
 {
+    if code.len() == 1 {
+        if let Instruction::Push(leaf) = code[0] {
+            return Ok(leaf_words(leaf, words, mask));
+        }
+    }
     stacks.vectors.clear();
     stacks.masks.clear();
     push_mask(&mut stacks.masks, mask);
