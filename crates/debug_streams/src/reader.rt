@@ -1,7 +1,7 @@
 //! std's readers as the reader of a run.
 ghost use Rattle.std.specs.Prelude.{◌≡◌, ◌≤◌, false};
 
-use debug_traits::{CommandReader, ReadFault};
+use debug_traits::{AnswerWriter, CommandReader, Journal, ReadFault};
 use std::io::Read;
 
 /// Commands from a reader of std.
@@ -11,6 +11,7 @@ pub struct StreamReader<R> {
     reads: u32,
     pieces: u32,
     has_failed: bool,
+    journal: Journal,
     ghost within: { pieces ≤ reads },
 }
 
@@ -28,11 +29,12 @@ impl<R: Read> StreamReader<R> {
             reads: 0,
             pieces: 0,
             has_failed: false,
+            journal: Journal::none(),
         }
     }
 }
 
-impl<R: Read> CommandReader for StreamReader<R> {
+impl<R: Read, O: AnswerWriter> CommandReader<O> for StreamReader<R> {
     ghost left = { λ s. R.remaining s.inner };
 
     ghost reads = { λ s. s.reads };
@@ -41,15 +43,19 @@ impl<R: Read> CommandReader for StreamReader<R> {
 
     ghost has_failed = { λ s. s.has_failed };
 
-    fn read(&mut self, into: &mut [u8]) -> Result<usize, ReadFault> {
+    ghost heard = { λ s. s.journal.heard };
+
+    fn read(&mut self, into: &mut [u8], writer: &O) -> Result<usize, ReadFault> {
         self.reads += 1;
         match self.inner.read(into) {
             Ok(n) => {
                 self.pieces += u32::from(n > 0);
+                self.journal = Journal::and(&self.journal, writer, &into[..n]);
                 Ok(n)
             }
             Err(_) => {
                 self.has_failed = true;
+                self.journal = Journal::and(&self.journal, writer, &[]);
                 Err(ReadFault)
             }
         }

@@ -1,7 +1,7 @@
 //! Where commands come from, and where answers go.
-ghost use Rattle.std.specs.Prelude.{◌≡◌, ℕ, ◌+◌, ◌<◌, ◌≤◌, Bool, true, false, List, Option, length, MatchResult, IfOk};
+ghost use Rattle.std.specs.Prelude.{◌≡◌, ℕ, ◌+◌, ◌++◌, ◌<◌, ◌≤◌, Bool, true, false, List, Option, length, MatchResult, IfOk};
 ghost use Rattle.std.specs.Io.KnownBytes.{ReadConsumes, WriteAppends};
-ghost use Rattle.debug_traits.specs.Devices.{Writes, pieces_in, tells_of_write};
+ghost use Rattle.debug_traits.specs.Devices.{Heard, Writes, heard_in, pieces_in, tells_of_write};
 
 use thiserror::Error;
 
@@ -18,8 +18,9 @@ pub struct ReadFault;
 #[error("a write failed")]
 pub struct WriteFault;
 
-/// Gives the bytes of the commands, in pieces. A read of none, into a slice that is not empty, is their end.
-pub trait CommandReader {
+/// Gives the bytes of the commands, in pieces, to one who answers them on a writer of this type. A read of none, into a slice that is
+/// not empty, is their end.
+pub trait CommandReader<O: AnswerWriter> {
     // The bytes that are still to be read, where they are known.
     ghost left: { Self → Option (List ℕ) };
 
@@ -32,14 +33,19 @@ pub trait CommandReader {
     // Whether a read failed. Then no other follows.
     ghost has_failed: { Self → Bool };
 
-    fn read(&mut self, into: &mut [u8]) -> Result<usize, ReadFault>
+    // What was heard in each read so far.
+    ghost heard: { Self → List Heard };
+
+    /// Reads, after what the writer was given by now.
+    fn read(&mut self, into: &mut [u8], writer: &O) -> Result<usize, ReadFault>
         requires works { has_failed self.old ≡ false }
         requires few { reads self.old < READS }
         ensures bound { IfOk result (λ n. n ≤ length into.new) }
         ensures bytes { ReadConsumes (left self.old) (left self.new) result into.new }
         ensures count { reads self.new ≡ reads self.old + 1 }
         ensures piece { pieces self.new ≡ pieces self.old + pieces_in result }
-        ensures failed { MatchResult result (λ _. has_failed self.new ≡ false) (λ _. has_failed self.new ≡ true) };
+        ensures failed { MatchResult result (λ _. has_failed self.new ≡ false) (λ _. has_failed self.new ≡ true) }
+        ensures heard { heard self.new ≡ heard self.old ++ heard_in (O.written writer.now) result into.new };
 }
 
 /// Takes the bytes of the answers, as many at a time as it likes.

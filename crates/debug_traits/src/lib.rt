@@ -2,11 +2,13 @@
 #![tactic(auto)]
 
 mod devices;
+mod journal;
 mod machine;
 mod moves;
 mod taking_back;
 
 pub use devices::{AnswerWriter, CommandReader, READS, ReadFault, WriteFault};
+pub use journal::Journal;
 pub use machine::{Fault, NamedVariable, NextLocal, Position, RecordedMachine, Shown, StepEnd};
 pub use moves::Moves;
 pub use taking_back::{poke_and_undo, step_and_undo};

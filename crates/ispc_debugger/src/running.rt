@@ -8,6 +8,7 @@ ghost use Rattle.gang_model.specs.Texts.Text.{Bytes};
 ghost use Rattle.gang_model.specs.Texts.Transcript.{setting};
 ghost use Rattle.gang_model.specs.Types.Tree.{Program as ModelProgram};
 ghost use Rattle.transcript.specs.Endings.{ending_of};
+ghost use Rattle.transcript.specs.Order.{TakesTurns};
 ghost use Rattle.ispc_options.specs.Ranges.{AreInRange};
 ghost use Rattle.ispc_debugger.specs.Runs.{AreAcceptedAs, AreAcceptedOnce, AreNotAccepted, HaveOneTranscript, IsRight, asked_of, lanes_of, options_view};
 
@@ -31,7 +32,7 @@ use transcript::{Ending, answer_lines};
 ///
 /// Why the run is refused: its source, the entry that it asks for, its input, in this order, or out of memory. A read or write that
 /// fails ends a run, and is no error.
-pub fn run<R: CommandReader, O: AnswerWriter>(
+pub fn run<R: CommandReader<O>, O: AnswerWriter>(
     alloc: Global,
     source: &[u8],
     input: &[u8],
@@ -60,6 +61,12 @@ pub fn run<R: CommandReader, O: AnswerWriter>(
         ⊎ ((R.reads reader.new ≡ READS) × (R.pieces reader.new ≡ R.pieces reader.old + READS)) }
     ensures write_fault { result ≡ Ok Ending.WriteFault → O.has_failed writer.new ≡ true }
     ensures reads { R.reads reader.new ≤ READS }
+    // Before each read all whole lines that had come were answered, and nothing else was written; and there is no read after one
+    // of them quits, nor after one that gave nothing.
+    ensures order { IfOk result (λ _. (program : ModelProgram) × (entry : ℕ) × (rows : List Row)
+        × AreAcceptedAs source.now (asked_of options.now) input.now program entry rows
+        × TakesTurns (setting program entry rows (options_view options.now)) (fresh options.now.history)
+        (O.written writer.old) (R.heard reader.old) (R.heard reader.new)) }
 {
     match options.width {
         Width::Four => run_wide::<4, R, O>(alloc, source, input, options, reader, writer),
@@ -69,7 +76,7 @@ pub fn run<R: CommandReader, O: AnswerWriter>(
 }
 
 /// The run at the width of the options.
-fn run_wide<const W: usize, R: CommandReader, O: AnswerWriter>(
+fn run_wide<const W: usize, R: CommandReader<O>, O: AnswerWriter>(
     alloc: Global,
     source: &[u8],
     input: &[u8],
@@ -93,6 +100,10 @@ fn run_wide<const W: usize, R: CommandReader, O: AnswerWriter>(
         ⊎ ((R.reads reader.new ≡ READS) × (R.pieces reader.new ≡ R.pieces reader.old + READS)) }
     ensures write_fault { result ≡ Ok Ending.WriteFault → O.has_failed writer.new ≡ true }
     ensures reads { R.reads reader.new ≤ READS }
+    ensures order { IfOk result (λ _. (program : ModelProgram) × (entry : ℕ) × (rows : List Row)
+        × AreAcceptedAs source.now (asked_of options.now) input.now program entry rows
+        × TakesTurns (setting program entry rows (options_view options.now)) (fresh options.now.history)
+        (O.written writer.old) (R.heard reader.old) (R.heard reader.new)) }
 {
     let mut session = open_session::<W>(alloc, source, input, options)?;
     Ok(answer_lines(&mut session, reader, writer))

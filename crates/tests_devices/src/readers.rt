@@ -1,7 +1,7 @@
 //! Readers of known bytes, which give few at a time, or fail, or never end.
 ghost use Rattle.std.specs.Prelude.{◌≡◌, ◌≤◌, ◌<◌, Some, None, false};
 
-use debug_traits::{CommandReader, ReadFault};
+use debug_traits::{AnswerWriter, CommandReader, Journal, ReadFault};
 
 /// Gives some bytes, at most so many at a time, and fails once so many were given.
 #[derive(Drop)]
@@ -12,6 +12,7 @@ pub struct PieceReader<'a> {
     reads: u32,
     pieces: u32,
     has_failed: bool,
+    journal: Journal,
     ghost takes_some: { 0 < most },
     ghost within: { pieces ≤ reads },
 }
@@ -32,11 +33,12 @@ impl<'a> PieceReader<'a> {
             reads: 0,
             pieces: 0,
             has_failed: false,
+            journal: Journal::none(),
         }
     }
 }
 
-impl CommandReader for PieceReader<'_> {
+impl<O: AnswerWriter> CommandReader<O> for PieceReader<'_> {
     ghost left = { λ s. Some (s.rest.now) };
 
     ghost reads = { λ s. s.reads };
@@ -45,10 +47,13 @@ impl CommandReader for PieceReader<'_> {
 
     ghost has_failed = { λ s. s.has_failed };
 
-    fn read(&mut self, into: &mut [u8]) -> Result<usize, ReadFault> {
+    ghost heard = { λ s. s.journal.heard };
+
+    fn read(&mut self, into: &mut [u8], writer: &O) -> Result<usize, ReadFault> {
         self.reads += 1;
         if self.until_fault == 0 {
             self.has_failed = true;
+            self.journal = Journal::and(&self.journal, writer, &[]);
             return Err(ReadFault);
         }
         let n = self
@@ -61,6 +66,7 @@ impl CommandReader for PieceReader<'_> {
         self.rest = rest;
         self.until_fault -= n;
         self.pieces += u32::from(n > 0);
+        self.journal = Journal::and(&self.journal, writer, &into[..n]);
         Ok(n)
     }
 }
@@ -70,6 +76,7 @@ impl CommandReader for PieceReader<'_> {
 pub struct BlankReader {
     reads: u32,
     pieces: u32,
+    journal: Journal,
     ghost within: { pieces ≤ reads },
 }
 
@@ -83,6 +90,7 @@ impl BlankReader {
         BlankReader {
             reads: 0,
             pieces: 0,
+            journal: Journal::none(),
         }
     }
 
@@ -94,7 +102,7 @@ impl BlankReader {
     }
 }
 
-impl CommandReader for BlankReader {
+impl<O: AnswerWriter> CommandReader<O> for BlankReader {
     ghost left = { λ _. None };
 
     ghost reads = { λ s. s.reads };
@@ -103,13 +111,19 @@ impl CommandReader for BlankReader {
 
     ghost has_failed = { λ _. false };
 
-    fn read(&mut self, into: &mut [u8]) -> Result<usize, ReadFault> {
+    ghost heard = { λ s. s.journal.heard };
+
+    fn read(&mut self, into: &mut [u8], writer: &O) -> Result<usize, ReadFault> {
         self.reads += 1;
         match into.first_mut() {
-            None => Ok(0),
+            None => {
+                self.journal = Journal::and(&self.journal, writer, &[]);
+                Ok(0)
+            }
             Some(first) => {
                 *first = b' ';
                 self.pieces += 1;
+                self.journal = Journal::and(&self.journal, writer, b" ");
                 Ok(1)
             }
         }

@@ -49,11 +49,11 @@ impl<'a> Row<'a> {
     }
 
     /// How the run ends, or the report.
-    pub(crate) fn ending<R: CommandReader>(
+    pub(crate) fn ending<'w, R: CommandReader<WantedWriter<'w>>>(
         &self,
         alloc: Global,
         reader: &mut R,
-        writer: &mut WantedWriter<'_>,
+        writer: &mut WantedWriter<'w>,
     ) -> Result<Ending, Refusal>
         requires fresh { R.reads reader.old ≡ 0 }
         requires reader_works { R.has_failed reader.old ≡ false }

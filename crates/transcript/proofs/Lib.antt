@@ -2,3 +2,5 @@ mod CutLines
 mod LineAnswers
 mod PieceAnswers
 mod SessionLines
+mod TurnRows
+mod Turns

@@ -1,3 +1,4 @@
 pub mod Answered
 pub mod Endings
 pub mod Lines
+pub mod Order

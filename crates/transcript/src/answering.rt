@@ -7,6 +7,7 @@ ghost use Rattle.gang_model.specs.Texts.Text.{Bytes};
 ghost use Rattle.transcript.specs.Lines.{fails};
 ghost use Rattle.transcript.specs.Answered.{AnswersLines, AnswersPiece, held_of, line_alone};
 ghost use Rattle.transcript.specs.Endings.{end_of, ending_of};
+ghost use Rattle.transcript.specs.Order.{TakesTurns};
 
 use crate::debugger::{LineDebugger, Turn};
 use arrayvec::ArrayVec;
@@ -45,7 +46,7 @@ impl Ending {
 
 /// Answers the command lines that the reader gives: up to `quit`, to the last line, or to the first fault of the reader or
 /// of the writer. The last line may lack its line feed.
-pub fn answer_lines<D: LineDebugger, R: CommandReader, O: AnswerWriter>(
+pub fn answer_lines<D: LineDebugger, R: CommandReader<O>, O: AnswerWriter>(
     debugger: &mut D,
     reader: &mut R,
     writer: &mut O,
@@ -60,11 +61,15 @@ pub fn answer_lines<D: LineDebugger, R: CommandReader, O: AnswerWriter>(
         ⊎ ((R.reads reader.new ≡ READS) × (R.pieces reader.new ≡ R.pieces reader.old + READS)) }
     ensures write_fault { result ≡ Ending.WriteFault → O.has_failed writer.new ≡ true }
     ensures reads { R.reads reader.new ≤ READS }
+    // Before each read all whole lines that had come were answered, and nothing else was written; and there is no read after one
+    // of them quits, nor after one that gave nothing.
+    ensures order { (s : Setting) (d : Debugger) → D.stands debugger.old s d
+        → TakesTurns s d (O.written writer.old) (R.heard reader.old) (R.heard reader.new) }
 {
     let mut piece = [0; 512];
     let mut line = ArrayVec::new();
     for _count in 0..READS {
-        match reader.read(&mut piece) {
+        match reader.read(&mut piece, writer) {
             Err(_) => return Ending::ReadFault,
             Ok(0) => return Ending::after(answer_last_line(debugger, &line, writer)),
             Ok(n) => match answer_piece(debugger, &mut line, &piece[..n], writer) {

@@ -9,3 +9,9 @@ returns-clause-transcript g c =
     let options = c.args.options.now in
     let (program, entry, rows, are, stands) = c.in_ok-session.ensures.opened in
     (program, entry, rows, are, c.answer_lines.ensures.transcript (setting program entry rows (options_view options)) (fresh options.history) stands)
+
+pub returns-clause-order : goal.returns-clause-order
+returns-clause-order g c =
+    let options = c.args.options.now in
+    let (program, entry, rows, are, stands) = c.in_ok-session.ensures.opened in
+    (program, entry, rows, are, c.answer_lines.ensures.order (setting program entry rows (options_view options)) (fresh options.history) stands)

@@ -3,15 +3,16 @@ use Rattle.std.proofs.KnownBytes.{Consumes-nil, Consumes-trans, Consumes-kept}
 use Rattle.transcript.specs.declared.debugger.Turn.TheVariants.{Goes}
 use Rattle.transcript.specs.Answered.{after_replies, begun_after}
 use Rattle.transcript.proofs.PieceAnswers.{IsEnded, answers_last, consumes_none, ends_at, ends_before, ends_fault, piece_none, piece_then}
+use Rattle.transcript.proofs.Turns.{no_turn, piece_answered, some_came, turn_more, turn_taken, turns_taken}
 use Rattle.transcript.proofs.answering.answer_lines.Goals as goal
 
 pub loop-count-init : goal.loop-count-init
 loop-count-init g c =
-    (omega arith, ([], Consumes-nil _, (λ s d st. piece_none g.D.LineDebugger.stands s d [] _ _ _ st c.new-line.ensures), c.requires.fresh, c.requires.reader_works, c.requires.writer_works))
+    (omega arith, ([], Consumes-nil _, (λ s d st. piece_none g.D.LineDebugger.stands s d [] _ _ _ st c.new-line.ensures), c.requires.fresh, c.requires.reader_works, c.requires.writer_works, no_turn (λ s d. g.D.LineDebugger.stands c.args.debugger.now s d) _ _))
 
 pub loop-count-preserved : goal.loop-count-preserved
 loop-count-preserved g c =
-    let (pieces, (came, used, answered, reads, r, w)) = c.loop-count.invariant in
+    let (pieces, (came, used, answered, reads, r, w, turns)) = c.loop-count.invariant in
     let piece = take c.in-Ok.n c.read.new.into in (
       search rules,
       (
@@ -24,18 +25,20 @@ loop-count-preserved g c =
         omega (arith, c.in-Ok.ensures.count),
         c.in-Ok.ensures.failed,
         c.in-Goes.ensures.failed,
+        turn_more (λ s d. g.D.LineDebugger.stands c.args.debugger.now s d) _ _ _ _ came piece _ turns c.in-Ok.ensures.heard (some_came c.in-Ok.n c.read.new.into (search rules) (search rules))
+            (λ s d st. piece_answered g.D.LineDebugger.stands s d came _ _ _ _ (answered s d st)),
       ),
     )
 
 pub returns-in-Err-clause-transcript : goal.returns-in-Err-clause-transcript
 returns-in-Err-clause-transcript g c s d st =
-    let (pieces, (came, used, answered, reads, r, w)) = c.loop-count.invariant in
+    let (pieces, (came, used, answered, reads, r, w, turns)) = c.loop-count.invariant in
     let before = answered s d st in
     ends_fault s d came _ _ _ _ (Consumes-kept _ _ _ came used c.in-Err.ensures.bytes) (before.0, before.1)
 
 pub returns-in-Ok-eq0-clause-transcript : goal.returns-in-Ok-eq0-clause-transcript
 returns-in-Ok-eq0-clause-transcript g c s d st =
-    let (pieces, (came, used, answered, reads, r, w)) = c.loop-count.invariant in
+    let (pieces, (came, used, answered, reads, r, w, turns)) = c.loop-count.invariant in
     let left = g.R.CommandReader.left in
     let written = g.O.AnswerWriter.written in
     let before = answered s d st in
@@ -48,7 +51,7 @@ returns-in-Ok-eq0-clause-transcript g c s d st =
 
 pub returns-in_default-clause-transcript : goal.returns-in_default-clause-transcript
 returns-in_default-clause-transcript g c s d st =
-    let (pieces, (came, used, answered, reads, r, w)) = c.loop-count.invariant in
+    let (pieces, (came, used, answered, reads, r, w, turns)) = c.loop-count.invariant in
     let left = g.R.CommandReader.left in
     let written = g.O.AnswerWriter.written in
     let piece = take c.in-Ok.n c.read.new.into in
@@ -60,6 +63,26 @@ returns-in_default-clause-transcript g c s d st =
 
 pub returns-clause-transcript : goal.returns-clause-transcript
 returns-clause-transcript g c s d st =
-    let (pieces, (came, used, answered, reads, r, w)) = c.loop-count.invariant in
+    let (pieces, (came, used, answered, reads, r, w, turns)) = c.loop-count.invariant in
     let before = answered s d st in
     ends_fault s d came _ _ _ _ used (before.0, before.1)
+
+pub returns-in-Err-clause-order : goal.returns-in-Err-clause-order
+returns-in-Err-clause-order g c s d st =
+    let (pieces, (came, used, answered, reads, r, w, turns)) = c.loop-count.invariant in
+    turn_taken (λ s d. g.D.LineDebugger.stands c.args.debugger.now s d) _ _ _ _ came _ _ s d turns c.in-Err.ensures.heard st (piece_answered g.D.LineDebugger.stands s d came _ _ _ _ (answered s d st))
+
+pub returns-in-Ok-eq0-clause-order : goal.returns-in-Ok-eq0-clause-order
+returns-in-Ok-eq0-clause-order g c s d st =
+    let (pieces, (came, used, answered, reads, r, w, turns)) = c.loop-count.invariant in
+    turn_taken (λ s d. g.D.LineDebugger.stands c.args.debugger.now s d) _ _ _ _ came _ _ s d turns c.in-Ok-eq0.ensures.heard st (piece_answered g.D.LineDebugger.stands s d came _ _ _ _ (answered s d st))
+
+pub returns-in_default-clause-order : goal.returns-in_default-clause-order
+returns-in_default-clause-order g c s d st =
+    let (pieces, (came, used, answered, reads, r, w, turns)) = c.loop-count.invariant in
+    turn_taken (λ s d. g.D.LineDebugger.stands c.args.debugger.now s d) _ _ _ _ came _ _ s d turns c.in-Ok.ensures.heard st (piece_answered g.D.LineDebugger.stands s d came _ _ _ _ (answered s d st))
+
+pub returns-clause-order : goal.returns-clause-order
+returns-clause-order g c s d st =
+    let (pieces, (came, used, answered, reads, r, w, turns)) = c.loop-count.invariant in
+    turns_taken (λ s d. g.D.LineDebugger.stands c.args.debugger.now s d) _ _ _ came s d turns st

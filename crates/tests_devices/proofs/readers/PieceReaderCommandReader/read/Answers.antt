@@ -3,7 +3,7 @@ use Rattle.std.proofs.lemmas.List.{take_at, take-append-drop, drop_all}
 use Rattle.tests_devices.proofs.readers.PieceReaderCommandReader.read.Goals as goal
 
 pub returns-clause-bytes : goal.returns-clause-bytes
-returns-clause-bytes c =
+returns-clause-bytes g c =
     let rest = c.args.self.now.rest.now in
     let n = c.min-n.result in
     let copied : c.copy_from_slice.new.self ≡ take n rest = c.copy_from_slice.ensures.after ∙ c.split_at.ensures.front in
