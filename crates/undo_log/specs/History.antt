@@ -49,3 +49,7 @@ steps_in past = count_by is_step (map (λ m. m.event) past)
 -- a new record: so many words, all 0, and no event is kept
 abbrev pub new_history : ℕ → ℕ → ℕ → History
 new_history words limit room = record { words = replicate words 0; past = []; limit = limit; room = room }
+
+-- all words are these, and no event is kept
+abbrev pub put_words : List ℕ → History → History
+put_words words h = record { words = words; past = []; limit = h.limit; room = h.room }
