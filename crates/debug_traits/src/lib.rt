@@ -1,12 +1,14 @@
 //! What the debugger asks of a machine, and what its command loop asks of a reader and of a writer.
 #![tactic(auto)]
 
+mod begins_again;
 mod devices;
 mod journal;
 mod machine;
 mod moves;
 mod taking_back;
 
+pub use begins_again::BeginsAgain;
 pub use devices::{AnswerWriter, CommandReader, READS, ReadFault, WriteFault};
 pub use journal::Journal;
 pub use machine::{Fault, NamedVariable, NextLocal, Position, RecordedMachine, Shown, StepEnd};

@@ -86,6 +86,9 @@ pub trait RecordedMachine {
     // How many times it has moved: how often a step was tried, and how often an event was to be taken back.
     ghost moves: { Self → ℕ };
 
+    // Whether one machine is another at another moment of its run, as far as calls let it be: of the same program, whose words lie alike.
+    ghost same_run: { Self → Self → Type 0 };
+
     // The local variables in scope from a place on, parameters left out, where it stands for such a debugger.
     ghost locals_from: { Self → Setting → Debugger → ℕ → List Variable };
 
@@ -95,12 +98,14 @@ pub trait RecordedMachine {
     /// Does the next step and records it.
     fn step(&mut self) -> StepEnd
         ensures step { (s : Setting) (d : Debugger) → stands self.old s d → Steps stands s d result self.new }
+        ensures run { same_run self.old self.new }
         ensures words { StepsWords (history self.old) result (history self.new) }
         ensures moves { moves self.new ≡ suc (moves self.old) };
 
     /// Takes the newest event back.
     fn undo(&mut self) -> Result<Undone, NoHistory>
         ensures undo { (s : Setting) (d : Debugger) → stands self.old s d → Undoes stands s d result self.new }
+        ensures run { same_run self.old self.new }
         ensures words { UndoesWords (history self.old) result (history self.new) }
         ensures moves { moves self.new ≡ suc (moves self.old) };
 
@@ -108,6 +113,7 @@ pub trait RecordedMachine {
     fn poke(&mut self, shown: Shown, at: Option<u32>, word: u64)
         ensures poke { (s : Setting) (d : Debugger) (v : Variable) → stands self.old s d → IsShown s d v shown → IsPart at shown
             → Pokes stands s d v shown at word self.new }
+        ensures run { same_run self.old self.new }
         ensures words { PokesWords (history self.old) (history self.new) }
         ensures moves { moves self.new ≡ moves self.old };
 
@@ -135,6 +141,7 @@ pub trait RecordedMachine {
     fn set_limit(&mut self, limit: usize) -> Result<(), AllocError>
         requires { (1 ≤ limit) × (limit ≤ 65536) }
         ensures limit { (s : Setting) (d : Debugger) → stands self.old s d → Limits stands s d limit result self.new }
+        ensures run { same_run self.old self.new }
         ensures words { LimitsWords (history self.old) limit result (history self.new) }
         ensures moves { moves self.new ≡ moves self.old };
 
