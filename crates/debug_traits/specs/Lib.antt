@@ -1,3 +1,4 @@
 pub mod Beginnings
 pub mod Devices
+pub mod Frames
 pub mod Machines

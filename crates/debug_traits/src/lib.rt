@@ -3,6 +3,7 @@
 
 mod begins_again;
 mod devices;
+mod framed;
 mod journal;
 mod machine;
 mod moves;
@@ -10,6 +11,7 @@ mod taking_back;
 
 pub use begins_again::BeginsAgain;
 pub use devices::{AnswerWriter, CommandReader, READS, ReadFault, WriteFault};
+pub use framed::FramedMachine;
 pub use journal::Journal;
 pub use machine::{Fault, NamedVariable, NextLocal, Position, RecordedMachine, Shown, StepEnd};
 pub use moves::Moves;

@@ -1,0 +1,64 @@
+-- What one of the frames shows. The entry's frame is at depth 1, the top one at the depth of the program.
+use Rattle.std.specs.Prelude.{◌≡◌, ℕ, suc, ◌-◌, ◌⊎◌, nat_lt, not, List, [], ◌∷◌, drop, filter, length, Option, Some, None, if◌then◌else◌}
+use Rattle.gang_types.specs.declared.places.Spot.{Spot}
+use Rattle.gang_model.specs.Source.Names.{named}
+use Rattle.gang_model.specs.Types.Tree.{Program, Variable}
+use Rattle.gang_model.specs.Running.State.{Frame, State}
+use Rattle.gang_model.specs.Debugger.Positions.{call_at, scope_of, spot_now, standing_of}
+use Rattle.gang_model.specs.Debugger.Debugger.{Debugger, Setting, global_named, now, or_else, shown_words}
+use Rattle.debug_traits.specs.declared.machine.NamedVariable.{NamedVariable}
+use Rattle.debug_traits.specs.declared.machine.NextLocal.{NextLocal}
+use Rattle.debug_traits.specs.declared.machine.Shown.{Shown}
+use Rattle.debug_traits.specs.Machines.{IsOneOf, file_variables}
+
+-- the frames from the one at a depth outwards, none at depth 0; all of them where there is none so deep
+abbrev pub frames_at : (depth : ℕ) → List Frame → List Frame
+frames_at deep frames = drop (length frames - deep) frames
+
+-- the state with no frame above the one at a depth
+abbrev pub state_at : (depth : ℕ) → State → State
+state_at deep state = record state { frames = frames_at deep state.frames }
+
+-- where the frame at a depth stands: at the call that made the frame above it, and the top one at its next step
+abbrev pub spot_at : Program → (depth : ℕ) → State → Option Spot
+spot_at p deep state = if nat_lt deep (length state.frames) then call_at (suc deep) state.frames else spot_now p state
+
+-- what is in scope in the frame at a depth
+abbrev pub scope_at : Program → (depth : ℕ) → State → List Variable
+scope_at p deep state = scope_of (standing_of p (spot_at p deep state))
+
+-- the variable of this name in scope in the frame at a depth, else at file scope
+abbrev pub found_at : Program → (depth : ℕ) → State → List ℕ → Option Variable
+found_at p deep state name = or_else (named name (scope_at p deep state)) (global_named p name)
+
+-- the local variables in scope in the frame at a depth, without the parameters
+abbrev pub listed_at : Setting → Debugger → (depth : ℕ) → List Variable
+listed_at s d deep = filter (λ v. not v.is_parameter) (scope_at s.program deep (now s d))
+
+-- the parameters in scope in the frame at a depth
+abbrev pub listed_parameters_at : Setting → Debugger → (depth : ℕ) → List Variable
+listed_parameters_at s d deep = filter (λ v. v.is_parameter) (scope_at s.program deep (now s d))
+
+-- a variable in scope in the frame at a depth or of the file, and what can be shown of it there
+pub record IsShownAt (s : Setting) (d : Debugger) (deep : ℕ) (v : Variable) (shown : Shown) : Type 0 where
+  pub there : IsOneOf (scope_at s.program deep (now s d)) v ⊎ IsOneOf (file_variables s) v
+  pub id : v.id ≡ shown.id
+  pub type : v.type ≡ shown.value_type
+  pub rate : v.rate ≡ shown.rate
+  pub is_array : v.is_array ≡ shown.is_array
+  pub is_constant : v.is_constant ≡ shown.is_constant
+  pub count : length (shown_words (state_at deep (now s d)) v) ≡ shown.count
+
+-- the variable of a name in scope in the frame at a depth, else at file scope; none where the name stands for nothing
+abbrev pub FindsAt : Setting → Debugger → (depth : ℕ) → List ℕ → Option Shown → Type 0
+FindsAt s d deep name None = found_at s.program deep (now s d) name ≡ None
+FindsAt s d deep name (Some shown) = (v : Variable) × (found_at s.program deep (now s d) name ≡ Some v) × IsShownAt s d deep v shown
+
+-- a variable is told by its name with what can be shown of it in the frame at a depth
+abbrev pub ShowsNamedAt : Setting → Debugger → (depth : ℕ) → Variable → NamedVariable → Type 0
+ShowsNamedAt s d deep v given = (given.name.now ≡ v.name) × IsShownAt s d deep v given.shown
+
+-- the first of the variables from a place on is told by its name, with the place from which on the others are; or there is none
+abbrev pub ShowsNextAt : Setting → Debugger → (depth : ℕ) → (from : ℕ → List Variable) → (place : ℕ) → Option NextLocal → Type 0
+ShowsNextAt s d deep from place None = from place ≡ []
+ShowsNextAt s d deep from place (Some local) = (v : Variable) × (from place ≡ v ∷ from local.next) × ShowsNamedAt s d deep v local.variable
