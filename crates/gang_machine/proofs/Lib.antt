@@ -4,6 +4,7 @@ pub mod EntryArrays
 pub mod Finding
 pub mod HeadSizes
 pub mod Keeping
+mod Lasting
 pub mod Limiting
 pub mod Placing
 pub mod PokedLengths

@@ -24,7 +24,7 @@ use Rattle.gang_machine.proofs.Seeing.{shown_here}
 
 module _ {T : Type 0} (history : T → History) (w : ℕ) (compiled : CompiledProgram) (old new : MachineWords T) (machine : IsMachine history w compiled old) where
   -- what a step does to words, whatever they show
-  abbrev StepsSo : StepEnd → Type 0
+  abbrev pub StepsSo : StepEnd → Type 0
   StepsSo ended = (masked : Masked) → WordsShow history w compiled old masked → words.Steps history w compiled masked old ended new
 
   -- the words are again a machine's

@@ -1,3 +1,4 @@
+pub mod Again
 pub mod Machines
 pub mod Nexts
 pub mod Openings

@@ -10,6 +10,7 @@ ghost use Rattle.debug_traits.specs.Machines.{Finds, FindsInFile, IsOneOf, IsPar
 ghost use Rattle.machine_names.specs.Found.{IsNamed, IsSeen, SeesFound};
 ghost use Rattle.machine_names.specs.Listed.{is_of};
 ghost use Rattle.gang_machine.specs.Nexts.{HasEnded, IsNext, listed_left};
+ghost use Rattle.gang_machine.specs.Again.{SameRun};
 ghost use Rattle.gang_machine.specs.Standings.{Stands, history_of, moves_of};
 
 use crate::mover::Mover;
@@ -130,6 +131,8 @@ impl<const W: usize, T: Timeline + Drop> RecordedMachine for Machine<W, T> {
     ghost history = { history_of };
 
     ghost moves = { moves_of };
+
+    ghost same_run = { SameRun };
 
     ghost locals_from = { λ m. listed_left Locals m.seen };
 

@@ -57,6 +57,8 @@ impl RecordedMachine for WalkingMachine {
 
     ghost moves = { λ m. m.moves.count };
 
+    ghost same_run = { λ _ _. Unit {0} };
+
     ghost locals_from = { λ _ _ _ _. [] };
 
     ghost parameters_from = { λ _ _ _ _. [] };

@@ -1,8 +1,10 @@
 use Rattle.std.proofs.Common.{subst, sym}
 use Rattle.undo_log.specs.declared.timeline.Undone.TheVariants as undone
-use Rattle.gang_machine.specs.Standings.{Stands}
+use Rattle.gang_machine.specs.Standings.{Stands, counted, view_of}
 use Rattle.gang_machine.proofs.Poking.{shown_poked, stands_poked}
 use Rattle.gang_machine.proofs.Recording.{machine_recorded}
+use Rattle.gang_machine.specs.Again.{SameRun}
+use Rattle.gang_machine.proofs.Lasting.{lasts}
 use Rattle.gang_machine.proofs.machine.MachineRecordedMachine.poke.Goals as goal
 
 pub invariant_of-self : goal.invariant_of-self
@@ -23,3 +25,10 @@ pub poke-requires : goal.poke-requires
 poke-requires g c =
     let i = c.self.invariant in
     record { sound = record { lie = i.lie; masked = i.masked; shown = i.shown; called = i.called } }
+
+pub returns-clause-run : goal.returns-clause-run
+returns-clause-run g c =
+    let m = c.self.inside in
+    let history = g.T.Timeline.history in
+    subst (λ old. SameRun old (counted (view_of g.row.W m.entry m.compiled.program m.lines.items c.poke.new.words.layout (history c.poke.new.words.store.timeline)) m.mover.moves.count)) c.self.view_is
+    (lasts g.row.W m.entry m.compiled.program m.lines.items m.words.layout c.poke.new.words.layout (history m.words.store.timeline) (history c.poke.new.words.store.timeline) m.mover.moves.count m.mover.moves.count (c.poke.ensures.records.layout))

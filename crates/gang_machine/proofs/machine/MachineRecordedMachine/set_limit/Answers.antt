@@ -2,6 +2,8 @@ use Rattle.std.proofs.Common.{subst, sym}
 use Rattle.debug_traits.specs.Machines.{Limits, LimitsWords}
 use Rattle.gang_machine.specs.Standings.{Stands, counted, history_of, view_of}
 use Rattle.gang_machine.proofs.Limiting.{machine_limited, stands_limits}
+use Rattle.gang_machine.specs.Again.{SameRun}
+use Rattle.gang_machine.proofs.Lasting.{lasts}
 use Rattle.gang_machine.proofs.machine.MachineRecordedMachine.set_limit.Goals as goal
 
 pub invariant_of-self : goal.invariant_of-self
@@ -20,3 +22,10 @@ returns-clause-limit g c s d stands =
 pub returns-clause-words : goal.returns-clause-words
 returns-clause-words g c =
     subst (λ m. LimitsWords (history_of m) c.args.limit c.limited.result (g.T.Timeline.history c.limited.new.words.store.timeline)) c.self.view_is c.limited.ensures.limited
+
+pub returns-clause-run : goal.returns-clause-run
+returns-clause-run g c =
+    let m = c.self.inside in
+    let history = g.T.Timeline.history in
+    subst (λ old. SameRun old (counted (view_of g.row.W m.entry m.compiled.program m.lines.items c.limited.new.words.layout (history c.limited.new.words.store.timeline)) m.mover.moves.count)) c.self.view_is
+    (lasts g.row.W m.entry m.compiled.program m.lines.items m.words.layout c.limited.new.words.layout (history m.words.store.timeline) (history c.limited.new.words.store.timeline) m.mover.moves.count m.mover.moves.count (c.limited.ensures.layout))

@@ -1,0 +1,33 @@
+-- What of a machine lasts all through its run, and what a copy of its words is.
+use Rattle.std.specs.Prelude.{◌≡◌, ℕ, List, []}
+use Rattle.undo_log.specs.History.{History}
+use Rattle.gang_model.specs.Debugger.Debugger.{Debugger, Setting}
+use Rattle.mask_states.specs.Masked.{Masked}
+use Rattle.machine_words.specs.Ranges.{IsLaid}
+use Rattle.frame_steps.specs.Standing.{HaveLanes}
+use Rattle.gang_machine.specs.Standings.{Counted, SeenStands, ShowsWords, View}
+
+-- these words, and no event that is kept
+abbrev pub only_words : List ℕ → History
+only_words words = record { words = words; past = []; limit = 0; room = 0 }
+
+abbrev pub with_only : List ℕ → View → View
+with_only words m = record m { history = only_words words }
+
+-- the program, the entry, the lines and the layout are the same
+abbrev pub SameRun : Counted → Counted → Type 0
+SameRun old new = with_only [] new.seen ≡ with_only [] old.seen
+
+-- words that lie as the layout says, and show some masked state, of which each frame has a lane
+pub record AreWords (m : View) (words : List ℕ) : Type 0 where
+  pub laid : IsLaid m.width m.layout words
+  pub masked : Masked
+  pub shown : ShowsWords m.width m.program m.layout words masked
+  pub called : HaveLanes masked.state.frames
+
+abbrev pub CanHave : Counted → List ℕ → Type 0
+CanHave m words = AreWords (with_only [] m.seen) words
+
+-- a machine with these words stands there, where no event is kept
+abbrev pub Copies : Counted → List ℕ → Setting → Debugger → Type 0
+Copies m words s d = SeenStands (with_only words m.seen) s d
