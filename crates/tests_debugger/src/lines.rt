@@ -1,11 +1,26 @@
 //! Lines in pieces, `quit`, long lines, and devices that fail.
 use crate::repeating::RepeatingDebugger;
-use tests_devices::{BlankReader, PieceReader, PieceWriter};
+use tests_devices::{BlankReader, Listener, PieceReader, PieceWriter};
 use transcript::{Ending, answer_lines};
 
 const COMMANDS: &[u8] = b"one\n\nthree\nlast";
 
 const ANSWERS: &[u8] = b"one;;three;last;";
+
+/// Commands, how many of their bytes a read gives at most, and how many bytes of answers had been written before each read.
+const TURNS: &[(&[u8], usize, &[usize])] = &[
+    (COMMANDS, 512, &[0, 11]),
+    (COMMANDS, 4, &[0, 4, 5, 11, 11]),
+    (
+        COMMANDS,
+        1,
+        &[0, 0, 0, 0, 4, 5, 5, 5, 5, 5, 5, 11, 11, 11, 11, 11],
+    ),
+    (b"one\nquit\nthree\n", 512, &[0]),
+    (b"one\nquit\nthree\n", 5, &[0, 4]),
+    (b"one\nquit\nthree\n", 9, &[0]),
+    (b"", 512, &[0]),
+];
 
 /// How the answering of some commands ends, and what is written, by devices that give and take a few bytes at a time.
 fn repeated(commands: &[u8], most: usize) -> (Ending, PieceWriter) {
@@ -22,6 +37,17 @@ fn answers_each_line(rt: HostRuntime) {
         let (end, writer) = repeated(COMMANDS, most);
         assert_eq!(rt; end, Ending::EndOfCommands, "at {most}");
         assert!(rt; writer.bytes() == ANSWERS, "at {most}");
+    }
+}
+
+#[test]
+fn answers_all_that_came_before_it_reads_on(rt: HostRuntime) {
+    for (commands, most, told) in TURNS {
+        let mut debugger = RepeatingDebugger::new();
+        let mut reader = Listener::new(commands, *most);
+        let mut writer = PieceWriter::new(3, 1000);
+        let _ = answer_lines(&mut debugger, &mut reader, &mut writer);
+        assert!(rt; reader.told() == *told, "at {most}");
     }
 }
 

@@ -1,5 +1,6 @@
 -- What the devices show.
 use Rattle.std.specs.Prelude.{ℕ, Bool, List}
+use Rattle.tests_devices.specs.declared.listeners.Listener.{Listener}
 use Rattle.tests_devices.specs.declared.readers.BlankReader.{BlankReader}
 use Rattle.tests_devices.specs.declared.readers.PieceReader.{PieceReader}
 use Rattle.tests_devices.specs.declared.writers.PieceWriter.{PieceWriter}
@@ -31,3 +32,15 @@ writer_failed writer = writer.has_failed
 -- how often something was written, or tried
 abbrev pub calls_of : PieceWriter → ℕ
 calls_of writer = writer.calls
+
+-- how often a listener was read
+abbrev pub listened_reads : Listener → ℕ
+listened_reads listener = reads_of listener.reader
+
+-- whether a read of a listener failed
+abbrev pub listened_failed : Listener → Bool
+listened_failed listener = reader_failed listener.reader
+
+-- what a listener has not given yet
+abbrev pub listened_rest : Listener → List ℕ
+listened_rest listener = rest_of listener.reader
