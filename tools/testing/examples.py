@@ -1,6 +1,6 @@
 """The programs of examples/: NAME.ispc with the commands NAME.commands, and NAME.args and NAME.input if there, writes NAME.transcript.
 
-README.md lists them.
+README.md lists them. The kernels below them are another module's (kernels.py).
 """
 
 from .tried import Result, Run
@@ -43,7 +43,7 @@ def check(root):
         why += [] if f"`{name}.ispc`" in told else [f"{PAGE} does not list it"]
         results.append(Result(name, not why, why))
     for file in sorted((root / "examples").iterdir()):
-        if file.name != PAGE and file.stem not in names(root):
+        if file.is_file() and file.name != PAGE and file.stem not in names(root):
             results.append(Result(file.name, False, ["it belongs to no NAME.ispc"]))
     return results
 
