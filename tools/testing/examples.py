@@ -1,11 +1,17 @@
 """The programs of examples/: NAME.ispc with the commands NAME.commands, and NAME.args and NAME.input if there, writes NAME.transcript.
 
-README.md lists them. The kernels below them are another module's (kernels.py).
+README.md beside them lists them, and that of the repository shows one at the prompt. The kernels below them are another module's (kernels.py).
 """
+
+import re
 
 from .tried import Result, Run
 
 PAGE = "README.md"
+
+# What README.md shows at the prompt is this session, whose source is an example, from the first line that is typed on.
+SHOWN = "sessions/prompts/readme.prompt"
+NAMED, BLOCK = re.compile(r"`examples/(\w+)\.ispc`"), re.compile(r"^```\n(\(rinddecade\) .*?)^```$", re.M | re.S)
 
 
 def names(root):
@@ -45,7 +51,22 @@ def check(root):
     for file in sorted((root / "examples").iterdir()):
         if file.is_file() and file.name != PAGE and file.stem not in names(root):
             results.append(Result(file.name, False, ["it belongs to no NAME.ispc"]))
-    return results
+    why = not_as_stored(root)
+    return [*results, Result("the prompt in README.md", not why, why)]
+
+
+def not_as_stored(root):
+    """What README.md shows at the prompt that is not as the stored session has it."""
+    page = (root / PAGE).read_text(encoding="utf-8")
+    block = BLOCK.search(page)
+    if block is None:
+        return [f"{PAGE} shows no session at the prompt"]
+    name = NAMED.findall(page[: block.start()])[-1]
+    head, _, said = (root / SHOWN).read_text(encoding="utf-8").partition("%%\n")
+    typed = said[said.index("\n> ") + 1 :].replace("FILE", f"{name}.ispc")
+    stored = re.sub(r"^> ", "(rinddecade) ", typed, flags=re.M)
+    why = [] if head.partition("\n")[2] == (root / f"examples/{name}.ispc").read_text(encoding="utf-8") else [f"{SHOWN} has another source"]
+    return why + ([] if block[1] == stored else [f"{SHOWN} has it otherwise"])
 
 
 def runs(root):
