@@ -195,13 +195,38 @@ GIVENS = "800000000 003600000 070090200 050007000 000045700 000100030 001000068 
 SOLUTION = "812753649 943682175 675491283 154237896 369845721 287169534 521974368 438526917 796318452"
 
 
+DIGITS = set(range(1, 10))
+
+# The cells of each cell's row, column and box.
+SEEN = [[it for it in range(81) if it // 9 == at // 9 or it % 9 == at % 9 or (it // 27, it % 9 // 3) == (at // 27, at % 9 // 3)] for at in range(81)]
+
+
 def sudoku():
+    """The printed solution; and how many digits a search puts until it is there, by sets of digits and a function that calls itself."""
     givens, board = ([int(it) for it in of.replace(" ", "")] for of in (GIVENS, SOLUTION))
     assert all(given in (0, digit) for given, digit in zip(givens, board))
     rows = [board[at : at + 9] for at in range(0, 81, 9)]
     boxes = [[rows[down + at // 3][across + at % 3] for at in range(9)] for down in (0, 3, 6) for across in (0, 3, 6)]
     assert all(sorted(it) == list(range(1, 10)) for it in [*rows, *map(list, zip(*rows)), *boxes])
-    return Kernel("sudoku", "Arto Inkala's puzzle of 2012, row by row; 0 is an open cell.", {"givens": givens}, {"board": board, "wrong": 0})
+    is_solved, tries = searched(list(givens))
+    assert is_solved
+    about = "Arto Inkala's puzzle of 2012, row by row; 0 is an open cell."
+    return Kernel("sudoku", about, {"givens": givens}, {"board": board, "tries": tries, "wrong": 0})
+
+
+def searched(board):
+    """Whether a board can be filled, the cell with the fewest candidates first and the least digit first, and how many digits that puts."""
+    found = {at: DIGITS - {board[it] for it in SEEN[at]} for at in range(81) if board[at] == 0}
+    if not found:
+        return True, 0
+    at, tries = min(found, key=lambda it: (len(found[it]), it)), 0
+    for board[at] in sorted(found[at]):
+        is_solved, more = searched(board)
+        tries += 1 + more
+        if is_solved:
+            return True, tries
+    board[at] = 0
+    return False, tries
 
 
 def utf8():
