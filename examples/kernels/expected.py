@@ -1,8 +1,9 @@
 #!/usr/bin/env python3
 """What each kernel is given and what it is to give: `expected.py` writes NAME.input and NAME.expected of each beside itself.
 
-What is expected comes from Python's library, from published vectors, or from another way of working it out than the kernel's, in Python's
-unbounded whole numbers. The program is never asked. `make test` compares the files with what this makes, and the program with the files.
+What is expected comes from Python's library, from published vectors and solutions, or from plain Python with its unbounded whole numbers, for
+most kernels in another way than theirs. The program is never asked. `make test` compares the files with what this makes, and the program with
+the files.
 """
 
 import base64
