@@ -19,6 +19,11 @@ program:
 test:
 	tools/run_tests
 
+# Packs the extension of VS Code from editors/vscode: editors/vscode/out/rinddecade.vsix.
+.PHONY: extension
+extension:
+	tools/pack_extension
+
 # Emacs with dap-mode speaks with the adapter of the quick build. Both are installed from Debian's packages.
 test-editors:
 	apt-get update
