@@ -1,0 +1,121 @@
+;;; rinddecade-dap.el --- Sources of ISPC stepped forwards and back  -*- lexical-binding: t; -*-
+
+;; Package-Requires: ((emacs "27.1") (dap-mode "0.7"))
+
+;;; Commentary:
+
+;; The debugger rinddecade in dap-mode, which has no commands of its own that go back: here they are, with keys.
+
+;;; Code:
+
+(require 'dap-mode)
+(require 'ispc-mode)
+
+(defgroup rinddecade nil
+  "The debugger of gangs."
+  :group 'tools)
+
+(defcustom rinddecade-program "rinddecade"
+  "The program: its path, or a name that is looked up on the path."
+  :type 'string)
+
+(defcustom rinddecade-width 8
+  "How many lanes a gang has."
+  :type '(choice (const 4) (const 8) (const 16)))
+
+(defun rinddecade--launch (launch)
+  "LAUNCH with what it does not say: the adapter, and the source of the buffer."
+  (let ((path (if (file-name-directory rinddecade-program) (expand-file-name rinddecade-program) rinddecade-program)))
+    (-> launch
+        (dap--put-if-absent :dap-server-path (list path "adapter"))
+        (dap--put-if-absent :request "launch")
+        (dap--put-if-absent :name "This source")
+        (dap--put-if-absent :width rinddecade-width)
+        (dap--put-if-absent :program (buffer-file-name)))))
+
+(defvar treemacs-text-scale nil
+  "The list of variables reads it, and older versions of treemacs have it not.")
+
+(defun rinddecade--is-stop (session event)
+  "Whether EVENT of SESSION says that a gang has stopped."
+  (and (equal (plist-get (dap--debug-session-launch-args session) :type) "rinddecade")
+       (equal (gethash "event" event) "stopped")))
+
+(defun rinddecade--show-stop (take session event)
+  "Has TAKE take EVENT of SESSION, and shows where a gang has stopped, with its lanes.
+A fault is told by its text: dap-mode would ask for more, which there is not."
+  (if (not (rinddecade--is-stop session event))
+      (funcall take session event)
+    (let ((body (gethash "body" event)))
+      (when (equal (gethash "reason" body) "exception")
+        (puthash "reason" "fault" body))
+      (funcall take session event)
+      (message "%s" (gethash "text" body)))))
+
+(advice-add 'dap--on-event :around #'rinddecade--show-stop)
+
+(dap-register-debug-provider "rinddecade" #'rinddecade--launch)
+(dap-register-debug-template "Rinddecade: this source" (list :type "rinddecade" :name "This source"))
+(dap-register-debug-template "Rinddecade: this source from its end" (list :type "rinddecade" :name "From its end" :stopOnEntry :json-false))
+
+(defun rinddecade--asked ()
+  "The arguments of a launch for which the user is asked, without those left empty."
+  (let ((input (read-file-name "Input, if any: " nil "" t))
+        (entry (read-string "Entry, the first function if empty: ")))
+    (append (unless (string-empty-p input) (list :input (expand-file-name input)))
+            (unless (string-empty-p entry) (list :entry entry)))))
+
+(defun rinddecade-go (&optional is-asked)
+  "Begins with the source of the buffer, or goes on to the next breakpoint.
+With a prefix argument, IS-ASKED, it begins after it has asked for an input and an entry."
+  (interactive "P")
+  (if (and (not is-asked) (dap--session-running (dap--cur-session)))
+      (call-interactively #'dap-continue)
+    (dap-debug (append (list :type "rinddecade") (when is-asked (rinddecade--asked))))))
+
+(defun rinddecade-step-back (session)
+  "Takes back the last step of SESSION."
+  (interactive (list (dap--cur-active-session-or-die)))
+  (dap--step "stepBack" session))
+
+(defun rinddecade-reverse-continue (session)
+  "Goes back in SESSION to a breakpoint or the change of a watch.
+Where there is none, it goes to the beginning of the history."
+  (interactive (list (dap--cur-active-session-or-die)))
+  (dap--step "reverseContinue" session))
+
+(defun rinddecade-line (line session)
+  "Shows what SESSION answers to LINE.
+It is a command of the debugger, as `watch total', or a name."
+  (interactive (list (read-string "Line: " nil 'rinddecade-line-history) (dap--cur-active-session-or-die)))
+  (dap--send-message (dap--make-request "evaluate" (list :expression line :context "repl"))
+                     (dap--resp-handler (lambda (response) (message "%s" (gethash "result" (gethash "body" response)))))
+                     session))
+
+(defvar rinddecade-line-history nil
+  "The lines that were sent.")
+
+(defconst rinddecade-keys
+  '(("<f5>" . rinddecade-go)
+    ("S-<f5>" . rinddecade-reverse-continue)
+    ("<f9>" . dap-breakpoint-toggle)
+    ("<f10>" . dap-next)
+    ("S-<f10>" . rinddecade-step-back)
+    ("<f11>" . dap-step-in)
+    ("S-<f11>" . dap-step-out)
+    ("C-c C-c" . rinddecade-go)
+    ("C-c C-r" . rinddecade-reverse-continue)
+    ("C-c C-n" . dap-next)
+    ("C-c C-p" . rinddecade-step-back)
+    ("C-c C-s" . dap-step-in)
+    ("C-c C-f" . dap-step-out)
+    ("C-c C-b" . dap-breakpoint-toggle)
+    ("C-c C-l" . rinddecade-line))
+  "The keys in sources, for terminals without those of functions too.")
+
+(dolist (row rinddecade-keys)
+  (define-key ispc-mode-map (kbd (car row)) (cdr row)))
+
+(provide 'rinddecade-dap)
+
+;;; rinddecade-dap.el ends here

@@ -1,0 +1,11 @@
+" How sources of ISPC are edited.
+if exists("b:did_ftplugin")
+  finish
+endif
+let b:did_ftplugin = 1
+
+setlocal comments=s1:/*,mb:*,ex:*/,://
+setlocal commentstring=//\ %s
+setlocal formatoptions-=t formatoptions+=croql
+setlocal suffixesadd=.ispc
+let b:undo_ftplugin = "setlocal comments< commentstring< formatoptions< suffixesadd<"
