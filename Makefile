@@ -24,11 +24,12 @@ test:
 extension:
 	tools/pack_extension
 
-# Emacs with dap-mode speaks with the adapter of the quick build. Both are installed from Debian's packages.
+# Emacs with dap-mode, Neovim, and node with the extension of VS Code try editors/ with the quick build. They are installed from Debian's packages.
 test-editors:
 	apt-get update
-	apt-get install -y --no-install-recommends emacs-nox elpa-dap-mode
-	emacs --batch -l tools/testing/adapter_dap_mode.el examples/lanes.ispc crates/rinddecade/out/quick adapter
+	apt-get install -y --no-install-recommends emacs-nox elpa-dap-mode neovim nodejs
+	test -x crates/rinddecade/out/quick || tools/quick_build rinddecade
+	tools/test_editors $(CURDIR)/crates/rinddecade/out/quick
 
 # Proves what is not proved yet.
 prove:

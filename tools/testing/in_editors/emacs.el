@@ -1,0 +1,132 @@
+;;; Emacs with editors/emacs and dap-mode: emacs --batch -l tools/testing/in_editors/emacs.el TOKENS EXAMPLES PROGRAM
+;; Each token of the examples has its face, their lines are indented as they are, and the keys step forwards and back. The status is 0 where
+;; all of this came.
+(require 'package)
+(package-initialize)
+(dolist (folder '("/usr/share/emacs/site-lisp/elpa/" "/usr/share/emacs/site-lisp/elpa-src/"))
+  (let ((default-directory folder))
+    (ignore-errors (normal-top-level-add-subdirs-to-load-path))))
+(add-to-list 'load-path (expand-file-name "../../../editors/emacs" (file-name-directory load-file-name)))
+(require 'rinddecade-dap)
+(require 'json)
+(setq dap-auto-configure-features nil lsp-enable-snippet nil)
+
+(defvar tokens (json-read-file (pop command-line-args-left)))
+(defvar examples (file-name-as-directory (expand-file-name (pop command-line-args-left))))
+(setq rinddecade-program (pop command-line-args-left))
+(setq rinddecade-width 4)
+
+(defconst faces
+  '(("comment" font-lock-comment-face font-lock-comment-delimiter-face)
+    ("control" font-lock-keyword-face)
+    ("foreach" font-lock-keyword-face)
+    ("rate" font-lock-keyword-face)
+    ("modifier" font-lock-keyword-face)
+    ("type" font-lock-type-face)
+    ("truth" font-lock-constant-face)
+    ("number" font-lock-constant-face)
+    ("lane" font-lock-variable-name-face)
+    ("library" font-lock-builtin-face)
+    ("function" font-lock-function-name-face)
+    ("name" nil)
+    ("mark" nil))
+  "The faces that a token of each kind may have.")
+
+(defun need (holds what)
+  (message (if holds "came: %s" "did not come: %s") what)
+  (unless holds
+    (kill-emacs 1)))
+
+(defun wait-for (holds what)
+  "Waits until a call holds, and says so."
+  (let ((end (+ (float-time) 60)))
+    (while (and (not (funcall holds)) (< (float-time) end))
+      (accept-process-output nil 0.05)
+      (sit-for 0.05))
+    (need (funcall holds) what)))
+
+(defun visit (name)
+  (find-file (concat examples name))
+  (need (eq major-mode 'ispc-mode) (format "the mode of %s" name)))
+
+(defun wrong-faces (tokens)
+  "The tokens of the buffer that have none of their faces."
+  (font-lock-ensure)
+  (seq-filter (lambda (token)
+                (let ((face (get-text-property (+ (point-min) (alist-get 'start token)) 'face)))
+                  (not (memq face (alist-get (alist-get 'kind token) faces nil nil #'string=)))))
+              tokens))
+
+(dolist (file tokens)
+  (visit (symbol-name (car file)))
+  (need (equal (wrong-faces (cdr file)) nil) (format "the faces of %s" (car file)))
+  (let ((before (buffer-string)))
+    (while (re-search-forward "^[ \t]+" nil t)
+      (replace-match ""))
+    (let ((inhibit-message t))
+      (indent-region (point-min) (point-max)))
+    (need (equal-including-properties (substring-no-properties before) (substring-no-properties (buffer-string)))
+          (format "the indentation of %s" (car file))))
+  (set-buffer-modified-p nil)
+  (kill-buffer))
+
+(defun press (keys)
+  "Calls what keys are bound to in the buffer."
+  (call-interactively (key-binding (kbd keys))))
+
+(defun stands-at (line what)
+  "Waits until the program, and the cursor with it, stands on a line."
+  (wait-for (lambda ()
+              (let ((frame (and (dap--cur-session) (dap--debug-session-active-frame (dap--cur-session)))))
+                (and frame (= (gethash "line" frame) line) (= (line-number-at-pos) line))))
+            (format "line %d: %s" line what)))
+
+(defvar told nil
+  "The last message.")
+(advice-add 'message :before (lambda (&optional text &rest given) (setq told (and text (apply #'format text given)))))
+
+(defun shows (line wanted)
+  "Waits until a line is answered so."
+  (rinddecade-line line (dap--cur-session))
+  (wait-for (lambda () (equal told wanted)) (format "%s: %s" line wanted)))
+
+(visit "lanes.ispc")
+(press "<f5>")
+(stands-at 2 "the entry")
+(press "<f10>")
+(stands-at 3 "a step over")
+(press "<f11>")
+(stands-at 4 "a step into")
+(press "S-<f10>")
+(stands-at 3 "a step back")
+(goto-char (point-min))
+(forward-line 4)
+(press "<f9>")
+(press "<f5>")
+(stands-at 5 "the breakpoint")
+(shows "x" "x = 1 1 1 1")
+(press "C-c C-p")
+(stands-at 4 "a step back")
+(shows "print x[3]" "x[3] = 0")
+(press "S-<f5>")
+(stands-at 2 "the beginning, reached backwards")
+(call-interactively #'dap-disconnect)
+
+(visit "total.ispc")
+(dap-debug (copy-tree (cdr (assoc "Rinddecade: this source from its end" dap-debug-template-configurations))))
+(wait-for (lambda () (and (dap--cur-session) (equal (gethash 1 (dap--debug-session-thread-states (dap--cur-session))) "step"))) "the end")
+(shows "watch total" "watch 1: total")
+(press "C-c C-r")
+(stands-at 7 "the statement that changed the variable, reached backwards")
+(shows "total" "total = 10")
+(call-interactively #'dap-disconnect)
+
+(visit "divide.ispc")
+(dap-debug (list :type "rinddecade" :entry "go"))
+(stands-at 4 "the entry that was asked for")
+(press "C-c C-c")
+(wait-for (lambda () (equal told "fault F1 DivideByZero lane 1: at 8:5 go depth 1 lanes 1111")) "the fault")
+(stands-at 8 "the fault")
+(press "C-c C-p")
+(stands-at 7 "a step back from the fault")
+(kill-emacs 0)
