@@ -36,15 +36,14 @@
 (defvar treemacs-text-scale nil
   "The list of variables reads it, and older versions of treemacs have it not.")
 
-(defun rinddecade--is-stop (session event)
-  "Whether EVENT of SESSION says that a gang has stopped."
-  (and (equal (plist-get (dap--debug-session-launch-args session) :type) "rinddecade")
-       (equal (gethash "event" event) "stopped")))
+(defun rinddecade--is-gang (session)
+  "Whether SESSION runs a gang."
+  (equal (plist-get (dap--debug-session-launch-args session) :type) "rinddecade"))
 
 (defun rinddecade--show-stop (take session event)
-  "Has TAKE take EVENT of SESSION, and shows where a gang has stopped, with its lanes.
-A fault is told by its text: dap-mode would ask for more, which there is not."
-  (if (not (rinddecade--is-stop session event))
+  "Has TAKE take EVENT of SESSION, and shows where a gang has stopped.
+A fault is told by its text: dap-mode would ask for more."
+  (if (not (and (rinddecade--is-gang session) (equal (gethash "event" event) "stopped")))
       (funcall take session event)
     (let ((body (gethash "body" event)))
       (when (equal (gethash "reason" body) "exception")
@@ -52,7 +51,26 @@ A fault is told by its text: dap-mode would ask for more, which there is not."
       (funcall take session event)
       (message "%s" (gethash "text" body)))))
 
+(defun rinddecade--step (step command session)
+  "Has STEP do COMMAND of SESSION. A gang that refuses it stands where it stood.
+Else dap-mode would hold it for running, and refuse all later steps itself."
+  (if (not (and (rinddecade--is-gang session) (dap--debug-session-thread-id session)))
+      (funcall step command session)
+    (let* ((thread (dap--debug-session-thread-id session))
+           (refused (lambda (why)
+                      (dap--select-thread-id session thread t)
+                      (message "%s" why))))
+      (dap--send-message (dap--make-request command (list :threadId thread)) (dap--resp-handler nil refused) session)
+      (dap--resume-application session))))
+
+(defun rinddecade--continue (continue session thread)
+  "Has CONTINUE go on with THREAD of SESSION.
+A gang goes on as `rinddecade--step' says."
+  (rinddecade--step (lambda (_command session) (funcall continue session thread)) "continue" session))
+
 (advice-add 'dap--on-event :around #'rinddecade--show-stop)
+(advice-add 'dap--step :around #'rinddecade--step)
+(advice-add 'dap-continue :around #'rinddecade--continue)
 
 (dap-register-debug-provider "rinddecade" #'rinddecade--launch)
 (dap-register-debug-template "Rinddecade: this source" (list :type "rinddecade" :name "This source"))
@@ -67,7 +85,7 @@ A fault is told by its text: dap-mode would ask for more, which there is not."
 
 (defun rinddecade-go (&optional is-asked)
   "Begins with the source of the buffer, or goes on to the next breakpoint.
-With a prefix argument, IS-ASKED, it begins after it has asked for an input and an entry."
+With a prefix argument, IS-ASKED, it asks for input and entry and begins."
   (interactive "P")
   (if (and (not is-asked) (dap--session-running (dap--cur-session)))
       (call-interactively #'dap-continue)

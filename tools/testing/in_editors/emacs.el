@@ -90,6 +90,16 @@
   (rinddecade-line line (dap--cur-session))
   (wait-for (lambda () (equal told wanted)) (format "%s: %s" line wanted)))
 
+(defun is-refused (keys why line)
+  "Presses keys that are refused on a line; a step forwards and back is not."
+  (press keys)
+  (wait-for (lambda () (equal told why)) (format "%s: %s" keys why))
+  (stands-at line "as before")
+  (press "<f10>")
+  (stands-at (1+ line) "a step over")
+  (press "S-<f10>")
+  (stands-at line "a step back"))
+
 (visit "lanes.ispc")
 (press "<f5>")
 (stands-at 2 "the entry")
@@ -110,6 +120,13 @@
 (shows "print x[3]" "x[3] = 0")
 (press "S-<f5>")
 (stands-at 2 "the beginning, reached backwards")
+(is-refused "S-<f10>" "C3 NoHistory" 2)
+(is-refused "S-<f5>" "C3 NoHistory" 2)
+(is-refused "S-<f11>" "C6 Outermost" 2)
+(rinddecade-line "step 2" (dap--cur-session))
+(stands-at 4 "a line that steps")
+(rinddecade-line "reverse-step" (dap--cur-session))
+(stands-at 3 "a line that steps back")
 (call-interactively #'dap-disconnect)
 
 (visit "total.ispc")
@@ -129,4 +146,9 @@
 (stands-at 8 "the fault")
 (press "C-c C-p")
 (stands-at 7 "a step back from the fault")
+(call-interactively #'dap-disconnect)
+
+(visit "scale.ispc")
+(dap-debug (list :type "rinddecade" :input (concat examples "scale.input")))
+(stands-at 5 "the entry, with an input")
 (kill-emacs 0)
