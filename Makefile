@@ -24,10 +24,10 @@ test:
 extension:
 	tools/pack_extension
 
-# Emacs with dap-mode, Neovim, and node with the extension of VS Code try editors/ with the quick build. They are installed from Debian's packages.
+# Emacs, Neovim, Kate's highlighter, and node with VS Code's extension try editors/ with the quick build. Debian's packages have them.
 test-editors:
 	apt-get update
-	apt-get install -y --no-install-recommends emacs-nox elpa-dap-mode neovim nodejs
+	apt-get install -y --no-install-recommends emacs-nox elpa-dap-mode neovim nodejs libkf5syntaxhighlighting-tools
 	test -x crates/rinddecade/out/quick || tools/quick_build rinddecade
 	tools/test_editors $(CURDIR)/crates/rinddecade/out/quick
 
