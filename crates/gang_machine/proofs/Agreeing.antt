@@ -43,7 +43,7 @@ untasked_view : (state : State) (id : VarId) → array_of (untasked state) id �
 untasked_view state (File k) = refl
 untasked_view state (Local k) = untasked_views state.frames (Local k)
 
-untasked_shown : (state : State) (v : Variable) → shown_words (untasked state) v ≡ shown_words state v
+pub untasked_shown : (state : State) (v : Variable) → shown_words (untasked state) v ≡ shown_words state v
 untasked_shown state v = ap₂ (λ view words. if v.is_array then elements view state else words) (untasked_view state v.id) (untasked_words state v.id)
 
 -- ---- how a step ends

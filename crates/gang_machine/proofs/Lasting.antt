@@ -1,5 +1,5 @@
 -- The program, the entry, the lines and the layout last.
-use Rattle.std.proofs.Common.{◌≡◌, ℕ, List, [], ap, refl}
+use Rattle.std.proofs.Common.{◌≡◌, ℕ, List, [], ap}
 use Rattle.undo_log.specs.History.{History}
 use Rattle.debug_traits.specs.declared.machine.StepEnd.{StepEnd}
 use Rattle.debug_traits.specs.declared.machine.StepEnd.TheVariants as end

@@ -2,6 +2,7 @@ pub mod Agreeing
 pub mod Beginnings
 pub mod EntryArrays
 pub mod Finding
+pub mod FrameViews
 pub mod HeadSizes
 pub mod Keeping
 mod Lasting
@@ -13,3 +14,4 @@ pub mod Positions
 pub mod Recording
 pub mod Seeing
 pub mod Stepping
+mod TopDepth

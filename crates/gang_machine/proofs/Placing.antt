@@ -81,9 +81,6 @@ module _ (w entry : ℕ) (program : Program) (lines : List ℕ) (layout : Layout
     pub line_ended : line_now s.program (now s d) ≡ None
     line_ended = ap line_of (standing_is w entry program lines layout h lowerable s d stands None over)
 
-    pub scope_ended : scope_now s.program (now s d) ≡ []
-    scope_ended = ap scope_of (standing_is w entry program lines layout h lowerable s d stands None over)
-
     pub depth_ended : depth (now s d) ≡ 1
     depth_ended = ap (λ frames. max 1 (length frames)) (none_left p (now s d).frames (spot_of None over))
 

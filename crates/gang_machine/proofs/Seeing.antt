@@ -1,15 +1,17 @@
--- What is in scope where a machine stands, and the words of each variable that is seen.
+-- What is in scope where a machine and its frames stand, and the words of each variable that is seen.
 use Rattle.std.proofs.Common.{◌≡◌, refl, sym, ap, subst, ◌∙◌, ℕ, ◌⊎◌, inl, inr, false, List, [], ◌∷◌, length, map, Option, Some, None}
 use Rattle.std.specs.Prelude.{All, slice_get, if◌then◌else◌}
 use Rattle.std.proofs.lemmas.Option.{get_or_from_slice_get, none-some, slice_get_within}
 use Rattle.undo_log.specs.History.{History}
+use Rattle.gang_types.specs.declared.places.Spot.{Spot}
 use Rattle.gang_types.specs.declared.places.VarId.TheVariants.{File, Local}
 use Rattle.gang_model.specs.Types.Tree as t
 use Rattle.gang_model.specs.Types.Tree.{Function, Standing, StepNumber, Variable}
 use Rattle.gang_model.specs.Running.RunningOrder.{IsNumberedProgram}
 use Rattle.gang_model.specs.Running.State.{Frame, view_of as array_of, words_in, words_for}
 use Rattle.gang_model.specs.Debugger.Debugger.{Debugger, Setting, elements, now, shown_words}
-use Rattle.gang_model.specs.Debugger.Positions.{scope_now, scope_of, spot_in, standing_in}
+use Rattle.gang_model.specs.Debugger.Positions.{scope_now, scope_of, spot_in, standing_in, standing_of}
+use Rattle.debug_traits.specs.Frames.{scope_at, state_at}
 use Rattle.debug_traits.specs.Machines.{IsOneOf, file_variables as variables_of_file}
 use Rattle.typed_tree.specs.declared.program.Function.{Function as TypedFunction}
 use Rattle.typed_tree.specs.declared.program.Global.{Global}
@@ -34,14 +36,16 @@ use Rattle.frame_steps.specs.Compiled.{program_of, variables_of}
 use Rattle.frame_steps.specs.Standing.{IsShown}
 use Rattle.frame_steps.proofs.FrameLevels.{innermost_there}
 use Rattle.frame_steps.proofs.Standings.{sized}
-use Rattle.machine_shown.specs.Seen.{IsInScope, IsSeen, StandsAt}
+use Rattle.machine_shown.specs.Frames.{masked_spot_at, masked_up_to, regions_up_to}
+use Rattle.machine_shown.specs.Seen.{IsInScope, IsInScopeOf, IsSeen, IsSeenAt, IsSeenOf, StandsAt}
+use Rattle.machine_shown.proofs.FramePlaces.{declared_up_to, shows_up_to, sized_up_to, spot_up_to}
 use Rattle.machine_shown.proofs.Viewed.{viewed_at}
 use Rattle.machine_names.specs.Found.{file_variables}
 use Rattle.gang_machine.specs.Machines.{IsMachine}
-use Rattle.gang_machine.specs.Nexts.{HasEnded, IsNext, Sees}
+use Rattle.gang_machine.specs.Nexts.{HasNoFrame, IsPlace, Sees}
 use Rattle.gang_machine.specs.Standings.{SeenStands, view_of}
-use Rattle.gang_machine.proofs.Agreeing.{masked_now, shown_are, spot_is, standing_is}
-use Rattle.gang_machine.proofs.Placing.{scope_ended}
+use Rattle.gang_machine.proofs.Agreeing.{masked_now, shown_are, standing_is}
+use Rattle.gang_machine.proofs.FrameViews.{shown_at_are, spot_at_is, standing_at_is}
 
 -- ---- the next step
 
@@ -147,61 +151,81 @@ module _ {T : Type 0} (history : T → History) (w entry : ℕ) (compiled : Comp
   pub file_here : variables_of_file s ≡ file_variables compiled.program.globals.items
   file_here = ap (λ (q : t.Program). map (λ g. g.variable) q.globals) stands.program
 
-  scope_none : masked_spot masked ≡ None → scope_now s.program (now s d) ≡ []
-  scope_none over = scope_ended w entry compiled.program lines words.layout (history words.store.timeline) runnable.lowerable s d stands over
-
   -- ---- what is seen
 
-  scope_seen_at : (function number : ℕ) (f : Function) → masked_spot masked ≡ Some (spot_in function number) → slice_get (program_of compiled).functions function ≡ Some f → (o : Option Standing)
-      → slice_get f.standings number ≡ o → (v : Variable) (k : ℕ) → slice_get (scope_of o) k ≡ Some v → IsInScope compiled masked v
-  scope_seen_at function number f at_spot is_function None none v k e = cc
-  scope_seen_at function number f at_spot is_function (Some standing) is v k e = (function, number, f, standing, at_spot, record { is_function = is_function; stands = is }, k, e)
+  scope_in_step : (function number : ℕ) (f : Function) → slice_get (program_of compiled).functions function ≡ Some f → (o : Option Standing) → slice_get f.standings number ≡ o
+      → (v : Variable) (k : ℕ) → slice_get (scope_of o) k ≡ Some v → IsInScopeOf compiled (Some (spot_in function number)) v
+  scope_in_step function number f is_function None none v k e = cc
+  scope_in_step function number f is_function (Some standing) is v k e = (function, number, f, standing, refl, record { is_function = is_function; stands = is }, k, e)
 
-  scope_seen : (masked_spot masked ≡ None) ⊎ HasNext (program_of compiled) w (regions_in history w words) → (v : Variable) → IsOneOf (scope_now s.program (now s d)) v → IsInScope compiled masked v
-  scope_seen (inl over) v (k, e) = absurd (none-some v (ap (λ vs. slice_get vs k) (sym (scope_none over)) ∙ e))
-  scope_seen (inr has) v (k, e) =
-      let at_spot = spot (program_of compiled) (variables_of compiled) w (regions_in history w words) masked shown_here.shows has.index has.level has.function has.f has.number (slice_get (points_in has.f) has.number) has.next in
-      let standing = standing_is w entry compiled.program lines words.layout (history words.store.timeline) runnable.lowerable s d stands (Some (spot_in has.function has.number)) at_spot
-      ∙ ap (λ o. standing_in o has.number) has.next.is_function in
-      scope_seen_at has.function has.number has.f at_spot has.next.is_function (slice_get has.f.standings has.number) refl v k (ap (λ o. slice_get (scope_of o) k) (sym standing) ∙ e)
+  scope_in_function : (function number : ℕ) (o : Option Function) → slice_get (program_of compiled).functions function ≡ o
+      → (v : Variable) (k : ℕ) → slice_get (scope_of (standing_in o number)) k ≡ Some v → IsInScopeOf compiled (Some (spot_in function number)) v
+  scope_in_function function number None none v k e = cc
+  scope_in_function function number (Some f) is v k e = scope_in_step function number f is (slice_get f.standings number) refl v k e
+
+  scope_in : (spot : Option Spot) (v : Variable) (k : ℕ) → slice_get (scope_of (standing_of (program_of compiled) spot)) k ≡ Some v → IsInScopeOf compiled spot v
+  scope_in None v k e = cc
+  scope_in (Some spot) v k e = scope_in_function spot.function.0 spot.number (slice_get (program_of compiled).functions spot.function.0) refl v k e
+
+  seen_there : (here : Option Spot) (scope : List Variable) → scope ≡ scope_of (standing_of (program_of compiled) here) → (v : Variable) → IsOneOf scope v ⊎ IsOneOf (variables_of_file s) v
+      → IsSeenOf compiled here v
+  seen_there here scope is v (inl (k, e)) = inl (scope_in here v k (ap (λ vs. slice_get vs k) (sym is) ∙ e))
+  seen_there here scope is v (inr (k, e)) = inr (k, ap (λ vs. slice_get vs k) (sym (file_here ∙ file_same compiled.program.globals.items)) ∙ e)
 
   -- a variable in scope, or of the file, is seen
   pub is_seen : (v : Variable) → IsOneOf (scope_now s.program (now s d)) v ⊎ IsOneOf (variables_of_file s) v → IsSeen compiled masked v
-  is_seen v (inl there) = inl (scope_seen (next_or_ended (program_of compiled) (variables_of compiled) runnable.lowerable.numbered w (regions_in history w words) masked shown_here.shows) v there)
-  is_seen v (inr (k, e)) = inr (k, ap (λ vs. slice_get vs k) (sym (file_here ∙ file_same compiled.program.globals.items)) ∙ e)
+  is_seen v there =
+      seen_there (masked_spot masked) (scope_now s.program (now s d))
+      (ap scope_of (standing_is w entry compiled.program lines words.layout (history words.store.timeline) runnable.lowerable s d stands (masked_spot masked) refl)) v there
 
   -- what is shown of it is what is shown of the masked state
   pub shown_same : (v : Variable) → shown_words (now s d) v ≡ shown_words masked.state v
   shown_same v = shown_are w entry compiled.program lines words.layout (history words.store.timeline) runnable.lowerable s d stands v
 
-  pub shown_long : (v : Variable) → v.is_array ≡ false → IsSeen compiled masked v → length (shown_words (now s d) v) ≡ words_for w v.rate
-  shown_long v scalar seen =
-      ap length (shown_same v)
-      ∙ ap (λ b. length (if b then elements (array_of masked.state v.id) masked.state else words_in masked.state v.id)) scalar
-      ∙ seen_long w compiled runnable masked (regions_in history w words) shown_here.shows shown_here.declared
-      (sized history w compiled words words is_machine.lie refl is_machine.lie.laid) v scalar seen
+  -- ---- the frame at a depth
 
-  -- what a debugger sees
-  pub sees : (scope : List Variable) → scope_now s.program (now s d) ≡ scope → Sees scope (file_variables compiled.program.globals.items) s d
-  sees scope is = record { scope_is = is; file_is = file_here }
+  module _ (deep : ℕ) where
+    -- a variable in scope there, or of the file, is seen
+    pub is_seen_at : (v : Variable) → IsOneOf (scope_at s.program deep (now s d)) v ⊎ IsOneOf (variables_of_file s) v → IsSeenAt compiled deep masked v
+    is_seen_at v there =
+        seen_there (masked_spot_at deep masked) (scope_at s.program deep (now s d))
+        (ap scope_of (standing_at_is w entry compiled.program lines words.layout (history words.store.timeline) runnable.lowerable s d stands deep (masked_spot_at deep masked) refl)) v there
 
-  -- ---- the next step
+    pub shown_same_at : (v : Variable) → shown_words (state_at deep (now s d)) v ≡ shown_words (state_at deep masked.state) v
+    shown_same_at v = shown_at_are w entry compiled.program lines words.layout (history words.store.timeline) runnable.lowerable s d stands deep v
 
-  -- at a step of one of the program's functions
-  pub is_next : (number step : ℕ) (function : TypedFunction) → slice_get compiled.program.functions.items number ≡ Some function → masked_spot masked ≡ Some (spot_in number step)
-      → IsNext (view_of w entry compiled.program lines words.layout (history words.store.timeline)) s d function step
-  is_next number step function is_function at_spot = record {
-    number = number;
-    is_function = is_function;
-    stands = spot_is w entry compiled.program lines words.layout (history words.store.timeline) runnable.lowerable s d stands ∙ at_spot;
-    sees = sees (scope_of (slice_get (function_view function).standings step))
-        (ap scope_of (standing_is w entry compiled.program lines words.layout (history words.store.timeline) runnable.lowerable s d stands (Some (spot_in number step)) at_spot)
-        ∙ ap (λ o. scope_of (standing_in o step)) (viewed_at function_view compiled.program.functions.items number function is_function));
-  }
+    pub shown_long : (v : Variable) → v.is_array ≡ false → IsSeenAt compiled deep masked v → length (shown_words (state_at deep (now s d)) v) ≡ words_for w v.rate
+    shown_long v scalar seen =
+        let p = program_of compiled in
+        let variables = variables_of compiled in
+        let regions = regions_in history w words in
+        let shows = shown_here.shows in
+        ap length (shown_same_at v)
+        ∙ ap (λ b. length (if b then elements (array_of (state_at deep masked.state) v.id) (state_at deep masked.state) else words_in (state_at deep masked.state) v.id)) scalar
+        ∙ seen_long w compiled runnable (masked_up_to deep masked) (regions_up_to deep regions) (shows_up_to p variables w regions masked shows deep)
+        (declared_up_to p variables w regions masked shows deep shown_here.declared)
+        (sized_up_to p variables w regions masked shows deep (sized history w compiled words words is_machine.lie refl is_machine.lie.laid)) v scalar
+        (subst (λ (spot : Option Spot). IsSeenOf compiled spot v) (spot_up_to p variables w regions masked shows deep) seen)
 
-  -- and once the program has ended
-  pub has_ended : masked_spot masked ≡ None → HasEnded (view_of w entry compiled.program lines words.layout (history words.store.timeline)) s d
-  has_ended over = record {
-    stands = spot_is w entry compiled.program lines words.layout (history words.store.timeline) runnable.lowerable s d stands ∙ over;
-    sees = sees [] (scope_none over);
-  }
+    -- what a debugger sees
+    sees : (scope : List Variable) → scope_at s.program deep (now s d) ≡ scope → Sees scope (file_variables compiled.program.globals.items) s d deep
+    sees scope is = record { scope_is = is; file_is = file_here }
+
+    -- at a step of one of the program's functions
+    pub is_place : (number step : ℕ) (function : TypedFunction) → slice_get compiled.program.functions.items number ≡ Some function → masked_spot_at deep masked ≡ Some (spot_in number step)
+        → IsPlace (view_of w entry compiled.program lines words.layout (history words.store.timeline)) s d deep function step
+    is_place number step function is_function at_spot = record {
+      number = number;
+      is_function = is_function;
+      stands = spot_at_is w entry compiled.program lines words.layout (history words.store.timeline) runnable.lowerable s d stands deep ∙ at_spot;
+      sees = sees (scope_of (slice_get (function_view function).standings step))
+          (ap scope_of (standing_at_is w entry compiled.program lines words.layout (history words.store.timeline) runnable.lowerable s d stands deep (Some (spot_in number step)) at_spot)
+          ∙ ap (λ o. scope_of (standing_in o step)) (viewed_at function_view compiled.program.functions.items number function is_function));
+    }
+
+    -- and where there is no frame
+    pub has_no_frame : masked_spot_at deep masked ≡ None → HasNoFrame (view_of w entry compiled.program lines words.layout (history words.store.timeline)) s d deep
+    has_no_frame none = record {
+      stands = spot_at_is w entry compiled.program lines words.layout (history words.store.timeline) runnable.lowerable s d stands deep ∙ none;
+      sees = sees [] (ap scope_of (standing_at_is w entry compiled.program lines words.layout (history words.store.timeline) runnable.lowerable s d stands deep None none));
+    }

@@ -92,26 +92,24 @@ module _ (p : Program) (variables : Variables) (w : ℕ) (regions : Regions) (ma
       let height : depth ≡ length masked.state.frames = e ∙ ap (λ words. slice_index words 0) shows.depth in
       omega (arith, h, height)
 
-  -- the word of the function of the frame that made the call at a depth is the number of one
-  pub function_at : (deep depth word : ℕ) → depth ≡ slice_index (regions Depth) 0 → deep < depth → word ≡ slice_index (regions (OfHead (deep - 1) FunctionOf)) 0
-      → (f : Function) × (slice_get p.functions word ≡ Some f) × (regions (OfHead (deep - 1) FunctionOf) ≡ word ∷ [])
-  function_at deep depth word depth_is h e =
-      let below : deep - 1 < length masked.state.frames = omega (arith, is_below deep depth depth_is h) in
-      let found = frame_shown p variables w regions (deep - 1) masked.state.frames masked.levels below shows.frames in
+  -- the frame that made the call at a depth is there
+  pub caller_below : (deep depth : ℕ) → depth ≡ slice_index (regions Depth) 0 → deep < depth → deep - 1 < length masked.state.frames
+  caller_below deep depth depth_is h = omega (arith, is_below deep depth depth_is h)
+
+  -- the word of the function of a frame is the number of one
+  pub function_at : (i word : ℕ) → i < length masked.state.frames → word ≡ slice_index (regions (OfHead i FunctionOf)) 0
+      → (f : Function) × (slice_get p.functions word ≡ Some f) × (regions (OfHead i FunctionOf) ≡ word ∷ [])
+  function_at i word below e =
+      let found = frame_shown p variables w regions i masked.state.frames masked.levels below shows.frames in
       let same : found.frame.function ≡ word = sym (e ∙ ap (λ words. slice_index words 0) found.shows.number) in (
         found.shows.function,
         ap (slice_get p.functions) (sym same) ∙ found.shows.is_function,
         found.shows.number ∙ ap (λ m. m ∷ []) same,
       )
 
-  -- so that frame runs it
-  pub running_at : (deep depth word : ℕ) → depth ≡ slice_index (regions Depth) 0 → deep < depth → word ≡ slice_index (regions (OfHead (deep - 1) FunctionOf)) 0 → IsRunning regions (deep - 1) word
-  running_at deep depth word depth_is h e = record {
-    height = length masked.state.frames;
-    depth = shows.depth;
-    below = omega (arith, is_below deep depth depth_is h);
-    runs = (function_at deep depth word depth_is h e).2;
-  }
+  -- so the frame runs it
+  pub running_at : (i word : ℕ) → i < length masked.state.frames → word ≡ slice_index (regions (OfHead i FunctionOf)) 0 → IsRunning regions i word
+  running_at i word below e = record { height = length masked.state.frames; depth = shows.depth; below = below; runs = (function_at i word below e).2 }
 
   -- the step that made a call is one of its function
   call_within : (deep j level m number : ℕ) (g : Function) → deep ≡ suc j → deep < length masked.state.frames → regions (OfHead j FunctionOf) ≡ m ∷ [] → slice_get p.functions m ≡ Some g

@@ -1,9 +1,12 @@
 pub mod CallPlaces
+pub mod FramePlaces
+mod FrameSteps
 pub mod PokedWords
 pub mod ReadWords
 pub mod SameWords
 pub mod SeenVariables
 pub mod SetWords
 pub mod StepPlaces
+mod TopWords
 pub mod Viewed
 pub mod WordsRoom

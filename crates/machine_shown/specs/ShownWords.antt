@@ -57,7 +57,7 @@ AreInRegion width regions (OfElements view) = IsInside regions view
 abbrev pub shown_of : Regions → (frame : ℕ) → VarId → Variable → WordsShown
 shown_of regions frame id v = if v.is_array then OfElements (view_at regions frame id) else OfScalar (region_of frame id) v.rate
 
--- those of a variable of the top frame's function
+-- those of a variable of the top frame's function, of those frames that the regions count
 pub record HasLocalWords (width : ℕ) (compiled : CompiledProgram) (regions : Regions) (number : ℕ) (shown : WordsShown) : Type 0 where
   pub active : Active
   pub f : Function

@@ -4,9 +4,11 @@ ghost use Rattle.gang_types.specs.Masks.{IsGangWidth};
 ghost use Rattle.typed_tree.specs.Views.{variable_view};
 ghost use Rattle.machine_words.specs.Words.{AreLaid, regions_in};
 ghost use Rattle.frame_steps.specs.Standing.{AreSound};
+ghost use Rattle.machine_shown.specs.Frames.{regions_up_to};
 ghost use Rattle.machine_shown.specs.ShownWords.{HasNoWords, HasWords, count_shown, has_part, shown_of, shown_view};
 
-use frame_steps::{CompiledProgram, next_step, region_of};
+use crate::frames::step_at;
+use frame_steps::{CompiledProgram, region_of};
 use gang_types::{Rate, VarId};
 use machine_words::{MachineWords, Region, View};
 use typed_tree::Variable;
@@ -47,15 +49,16 @@ impl ShownWords {
     }
 }
 
-/// The words of the variable of the file, or of the function of the top frame, that has this number.
+/// The words of the variable of the file, or of the function of the frame at a depth, that has this number.
 pub(crate) fn find_shown<const W: usize, T: Timeline + Drop>(
     compiled: &CompiledProgram,
     words: &MachineWords<T>,
+    depth: usize,
     id: VarId,
 ) -> Option<ShownWords>
     requires sound { AreSound T.history W compiled.now words.now }
-    ensures found { IfSome result (λ shown. HasWords W compiled.now (regions_in T.history W words.now) id (shown_view shown)) }
-    ensures none { result ≡ None → HasNoWords W compiled.now (regions_in T.history W words.now) id }
+    ensures found { IfSome result (λ shown. HasWords W compiled.now (regions_up_to depth (regions_in T.history W words.now)) id (shown_view shown)) }
+    ensures none { result ≡ None → HasNoWords W compiled.now (regions_up_to depth (regions_in T.history W words.now)) id }
 {
     match id {
         VarId::File(number) => {
@@ -63,7 +66,7 @@ pub(crate) fn find_shown<const W: usize, T: Timeline + Drop>(
             Some(shown_words::<W, T>(words, 0, id, &global.variable))
         }
         VarId::Local(number) => {
-            let active = next_step::<W, T>(compiled, words)?;
+            let active = step_at::<W, T>(compiled, words, depth)?;
             let function = &compiled.program.functions[active.function];
             let variable = function.variables.get(number)?;
             Some(shown_words::<W, T>(words, active.frame, id, variable))

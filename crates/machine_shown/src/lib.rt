@@ -3,8 +3,10 @@
 #![tactic(auto)]
 
 mod found;
+mod frames;
 mod positions;
 mod shown;
 
+pub use frames::{frame_count, step_at};
 pub use positions::{call, position};
 pub use shown::{count, poke, word};

@@ -8,29 +8,33 @@ ghost use Rattle.mask_states.specs.Masked.{Masked};
 ghost use Rattle.undo_log.specs.declared.timeline.Undone.TheVariants as undone;
 ghost use Rattle.machine_words.specs.Words.{AreLaid, Writes, left_of, regions_in};
 ghost use Rattle.frame_steps.specs.Standing.{AreSound, IsShown, Records};
-ghost use Rattle.machine_shown.specs.Seen.{IsPartOf, IsSeen};
+ghost use Rattle.debug_traits.specs.Frames.{state_at};
+ghost use Rattle.machine_shown.specs.Frames.{regions_up_to};
+ghost use Rattle.machine_shown.specs.Seen.{IsPartOf, IsSeen, IsSeenAt};
 ghost use Rattle.machine_shown.specs.ShownWords.{AreInRegion, IsCountOf, IsSetIn, IsWordOf, has_part, part_set, region_shown, shown_view, words_shown};
 
 use crate::found::{ShownWords, find_shown};
+use crate::frames::TOP;
 use frame_steps::{CompiledProgram, begin};
 use gang_types::{Mask, VarId};
 use machine_words::MachineWords;
 use undo_log::{Timeline, Undone};
 
-/// A word of a variable of the file, or of the function of the top frame: of a scalar, or an element of an array. A word that it does
+/// A word of a variable of the file, or of the function of the frame at a depth: of a scalar, or an element of an array. A word that it does
 /// not have is 0.
 pub fn word<const W: usize, T: Timeline + Drop>(
     compiled: &CompiledProgram,
     words: &MachineWords<T>,
+    depth: usize,
     variable: VarId,
     index: usize,
 ) -> u64
     requires sound { AreSound T.history W compiled.now words.now }
-    ensures shown { (masked : Masked) (v : Variable) → IsShown T.history W compiled.now words.now masked → IsSeen compiled.now masked v → v.id ≡ variable
-        → result ≡ slice_index (shown_words masked.state v) index }
-    ensures reads { IsWordOf W compiled.now (regions_in T.history W words.now) variable index result }
+    ensures shown { (masked : Masked) (v : Variable) → IsShown T.history W compiled.now words.now masked → IsSeenAt compiled.now depth masked v → v.id ≡ variable
+        → result ≡ slice_index (shown_words (state_at depth masked.state) v) index }
+    ensures reads { IsWordOf W compiled.now (regions_up_to depth (regions_in T.history W words.now)) variable index result }
 {
-    match find_shown::<W, T>(compiled, words, variable) {
+    match find_shown::<W, T>(compiled, words, depth, variable) {
         Some(shown) => word_of::<W, T>(words, shown, index),
         None => 0,
     }
@@ -56,19 +60,20 @@ fn word_of<const W: usize, T: Timeline + Drop>(
     }
 }
 
-/// How many words a variable of the file, or of the function of the top frame, has that are shown: a scalar by its rate, an array its
+/// How many words a variable of the file, or of the function of the frame at a depth, has that are shown: a scalar by its rate, an array its
 /// elements. One that there is not has none.
 pub fn count<const W: usize, T: Timeline + Drop>(
     compiled: &CompiledProgram,
     words: &MachineWords<T>,
+    depth: usize,
     variable: VarId,
 ) -> usize
     requires sound { AreSound T.history W compiled.now words.now }
-    ensures shown { (masked : Masked) (v : Variable) → IsShown T.history W compiled.now words.now masked → IsSeen compiled.now masked v → v.id ≡ variable
-        → result ≡ length (shown_words masked.state v) }
-    ensures counts { IsCountOf W compiled.now (regions_in T.history W words.now) variable result }
+    ensures shown { (masked : Masked) (v : Variable) → IsShown T.history W compiled.now words.now masked → IsSeenAt compiled.now depth masked v → v.id ≡ variable
+        → result ≡ length (shown_words (state_at depth masked.state) v) }
+    ensures counts { IsCountOf W compiled.now (regions_up_to depth (regions_in T.history W words.now)) variable result }
 {
-    match find_shown::<W, T>(compiled, words, variable) {
+    match find_shown::<W, T>(compiled, words, depth, variable) {
         Some(shown) => shown.count::<W>(),
         None => 0,
     }
@@ -90,7 +95,7 @@ pub fn poke<const W: usize, T: Timeline + Drop>(
     ensures shown { (masked : Masked) (v : Variable) → IsShown T.history W compiled.now words.old masked → IsSeen compiled.now masked v → v.id ≡ variable
         → IsPartOf masked v at → IsShown T.history W compiled.now words.new (record masked { state = poked (poked_by v at) word masked.state }) }
 {
-    let shown = find_shown::<W, T>(compiled, words, variable);
+    let shown = find_shown::<W, T>(compiled, words, TOP, variable);
     begin::<W, T>(words, Undone::Poke);
     if let Some(shown) = shown {
         set_part::<W, T>(words, shown, at, word);

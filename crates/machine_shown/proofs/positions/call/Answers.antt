@@ -4,7 +4,7 @@ use Rattle.machine_states.specs.Regions.{FunctionOf}
 use Rattle.machine_words.specs.Words.{regions_in}
 use Rattle.frame_steps.specs.Compiled.{program_of, variables_of}
 use Rattle.frame_steps.proofs.Standings.{head_sized}
-use Rattle.machine_shown.proofs.CallPlaces.{call_shown, function_at, is_below, no_call, no_call_at_0, running_at, standing_width}
+use Rattle.machine_shown.proofs.CallPlaces.{call_shown, caller_below, function_at, is_below, no_call, no_call_at_0, running_at, standing_width}
 use Rattle.machine_shown.proofs.positions.call.Goals as goal
 use Rattle.machine_shown.proofs.positions.call.Goals.{then-depth-eq0-via-then-depth-eq0, then-depth-eq0-via-else-depth-eq0+then-word-depth}
 
@@ -38,7 +38,8 @@ frame_step-call-requires-clause-runs g c =
     let regions = regions_in g.T.Timeline.history g.row.W c.args.words.now in
     let masked = c.requires.sound.masked in
     let shows = c.requires.sound.shown.shows in
-    running_at (program_of compiled) (variables_of compiled) g.row.W regions masked shows c.args.depth c.word.result c.word-function.result c.word.ensures c.if-word-depth.false c.word-function.ensures
+    let below = caller_below (program_of compiled) (variables_of compiled) g.row.W regions masked shows c.args.depth c.word.result c.word.ensures c.if-word-depth.false in
+    running_at (program_of compiled) (variables_of compiled) g.row.W regions masked shows (c.args.depth - 1) c.word-function.result below c.word-function.ensures
 
 pub stands_at-requires : goal.stands_at-requires
 stands_at-requires g c =
@@ -46,7 +47,8 @@ stands_at-requires g c =
     let regions = regions_in g.T.Timeline.history g.row.W c.args.words.now in
     let masked = c.requires.sound.masked in
     let shows = c.requires.sound.shown.shows in
-    let there = function_at (program_of compiled) (variables_of compiled) g.row.W regions masked shows c.args.depth c.word.result c.word-function.result c.word.ensures c.if-word-depth.false c.word-function.ensures in
+    let below = caller_below (program_of compiled) (variables_of compiled) g.row.W regions masked shows c.args.depth c.word.result c.word.ensures c.if-word-depth.false in
+    let there = function_at (program_of compiled) (variables_of compiled) g.row.W regions masked shows (c.args.depth - 1) c.word-function.result below c.word-function.ensures in
     (there.0, there.1)
 
 pub returns-clause-place : goal.returns-clause-place
@@ -57,7 +59,8 @@ returns-clause-place g c masked shown =
     let deep = c.args.depth in
     let below = is_below (program_of compiled) (variables_of compiled) g.row.W regions masked shows deep c.word.result c.word.ensures c.if-word-depth.false in
     let one_more : deep ≡ suc (deep - 1) = omega (arith, c.if-depth-eq0.false) in
-    let there = function_at (program_of compiled) (variables_of compiled) g.row.W regions masked shows deep c.word.result c.word-function.result c.word.ensures c.if-word-depth.false c.word-function.ensures in
+    let caller = caller_below (program_of compiled) (variables_of compiled) g.row.W regions masked shows deep c.word.result c.word.ensures c.if-word-depth.false in
+    let there = function_at (program_of compiled) (variables_of compiled) g.row.W regions masked shows (deep - 1) c.word-function.result caller c.word-function.ensures in
     let f = there.0 in
     let found = c.frame_step-call.ensures f there.1 in
     call_shown (program_of compiled) (variables_of compiled) g.row.W regions masked shows deep (deep - 1) c.frame_step-call.result.level c.word-function.result c.frame_step-call.result.step f
@@ -72,5 +75,6 @@ returns-clause-width g c =
     let regions = regions_in g.T.Timeline.history g.row.W c.args.words.now in
     let masked = c.requires.sound.masked in
     let shows = c.requires.sound.shown.shows in
-    let there = function_at (program_of compiled) (variables_of compiled) g.row.W regions masked shows c.args.depth c.word.result c.word-function.result c.word.ensures c.if-word-depth.false c.word-function.ensures in
+    let below = caller_below (program_of compiled) (variables_of compiled) g.row.W regions masked shows c.args.depth c.word.result c.word.ensures c.if-word-depth.false in
+    let there = function_at (program_of compiled) (variables_of compiled) g.row.W regions masked shows (c.args.depth - 1) c.word-function.result below c.word-function.ensures in
     standing_width g.row.W there.0 c.frame_step-call.result.step c.args.depth c.call_lanes-lanes.result c.stands_at.result c.requires.sound.lie.gang (c.stands_at.ensures there.0 there.1)

@@ -10,14 +10,14 @@ returns-in-Some-clause-shown g c masked v shown seen e =
     let words = c.args.words.now in
     let here = shown_view c.in-Some.shown in
     let has = c.in-Some.ensures.found in
-    c.count.ensures ∙ sym (counted history g.row.W compiled words c.requires.sound c.args.variable here has)
-    ∙ sym (ap length (seen_words history g.row.W compiled words c.requires.sound c.args.variable here has masked v shown seen e))
+    c.count.ensures ∙ sym (counted history g.row.W compiled words c.requires.sound c.args.depth c.args.variable here has)
+    ∙ sym (ap length (seen_words history g.row.W compiled words c.requires.sound c.args.depth c.args.variable here has masked v shown seen e))
 
 pub returns-in-Some-clause-counts : goal.returns-in-Some-clause-counts
 returns-in-Some-clause-counts g c =
-    is_count g.T.Timeline.history g.row.W c.args.compiled.now c.args.words.now c.requires.sound c.args.variable (shown_view c.in-Some.shown) c.in-Some.ensures.found
+    is_count g.T.Timeline.history g.row.W c.args.compiled.now c.args.words.now c.requires.sound c.args.depth c.args.variable (shown_view c.in-Some.shown) c.in-Some.ensures.found
     c.count.result c.count.ensures
 
 pub returns-in-None-clause-shown : goal.returns-in-None-clause-shown
 returns-in-None-clause-shown g c masked v shown seen e =
-    absurd (not_seen g.T.Timeline.history g.row.W c.args.compiled.now c.args.words.now c.requires.sound c.args.variable (c.find_shown.ensures.none c.in-None.is) masked v shown seen e)
+    absurd (not_seen g.T.Timeline.history g.row.W c.args.compiled.now c.args.words.now c.requires.sound c.args.depth c.args.variable (c.find_shown.ensures.none c.in-None.is) masked v shown seen e)

@@ -1,7 +1,9 @@
-use Rattle.gang_machine.proofs.Finding.{finds}
+use Rattle.std.proofs.Common.{◌≤◌, arith, length}
+use Rattle.gang_model.specs.Debugger.Debugger.{now}
+use Rattle.gang_machine.proofs.TopDepth.{finds_top}
 use Rattle.gang_machine.proofs.machine.MachineRecordedMachine.find.Goals as goal
 
 pub returns : goal.returns
 returns g c s d stands =
-    finds g.row.W s d c.args.name.now c.in_ok-shown.shown c.counted.result (c.in_ok-shown.ensures s d stands)
-    (λ v there seen. c.counted.ensures.shown s d v stands there seen)
+    let few : length (now s d).frames ≤ c.top.result = omega (arith, c.top.ensures s d stands) in
+    finds_top s d c.top.result few c.args.name.now c.named_in.result (c.named_in.ensures s d stands)

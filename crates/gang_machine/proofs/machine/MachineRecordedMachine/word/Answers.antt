@@ -1,14 +1,10 @@
-use Rattle.std.proofs.Common.{◌∙◌, sym, ap, subst, slice_index}
-use Rattle.gang_machine.specs.Standings.{Stands}
-use Rattle.gang_machine.proofs.Seeing.{is_seen, shown_here, shown_same}
+use Rattle.std.proofs.Common.{◌≡◌, ◌≤◌, arith, length, slice_index, subst}
+use Rattle.gang_model.specs.Debugger.Debugger.{now, shown_words}
+use Rattle.gang_machine.proofs.TopDepth.{shown_in, state_top}
 use Rattle.gang_machine.proofs.machine.MachineRecordedMachine.word.Goals as goal
 
 pub returns : goal.returns
 returns g c s d v stands is below =
-    let m = c.self.inside in
-    let history = g.T.Timeline.history in
-    let here = subst (λ m. Stands m s d) (sym c.self.view_is) stands in
-    let shown = shown_here history g.row.W m.entry m.compiled m.lines.items m.words c.self.invariant s d here in
-    let seen = is_seen history g.row.W m.entry m.compiled m.lines.items m.words c.self.invariant s d here v is.there in
-    c.word.ensures.shown _ v shown seen is.id
-    ∙ ap (λ ws. slice_index ws c.args.index) (sym (shown_same history g.row.W m.entry m.compiled m.lines.items m.words c.self.invariant s d here v))
+    let few : length (now s d).frames ≤ c.top.result = omega (arith, c.top.ensures s d stands) in
+    subst (λ state. c.word_in.result ≡ slice_index (shown_words state v) c.args.index) (state_top s d c.top.result few)
+    (c.word_in.ensures s d v stands (shown_in s d c.top.result few v c.args.shown is) below)
