@@ -1,0 +1,24 @@
+-- The lanes for which a frame computes an expression, and the answer.
+use Rattle.std.specs.Prelude.{◌≡◌, ℕ, suc, nat_lt, List, [], ◌∷◌, length, take, Result, Ok, Err, if◌then◌else◌}
+use Rattle.gang_types.specs.Lanes.{Lanes}
+use Rattle.gang_model.specs.Running.Lanes.{Fault as ModelFault}
+use Rattle.gang_model.specs.Running.State.{Frame, State}
+use Rattle.gang_model.specs.Debugger.Positions.{lanes_now}
+use Rattle.debug_traits.specs.declared.machine.Fault.{Fault}
+use Rattle.debug_traits.specs.Frames.{frames_at}
+use Rattle.debug_traits.specs.Machines.{fault_view}
+use Rattle.frame_expressions.specs.declared.machine.LaneWords.{LaneWords}
+
+-- the lanes of the call that made the top one of these frames
+abbrev pub called_lanes : List Frame → Lanes
+called_lanes [] = []
+called_lanes (frame ∷ frames) = frame.lanes
+
+-- the lanes that the frame at a depth shows: those of the call that it made, and of the top one those of its next step
+abbrev pub lanes_at : (depth : ℕ) → State → Lanes
+lanes_at deep state = if nat_lt deep (length state.frames) then called_lanes (frames_at (suc deep) state.frames) else lanes_now state
+
+-- the answer has the words of the value, or its fault
+abbrev pub IsValue : Result LaneWords Fault → Result (List ℕ) ModelFault → Type 0
+IsValue (Ok found) meant = meant ≡ Ok (take found.width found.words)
+IsValue (Err fault) meant = meant ≡ Err (fault_view fault)

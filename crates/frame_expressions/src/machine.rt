@@ -1,0 +1,36 @@
+//! A machine that computes expressions.
+ghost use Rattle.std.specs.Prelude.{◌≡◌, ℕ, Some};
+ghost use Rattle.gang_types.specs.declared.places.Spot.{Spot};
+ghost use Rattle.gang_types.specs.declared.types.IntType.{IntType};
+ghost use Rattle.gang_types.specs.declared.types.Rate.{Rate};
+ghost use Rattle.gang_model.specs.Source.Parsed.{ParsedExpr};
+ghost use Rattle.gang_model.specs.Running.Value.{value};
+ghost use Rattle.gang_model.specs.Debugger.Debugger.{Debugger, Setting, now};
+ghost use Rattle.typed_tree.specs.Views.{expr_view};
+ghost use Rattle.debug_traits.specs.Frames.{spot_at, state_at};
+ghost use Rattle.frame_expressions.specs.Lanes.{IsValue, lanes_at};
+ghost use Rattle.frame_expressions.specs.Meanings.{Means, entries_at};
+
+use debug_traits::{Fault, FramedMachine};
+use expression_instructions::Instruction;
+
+/// The words of a value: one for each lane of the gang, which has so many, and 0 in the lanes that do not evaluate it.
+#[derive(Clone, Copy, Debug, PartialEq, Eq)]
+pub struct LaneWords {
+    pub words: [u64; 16],
+    pub width: usize,
+}
+
+/// A machine that computes expressions where its frames stand. A frame is named by its depth, as in [`FramedMachine`]. Nothing is
+/// changed or recorded, and no memory is taken.
+pub trait ExpressionMachine: FramedMachine {
+    /// The value of the expression that the code computes, where the frame at a depth stands, for the lanes that this frame shows.
+    ///
+    /// # Errors
+    ///
+    /// Its first fault, at the lowest lane that has it there.
+    fn evaluate(&self, depth: usize, code: &[Instruction]) -> Result<LaneWords, Fault>
+        ensures { (s : Setting) (d : Debugger) (spot : Spot) (written : ParsedExpr) (type : IntType) (rate : Rate) → Self.stands self.now s d
+            → spot_at s.program depth (now s d) ≡ Some spot → (means : Means written (entries_at s.program spot) type rate code.now)
+            → IsValue result (value (expr_view means.tree) (lanes_at depth (now s d)) (state_at depth (now s d))) };
+}

@@ -1,0 +1,3 @@
+mod Functions
+mod Readings
+mod Scopes
