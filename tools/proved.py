@@ -1,0 +1,98 @@
+"""proved.txt: a line for each crate of which all steps have passed, with what it was then and how it was judged.
+
+A landing takes a crate whose line says what it would say now as judged, without the store. Some of them it judges all the same, from nothing:
+which ones follows from the digest of the commit.
+"""
+
+import functools
+import hashlib
+import os
+import subprocess
+
+from store import RUN, sum_of
+from toolchain import rt, rtlib
+
+FILE = "proved.txt"
+HEAD = "# What was judged, by the digests of all that was read: written by `make prove`, and not by hand (docs/CONTRIBUTING.md)\n"
+# How many crates a landing judges all the same, the most processor seconds that these take, and about what takes how many.
+DRAWN, MOST = 3, 1_200
+OF_CRATE, OF_LINE, OF_EDIT, OF_LINE_OF_TESTS = 45, 0.12, 15, 0.4
+
+
+def identity():
+    """Returns the line by which the toolchain names itself."""
+    return rtlib.text_of(f"{rt.KIT}/KIT-ID").strip()
+
+
+def digests_of(crates):
+    """Returns a digest of all that each crate's proof and tests rest on, which is the same on every machine.
+
+    It is of the crate's files and its whole line of crates.txt, HANDLES, the line by which the toolchain names itself, and the digests of the
+    crates that it stands on.
+    """
+    found = {}
+
+    def digest(crate):
+        if crate.name not in found:
+            kind = (crate.name, crate.said, crate.is_program, crate.of_kit, [digest(it) for it in crate.deps])
+            found[crate.name] = sum_of((identity(), rt.Crate.allowed, kind), crate.folder, (*rtlib.PARTS, "c"))
+        return found[crate.name]
+
+    return {it.name: digest(it) for it in crates}
+
+
+def line(crate, digest, steps, judges):
+    """Returns the line of a crate: a digest with its edits and what its program is run on, the steps, and digests of what judges them."""
+    whole = sum_of((digest,), crate.folder, ("must-fail", *RUN))[:16]
+    return f"{crate.name} {whole} {', '.join(steps)} by {' '.join(it[:8] for it in judges)}\n"
+
+
+def lines(root):
+    """Returns the lines of the file by the names of their crates."""
+    text = rtlib.text_of(f"{root}/{FILE}") or ""
+    return {it.split()[0]: it for it in text.splitlines(True) if it.strip() and not it.startswith("#")}
+
+
+def write(root, found):
+    """Writes the file anew, where it says something else, and returns the names whose lines are new or other, and those whose lines went."""
+    before = lines(root)
+    if found != before:
+        with open(f"{root}/{FILE}.new", "w", encoding="utf-8") as it:
+            it.write(HEAD + "".join(found[name] for name in sorted(found)))
+        os.replace(f"{root}/{FILE}.new", f"{root}/{FILE}")
+    return [it for it in sorted(found) if before.get(it) != found[it]], sorted({*before} - {*found})
+
+
+def seed(root):
+    """Returns the digest of the commit, or of the file where there is none."""
+    ran = subprocess.run(["git", "rev-parse", "HEAD"], cwd=root, capture_output=True, text=True)
+    return sum_of((), root, (FILE,)) if ran.returncode else ran.stdout.strip()
+
+
+@functools.cache
+def cost_of_proof(crate):
+    """Returns about how many processor seconds the proof of a crate takes."""
+    return OF_CRATE + OF_LINE * crate.count(b"\n")
+
+
+def cost_of_rest(crate):
+    """Returns about how many processor seconds its tests and edits take."""
+    return OF_EDIT * len(rt.edits_of(crate)[0]) + OF_LINE_OF_TESTS * crate.count(b"\n") * crate.has_tests()
+
+
+def drawn(crates, seed):
+    """Returns the names of the crates that a landing judges all the same, of these, in the order that a seed gives them.
+
+    A crate is passed over where it costs too much, with those below it, whose libraries have to be built.
+    """
+    found, built, left = [], set(), MOST
+    for crate in sorted(crates, key=lambda it: hashlib.sha256(f"{seed} {it.name}".encode()).digest()):
+        if len(found) == DRAWN:
+            break
+        more = [it for it in [*crate.below(), crate] if it.name not in built]
+        seconds = sum(cost_of_proof(it) for it in more) + cost_of_rest(crate)
+        if seconds <= left:
+            left -= seconds
+            built |= {it.name for it in more}
+            found.append(crate.name)
+    return found

@@ -1,0 +1,162 @@
+"""What a landing takes from proved.txt, on a small repository of two crates.
+
+Lines that stand spare the proofs, what changed is proved with all above it, and a line that was forged is found by the whole gate, and by a
+landing that draws its crate.
+"""
+
+import os
+import pathlib
+import re
+import shutil
+import sys
+import tempfile
+
+from .calls import called
+from .tried import Result
+
+FILE = "proved.txt"
+LOWER, UPPER = "lower", "upper"
+CRATES = f"{LOWER}:\n{UPPER}: {LOWER}\n"
+SOURCES = {
+    LOWER: """\
+//! The smaller of two numbers.
+#![tactic(auto)]
+
+ghost use Rattle.std.specs.Prelude.{◌≤◌};
+
+/// The smaller of two numbers.
+pub fn smaller(a: u32, b: u32) -> u32
+    ensures first { result ≤ a }
+    ensures second { result ≤ b }
+{
+    if a < b { a } else { b }
+}
+""",
+    UPPER: """\
+//! The smaller of a number and 7.
+#![tactic(auto)]
+
+ghost use Rattle.std.specs.Prelude.{◌≤◌};
+
+use lower::smaller;
+
+/// A number that is not above 7.
+pub fn at_most_7(a: u32) -> u32
+    ensures { result ≤ 7 }
+{
+    smaller(a, 7)
+}
+""",
+}
+# Of each crate a body, and a wrong one.
+BODIES = {LOWER: ("if a < b { a } else { b }", "a"), UPPER: ("smaller(a, 7)", "smaller(a, 8)")}
+# The landing without the trial of its judges, with so many crates drawn; and one that only writes the lines of the crates as they stand.
+LANDS = """\
+import runpy, sys
+tools, sys.dont_write_bytecode = sys.argv[1], True
+sys.path.insert(0, tools)
+import proved, selftest
+proved.DRAWN, selftest.passes = int(sys.argv[2]), lambda *_: True
+sys.argv[1:] = sys.argv[3:]
+runpy.run_path(f"{tools}/prove", run_name="__main__")
+"""
+FORGES = """\
+import os, runpy, sys
+tools, sys.dont_write_bytecode = sys.argv[1], True
+sys.path.insert(0, tools)
+import proved
+proved.write(os.getcwd(), runpy.run_path(f"{tools}/prove")["Landing"](os.getcwd()).lines)
+"""
+
+
+class Small:
+    """The small repository, with a store of its own, and what was not as it must be."""
+
+    def __init__(self, tools, top):
+        self.tools, self.root, self.store, self.why = str(tools), top / "small", top / "store", []
+        write(self.root / "crates.txt", CRATES)
+        for name, text in SOURCES.items():
+            write(self.source(name), text)
+            right, wrong = BODIES[name]
+            write(self.root / f"crates/{name}/must-fail/wrong_body.edit", f"file: src/lib.rt\nold: {right}\nnew: {wrong}\n")
+
+    def source(self, name):
+        return self.root / f"crates/{name}/src/lib.rt"
+
+    def change(self, name, old, new):
+        text = self.source(name).read_text(encoding="utf-8")
+        write(self.source(name), text.replace(old, new))
+
+    def forget(self):
+        """Leaves nothing of the store, nor of what was built."""
+        shutil.rmtree(self.store, ignore_errors=True)
+        for name in SOURCES:
+            shutil.rmtree(self.root / f"crates/{name}/out", ignore_errors=True)
+
+    def called(self, program, *words):
+        words = ["env", f"RINDDECADE_STORE={self.store}", sys.executable, "-c", program, self.tools, *words]
+        output, errors, status = called(words, self.root)
+        return (output + errors).decode(errors="replace"), status
+
+    def lines(self):
+        """The lines of proved.txt by their crates."""
+        file = self.root / FILE
+        text = file.read_text(encoding="utf-8") if file.is_file() else ""
+        return {it.split()[0]: it for it in text.splitlines() if not it.startswith("#")}
+
+    def lands(self, what, end, made, drawn=0):
+        """A landing ends with this line, and makes these steps alone."""
+        said, _ = self.called(LANDS, str(drawn))
+        found = sorted(re.findall(r"^ *\d+ s  (\w+: \w+)(?: \S+\.edit)? (?:passed|FAILED),", said, re.M))
+        if said.rstrip().rpartition("\n")[2] != end or found != sorted(made):
+            self.why += [f"{what}: it makes {', '.join(found) or 'nothing'}, and says:", *said.splitlines()[-12:]]
+
+    def must(self, what, holds):
+        self.why += [] if holds else [f"{what}: {self.lines()}"]
+
+
+def write(path, text):
+    path.parent.mkdir(parents=True, exist_ok=True)
+    path.write_text(text, encoding="utf-8")
+
+
+def lines_that_stand(small):
+    """Both are judged, and then taken; and where the upper one changes, it is proved, and of the lower one what it needs."""
+    small.lands("an empty store", "4 passed, 0 failed", [f"{name}: {it}" for name in SOURCES for it in ("proof", "edit")])
+    first = small.lines()
+    small.must("each crate has a line", sorted(first) == [LOWER, UPPER] and all("proof, 1 edits by" in it for it in first.values()))
+    small.forget()
+    small.lands("both lines stand", "4 passed, 0 failed", [])
+    small.must("the lines stay", small.lines() == first)
+    small.change(UPPER, "A number that is", "Some number that is")
+    small.lands("the upper one changed", "4 passed, 0 failed", [f"{LOWER}: proof", f"{UPPER}: proof", f"{UPPER}: edit"])
+    small.must("its line alone is other", small.lines()[LOWER] == first[LOWER] and small.lines()[UPPER] != first[UPPER])
+    small.change(LOWER, "The smaller of", "What is smaller of")
+    listed, _ = small.called(LANDS, "0", "--list")
+    small.must(f"with the lower one both are to be judged: {listed}", all(f"{it}: proof, 1 edits" in listed.splitlines() for it in SOURCES))
+
+
+def forged_lines(small):
+    """The lower one is not proved, and the file says that it was judged: a landing that does not draw it believes that, and nothing else does."""
+    small.change(LOWER, *BODIES[LOWER])
+    small.forget()
+    small.called(FORGES)
+    small.must("lines are forged", sorted(small.lines()) == [LOWER, UPPER])
+    small.lands("forged lines that are not drawn", "4 passed, 0 failed", [])
+    output, errors, status = called(["rt", "ci"], small.root)
+    said = (output + errors).decode(errors="replace")
+    small.why += [] if status and "0 failed" not in said else ["the whole gate does not find it:", *said.splitlines()[-12:]]
+    small.lands("forged lines that are drawn", "0 passed, 2 failed", [f"{LOWER}: proof"], drawn=2)
+    small.must("the lines went", not small.lines())
+
+
+def check(root):
+    """A result for the lines that stand, and one for those that were forged."""
+    found = []
+    with tempfile.TemporaryDirectory(prefix="small-") as top:
+        small = Small(root / "tools", pathlib.Path(os.path.realpath(top)))
+        for call in (lines_that_stand, forged_lines):
+            small.why = []
+            call(small)
+            found.append(Result(call.__name__.replace("_", " "), not small.why, small.why))
+    return found
