@@ -1,0 +1,5 @@
+mod Building
+pub mod PassedValues
+mod Parses
+mod VerbsRead
+mod Rows

@@ -1,0 +1,88 @@
+-- Each value that a parse of a verb's options found passed its parser.
+use Rattle.std.proofs.Common.{◌≡◌, ◌⊎◌, ◌∙◌, ◌||◌, Bool, true, false, true≢false, List, [], ◌∷◌, Option, Some, None, refl, sym, ap, inl, inr, arith}
+use Rattle.std.specs.List.{list_any}
+use Rattle.std.specs.Str.{bytes_eq}
+use Rattle.std.specs.Prelude.{IfSome, codes}
+use Rattle.std.specs.Borrow.{Bor}
+use Rattle.std.proofs.lemmas.Slice.Eq.{bytes_eq-Decides}
+use Rattle.clap.specs.Built.{IsParsedFrom}
+use Rattle.clap.specs.Matches.{found_of}
+use Rattle.clap.specs.Values.{Accepts}
+use Rattle.clap.specs.Walk.{Text}
+use Rattle.clap.specs.Simple.{app_of}
+use Rattle.clap.specs.declared.builder.command.Command.{Command}
+use Rattle.clap.specs.declared.builder.value_parser.ValueParser.TheVariants as parser
+use Rattle.clap.specs.declared.parser.matches.ArgMatches.{ArgMatches}
+use Rattle.clap.proofs.WalkLemmas.{list_any-map}
+use Rattle.ispc_options.specs.Asked.{AreWidths, flag, option_or, width_text}
+use Rattle.ispc_options.specs.declared.options.Width.{Width}
+use Rattle.ispc_options.specs.declared.options.Width.TheVariants.{Four, Eight, Sixteen}
+use Rattle.desk_options.specs.Commands.{rules_of, verb_command, wanted}
+use Rattle.desk_options.specs.Passed.{ArePassed, ArePicturePassed, HavePassed}
+use Rattle.desk_options.specs.declared.names.VerbName.{VerbName}
+use Rattle.desk_options.specs.declared.names.VerbName.TheVariants.{Debug, Picture, Adapter, Explain}
+use Rattle.desk_options.proofs.PassedValues.{flag_passed, number_passed, required_given, value_passed}
+
+-- a text that is one of the widths
+which_width : (t : Text) → list_any (λ n. bytes_eq n t) (codes "4" ∷ codes "8" ∷ codes "16" ∷ []) ≡ true → (w : Width) × (t ≡ width_text w)
+which_width t one = go (bytes_eq (codes "4") t) (bytes_eq (codes "8") t) (bytes_eq (codes "16") t) refl refl refl one
+  where
+    same : (s : Text) → bytes_eq s t ≡ true → t ≡ s
+    same s e = sym ((bytes_eq-Decides s t).0 e)
+
+    go : (a b c : Bool) → bytes_eq (codes "4") t ≡ a → bytes_eq (codes "8") t ≡ b → bytes_eq (codes "16") t ≡ c
+        → (a || (b || (c || false))) ≡ true → (w : Width) × (t ≡ width_text w)
+    go true b c is_4 is_8 is_16 one = (Four, same _ is_4)
+    go false true c is_4 is_8 is_16 one = (Eight, same _ is_8)
+    go false false true is_4 is_8 is_16 one = (Sixteen, same _ is_16)
+    go false false false is_4 is_8 is_16 one = absurd (true≢false (sym one))
+
+which_flag : (t : Text) → (bytes_eq t (codes "true") || bytes_eq t (codes "false")) ≡ true → (t ≡ codes "true") ⊎ (t ≡ codes "false")
+which_flag t one = go (bytes_eq t (codes "true")) refl one
+  where
+    go : (b : Bool) → bytes_eq t (codes "true") ≡ b → (b || bytes_eq t (codes "false")) ≡ true → (t ≡ codes "true") ⊎ (t ≡ codes "false")
+    go true is one = inl ((bytes_eq-Decides t (codes "true")).0 is)
+    go false is one = inr ((bytes_eq-Decides t (codes "false")).0 one)
+
+which_flags : (o : Option Text) → IfSome o (Accepts false parser.Bool) → IfSome o (λ t. (t ≡ codes "true") ⊎ (t ≡ codes "false"))
+which_flags None one = tt
+which_flags (Some t) one = which_flag t one
+
+module _ (widths : Bor (List (Bor Text))) (are : AreWidths widths) (old : Command) (m : ArgMatches) (p : IsParsedFrom old m) where
+  debug_passed : app_of old ≡ verb_command widths Debug → ArePassed (found_of m)
+  debug_passed app =
+      let rules = rules_of widths Debug in
+      let width = value_passed _ rules refl refl refl old app m p 3 (option_or (codes "width") (parser.Names widths) (codes "4")) (omega arith) (λ d. refl) refl refl (parser.Names widths) refl refl refl (omega arith) in
+      let w = which_width width.0
+      (sym (ap (list_any (λ n. bytes_eq n width.0)) are) ∙ (sym (list_any-map (λ n. bytes_eq n width.0) (λ (s : Bor Text). s.now) widths.now) ∙ width.3)) in
+      record {
+        source = required_given _ rules refl refl refl old app m p 0 (wanted (codes "source")) (omega arith) (λ d. refl) refl refl refl refl refl;
+        width = (w.0, width.1 ∙ ap Some w.1);
+        history = number_passed _ rules refl refl refl old app m p 4 (codes "history") 65536 (codes "65536") (omega arith) (λ d. refl) refl refl;
+        steps = number_passed _ rules refl refl refl old app m p 5 (codes "steps") 10000000 (codes "1000000") (omega arith) (λ d. refl) refl refl;
+      }
+
+  picture_passed : app_of old ≡ verb_command widths Picture → ArePicturePassed (found_of m)
+  picture_passed app =
+      let rules = rules_of widths Picture in
+      let width = value_passed _ rules refl refl refl old app m p 3 (option_or (codes "width") (parser.Names widths) (codes "4")) (omega arith) (λ d. refl) refl refl (parser.Names widths) refl refl refl (omega arith) in
+      let w = which_width width.0
+      (sym (ap (list_any (λ n. bytes_eq n width.0)) are) ∙ (sym (list_any-map (λ n. bytes_eq n width.0) (λ (s : Bor Text). s.now) widths.now) ∙ width.3)) in
+      let force = flag_passed _ rules refl refl refl old app m p 10 (flag (codes "force")) (omega arith) (λ d. refl) refl refl parser.Bool refl refl in
+      record {
+        program = record {
+          source = required_given _ rules refl refl refl old app m p 0 (wanted (codes "source")) (omega arith) (λ d. refl) refl refl refl refl refl;
+          width = (w.0, width.1 ∙ ap Some w.1);
+          history = number_passed _ rules refl refl refl old app m p 4 (codes "history") 65536 (codes "65536") (omega arith) (λ d. refl) refl refl;
+          steps = number_passed _ rules refl refl refl old app m p 5 (codes "steps") 10000000 (codes "1000000") (omega arith) (λ d. refl) refl refl;
+        };
+        most = number_passed _ rules refl refl refl old app m p 8 (codes "most") 10000000 (codes "400") (omega arith) (λ d. refl) refl refl;
+        flag = force.0;
+        force = which_flags _ force.1;
+      }
+
+  pub parse_passed : (verb : VerbName) → app_of old ≡ verb_command widths verb → HavePassed verb (found_of m)
+  parse_passed Debug app = debug_passed app
+  parse_passed Picture app = picture_passed app
+  parse_passed Adapter app = tt
+  parse_passed Explain app = tt

@@ -1,0 +1,32 @@
+-- What holds of the values that a parse found.
+use Rattle.std.specs.Prelude.{◌≡◌, ◌⊎◌, ⊤, IfSome, Some, codes}
+use Rattle.clap.specs.Matches.{first_value, one_text}
+use Rattle.clap.specs.Walk.{Text}
+use Rattle.clap.specs.declared.parser.matches.Found.{Found}
+use Rattle.ispc_options.specs.Asked.{width_text}
+use Rattle.ispc_options.specs.Passed.{HasNumber}
+use Rattle.ispc_options.specs.declared.options.Width.{Width}
+use Rattle.desk_options.specs.declared.names.VerbName.{VerbName}
+use Rattle.desk_options.specs.declared.names.VerbName.TheVariants.{Debug, Picture, Adapter, Explain}
+
+-- each value of a program passed the parser of its option, and the source is there
+pub record ArePassed (found : Found) : Type 0 where
+  pub source : (text : Text) × (first_value found (codes "source") ≡ Some text)
+  pub width : (w : Width) × (first_value found (codes "width") ≡ Some (width_text w))
+  pub history : HasNumber 65536 found (codes "history")
+  pub steps : HasNumber 10000000 found (codes "steps")
+
+-- and so did each value that only a picture has
+pub record ArePicturePassed (found : Found) : Type 0 where
+  pub program : ArePassed found
+  pub most : HasNumber 10000000 found (codes "most")
+  pub flag : one_text found (codes "force") ≡ first_value found (codes "force")
+  pub force : IfSome (first_value found (codes "force"))
+      (λ text. (text ≡ codes "true") ⊎ (text ≡ codes "false"))
+
+-- the values behind a verb's name passed
+abbrev pub HavePassed : VerbName → Found → Type 0
+HavePassed Debug found = ArePassed found
+HavePassed Picture found = ArePicturePassed found
+HavePassed Adapter found = ⊤
+HavePassed Explain found = ⊤

@@ -1,0 +1,212 @@
+//! The option parser's commands: one for each verb, and one that lists them.
+ghost use Rattle.std.specs.Prelude.{◌≡◌, IfOk, [], false};
+ghost use Rattle.clap.specs.Words.{app_of, new_app, rule_of};
+ghost use Rattle.clap.specs.declared.builder.command.Command.TheViews.{out-Command};
+ghost use Rattle.ispc_options.specs.Asked.{AreWidths, flag, option, option_or, up_to, valued};
+ghost use Rattle.desk_options.specs.Commands.{all_verbs, command_of, picture_rules, program_rules};
+ghost use Rattle.desk_options.specs.Commands.{several, verb_command, wanted, with_rules};
+
+use crate::names::VerbName;
+use clap::builder::ValueParser;
+use clap::{Arg, ArgAction, Command, value_parser};
+use std::alloc::{AllocError, Global};
+
+static WIDTHS: [&str; 3] = ["4", "8", "16"];
+
+/// The most events of the history, which is what a debugger and a picture keep where the words name no other number.
+pub(crate) const MOST_HISTORY: u32 = 65_536;
+
+/// The most moves of one command, and the most steps of a picture.
+pub(crate) const MOST_STEPS: u32 = 10_000_000;
+
+const VERSION: &str = "0.1.0";
+
+const DEBUG_ABOUT: &str =
+    "Debugs a program, forwards and backwards, by lines that are typed or piped";
+
+const PICTURE_ABOUT: &str = "Draws the run of a program, a track for each lane";
+
+const ADAPTER_ABOUT: &str = "Speaks the Debug Adapter Protocol on standard input and output";
+
+const EXPLAIN_ABOUT: &str = "Says what a refusal or a fault means, with an example and a cure";
+
+/// The list of the verbs, which reads words that begin with none of them.
+pub(crate) fn all_verbs<'a>(alloc: Global) -> Result<Command<'a>, AllocError>
+    ensures { IfOk result (λ parser. app_of parser ≡ all_verbs) }
+{
+    Command::new(alloc, "rinddecade")
+        .no_binary_name(true)
+        .version(VERSION)
+        .subcommand_required(true)
+        .about("Debugs programs for gangs, forwards and backwards, and draws their runs")
+        .after_help("The options of a verb: rinddecade help VERB")
+        .subcommand(listed(alloc, "debug", DEBUG_ABOUT))?
+        .subcommand(listed(alloc, "picture", PICTURE_ABOUT))?
+        .subcommand(listed(alloc, "adapter", ADAPTER_ABOUT))?
+        .subcommand(listed(alloc, "explain", EXPLAIN_ABOUT))
+}
+
+/// A verb of the list.
+fn listed<'a>(alloc: Global, name: &'a str, about: &'a str) -> Command<'a>
+    ensures app { app_of result ≡ new_app name.now }
+    ensures local { (out-Command result).has_globals ≡ false }
+{
+    Command::new(alloc, name).about(about)
+}
+
+/// The options of a verb.
+pub(crate) fn verb_command<'a>(alloc: Global, verb: VerbName) -> Result<Command<'a>, AllocError>
+    ensures { IfOk result (λ parser. (widths : _) × AreWidths widths × (app_of parser ≡ verb_command widths verb)) }
+{
+    match verb {
+        VerbName::Debug => debug_command(alloc),
+        VerbName::Picture => picture_command(alloc),
+        VerbName::Adapter => adapter_command(alloc),
+        VerbName::Explain => explain_command(alloc),
+    }
+}
+
+fn debug_command<'a>(alloc: Global) -> Result<Command<'a>, AllocError>
+    ensures { IfOk result (λ parser. (widths : _) × AreWidths widths × (app_of parser ≡ verb_command widths VerbName.Debug)) }
+{
+    with_program(alloc, named(alloc, "rinddecade debug", DEBUG_ABOUT))
+}
+
+fn picture_command<'a>(alloc: Global) -> Result<Command<'a>, AllocError>
+    ensures { IfOk result (λ parser. (widths : _) × AreWidths widths × (app_of parser ≡ verb_command widths VerbName.Picture)) }
+{
+    with_picture(
+        alloc,
+        with_program(alloc, named(alloc, "rinddecade picture", PICTURE_ABOUT))?,
+    )
+}
+
+fn adapter_command<'a>(alloc: Global) -> Result<Command<'a>, AllocError>
+    ensures { IfOk result (λ parser. (widths : _) × AreWidths widths × (app_of parser ≡ verb_command widths VerbName.Adapter)) }
+{
+    Ok(named(alloc, "rinddecade adapter", ADAPTER_ABOUT))
+}
+
+fn explain_command<'a>(alloc: Global) -> Result<Command<'a>, AllocError>
+    ensures { IfOk result (λ parser. (widths : _) × AreWidths widths × (app_of parser ≡ verb_command widths VerbName.Explain)) }
+{
+    named(alloc, "rinddecade explain", EXPLAIN_ABOUT).arg(several(alloc, "name", "NAME").help(
+        "a number, as S7, or a name, as Rate; a whole line, as \"3:5: S7 Rate\", will do",
+    ))
+}
+
+/// A command that has no options yet. It is named as it is called.
+fn named<'a>(alloc: Global, name: &'a str, about: &'a str) -> Command<'a>
+    ensures { app_of result ≡ command_of name.now [] }
+{
+    Command::new(alloc, name).no_binary_name(true).about(about)
+}
+
+/// A command with the options of a program that is run. Each is made where it is added, so that none is alive where memory runs out.
+fn with_program<'a>(alloc: Global, command: Command<'a>) -> Result<Command<'a>, AllocError>
+    ensures { IfOk result (λ parser. (widths : _) × AreWidths widths
+        × (app_of parser ≡ with_rules (app_of command.entry) (program_rules widths))) }
+{
+    command
+        .arg(wanted(alloc, "source", "SOURCE").help("the program"))?
+        .arg(option(alloc, "input", "FILE").help(
+            "the input: a line NAME = VALUES for each parameter of the entry function",
+        ))?
+        .arg(option(alloc, "entry", "NAME").help(
+            "the entry function; else it is the first exported one",
+        ))?
+        .arg(option_or(alloc, "width", "W", widths(), "4").help("how many lanes a gang has"))?
+        .arg(option_or(alloc, "history", "N", up_to(MOST_HISTORY), "65536").help(
+            "how many events can be taken back, from 1 to 65536",
+        ))?
+        .arg(option_or(alloc, "steps", "N", up_to(MOST_STEPS), "1000000").help(
+            "how many moves one command makes at most, up to 10000000",
+        ))
+}
+
+/// A command with the options that only a picture has.
+fn with_picture<'a>(alloc: Global, command: Command<'a>) -> Result<Command<'a>, AllocError>
+    ensures { IfOk result (λ parser. app_of parser ≡ with_rules (app_of command.entry) picture_rules) }
+{
+    command
+        .arg(option(alloc, "commands", "FILE").help(
+            "command lines that are done first, as for ispc_cli",
+        ))?
+        .arg(option(alloc, "watch", "T").help(
+            "a variable, or a lane or an element of one as \"x[2]\", whose values are shown",
+        ))?
+        .arg(option_or(alloc, "most", "N", up_to(MOST_STEPS), "400").help(
+            "how many steps are drawn at most",
+        ))?
+        .arg(option(alloc, "to", "FILE").help(
+            "the file that is written, a page where its name ends with .html; else an SVG goes to standard output",
+        ))?
+        .arg(flag(alloc, "force").help(
+            "writes over the file of --to, whatever it holds; else only over a picture",
+        ))
+}
+
+/// An argument whose value has a name in the help.
+fn valued<'a>(alloc: Global, id: &'a str, value: &'a str) -> Arg<'a>
+    ensures { (rule_of result ≡ valued id.now) × (result.global ≡ false) }
+{
+    Arg::new(alloc, id).value_name(value)
+}
+
+fn wanted<'a>(alloc: Global, id: &'a str, value: &'a str) -> Arg<'a>
+    ensures { (rule_of result ≡ wanted id.now) × (result.global ≡ false) }
+{
+    valued(alloc, id, value)
+        .required(true)
+        .action(ArgAction::Set)
+}
+
+fn several<'a>(alloc: Global, id: &'a str, value: &'a str) -> Arg<'a>
+    ensures { (rule_of result ≡ several id.now) × (result.global ≡ false) }
+{
+    valued(alloc, id, value).required(true).num_args(1..)
+}
+
+fn option<'a>(alloc: Global, name: &'a str, value: &'a str) -> Arg<'a>
+    ensures { (rule_of result ≡ option name.now) × (result.global ≡ false) }
+{
+    valued(alloc, name, value).long(name)
+}
+
+fn option_or<'a>(
+    alloc: Global,
+    name: &'a str,
+    value: &'a str,
+    parser: ValueParser<'a>,
+    default: &'a str,
+) -> Arg<'a>
+    ensures { (rule_of result ≡ option_or name.now parser.entry default.now) × (result.global ≡ false) }
+{
+    option(alloc, name, value)
+        .action(ArgAction::Set)
+        .value_parser(parser)
+        .default_value(default)
+}
+
+fn flag<'a>(alloc: Global, name: &'a str) -> Arg<'a>
+    ensures { (rule_of result ≡ flag name.now) × (result.global ≡ false) }
+{
+    Arg::new(alloc, name)
+        .long(name)
+        .action(ArgAction::SetTrue)
+        .value_parser(value_parser!(bool))
+}
+
+/// One of the widths.
+fn widths<'a>() -> ValueParser<'a>
+    ensures { (widths : _) × AreWidths widths × (result ≡ ValueParser.Names widths) }
+{
+    WIDTHS.as_slice().into()
+}
+
+/// Whole numbers from 1 to `most`.
+fn up_to<'a>(most: u32) -> ValueParser<'a>
+    ensures { result ≡ up_to most }
+{
+    ValueParser::signed(1, i64::from(most))
+}

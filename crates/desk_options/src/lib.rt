@@ -1,0 +1,11 @@
+//! The words that `rinddecade` is called with.
+#![tactic(auto)]
+
+mod commands;
+mod names;
+mod reading;
+mod values;
+mod verbs;
+
+pub use reading::read_verb;
+pub use verbs::{Explained, Picture, Program, Verb};

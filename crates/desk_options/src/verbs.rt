@@ -1,0 +1,37 @@
+//! What the words ask for.
+use ispc_options::Options;
+
+/// A program that is run: the file of its source, that of its input if one is named, and how it is run.
+#[derive(Clone, Copy, Debug, PartialEq, Eq)]
+pub struct Program<'a> {
+    pub source: &'a str,
+    pub input: Option<&'a str>,
+    pub options: Options<'a>,
+}
+
+/// A picture of a program's run: the file of commands that come first, what is watched, how many steps are drawn at most, the file
+/// that is written, and whether it is written over whatever it holds.
+#[derive(Clone, Copy, Debug, PartialEq, Eq)]
+pub struct Picture<'a> {
+    pub program: Program<'a>,
+    pub commands: Option<&'a str>,
+    pub watch: Option<&'a str>,
+    pub most: u32,
+    pub to: Option<&'a str>,
+    pub force: bool,
+}
+
+/// The words that name a refusal or a fault.
+#[derive(Drop)]
+pub struct Explained<'a> {
+    pub words: Vec<&'a str>,
+}
+
+/// What the program is to do.
+#[derive(Drop)]
+pub enum Verb<'a> {
+    Debug(Program<'a>),
+    Picture(Picture<'a>),
+    Adapter,
+    Explain(Explained<'a>),
+}
