@@ -12,6 +12,9 @@ DEFINITIONS = "docs/DEFINITIONS.md"
 # The most characters of a paragraph or an item of a list. Rows of tables are not counted.
 MOST = 500
 
+# Crates whose pages are written anew with their calls, and are not measured until then.
+LATER = ("adapter_frames", "adapter_replies", "adapter_server", "adapter_session", "debug_prompt", "gang_machine")
+
 # What stands in a path for any name, or is made when the program is built or proved; files of an editor; and a format behind GDB's `print` or `x`.
 MADE_OR_ANY = re.compile(r"\b(NAME|CRATE|F|PATH)\b|\.\.$|\bout/|^proved\.txt$|^~|\*|^\.vscode/|^(?:p|print|x)/\w+$")
 CODE = re.compile(r"`([^`\n]+)`")
@@ -55,6 +58,12 @@ def paragraphs(text):
 def long_ones(page):
     found = paragraphs(page.read_text(encoding="utf-8"))
     return [f"line {at}: {len(text)} characters, and {MOST} are the most: {text[:60]} .." for at, text in found if len(text) > MOST]
+
+
+def long_ones_of_crates(root):
+    """What each crate's own page has that is long."""
+    own = (it for it in sorted(root.glob("crates/*/README.md")) if it.parent.name not in LATER)
+    return [f"{it.parent.name}: {why}" for it in own for why in long_ones(it)]
 
 
 def has(text, name):
@@ -104,10 +113,12 @@ def undefined(root):
 
 
 def check(root):
-    """A result for each page: it is there, with what it names, and its paragraphs are short; and for the names of definitions and rules."""
+    """A result for each page: it is there, with what it names, and its paragraphs are short, as those of the crates' own pages; and for the names of definitions and rules."""
     results = []
     for page in pages(root):
         why = missing(root, page) + long_ones(page) if page.is_file() else ["it is not there"]
         results.append(Result(page.relative_to(root).as_posix(), not why, why))
     why = list(undefined(root))
-    return [*results, Result("the files of the definitions", not why, why), *finding.check(root)]
+    results.append(Result("the files of the definitions", not why, why))
+    why = long_ones_of_crates(root)
+    return [*results, Result("the crates' own pages", not why, why), *finding.check(root)]
