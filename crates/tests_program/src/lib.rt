@@ -6,6 +6,8 @@ mod input_refusals;
 #[cfg(test)]
 mod inputs;
 #[cfg(test)]
+mod library;
+#[cfg(test)]
 mod options;
 #[cfg(test)]
 mod reports;
