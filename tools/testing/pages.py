@@ -2,7 +2,7 @@
 
 import re
 
-from . import finding, quotes
+from . import finding, promises, quotes
 from .tool import tool
 from .tried import Result
 
@@ -113,7 +113,7 @@ def undefined(root):
 
 
 def check(root):
-    """A result for each page: it is there, with what it names, and its paragraphs are short, as those of the crates' own pages; and for the names of definitions and rules, and what is quoted."""
+    """A result for each page: it is there, with what it names, and its paragraphs are short, as those of the crates' own pages; and for the names of definitions, rules and promises, and what is quoted."""
     results = []
     for page in pages(root):
         why = missing(root, page) + long_ones(page) if page.is_file() else ["it is not there"]
@@ -121,4 +121,4 @@ def check(root):
     why = list(undefined(root))
     results.append(Result("the files of the definitions", not why, why))
     why = long_ones_of_crates(root)
-    return [*results, Result("the crates' own pages", not why, why), *finding.check(root), *quotes.check(root)]
+    return [*results, Result("the crates' own pages", not why, why), *finding.check(root), *promises.check(root), *quotes.check(root)]
