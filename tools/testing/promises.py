@@ -12,7 +12,7 @@ PAGE = "docs/PROMISES.md"
 COLUMNS = ["Promise", "Kept by", "Wrong body", "Tested by"]
 KEPT = re.compile(r"`(\w+)::(\w+)`(?: \(((?:`\w+`(?:, )?)+)\))?")
 EDIT = re.compile(r"`(\w+/must-fail/\w+\.edit)`")
-TEST = re.compile(r"`(\w+)` of `(tests_\w+)`|`([^`]+)` of `(sessions/\w+\.session)`|`(tools/testing/\w+\.py)`")
+TEST = re.compile(r"`(\w+)` of `(tests_\w+)`|`([^`]+)` of `(sessions/\w+\.session)`|`(tools/(?:testing/\w+\.py|test_editors))`")
 TESTED, NEITHER = "tested only", "neither"
 
 
