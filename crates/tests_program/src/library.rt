@@ -46,7 +46,8 @@ const ANSWERS: &[u8] = b"ended\nat 4:1 go depth 1 lanes 11111111\nx = 1 4 7 10 1
 #[test]
 fn the_end_and_one_step_before_it(rt: HostRuntime) {
     let mut writer = PieceWriter::new(512, 512);
-    let is_told = matches!(look_back(rt.alloc(), SOURCE, &mut writer), Ok(true));
+    let told = look_back(rt.alloc(), SOURCE, &mut writer);
+    let is_told = matches!(&told, Ok(true));
     holds(
         &rt,
         is_told && writer.bytes() == ANSWERS,
