@@ -39,11 +39,16 @@ No variable of this name can be seen here, or it cannot be named in this way.
     C2 NoSuchName  (a uniform value has no lanes)
     > watch x
     C2 NoSuchName  (a watch is on a variable of the file)
+    > continue
+    ended
+    > print x
+    C2 NoSuchName  (the program has ended, so no function has variables any more)
 
 Cure: `info locals` shows what is in scope, and `backtrace` in which function.
 The variables of a calling function are not seen from the called one: `finish`
 or `reverse-finish` goes there. An array is set and watched element by
-element.
+element. Where the program has ended, `reverse-step` goes back to its last
+step, and there they are again.
 "
 }
 

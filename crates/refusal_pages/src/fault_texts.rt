@@ -99,6 +99,8 @@ them.
     n = -59 -59 -59 -59  (it was never tested)
 
 Cure: end the recursion by a test, as `if (n < 1) return 0;`, or write it as a
-loop. `backtrace` shows the calls.
+loop, with an array for what each call has to keep. No option raises the 64.
+`backtrace` shows the calls, `reverse-finish` goes back to where this one was
+made.
 "
 }

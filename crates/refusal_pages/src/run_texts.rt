@@ -17,8 +17,9 @@ function runs. Other functions may call an exported one too.
 
 pub(crate) fn no_script_text() -> &'static [u8] {
     b"\
-No source file was named, so standard input should have the source, a line
-`%%` and the commands. It has no such line, or has more than 1,048,576 bytes.
+No source file was named, so standard input should be a script: the source, a
+line of just `%%`, and the command lines. It has no such line, or has more
+than 1,048,576 bytes.
 
     export void go() { }
 
@@ -64,8 +65,9 @@ The name of the parameter stands behind.
     $ ispc_cli go.ispc --input go.input
     input: I2 Missing a
 
-Cure: add the line. An array may be empty: `a =`. Variables of the file need
-no line, and have what the source gives them, or 0.
+Cure: write a line `NAME = VALUE`, of an array with all its values, into a
+file, and name that file by `--input FILE`. An array may be empty: `a =`.
+Variables of the file need no line, and have what the source gives them, or 0.
 "
 }
 

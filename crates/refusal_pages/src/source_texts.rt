@@ -225,7 +225,9 @@ it. Instead of two nested `foreach` write one with two dimensions.
 pub(crate) fn nested_call_text() -> &'static [u8] {
     b"\
 A call that has to be a statement of its own stands inside an expression, or a
-call of the library that is no statement stands alone as one.
+call of the library that is no statement stands alone as one. A function of
+the source and a packed call are called as a statement, or whole behind `x =`,
+a declaration's `=` or `return`; `assert` stands alone.
 
     int twice(int x) { return 2 * x; }
     export void go() {
@@ -235,10 +237,15 @@ call of the library that is no statement stands alone as one.
     $ ispc_cli go.ispc
     3:13: S12 NestedCall
 
-Cure: give the result of each call a variable first, `int t = twice(3);`, and
-go on with that. This holds for the functions of the source and for packed
-calls; `assert` stands alone; the other calls of the library may stand
-anywhere in an expression.
+Cure: give the result of each call a variable first, and go on with that. The
+other calls of the library may stand anywhere in an expression.
+
+- `a[i] = f(x);` is written `int t = f(x);` and `a[i] = t;`
+- `x += f(y);` is written `int t = f(y);` and `x += t;`
+- `y = 1 + f(x);` is written `int t = f(x);` and `y = 1 + t;`
+- `y = f(g(x));` is written `int t = g(x);` and `y = f(t);`
+- `if (f(x))` is written `bool t = f(x);` and `if (t)`; a loop's test is
+computed anew at the end of its body
 "
 }
 
@@ -254,7 +261,8 @@ place is that of the first token, operator, label or name past the limit, and
     $ ispc_cli go.ispc
     1:65: S13 Limit
 
-Cure: parameters go into an array, a long expression into several, many
-variables into an array or into functions of their own.
+Cure: no option raises a limit. Parameters go into an array, a long expression
+into several, many variables into an array or into functions of their own; a
+source that is too long loses its comments and blanks first.
 "
 }
