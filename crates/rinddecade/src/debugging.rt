@@ -4,59 +4,48 @@ ghost use Rattle.ispc_options.specs.Ranges.{AreInRange};
 ghost use Rattle.ispc_debugger.specs.Runs.{lanes_of};
 
 use crate::files::read_texts;
-use crate::refusing::{Texts, refuse, refuse_arguments, refuse_words};
+use crate::refusing::{Texts, read_fault, refuse, refuse_program, write_fault};
+use crate::typed_lines::{Typed, read_line};
 use debug_prompt::{Prompt, Turn};
 use debug_streams::StreamWriter;
 use debug_traits::AnswerWriter;
+use desk_options::Program;
 use ispc_debugger::{ProgramSession, open_session};
-use ispc_options::{Options, Paths, Width, read_options};
+use ispc_options::Width;
 use ispc_refusals::Refusal;
 use prompt_texts::{Page, Source};
 use std::io;
-use std::io::{BufRead, IsTerminal, LineWriter};
+use std::io::{IsTerminal, LineWriter};
 use std::process::ExitCode;
 
-/// Debugs the source that the words name, by the lines of standard input.
-pub(crate) fn debug(rt: &HostRuntime, words: &[&str]) -> ExitCode {
-    match read_options(rt.alloc(), words) {
-        Err(fault) => refuse_arguments(rt, &fault),
-        Ok((options, paths)) => debug_files(rt, &options, &paths),
-    }
-}
+/// What is shown for a line that has too many bytes.
+const TOO_LONG: &[u8] =
+    b"C1 BadCommand: the line has more than 4096 bytes, so nothing is done for it.\n";
 
-/// Reads the files, the source first.
-fn debug_files(rt: &HostRuntime, options: &Options<'_>, paths: &Paths<'_>) -> ExitCode
-    requires { AreInRange options.now }
+/// Debugs a program by the lines of standard input. Its files are read first, the source before the input.
+pub(crate) fn debug(rt: &HostRuntime, program: &Program<'_>) -> ExitCode
+    requires { AreInRange program.now.options }
 {
-    let Some(path) = paths.source else {
-        return refuse_words(rt, "the source is not named");
-    };
-    let (source, input) = match read_texts(rt, path, paths.input) {
+    let (source, input) = match read_texts(rt, program.source, program.input) {
         Ok(texts) => texts,
         Err(status) => return status,
     };
-    let texts = Texts::new(path, source.as_slice(), input.as_slice());
-    debug_texts(rt, texts, options)
-}
-
-/// Debugs at the width that is asked for.
-fn debug_texts(rt: &HostRuntime, texts: Texts<'_>, options: &Options<'_>) -> ExitCode
-    requires { AreInRange options.now }
-{
-    match options.width {
-        Width::Four => debug_wide::<4>(rt, texts, options),
-        Width::Eight => debug_wide::<8>(rt, texts, options),
-        Width::Sixteen => debug_wide::<16>(rt, texts, options),
+    let texts = Texts::new(program, source.as_slice(), input.as_slice());
+    match program.options.width {
+        Width::Four => debug_wide::<4>(rt, texts, program),
+        Width::Eight => debug_wide::<8>(rt, texts, program),
+        Width::Sixteen => debug_wide::<16>(rt, texts, program),
     }
 }
 
-fn debug_wide<const W: usize>(rt: &HostRuntime, texts: Texts<'_>, options: &Options<'_>) -> ExitCode
-    requires width { W ≡ lanes_of options.now.width }
-    requires range { AreInRange options.now }
+fn debug_wide<const W: usize>(rt: &HostRuntime, texts: Texts<'_>, program: &Program<'_>) -> ExitCode
+    requires width { W ≡ lanes_of program.now.options.width }
+    requires range { AreInRange program.now.options }
 {
-    match open_session::<W>(rt.alloc(), texts.source.text, texts.input.text, options) {
-        Err(refusal) => refuse(rt, &refusal, Some(texts)),
-        Ok(mut session) => talk::<W>(rt, texts.source, options.steps, &mut session),
+    let (source, input) = (texts.source.text, texts.input.text);
+    match open_session::<W>(rt.alloc(), source, input, &program.options) {
+        Err(refusal) => refuse_program(rt, &refusal, program, texts),
+        Ok(mut session) => talk::<W>(rt, texts.source, program.options.steps, &mut session),
     }
 }
 
@@ -73,7 +62,7 @@ fn talk<const W: usize>(
         return talk_on::<W, _>(rt, source, prompt, session, page);
     }
     match LineWriter::new(rt.alloc(), rt.stdout()) {
-        Err(_) => refuse(rt, &Refusal::Memory, None),
+        Err(_) => refuse(rt, &Refusal::Memory),
         Ok(lines) => {
             let page = Page::new(StreamWriter::new(lines));
             talk_on::<W, _>(rt, source, prompt, session, page)
@@ -97,19 +86,25 @@ fn talk_on<const W: usize, O: AnswerWriter + Drop>(
     prompt.begin(source, session, &mut page);
     for _ in 0..u64::MAX {
         ask(rt, is_asked);
-        line.clear();
-        match reader.read_until(b'\n', &mut line) {
-            Err(fault) => return read_fault(rt, &fault),
-            Ok(0) => {
+        match read_line(&mut reader, &mut line) {
+            Err(fault) => return refuse_reading(rt, &fault),
+            Ok(Typed::End) => {
                 leave(rt, is_asked);
                 return ExitCode::SUCCESS;
             }
-            Ok(_) => {}
-        }
-        match prompt.do_line(without_feed(line.as_slice()), source, session, &mut page) {
-            Turn::Goes => {}
-            Turn::Quits => return ExitCode::SUCCESS,
-            Turn::Fails => return write_fault(rt),
+            Ok(Typed::TooLong) => {
+                page.put(TOO_LONG);
+                if page.has_failed() {
+                    return write_fault(rt);
+                }
+            }
+            Ok(Typed::Line) => {
+                match prompt.do_line(without_feed(line.as_slice()), source, session, &mut page) {
+                    Turn::Goes => {}
+                    Turn::Quits => return ExitCode::SUCCESS,
+                    Turn::Fails => return write_fault(rt),
+                }
+            }
         }
     }
     ExitCode::SUCCESS
@@ -137,15 +132,9 @@ fn without_feed(line: &[u8]) -> &[u8] {
     }
 }
 
-fn read_fault(rt: &HostRuntime, fault: &io::Error) -> ExitCode {
+fn refuse_reading(rt: &HostRuntime, fault: &io::Error) -> ExitCode {
     if fault.kind() == io::ErrorKind::OutOfMemory {
-        return refuse(rt, &Refusal::Memory, None);
+        return refuse(rt, &Refusal::Memory);
     }
-    let _ = eprintln!(rt; "read fault");
-    ExitCode::from(3)
-}
-
-fn write_fault(rt: &HostRuntime) -> ExitCode {
-    let _ = eprintln!(rt; "write fault");
-    ExitCode::from(4)
+    read_fault(rt)
 }

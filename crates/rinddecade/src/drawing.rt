@@ -3,14 +3,17 @@ ghost use Rattle.std.specs.Prelude.{◌≡◌};
 ghost use Rattle.ispc_options.specs.Ranges.{AreInRange};
 ghost use Rattle.ispc_debugger.specs.Runs.{lanes_of};
 
-use crate::files::{read_file, read_texts};
-use crate::refusing::{Texts, refuse, refuse_arguments, refuse_words};
+use crate::files::{read_file, read_texts, reason};
+use crate::overwriting::refuse_overwriting;
+use crate::refusing::{Texts, refuse, refuse_because, refuse_file, refuse_program, write_fault};
+use crate::words_of_source::may_have_name;
 use debug_commands::{Command, Target, read_command};
 use debug_session::Session;
 use debug_streams::StreamWriter;
 use debug_traits::RecordedMachine;
+use desk_options::Picture;
 use ispc_debugger::{ProgramSession, open_session};
-use ispc_options::{Options, Paths, Width, read_options};
+use ispc_options::Width;
 use ispc_refusals::Refusal;
 use lane_picture::{Form, PictureEnd, Subject, draw};
 use std::alloc::AllocError;
@@ -21,151 +24,90 @@ use std::process::ExitCode;
 /// The most bytes of a file of commands.
 const MOST_COMMANDS: usize = 1_048_576;
 
-/// How many steps are drawn where no number is named.
-const MOST_STEPS: u32 = 400;
+/// Why a target is not watched.
+const NO_TARGET: &[u8] =
+    b"--watch takes a variable, or a lane or an element of one as \"x[2]\", and not ";
 
-/// The words that only a picture has.
-#[derive(Clone, Copy)]
-struct PictureWords<'a> {
-    commands: Option<&'a str>,
-    watch: Option<&'a str>,
-    most: Option<&'a str>,
-    to: Option<&'a str>,
-}
+const NOT_NAMED: &[u8] = b"--watch: the source has no variable ";
 
 /// What is drawn of a run, and where to.
 #[derive(Clone, Copy)]
 struct Plan<'a> {
+    picture: &'a Picture<'a>,
     texts: Texts<'a>,
     commands: &'a [u8],
     watched: Option<Target<'a>>,
-    most_steps: u32,
-    to: Option<&'a str>,
 }
 
-impl<'a> Plan<'a> {
-    fn new(
-        texts: Texts<'a>,
-        commands: &'a [u8],
-        watched: Option<Target<'a>>,
-        most_steps: u32,
-        to: Option<&'a str>,
-    ) -> Self {
-        Plan {
-            texts,
-            commands,
-            watched,
-            most_steps,
-            to,
-        }
-    }
-}
-
-/// Draws the run of the source that the words name.
-pub(crate) fn draw_picture(rt: &HostRuntime, words: &[&str]) -> ExitCode {
-    let mut others = Vec::new(rt.alloc());
-    let Ok(own) = own_words(words, &mut others) else {
-        return refuse(rt, &Refusal::Memory, None);
-    };
-    match read_options(rt.alloc(), others.as_slice()) {
-        Err(fault) => refuse_arguments(rt, &fault),
-        Ok((options, paths)) => draw_files(rt, own, &options, &paths),
-    }
-}
-
-/// Takes the words that only a picture has out of the others.
-fn own_words<'a>(
-    words: &[&'a str],
-    others: &mut Vec<&'a str>,
-) -> Result<PictureWords<'a>, AllocError> {
-    let mut own = PictureWords {
-        commands: None,
-        watch: None,
-        most: None,
-        to: None,
-    };
-    let mut option = "";
-    for word in words {
-        match option {
-            "--commands" => own.commands = Some(*word),
-            "--watch" => own.watch = Some(*word),
-            "--most" => own.most = Some(*word),
-            "--to" => own.to = Some(*word),
-            _ if !is_own(word) => others.push(*word)?,
-            _ => {}
-        }
-        option = if is_own(option) { "" } else { *word };
-    }
-    Ok(own)
-}
-
-/// Whether a word is an option that only a picture has.
-fn is_own(word: &str) -> bool {
-    matches!(word, "--commands" | "--watch" | "--most" | "--to")
-}
-
-/// Reads the files, the source first.
-fn draw_files(
-    rt: &HostRuntime,
-    own: PictureWords<'_>,
-    options: &Options<'_>,
-    paths: &Paths<'_>,
-) -> ExitCode
-    requires { AreInRange options.now }
+/// Draws the run of a program. Its files are read first, the source before the input and this before the commands.
+pub(crate) fn draw_picture(rt: &HostRuntime, picture: &Picture<'_>) -> ExitCode
+    requires { AreInRange picture.now.program.options }
 {
-    let Some(path) = paths.source else {
-        return refuse_words(rt, "the source is not named");
-    };
-    let (source, input) = match read_texts(rt, path, paths.input) {
+    if let Err(status) = refuse_overwriting(rt, picture) {
+        return status;
+    }
+    let (source, input) = match read_texts(rt, picture.program.source, picture.program.input) {
         Ok(texts) => texts,
         Err(status) => return status,
     };
-    let commands = match own.commands {
-        None => Ok(Vec::new(rt.alloc())),
-        Some(path) => read_file(rt, path, MOST_COMMANDS),
-    };
-    let commands = match commands {
+    let commands = match read_commands(rt, picture.commands) {
         Ok(commands) => commands,
         Err(status) => return status,
     };
-    let texts = Texts::new(path, source.as_slice(), input.as_slice());
-    draw_asked(rt, own, texts, commands.as_slice(), options)
+    let texts = Texts::new(&picture.program, source.as_slice(), input.as_slice());
+    draw_texts(rt, picture, texts, commands.as_slice())
+}
+
+/// The command lines that a file has, none where no file is named; or the status where it cannot be read or has too many.
+fn read_commands(rt: &HostRuntime, path: Option<&str>) -> Result<Vec<u8>, ExitCode> {
+    let Some(path) = path else {
+        return Ok(Vec::new(rt.alloc()));
+    };
+    match read_file(rt, path, MOST_COMMANDS) {
+        Ok(commands) if commands.len() > MOST_COMMANDS => Err(refuse_file(
+            rt,
+            b"cannot read ",
+            path,
+            b": there may be 1048576 bytes of commands at most",
+        )),
+        read => read,
+    }
 }
 
 /// Draws what the words ask for.
-fn draw_asked(
+fn draw_texts(
     rt: &HostRuntime,
-    own: PictureWords<'_>,
+    picture: &Picture<'_>,
     texts: Texts<'_>,
     commands: &[u8],
-    options: &Options<'_>,
 ) -> ExitCode
-    requires { AreInRange options.now }
+    requires { AreInRange picture.now.program.options }
 {
-    let (Ok(print), Ok(step)) = (
-        line_of(rt, b"print ", own.watch),
-        line_of(rt, b"step ", own.most),
-    ) else {
-        return refuse(rt, &Refusal::Memory, None);
+    let Ok(print) = line_of(rt, b"print ", picture.watch) else {
+        return refuse(rt, &Refusal::Memory);
     };
-    let watched = match (own.watch, read_command(print.as_slice())) {
+    let watched = match (picture.watch, read_command(print.as_slice())) {
         (None, _) => None,
         (Some(_), Some(Command::Print(target))) => Some(target),
-        _ => return refuse_words(
-            rt,
-            "--watch names a variable, or a lane or an element of one",
-        ),
+        (Some(named), _) => return refuse_because(rt, NO_TARGET, named.as_bytes()),
     };
-    let most_steps = match (own.most, read_command(step.as_slice())) {
-        (None, _) => MOST_STEPS,
-        (Some(_), Some(Command::Step(count))) => count,
-        _ => return refuse_words(rt, "--most is 1 to 10000000"),
+    if let Some(target) = watched {
+        match may_have_name(rt.alloc(), texts.source.text, target.name) {
+            Ok(true) => {}
+            Ok(false) => return refuse_because(rt, NOT_NAMED, target.name),
+            Err(_) => return refuse(rt, &Refusal::Memory),
+        }
+    }
+    let plan = Plan {
+        picture,
+        texts,
+        commands,
+        watched,
     };
-    let plan = Plan::new(texts, commands, watched, most_steps, own.to);
-    match options.width {
-        Width::Four => draw_wide::<4>(rt, &plan, options),
-        Width::Eight => draw_wide::<8>(rt, &plan, options),
-        Width::Sixteen => draw_wide::<16>(rt, &plan, options),
+    match picture.program.options.width {
+        Width::Four => draw_wide::<4>(rt, &plan),
+        Width::Eight => draw_wide::<8>(rt, &plan),
+        Width::Sixteen => draw_wide::<16>(rt, &plan),
     }
 }
 
@@ -176,13 +118,13 @@ fn line_of(rt: &HostRuntime, front: &[u8], rest: Option<&str>) -> Result<Vec<u8>
     Ok(line)
 }
 
-fn draw_wide<const W: usize>(rt: &HostRuntime, plan: &Plan<'_>, options: &Options<'_>) -> ExitCode
-    requires width { W ≡ lanes_of options.now.width }
-    requires range { AreInRange options.now }
+fn draw_wide<const W: usize>(rt: &HostRuntime, plan: &Plan<'_>) -> ExitCode
+    requires width { W ≡ lanes_of plan.now.picture.now.program.options.width }
+    requires range { AreInRange plan.now.picture.now.program.options }
 {
     let (source, input) = (plan.texts.source.text, plan.texts.input.text);
-    match open_session::<W>(rt.alloc(), source, input, options) {
-        Err(refusal) => refuse(rt, &refusal, Some(plan.texts)),
+    match open_session::<W>(rt.alloc(), source, input, &plan.picture.program.options) {
+        Err(refusal) => refuse_program(rt, &refusal, &plan.picture.program, plan.texts),
         Ok(mut session) => {
             do_lines(plan.commands, &mut session);
             draw_session::<W>(rt, plan, &mut session)
@@ -213,7 +155,7 @@ fn draw_session<const W: usize>(
     plan: &Plan<'_>,
     session: &mut ProgramSession<W>,
 ) -> ExitCode {
-    let Some(path) = plan.to else {
+    let Some(path) = plan.picture.to else {
         return draw_on::<W, _>(rt, plan, Form::Image, rt.stdout(), session);
     };
     let form = if path.ends_with(".html") {
@@ -223,10 +165,7 @@ fn draw_session<const W: usize>(
     };
     match fs::create(rt, path) {
         Ok(file) => draw_on::<W, _>(rt, plan, form, file, session),
-        Err(_) => {
-            let _ = eprintln!(rt; "cannot write {path}");
-            ExitCode::from(2)
-        }
+        Err(fault) => refuse_file(rt, b"cannot write ", path, reason(fault.kind())),
     }
 }
 
@@ -239,22 +178,19 @@ fn draw_on<const W: usize, O: Write + Drop>(
     session: &mut ProgramSession<W>,
 ) -> ExitCode {
     let Ok(lines) = LineWriter::new(rt.alloc(), file) else {
-        return refuse(rt, &Refusal::Memory, None);
+        return refuse(rt, &Refusal::Memory);
     };
     let subject = Subject {
         title: plan.texts.source.name,
         source: plan.texts.source.text,
         watched: plan.watched,
-        most_steps: plan.most_steps,
+        most_steps: plan.picture.most,
         form,
     };
     let mut writer = StreamWriter::new(lines);
     match draw(rt.alloc(), session, &subject, &mut writer) {
-        Err(_) => refuse(rt, &Refusal::Memory, None),
-        Ok(PictureEnd::WriteFault) => {
-            let _ = eprintln!(rt; "write fault");
-            ExitCode::from(4)
-        }
+        Err(_) => refuse(rt, &Refusal::Memory),
+        Ok(PictureEnd::WriteFault) => write_fault(rt),
         Ok(_) => ExitCode::SUCCESS,
     }
 }

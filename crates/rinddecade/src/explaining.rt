@@ -1,24 +1,28 @@
 //! What a refusal or a fault means.
-use crate::refusing::refuse_words;
+use crate::refusing::{refuse_because, write_fault};
 use debug_streams::StreamWriter;
-use refusal_pages::{page_of, write_page};
+use refusal_pages::{Page, page_of, write_page};
 use std::process::ExitCode;
 
-/// Writes the page of the refusal or fault that the words name.
+/// Writes the page of the refusal or fault that the words name, which may be those of a whole line.
 pub(crate) fn explain(rt: &HostRuntime, words: &[&str]) -> ExitCode {
-    let [name] = words else {
-        return refuse_words(rt, "one refusal or fault is named, as S7");
-    };
-    let Some(page) = page_of(name.as_bytes()) else {
-        let _ = eprintln!(rt; "no such refusal or fault: {name}");
-        return ExitCode::from(2);
+    let Some(page) = words.iter().find_map(|word| page_in(word.as_bytes())) else {
+        let named = words.first().copied().unwrap_or("");
+        return refuse_because(
+            rt,
+            b"there are S1 to S13, E1, E2, I1 to I4, F1 to F5 and C1 to C12, but no ",
+            named.as_bytes(),
+        );
     };
     let mut writer = StreamWriter::new(rt.stdout());
     match write_page(&page, &mut writer) {
         Ok(()) => ExitCode::SUCCESS,
-        Err(_) => {
-            let _ = eprintln!(rt; "write fault");
-            ExitCode::from(4)
-        }
+        Err(_) => write_fault(rt),
     }
+}
+
+/// The page of the first word of a line that names one.
+pub(crate) fn page_in(line: &[u8]) -> Option<Page> {
+    line.split(|byte| !byte.is_ascii_alphanumeric())
+        .find_map(page_of)
 }

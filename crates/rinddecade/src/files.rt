@@ -1,5 +1,5 @@
 //! Files, and the fronts of them that are read.
-use crate::refusing::refuse;
+use crate::refusing::{refuse, refuse_file};
 use debug_inputs::MOST_BYTES as MOST_INPUT;
 use ispc_refusals::Refusal;
 use ispc_script::MOST_BYTES;
@@ -8,17 +8,14 @@ use std::process::ExitCode;
 use std::{fs, io};
 
 /// The front of a file, up to one byte more than there may be; or the status where it cannot be read, which standard error is
-/// told.
+/// told with the reason.
 pub(crate) fn read_file(rt: &HostRuntime, path: &str, most: usize) -> Result<Vec<u8>, ExitCode> {
     match file_front(rt, path, most) {
         Ok(text) => Ok(text),
         Err(fault) if fault.kind() == io::ErrorKind::OutOfMemory => {
-            Err(refuse(rt, &Refusal::Memory, None))
+            Err(refuse(rt, &Refusal::Memory))
         }
-        Err(_) => {
-            let _ = eprintln!(rt; "cannot read {path}");
-            Err(ExitCode::from(2))
-        }
+        Err(fault) => Err(refuse_file(rt, b"cannot read ", path, reason(fault.kind()))),
     }
 }
 
@@ -28,6 +25,20 @@ pub(crate) fn file_front(rt: &HostRuntime, path: &str, most: usize) -> io::Resul
     let most = (most as u64).saturating_add(1);
     file.take(most).read_to_end(&mut text)?;
     Ok(text)
+}
+
+/// Why a file is neither read nor written, where people can do something about it.
+pub(crate) fn reason(kind: io::ErrorKind) -> &'static [u8] {
+    match kind {
+        io::ErrorKind::NotFound => b": there is no such file",
+        io::ErrorKind::IsADirectory => b": it is a directory",
+        io::ErrorKind::NotADirectory => b": a part of its path is no directory",
+        io::ErrorKind::PermissionDenied => b": there is no permission",
+        io::ErrorKind::InvalidFilename => b": its name is too long",
+        io::ErrorKind::ReadOnlyFilesystem => b": nothing is written on its file system",
+        io::ErrorKind::StorageFull => b": no room is left",
+        _ => b"",
+    }
 }
 
 /// A source, and the input if one is named, or the status where one of them cannot be read.

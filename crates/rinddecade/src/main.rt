@@ -1,20 +1,27 @@
 //! A debugger that people sit at and editors speak to, pictures of runs, and what refusals mean.
 #![tactic(auto)]
 
-mod arguments;
+ghost use Rattle.desk_options.specs.Ranges.{IsInRange};
+
+mod advice;
 mod debugging;
 mod drawing;
 mod explaining;
 mod files;
+mod marking;
+mod overwriting;
 mod refusing;
 mod serving;
+mod typed_lines;
+mod words_of_source;
+mod wrong_values;
 
-use arguments::{Verb, read_verb};
 use debugging::debug;
+use desk_options::{Verb, read_verb};
 use drawing::draw_picture;
 use explaining::explain;
 use ispc_refusals::Refusal;
-use refusing::{refuse, refuse_arguments, refuse_words};
+use refusing::{refuse, refuse_arguments, refuse_because};
 use serving::adapt;
 use std::alloc::AllocError;
 use std::process::ExitCode;
@@ -24,9 +31,13 @@ fn main(rt: HostRuntime) -> ExitCode {
     let owned = match words_of(&rt) {
         Ok(owned) => owned,
         Err(fault) if fault.kind() == io::ErrorKind::InvalidData => {
-            return refuse_words(&rt, "invalid UTF-8 was detected in one or more arguments");
+            return refuse_because(
+                &rt,
+                b"invalid UTF-8 was detected in one or more arguments",
+                b"",
+            );
         }
-        Err(_) => return refuse(&rt, &Refusal::Memory, None),
+        Err(_) => return refuse(&rt, &Refusal::Memory),
     };
     let words: Result<Vec<&str>, AllocError> = owned
         .iter()
@@ -34,14 +45,11 @@ fn main(rt: HostRuntime) -> ExitCode {
         .map(|word| word.as_str())
         .collect(rt.alloc());
     let Ok(words) = words else {
-        return refuse(&rt, &Refusal::Memory, None);
+        return refuse(&rt, &Refusal::Memory);
     };
     match read_verb(rt.alloc(), words.as_slice()) {
         Err(fault) => refuse_arguments(&rt, &fault),
-        Ok(Verb::Debug(words)) => debug(&rt, words),
-        Ok(Verb::Picture(words)) => draw_picture(&rt, words),
-        Ok(Verb::Adapter) => adapt(&rt),
-        Ok(Verb::Explain(words)) => explain(&rt, words),
+        Ok(verb) => do_verb(&rt, &verb),
     }
 }
 
@@ -49,4 +57,15 @@ fn main(rt: HostRuntime) -> ExitCode {
 fn words_of(rt: &HostRuntime) -> io::Result<Vec<String>> {
     let arguments = env::args(rt)?.collect(rt.alloc())?;
     Ok(arguments)
+}
+
+fn do_verb(rt: &HostRuntime, verb: &Verb<'_>) -> ExitCode
+    requires { IsInRange verb.now }
+{
+    match verb {
+        Verb::Debug(program) => debug(rt, program),
+        Verb::Picture(picture) => draw_picture(rt, picture),
+        Verb::Adapter => adapt(rt),
+        Verb::Explain(explained) => explain(rt, explained.words.as_slice()),
+    }
 }

@@ -4,7 +4,7 @@ ghost use Rattle.ispc_options.specs.Ranges.{AreInRange};
 ghost use Rattle.ispc_debugger.specs.Runs.{lanes_of};
 
 use crate::files::file_front;
-use crate::refusing::refuse;
+use crate::refusing::{read_fault, refuse, write_fault};
 use adapter_requests::Launch;
 use adapter_server::{Connection, Ended, LaunchMessage, Served};
 use debug_inputs::MOST_BYTES as MOST_INPUT;
@@ -27,15 +27,9 @@ pub(crate) fn adapt(rt: &HostRuntime) -> ExitCode {
     let mut connection = Connection::new(rt.alloc(), rt.stdin(), rt.stdout());
     match serve_launches(rt, &mut connection) {
         Ended::Disconnected | Ended::EndOfInput => ExitCode::SUCCESS,
-        Ended::Memory => refuse(rt, &Refusal::Memory, None),
-        Ended::ReadFault => {
-            let _ = eprintln!(rt; "read fault");
-            ExitCode::from(3)
-        }
-        Ended::WriteFault => {
-            let _ = eprintln!(rt; "write fault");
-            ExitCode::from(4)
-        }
+        Ended::Memory => refuse(rt, &Refusal::Memory),
+        Ended::ReadFault => read_fault(rt),
+        Ended::WriteFault => write_fault(rt),
     }
 }
 

@@ -1,0 +1,71 @@
+//! What can be done about a refusal.
+use crate::explaining::page_in;
+use crate::marking::put_masked;
+use crate::refusing::Texts;
+use crate::words_of_source::put_exported;
+use debug_inputs::InputFault;
+use debug_streams::StreamWriter;
+use debug_traits::AnswerWriter;
+use desk_options::Program;
+use ispc_refusals::{Refusal, write_refusal};
+use prompt_texts::Page;
+use std::alloc::Global;
+
+/// Writes to standard error what can be done about a refusal, and where it is explained.
+pub(crate) fn advise(rt: &HostRuntime, refusal: &Refusal, program: &Program<'_>, texts: Texts<'_>) {
+    let mut page = Page::new(StreamWriter::new(rt.stderr()));
+    match refusal {
+        Refusal::Memory | Refusal::Input(InputFault::Memory) => return,
+        Refusal::NoEntry => put_entries(rt.alloc(), program, texts, &mut page),
+        Refusal::Input(InputFault::Missing(name)) => put_missing(name, program, &mut page),
+        Refusal::NoScript => page.put(
+            b"a script is a source, a line of just `%%`, and command lines\n",
+        ),
+        Refusal::Source(_) | Refusal::Input(_) => {}
+    }
+    put_explained(rt.alloc(), refusal, &mut page);
+}
+
+/// Writes which functions a run may begin with.
+fn put_entries<O: AnswerWriter + Drop>(
+    alloc: Global,
+    program: &Program<'_>,
+    texts: Texts<'_>,
+    page: &mut Page<O>,
+) {
+    if let Some(name) = program.options.entry {
+        page.put(b"no exported function is called ");
+        put_masked(name.as_bytes(), page);
+        page.put(b"\n");
+    }
+    page.put(b"exported functions: ");
+    if put_exported(alloc, texts.source.text, page) == 0 {
+        page.put(b"none; write `export` before the function that the run begins with");
+    }
+    page.put(b"\n");
+}
+
+/// Writes how a parameter of the entry is given its values.
+fn put_missing<O: AnswerWriter + Drop>(name: &[u8], program: &Program<'_>, page: &mut Page<O>) {
+    page.put(b"the entry function has a parameter ");
+    page.put(name);
+    page.put(b": write a line `");
+    page.put(name);
+    page.put(b" = VALUE`, of an array with all its values, into ");
+    match program.input {
+        Some(path) => put_masked(path.as_bytes(), page),
+        None => page.put(b"a file, and name that by --input FILE"),
+    }
+    page.put(b"\n");
+}
+
+/// Writes the call that explains a refusal.
+fn put_explained<O: AnswerWriter + Drop>(alloc: Global, refusal: &Refusal, page: &mut Page<O>) {
+    let mut told = Vec::new(alloc);
+    let _ = write_refusal(refusal, &mut StreamWriter::new(&mut told));
+    if let Some(explained) = page_in(&told) {
+        page.put(b"`rinddecade explain ");
+        page.put(explained.number);
+        page.put(b"` says what this means, with an example and a cure\n");
+    }
+}

@@ -1,0 +1,264 @@
+"""How `rinddecade` is called: the words of each verb, what they are refused for, which files a picture is written over, lines that are too
+long, and what a refused program is told with its line, a mark and what to do."""
+
+import os
+import pathlib
+import subprocess
+import tempfile
+
+from . import program
+from .devices import opened
+from .program import begins_with, has_words
+from .tried import Result, Run, differences
+
+CRATE = "rinddecade"
+VERSION = b"rinddecade 0.1.0\n"
+FIRST, RATE, HIDDEN = program.FIRST, program.RATE, program.HIDDEN
+FILES = {"first.ispc": FIRST}
+OF_A_RUN = (b"<SOURCE>", b"--input <FILE>", b"--entry <NAME>", b"--width <W>", b"--history <N>", b"[default: 65536]", b"--steps <N>")
+OF_A_PICTURE = (b"--commands <FILE>", b"--watch <T>", b"--most <N>", b"--to <FILE>", b"--force")
+PICTURE = b'<svg xmlns="http://www.w3.org/2000/svg" width="'
+MOST_COMMANDS = 1_048_576
+MOST_TYPED = 4_096
+TOO_LONG = b"C1 BadCommand: the line has more than 4096 bytes, so nothing is done for it.\n"
+
+# A loop of 201 steps, and where its program begins.
+LOOP = b"export void go() {\n    uniform int n = 0;\n    while (n < 100)\n        n += 1;\n}\n"
+AT_START = b"go at loop.ispc:2:5, lanes ####\n"
+
+
+def explained(number):
+    return b"`rinddecade explain %s` says what this means, with an example and a cure\n" % number
+
+
+def marked(number, line, before, mark=b""):
+    """A line behind its number, and a mark under what follows so many bytes. The line is all that is shown, cut or not."""
+    return b"-> %5d  %s\n" % (number, line) + b" " * 10 + (mark or b" " * before) + b"^\n"
+
+
+def told(name, words, errors, data):
+    """A run of `debug` that is refused."""
+    return Run(name, b"step\n", ["debug", *words], b"", errors, 2, data)
+
+
+def runs():
+    return helps() + wrong_words() + refused_programs() + refused_inputs() + marks() + unread_files() + typed_lines() + pages() + histories()
+
+
+def helps():
+    told = {
+        ("--help",): (b"Usage: rinddecade <COMMAND>", b"debug", b"picture", b"adapter", b"explain", b"--version"),
+        ("help",): (b"Usage: rinddecade <COMMAND>",),
+        ("debug", "--help"): (b"Usage: rinddecade debug [OPTIONS] <SOURCE>", *OF_A_RUN),
+        ("help", "debug"): (b"Usage: rinddecade debug [OPTIONS] <SOURCE>", *OF_A_RUN),
+        ("picture", "--help"): (b"Usage: rinddecade picture [OPTIONS] <SOURCE>", *OF_A_RUN, *OF_A_PICTURE),
+        ("picture", "first.ispc", "-h"): (b"Usage: rinddecade picture [OPTIONS] <SOURCE>",),
+        ("adapter", "--help"): (b"Usage: rinddecade adapter",),
+        ("explain", "--help"): (b"Usage: rinddecade explain <NAME>...",),
+        ("--version",): (),
+    }
+    found = [Run(f"help: {' '.join(words)}", b"", words, has_words(*wanted), b"", data=FILES) for words, wanted in told.items()]
+    return [*found, Run("the version", b"", ["--version"], VERSION, b"")]
+
+
+def wrong_words():
+    """Words that are refused before any file is read, and some that are refused by what the source has."""
+    run = [["--width", "5"], ["--width"], ["--history", "0"], ["--history", "65537"], ["--history", "x"], ["--steps", "0"], ["--steps=10000001"]]
+    run += [["--entry"], ["--input"], ["--nothing"], ["--width", "4", "--width", "8"], ["second.ispc"], ["--lane-pure"]]
+    picture = [["--most", "0"], ["--most", ""], ["--most", "10000001"], ["--most", "-1"], ["--most", "1", "--most", "2"], ["--to"], ["--watch"]]
+    picture += [["--to", "a.svg", "--to", "b.svg"], ["--watch", "x", "--watch", "x"], ["--commands"], ["--force", "--force"], ["--force=yes"]]
+    picture += [["--watch", "nope"], ["--watch", "nope[1]"], ["--watch", ""], ["--watch", "x + 1"], ["--watch", "x y"]]
+    wrong = [[], ["step"], ["first.ispc"], ["--nothing"], ["--", "debug", "first.ispc"], ["debug"], ["picture"], ["debug", "--watch", "x", "first.ispc"]]
+    wrong += [["adapter", "first.ispc"], ["adapter", "--width", "8"], ["explain"], ["explain", "--nothing"], ["help", "step"]]
+    wrong += [["debug", "first.ispc", *it] for it in run] + [["picture", "first.ispc", *it] for it in run + picture]
+    told = begins_with(b"error: ")
+    return [Run(f"wrong: {' '.join(words)}", b"", words, b"", told, 2, FILES) for words in wrong]
+
+
+def refused_programs():
+    """A refused source, and entries that are not there: what there is, and where it is explained."""
+    several = b"void a() { }\nexport void b(uniform int n) { }\nexport uniform int c() { return 1; }\n"
+    rate = b"2:21: S7 Rate\n" + marked(2, b"    uniform int x = programIndex;", 20) + explained(b"S7")
+    none = b"entry: E1 NoEntry\nexported functions: none; write `export` before the function that the run begins with\n" + explained(b"E1")
+    other = b"entry: E1 NoEntry\nno exported function is called a\nexported functions: b, c\n" + explained(b"E1")
+    run = lambda name, source, errors, words=(): told(name, ["go.ispc", *words], errors, {"go.ispc": source})
+    return [
+        run("a source with a fault", RATE, rate),
+        run("a source without an entry", HIDDEN, none),
+        run("an entry that is not exported", several, other, ["--entry", "a"]),
+        Run("a picture of a source with a fault", b"", ["picture", "go.ispc"], b"", rate, 2, {"go.ispc": RATE}),
+    ]
+
+
+def refused_inputs():
+    """A refused input: the line with a mark under what is refused, of a long line the 60 bytes around; or how a parameter is given its value."""
+    source = b"uniform int8 t[2];\nexport void go(uniform int n, uniform int8 a[]) { }\n"
+    missing = b"input: I2 Missing n\nthe entry function has a parameter n: write a line `n = VALUE`, of an array with all its values, into "
+    many = [b"%d" % (number % 100) for number in range(1000)]
+    many[700] = b"300"
+    long = b"a = " + b" ".join(many)
+    at = long.index(b" 300") + 1
+    cut = long[at - 30 : at + 30]
+    rows = {
+        "a value out of its range": (b"n = 5\na = 1 128 3\n", b"input 2: I3 Range\n" + marked(2, b"a = 1 128 3", 6) + explained(b"I3")),
+        "a value that is no number": (b"n = five\n", b"input 1: I1 BadLine\n" + marked(1, b"n = five", 4) + explained(b"I1")),
+        "a second value of a scalar": (b"n = 5 6\n", b"input 1: I1 BadLine\n" + marked(1, b"n = 5 6", 6) + explained(b"I1")),
+        "no value of a scalar": (b"n =\n", b"input 1: I1 BadLine\n" + marked(1, b"n =", 3) + explained(b"I1")),
+        "a name that no input gives": (b"n = 5\n  z = 1\n", b"input 2: I1 BadLine\n" + marked(2, b"  z = 1", 2) + explained(b"I1")),
+        "a line without =": (b"n 5\n", b"input 1: I1 BadLine\n" + marked(1, b"n 5", 0) + explained(b"I1")),
+        "a value too many": (b"t = 1 2 3\n", b"input 1: I4 TooLarge\n" + marked(1, b"t = 1 2 3", 8) + explained(b"I4")),
+        "a value behind tabs": (b"a =\t1\t128\n", b"input 1: I3 Range\n" + marked(1, b"a =\t1\t128", 6, b"   \t \t") + explained(b"I3")),
+        "a value of a long line": (long + b"\n", b"input 1: I3 Range\n" + marked(1, b"..." + cut + b"...", 33) + explained(b"I3")),
+        "no line of a parameter": (b"a =\n", missing + b"go.input\n" + explained(b"I2")),
+    }
+    found = []
+    for name, (text, errors) in rows.items():
+        found.append(told(name, ["go.ispc", "--input", "go.input"], errors, {"go.ispc": source, "go.input": text}))
+    return [*found, told("no input", ["go.ispc"], missing + b"a file, and name that by --input FILE\n" + explained(b"I2"), {"go.ispc": source})]
+
+
+def marks():
+    """Where the mark stands: behind tabs, past column 80, behind letters of several bytes; and bytes that a terminal would do."""
+    front, fault = b"    int x = 1 + ", b"@;"
+    long = front + b"1 + " * 40 + fault
+    rows = {
+        "a mark behind tabs": (b"\t\tint x = @;", b"1:11: S1 BadByte\n" + marked(1, b"\t\tint x = @;", 10, b"\t\t" + b" " * 8)),
+        "a mark past column 80": (long, b"1:177: S1 BadByte\n" + marked(1, b"..." + long[-60:], 61)),
+        "a mark behind letters of several bytes": (b"/* \xc3\xa9\xe2\x82\xac */ @", b"1:13: S1 BadByte\n" + marked(1, b"/* \xc3\xa9\xe2\x82\xac */ @", 9)),
+        "controls are masked": (b"/* \x1b[31m\x07\x7f\xc2\x9b */ @", b"1:17: S1 BadByte\n" + marked(1, b"/* ?[31m??\xc2? */ @", 15)),
+    }
+    return [told(name, ["go.ispc"], errors + explained(b"S1"), {"go.ispc": text}) for name, (text, errors) in rows.items()]
+
+
+def unread_files():
+    folder = {"folder/first.ispc": FIRST}
+    large = {"first.ispc": FIRST, "large.commands": b"\n" * (MOST_COMMANDS + 1), "most.commands": b"step\n".ljust(MOST_COMMANDS, b"\n")}
+    return [
+        told("a source that is not there", ["missing.ispc"], b"cannot read missing.ispc: there is no such file\n", {}),
+        told("a source that is a folder", ["folder"], b"cannot read folder: it is a directory\n", folder),
+        told("a source within a file", ["first.ispc/go.ispc"], b"cannot read first.ispc/go.ispc: a part of its path is no directory\n", FILES),
+        told("an input that is not there", ["first.ispc", "--input", "no.input"], b"cannot read no.input: there is no such file\n", FILES),
+        told("a name with controls", ["\x1b[31m.ispc"], b"cannot read ?[31m.ispc: there is no such file\n", {}),
+        Run(
+            "too many commands",
+            b"",
+            ["picture", "first.ispc", "--commands", "large.commands"],
+            b"",
+            b"cannot read large.commands: there may be 1048576 bytes of commands at most\n",
+            2,
+            large,
+        ),
+        Run("the most commands", b"", ["picture", "first.ispc", "--commands", "most.commands"], begins_with(PICTURE), b"", 0, large),
+    ]
+
+
+def typed_lines():
+    """Lines of the most bytes and of one more, with what follows them."""
+    words = ["debug", "first.ispc"]
+    stops = lambda lines: lambda text: [] if (text.count(TOO_LONG), text.count(b"C1 ")) == lines else [f"it answers {text[-300:]!r}"]
+    long = b"x" * (MOST_TYPED + 1)
+    return [
+        Run("a line of the most bytes", b"x" * MOST_TYPED + b"\n", words, stops((0, 1)), b"", 0, FILES),
+        Run("a line of one byte more", long + b"\nquit\n", words, stops((1, 1)), b"", 0, FILES),
+        Run("a line of one byte more without its end", long, words, stops((1, 1)), b"", 0, FILES),
+        Run("a line of a mebibyte, and a command behind it", b"y" * (1 << 20) + b"\nprint z\n", words, has_words(TOO_LONG, b"C2 "), b"", 0, FILES),
+    ]
+
+
+def pages():
+    """A page by all that may name it."""
+    named = [["S7"], ["s7"], ["rate"], ["S7 Rate"], ["3:5: S7 Rate"], ["3:5:", "S7", "Rate"], ["S7:"], ["no", "S7"]]
+    found = [Run(f"explain {' '.join(words)!r}", b"", ["explain", *words], begins_with(b"S7 Rate\n\n"), b"") for words in named]
+    line = ["explain", "fault F1 DivideByZero lane 1: at 3:5 go depth 1 lanes 1111"]
+    unknown = begins_with(b"error: there are S1 to S13, ")
+    return [
+        *found,
+        Run("explain an answer", b"", line, begins_with(b"F1 DivideByZero\n\n"), b""),
+        Run("explain another name", b"", ["explain", "nothing"], b"", unknown, 2),
+        Run("explain no name", b"", ["explain", ""], b"", unknown, 2),
+    ]
+
+
+def histories():
+    """The first `reverse-continue` goes back to the beginning, where no smaller history is asked for."""
+    lines, data = b"continue\nreverse-continue\n", {"loop.ispc": LOOP}
+    at_start = lambda text: [] if text.count(AT_START) == 2 else [f"it does not end at the beginning: {text[-300:]!r}"]
+    no_start = lambda text: [] if text.count(AT_START) == 1 else [f"it goes back too far: {text[-300:]!r}"]
+    return [
+        Run("all of a run is taken back", lines, ["debug", "loop.ispc"], at_start, b"", 0, data),
+        Run("64 events are taken back", lines, ["debug", "loop.ispc", "--history", "64"], no_start, b"", 0, data),
+    ]
+
+
+def results(built):
+    """What takes devices, and files that are written."""
+    return of_devices(built) + of_written_files(built)
+
+
+def of_devices(built):
+    found = []
+    for words in (["--help"], ["debug", "--help"], ["--version"], ["explain", "S7"], ["picture", "first.ispc", "--to", "/dev/full"]):
+        with opened("/dev/full", os.O_WRONLY) as full, tempfile.TemporaryDirectory(prefix="desk-") as folder:
+            pathlib.Path(folder, "first.ispc").write_bytes(FIRST)
+            ran = subprocess.run([built, *words], cwd=folder, env={}, stdin=subprocess.DEVNULL, stdout=full, stderr=subprocess.PIPE)
+        is_right = (ran.returncode, ran.stderr) == (4, b"write fault\n")
+        found.append(Result(f"to a device that is full: {' '.join(words)}", is_right, [f"status {ran.returncode}, {ran.stderr!r}"]))
+    return found
+
+
+def of_written_files(built):
+    """A picture is written over a picture, and over anything else only by --force; never over what it is made from."""
+    other = b"<svg xmlns='http://www.w3.org/2000/svg'></svg>\n"
+    rows = [
+        ("a new file", ["--to", "new.svg"], "new.svg", None, PICTURE),
+        ("an empty file", ["--to", "new.svg"], "new.svg", b"", PICTURE),
+        ("a page", ["--to", "new.html"], "new.html", None, b"<!DOCTYPE html>\n"),
+        ("a file of another program", ["--to", "other.svg"], "other.svg", other, None),
+        ("a file of another program, by --force", ["--to", "other.svg", "--force"], "other.svg", other, PICTURE),
+        ("the source", ["--to", "first.ispc"], "first.ispc", FIRST, None),
+        ("the source, by --force", ["--to", "first.ispc", "--force"], "first.ispc", FIRST, None),
+        ("the source by another path", ["--to", "./first.ispc"], "first.ispc", FIRST, None),
+        ("the commands, by --force", ["--commands", "go.commands", "--to", "go.commands", "--force"], "go.commands", b"step\n", None),
+    ]
+    found = [written(built, name, words, file, before, front) for name, words, file, before, front in rows]
+    return [*found, written_twice(built, "new.svg"), written_twice(built, "new.html"), folder_as_file(built)]
+
+
+def drawn(built, folder, words):
+    pathlib.Path(folder, "first.ispc").write_bytes(FIRST)
+    return subprocess.run([built, "picture", "first.ispc", *words], cwd=folder, env={}, stdin=subprocess.DEVNULL, capture_output=True)
+
+
+def written(built, name, words, file, before, front):
+    """A picture to a file that has held something. It begins so; or that is refused, and the file has what it had."""
+    with tempfile.TemporaryDirectory(prefix="desk-") as folder:
+        path = pathlib.Path(folder, file)
+        if before is not None:
+            path.write_bytes(before)
+        ran = drawn(built, folder, words)
+        after = path.read_bytes()
+    if front is None:
+        is_right = ran.returncode == 2 and ran.stderr.startswith(b"error: ") and after == before
+    else:
+        is_right = (ran.returncode, ran.stdout, ran.stderr) == (0, b"", b"") and after.startswith(front)
+    return Result(f"a picture to {name}", is_right, [f"status {ran.returncode}, {ran.stderr!r}, {after[:100]!r}"])
+
+
+def written_twice(built, file):
+    """A picture over another one of a longer run."""
+    with tempfile.TemporaryDirectory(prefix="desk-") as folder:
+        once = drawn(built, folder, ["--to", file, "--watch", "x"])
+        again = drawn(built, folder, ["--to", file])
+        alone = drawn(built, folder, ["--to", f"alone-{file}"])
+        texts = [pathlib.Path(folder, it).read_bytes() for it in (file, f"alone-{file}")]
+    why = [f"status {it.returncode}, {it.stderr!r}" for it in (once, again, alone) if it.returncode or it.stderr]
+    why += differences("the file", texts[0], texts[1])
+    return Result(f"a picture over a picture, {file}", not why, why)
+
+
+def folder_as_file(built):
+    with tempfile.TemporaryDirectory(prefix="desk-") as folder:
+        pathlib.Path(folder, "pictures").mkdir()
+        ran = drawn(built, folder, ["--to", "pictures"])
+    is_right = (ran.returncode, ran.stderr) == (2, b"cannot write pictures: it is a directory\n")
+    return Result("a picture to a folder", is_right, [f"status {ran.returncode}, {ran.stderr!r}"])
