@@ -4,6 +4,10 @@ A session begins with `=== NAME`, or `=== NAME | OPTIONS`. The source follows, t
 the lines behind `> `, each with what is shown for it. Blank lines may stand at its end. docs/FROM_GDB.md has lines that users of GDB type:
 no line of its tables is answered that there is no such command, and those of a row that names one are answered with it. On a terminal a long
 `continue` shows how many moves it has made.
+
+sessions/prompts/typed.lines has lines that users of GDB type, by subject, each with what it leads to: a source, a line `%%`, the lines that are
+typed before each of them, and behind a line `%% SUBJECT` lines `TYPED => TEXT`. Each is typed in a session of its own, and answered by a
+text that has this one, or by none where it is `(silence)`; never by the usage of a command alone.
 """
 
 import os
@@ -18,6 +22,8 @@ from .tried import Result, Run, differences, shown
 CRATE = "rinddecade"
 HEAD, LINES, LINE = "=== ", "%%", "> "
 PAGE = "docs/FROM_GDB.md"
+HABITS, LEADS_TO, SILENCE, USAGE = "sessions/prompts/typed.lines", " => ", "(silence)", b"the usage is"
+MARK = "echo ----"
 TYPED = re.compile(r"^\| (`[^|]*`) \|", re.M)
 UNKNOWN = b"there is no such command"
 SOURCE = b"""uniform int total = 0;
@@ -82,11 +88,36 @@ class Session:
         ends = lines.index(LINES) if self.is_whole else len(lines)
         said = lines[ends + 1 :]
         self.source = "".join(f"{it}\n" for it in lines[1:ends]).encode()
-        self.lines = as_bytes(it.removeprefix(LINE) for it in said if it.startswith(LINE))
+        self.lines = as_bytes(it.removeprefix(LINE).replace("FILE", self.source_name) for it in said if it.startswith(LINE))
         self.shown = as_bytes(it.replace("FILE", self.source_name) for it in said if not it.startswith(LINE))
 
     def run(self):
         return Run(self.name, self.lines, ["debug", self.source_name, *self.options], self.shown, b"", data={self.source_name: self.source})
+
+
+class Habits:
+    """Lines that users of GDB type, each with what it leads to, on a source behind lines that are typed before each."""
+
+    def __init__(self, root):
+        lines = (root / HABITS).read_text(encoding="utf-8").splitlines()
+        self.source_name = "typed.ispc"
+        named = [it.replace("FILE", self.source_name) for it in lines]
+        ends = named.index(LINES)
+        self.source = as_bytes(named[:ends])
+        self.before = [it.removeprefix(LINE) for it in named[ends + 1 :] if it.startswith(LINE)]
+        self.rows = [it.split(LEADS_TO, 1) for it in named[ends + 1 :] if LEADS_TO in it]
+
+    def run(self, typed, leads_to):
+        lines = as_bytes([*self.before, MARK, typed, MARK])
+        judge = lambda text: is_led_to(text, leads_to)
+        return Run(f"{HABITS}: {typed}", lines, ["debug", self.source_name], judge, b"", data={self.source_name: self.source})
+
+
+def is_led_to(text, leads_to):
+    """What is wrong with all that is shown where a line should lead to a text."""
+    answer = text.split(b"----\n")[1]
+    is_right = answer == b"" if leads_to == SILENCE else leads_to.encode() in answer
+    return [] if is_right and USAGE not in answer else [f"it does not lead to {leads_to!r}:", *shown(answer)]
 
 
 def as_bytes(lines):
@@ -116,13 +147,16 @@ def check(root):
     found = sessions(root)
     names = [it.name for it in found]
     results = [Result(it.name, it.is_whole and names.count(it.name) == 1, ["it has no lines, or its name is there twice"]) for it in found]
+    habits = Habits(root).rows
+    results.append(Result(HABITS, len(habits) > 150 and len({it[0] for it in habits}) == len(habits), ["it has few lines, or one twice"]))
     return results + [Result(PAGE, len(typed(root)) > 60, ["it has few lines"])]
 
 
 def runs(root):
     """A run for each session, and one for each line that users of GDB type."""
     page = [Run(f"{PAGE}: {line}", as_bytes([line]), ["debug", "go.ispc"], is_known, b"", data={"go.ispc": SOURCE}) for line in typed(root)]
-    return [it.run() for it in sessions(root)] + page
+    habits = Habits(root)
+    return [it.run() for it in sessions(root)] + page + [habits.run(*row) for row in habits.rows]
 
 
 def results(program):

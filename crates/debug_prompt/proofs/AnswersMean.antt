@@ -115,6 +115,10 @@ is_refusal-means s d (answer.KeepsHistory n) meant is = sym (ap doing.is_refusal
 is_refusal-means s d answer.Silent meant is = sym (ap doing.is_refusal is)
 is_refusal-means s d (answer.Refused r) meant is = sym (ap doing.is_refusal is)
 
+-- whether the program has begun by a move
+pub begun-means : (s : Setting) (d : Debugger) (h : Held) (told : Answer) (meant : model.Answer) → Means s d told meant → given.begun h told ≡ doing.begun h meant
+begun-means s d h told meant means = ap (λ r. if r then h else doing.started h) (is_refusal-means s d told meant means)
+
 -- what follows a move
 pub follows-means : (s : Setting) (d : Debugger) (h : Held) (told : Answer) (meant : model.Answer) → Means s d told meant → given.follows h told ≡ doing.follows h meant
 follows-means s d h told meant means =

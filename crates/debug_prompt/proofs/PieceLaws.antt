@@ -22,7 +22,9 @@ use Rattle.debug_session.specs.declared.session.Session.{Session}
 use Rattle.debug_session.specs.Sessions.{Replied, RepliesTo, StandsFor}
 use Rattle.debug_session.proofs.Moves.{forward_fails, forward_goes, forward_over}
 use Rattle.debug_session.proofs.Turns.{first_nowhere, first_stop_at}
-use Rattle.debug_prompt.specs.Doing.{is_here}
+use Rattle.debug_traits.specs.declared.machine.Position.{Position}
+use Rattle.debug_traits.specs.Machines.{line_of_position}
+use Rattle.debug_prompt.specs.Doing.{is_here, stop_here}
 use Rattle.debug_prompt.specs.Given as given
 use Rattle.debug_prompt.specs.Pieces.{GoesBy, MeansEnd, NoWatch, at_breakpoint, continued, ends_there, is_watch, watches}
 use Rattle.debug_prompt.proofs.AnswersMean.{is_here-means}
@@ -273,3 +275,7 @@ no_watch s (first ∷ given) (entry ∷ meant) e are old new = elim (cases_Bool 
       first_stop_at (differs old new) (entry ∷ meant) entry meant false refl (plain_stop s first.stop entry.1 old new plain are.1)
       ∙ no_watch s given meant (sym (ap (λ b. b || list_any is_watch given) plain) ∙ e) are.2 old new
 ]
+
+-- no breakpoint is where the program has ended
+pub stands_nowhere : (s : Setting) (d : Debugger) (r : Option Position) → line_now s.program (now s d) ≡ line_of_position r → r ≡ None → None ≡ stop_here s d
+stands_nowhere s d r there ended = sym (ap (λ line. first_stop (on_line line) d.stops) (there ∙ ap line_of_position ended) ∙ first_nowhere d.stops)

@@ -4,17 +4,25 @@ use Rattle.std.specs.Prelude.{ℕ, true, false, List, [], ◌∷◌, pos, Some, 
 use Rattle.std.specs.List.{list_any}
 use Rattle.gang_model.specs.Debugger.Debugger.{AtBreakpoint, Command, Debugger, DoBreak, DoDelete, DoPrint, DoSet, Ended, Line, NoGoal, Refused, Setting, StepLimit, first_stop, forward, has_ended, now, on_line, reply, unless_refused}
 use Rattle.debug_answers.specs.declared.stops.Stop.TheVariants as stop
+use Rattle.prompt_lines.specs.Sources.{Sheet}
 use Rattle.debug_prompt.specs.Doing.{commands_of, follows, held_after, kept_after}
 use Rattle.debug_prompt.specs.Holding.{Held, held_at_start, nothing_kept}
 use Rattle.debug_prompt.specs.Pieces.{at_breakpoint, continued, is_watch}
 
+-- a source with two functions, of which one calls the other
+source : Sheet
+source = record {
+  name = codes "go.ispc";
+  text = codes "int weight(int x) {\n}\nexport void go() {\n v = weight(2); }\n";
+}
+
 -- what is done for a line at the start
 at_start : Setting → Debugger → List ℕ → List Command
-at_start s d line = commands_of nothing_kept held_at_start s d line
+at_start s d line = commands_of source nothing_kept held_at_start s d line
 
 -- two temporary breakpoints are there, and x is displayed
 some_held : Held
-some_held = record { temporaries = 2 ∷ 5 ∷ []; displays = (1, codes "print  x") ∷ []; next = 2 }
+some_held = record { temporaries = 2 ∷ 5 ∷ []; displays = (1, codes "print  x") ∷ []; next = 2; has_begun = true; frame = 0 }
 
 temporary_row : (s : Setting) (d : Debugger) → at_start s d (codes "tbreak 7") ≡ DoBreak 7 ∷ []
 unfolding at_start
@@ -32,8 +40,26 @@ look_row : (s : Setting) (d : Debugger) → at_start s d (codes "list 4") ≡ []
 unfolding at_start
 look_row s d = refl
 
+-- a function by its name, and a line behind the name of the source
+function_row : (s : Setting) (d : Debugger) → at_start s d (codes "break go") ≡ DoBreak 3 ∷ []
+unfolding at_start source
+function_row s d = refl
+
+weight_row : (s : Setting) (d : Debugger) → at_start s d (codes "b weight") ≡ DoBreak 1 ∷ []
+unfolding at_start source
+weight_row s d = refl
+
+file_row : (s : Setting) (d : Debugger) → at_start s d (codes "tb go.ispc:14") ≡ DoBreak 14 ∷ []
+unfolding at_start source
+file_row s d = refl
+
+-- in the second frame nothing is printed by a command
+outer_row : (s : Setting) (d : Debugger) → commands_of source nothing_kept (record some_held { frame = 1 }) s d (codes "print x") ≡ []
+unfolding some_held
+outer_row s d = refl
+
 -- an empty line repeats a print, and nothing behind a breakpoint
-again_row : (s : Setting) (d : Debugger) → commands_of (kept_after nothing_kept (codes "print x")) held_at_start s d (codes "") ≡ DoPrint (record { name = codes "x"; at = None }) ∷ []
+again_row : (s : Setting) (d : Debugger) → commands_of source (kept_after nothing_kept (codes "print x")) held_at_start s d (codes "") ≡ DoPrint (record { name = codes "x"; at = None }) ∷ []
 again_row s d = refl
 
 not_again_row : kept_after nothing_kept (codes "break 3") ≡ nothing_kept
@@ -52,7 +78,7 @@ refused_row : follows some_held (Refused Ended) ≡ []
 unfolding some_held
 refused_row = refl
 
-undisplay_row : (s : Setting) (d : Debugger) → held_after nothing_kept some_held s d (codes "undisplay 1") ≡ record { temporaries = 2 ∷ 5 ∷ []; displays = []; next = 2 }
+undisplay_row : (s : Setting) (d : Debugger) → held_after source nothing_kept some_held s d (codes "undisplay 1") ≡ record { temporaries = 2 ∷ 5 ∷ []; displays = []; next = 2; has_begun = true; frame = 0 }
 unfolding some_held
 undisplay_row s d = refl
 

@@ -1,13 +1,19 @@
 -- What is done for a line: a list of the debugger's commands, by what the prompt holds, where the debugger stands and the line.
 -- What a prompt does beside a command is done by commands too: what is displayed is printed, and a temporary breakpoint is deleted.
-use Rattle.std.specs.Prelude.{ℕ, ◌+◌, ◌==◌, ◌&&◌, Bool, true, false, not, nat_lt, List, [], ◌∷◌, ◌++◌, drop, length, filter, Option, Some, None, if◌then◌else◌}
+use Rattle.std.specs.Prelude.{ℕ, ◌+◌, ◌-◌, ◌==◌, ◌&&◌, Bool, true, false, not, nat_lt, List, [], ◌∷◌, ◌++◌, drop, length, filter, Option, Some, None, is_none, option_and_then, option_map, if◌then◌else◌}
 use Rattle.std.specs.List.{list_any}
-use Rattle.gang_model.specs.Debugger.Debugger.{Answer, AtBreakpoint, BreaksAt, Command, Debugger, DoBreak, DoContinue, DoDelete, DoFinish, DoNext, DoPrint, DoReverseContinue, DoReverseFinish, DoReverseNext, DoReverseStep, DoStep, DoUndo, Here, Refused, Setting, Shows, Target, do_command}
-use Rattle.gang_model.specs.Texts.CommandText.{command_of}
+use Rattle.gang_model.specs.Debugger.Debugger.{Answer, AtBreakpoint, BreaksAt, Command, Debugger, DoBreak, DoContinue, DoDelete, DoFinish, DoNext, DoPrint, DoReverseContinue, DoReverseFinish, DoReverseNext, DoReverseStep, DoSet, DoStep, DoUndo, Here, Refused, Setting, Shows, Target, bad_part, depth, do_command, first_stop, found, now, on_line, shown_words}
+use Rattle.gang_model.specs.Debugger.Positions.{line_now}
+use Rattle.gang_model.specs.Types.Tree.{Variable}
+use Rattle.gang_types.specs.declared.places.VarId.{VarId}
+use Rattle.gang_types.specs.declared.places.VarId.TheVariants as id
+use Rattle.gang_model.specs.Texts.CommandText.{command_of, index}
+use Rattle.debug_traits.specs.Frames.{found_at, state_at}
 use Rattle.prompt_lines.specs.declared.line.Kind.{Kind}
 use Rattle.prompt_lines.specs.declared.line.Kind.TheVariants as kind
 use Rattle.prompt_lines.specs.declared.line.Look.TheVariants as look
-use Rattle.prompt_lines.specs.Words.{Spelled, held_text, is_alone, line_of}
+use Rattle.prompt_lines.specs.Sources.{Sheet, line_named}
+use Rattle.prompt_lines.specs.Words.{Spelled, argument_of, held_text, is_alone, line_of, setting_text}
 use Rattle.debug_prompt.specs.Holding.{Held, nothing_kept}
 
 -- ---- the line that is meant
@@ -20,7 +26,7 @@ meant_by other kept line = line
 abbrev pub meant : (kept : Spelled) → (line : List ℕ) → Spelled
 meant kept line = meant_by (line_of line).kind kept (line_of line)
 
--- ---- what commands and answers tell
+-- ---- what command lines, commands and answers tell
 
 -- whether a command moves
 abbrev pub moves : Command → Bool
@@ -40,11 +46,6 @@ abbrev pub print_of : Option Command → Option Target
 print_of (Some (DoPrint target)) = Some target
 print_of command = None
 
--- the line of a breakpoint that a command makes
-abbrev pub break_of : Option Command → Option ℕ
-break_of (Some (DoBreak n)) = Some n
-break_of command = None
-
 -- the number that a command deletes, or all
 abbrev pub delete_of : Option Command → Option (Option ℕ)
 delete_of (Some (DoDelete n)) = Some n
@@ -60,6 +61,23 @@ abbrev pub made_number : Answer → Option ℕ
 made_number (BreaksAt n line) = Some n
 made_number answer = None
 
+-- so many times a step
+abbrev pub count_of : Option Command → Option ℕ
+count_of (Some (DoStep n)) = Some n
+count_of command = None
+
+-- the number of the frame that a command line names, or of the one that is selected
+abbrev pub frame_named : Held → (text : List ℕ) → Option ℕ
+frame_named h text = if is_alone text then Some h.frame else option_and_then index (argument_of text)
+
+-- the number of the frame so many calls above the one that is selected
+abbrev pub frame_above : Held → Option ℕ → Option ℕ
+frame_above h calls = option_map (λ n. h.frame + n) calls
+
+-- the number of the frame so many calls below it, at least that of the top frame
+abbrev pub frame_below : Held → Option ℕ → Option ℕ
+frame_below h calls = option_map (λ n. h.frame - n) calls
+
 -- whether a goal is reached, or the end
 abbrev pub is_here : Answer → Bool
 is_here Here = true
@@ -74,6 +92,45 @@ is_shown answer = false
 abbrev pub is_refusal : Answer → Bool
 is_refusal (Refused r) = true
 is_refusal answer = false
+
+-- the breakpoint on the line where the program stands
+abbrev pub stop_here : Setting → Debugger → Option ℕ
+stop_here s d = first_stop (on_line (line_now s.program (now s d))) d.stops
+
+-- whether a target can be shown of what its name stands for in the frame at a depth
+abbrev pub can_show : Setting → Debugger → (depth : ℕ) → Target → Option Variable → Bool
+can_show s d deep target None = false
+can_show s d deep target (Some v) = is_none (bad_part true target.at v.is_array v.rate (length (shown_words (state_at deep (now s d)) v)))
+
+-- whether a variable is of the file, by its number
+abbrev pub is_file : VarId → Bool
+is_file (id.File number) = true
+is_file (id.Local number) = false
+
+abbrev pub is_of_file : Option Variable → Bool
+is_of_file None = false
+is_of_file (Some v) = is_file v.id
+
+-- ---- frames
+
+-- the depth of the frame that is selected
+abbrev pub depth_of : Setting → Debugger → Held → ℕ
+depth_of s d h = depth (now s d) - h.frame
+
+-- what is done in the top frame alone
+abbrev pub in_top : Held → List Command → List Command
+in_top h commands = if h.frame == 0 then commands else []
+
+-- whether a name can be set: in an outer frame where it stands for a variable of the file there and in the top frame
+abbrev pub may_set : Setting → Debugger → Held → (name : List ℕ) → Bool
+may_set s d h name =
+    if h.frame == 0 then true else is_of_file (found_at s.program (depth_of s d h) (now s d) name) && is_of_file (found s.program (now s d) name)
+
+-- whether a target is shown in the frame that is selected
+abbrev pub shows : Setting → Debugger → Held → Target → Bool
+shows s d h target =
+    if h.frame == 0 then is_shown (do_command s (DoPrint target) d).answer
+    else can_show s d (depth_of s d h) target (found_at s.program (depth_of s d h) (now s d) target.name)
 
 -- ---- commands
 
@@ -105,6 +162,15 @@ abbrev pub own : Setting → Debugger → Held → Option Command → List Comma
 own s d h None = []
 own s d h (Some command) = done_with s d h command
 
+-- the breakpoint at which `run` stands already: that on the line of the first step, where the program has not begun
+abbrev pub stands_at : Setting → Debugger → Held → Option ℕ
+stands_at s d h = if h.has_begun then None else stop_here s d
+
+-- `run` stops at once at a breakpoint where it stands already, else it goes on
+abbrev pub ran : Setting → Debugger → Held → (at : Option ℕ) → List Command
+ran s d h None = done_with s d h DoContinue
+ran s d h (Some number) = follows h (AtBreakpoint number)
+
 -- a breakpoint is made
 abbrev pub broken : (line : Option ℕ) → List Command
 broken None = []
@@ -120,20 +186,67 @@ abbrev pub until_line : Setting → Debugger → Held → (line : Option ℕ) �
 until_line s d h None = []
 until_line s d h (Some n) = let made = do_command s (DoBreak n) d in DoBreak n ∷ going s h made.next (made_number made.answer)
 
+-- a target is set, where it can be
+abbrev pub set_by : Setting → Debugger → Held → Option Command → List Command
+set_by s d h (Some (DoSet target z)) = if may_set s d h target.name then DoSet target z ∷ [] else []
+set_by s d h command = []
+
+-- a target is printed, else set as the other command says
+abbrev pub printed_or_set : Setting → Debugger → Held → Option Target → (other : Option Command) → List Command
+printed_or_set s d h None other = set_by s d h other
+printed_or_set s d h (Some target) other = in_top h (DoPrint target ∷ [])
+
 -- what is done with a command line of a kind
-abbrev pub commands_by : Kind → Setting → Debugger → Held → (text : List ℕ) → List Command
-commands_by kind.Own s d h text = own s d h (command_of text)
-commands_by kind.Temporary s d h text = broken (break_of (command_of text))
-commands_by kind.Until s d h text = if is_alone text then done_with s d h (DoNext 1) else until_line s d h (break_of (command_of text))
-commands_by kind.Hexadecimal s d h text = printed (print_of (command_of text))
-commands_by kind.Display s d h text = if is_alone text then shown h.displays else printed (print_of (command_of text))
-commands_by kind s d h text = []
+abbrev pub commands_by : Kind → Sheet → Setting → Debugger → Held → (text : List ℕ) → List Command
+commands_by kind.Own sheet s d h text = own s d h (command_of text)
+commands_by kind.Finish sheet s d h text = in_top h (own s d h (command_of text))
+commands_by kind.Print sheet s d h text = printed_or_set s d h (print_of (command_of text)) (command_of (setting_text text))
+commands_by kind.Set sheet s d h text = set_by s d h (command_of text)
+commands_by kind.Break sheet s d h text = broken (line_named sheet text)
+commands_by kind.Run sheet s d h text = if is_alone text then ran s d h (stands_at s d h) else []
+commands_by kind.Temporary sheet s d h text = broken (line_named sheet text)
+commands_by kind.Until sheet s d h text = if is_alone text then done_with s d h (DoNext 1) else until_line s d h (line_named sheet text)
+commands_by kind.Hexadecimal sheet s d h text = in_top h (printed (print_of (command_of text)))
+commands_by kind.Display sheet s d h text = in_top h (if is_alone text then shown h.displays else printed (print_of (command_of text)))
+commands_by kind sheet s d h text = []
 
 -- the commands that are done for a line, where one is kept
-abbrev pub commands_of : (kept : Spelled) → Held → Setting → Debugger → (line : List ℕ) → List Command
-commands_of kept h s d line = commands_by (meant kept line).kind s d h (meant kept line).text
+abbrev pub commands_of : Sheet → (kept : Spelled) → Held → Setting → Debugger → (line : List ℕ) → List Command
+commands_of sheet kept h s d line = commands_by (meant kept line).kind sheet s d h (meant kept line).text
 
 -- ---- what is held then
+
+-- the program has begun, and the top frame is selected
+abbrev pub started : Held → Held
+started h = record h { has_begun = true; frame = 0 }
+
+-- a move that was not refused has begun the program, and the top frame is selected
+abbrev pub begun : Held → Answer → Held
+begun h answer = if is_refusal answer then h else started h
+
+-- what a command changes
+abbrev pub after_command : Setting → Debugger → Held → Command → Held
+after_command s d h command = if moves command then begun h (do_command s command d).answer else h
+
+-- what the command that a command line spells changes
+abbrev pub after_own : Setting → Debugger → Held → Option Command → Held
+after_own s d h None = h
+after_own s d h (Some command) = after_command s d h command
+
+-- what `run` changes
+abbrev pub after_run : Setting → Debugger → Held → (at : Option ℕ) → Held
+after_run s d h None = after_command s d h DoContinue
+after_run s d h (Some number) = begun h (AtBreakpoint number)
+
+-- what going on to a breakpoint changes
+abbrev pub after_going : Setting → Held → Debugger → (made : Option ℕ) → Held
+after_going s h d None = h
+after_going s h d (Some number) = begun h (do_command s DoContinue d).answer
+
+-- what going on to a line changes
+abbrev pub after_until : Setting → Debugger → Held → (line : Option ℕ) → Held
+after_until s d h None = h
+after_until s d h (Some n) = let made = do_command s (DoBreak n) d in after_going s h made.next (made_number made.answer)
 
 -- numbers with one more, the oldest of 64 left out
 abbrev pub with_number : List ℕ → ℕ → List ℕ
@@ -160,10 +273,15 @@ abbrev pub after_break : Setting → Debugger → Held → (line : Option ℕ) �
 after_break s d h None = h
 after_break s d h (Some n) = with_temporary h (made_number (do_command s (DoBreak n) d).answer)
 
--- a target is to be displayed, if it can be shown
+-- a target is to be displayed, if it is shown
 abbrev pub after_print : Setting → Debugger → Held → (text : List ℕ) → Option Target → Held
 after_print s d h text None = h
-after_print s d h text (Some target) = if is_shown (do_command s (DoPrint target) d).answer then with_display h text else h
+after_print s d h text (Some target) = if shows s d h target then with_display h text else h
+
+-- a frame is selected, if there is one of this number
+abbrev pub selected : Setting → Debugger → Held → (number : Option ℕ) → Held
+selected s d h None = h
+selected s d h (Some n) = if nat_lt n (depth (now s d)) then record h { frame = n } else h
 
 -- what has a number is to be displayed no more
 abbrev pub after_delete : Held → Option (Option ℕ) → Held
@@ -171,15 +289,22 @@ after_delete h None = h
 after_delete h (Some number) = without_display h number
 
 -- what a command line of a kind changes
-abbrev pub changed_by : Kind → Setting → Debugger → Held → (text : List ℕ) → Held
-changed_by kind.Temporary s d h text = after_break s d h (break_of (command_of text))
-changed_by kind.Display s d h text = if is_alone text then h else after_print s d h text (print_of (command_of text))
-changed_by kind.Undisplay s d h text = after_delete h (delete_of (command_of text))
-changed_by kind s d h text = h
+abbrev pub changed_by : Kind → Sheet → Setting → Debugger → Held → (text : List ℕ) → Held
+changed_by kind.Own sheet s d h text = after_own s d h (command_of text)
+changed_by kind.Finish sheet s d h text = if h.frame == 0 then after_own s d h (command_of text) else h
+changed_by kind.Run sheet s d h text = if is_alone text then after_run s d h (stands_at s d h) else h
+changed_by kind.Until sheet s d h text = if is_alone text then after_command s d h (DoNext 1) else after_until s d h (line_named sheet text)
+changed_by kind.Temporary sheet s d h text = after_break s d h (line_named sheet text)
+changed_by kind.Display sheet s d h text = if is_alone text then h else after_print s d h text (print_of (command_of text))
+changed_by kind.Undisplay sheet s d h text = after_delete h (delete_of (command_of text))
+changed_by (kind.Look look.Frame) sheet s d h text = selected s d h (frame_named h text)
+changed_by (kind.Look look.Up) sheet s d h text = selected s d h (frame_above h (count_of (command_of text)))
+changed_by (kind.Look look.Down) sheet s d h text = selected s d h (frame_below h (count_of (command_of text)))
+changed_by kind sheet s d h text = h
 
 -- what is held after a line
-abbrev pub held_after : (kept : Spelled) → Held → Setting → Debugger → (line : List ℕ) → Held
-held_after kept h s d line = changed_by (meant kept line).kind s d h (meant kept line).text
+abbrev pub held_after : Sheet → (kept : Spelled) → Held → Setting → Debugger → (line : List ℕ) → Held
+held_after sheet kept h s d line = changed_by (meant kept line).kind sheet s d h (meant kept line).text
 
 -- ---- the line that is kept then
 
@@ -192,6 +317,9 @@ command_repeats (Some command) = moves command
 -- whether a command line of a kind does
 abbrev pub repeats : Kind → (text : List ℕ) → Bool
 repeats kind.Own text = command_repeats (command_of text)
+repeats kind.Run text = true
+repeats kind.Finish text = command_repeats (command_of text)
+repeats kind.Print text = command_repeats (command_of text)
 repeats kind.Until text = true
 repeats kind.Hexadecimal text = true
 repeats (kind.Look look.List) text = true

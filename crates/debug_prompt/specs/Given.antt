@@ -3,6 +3,7 @@ use Rattle.std.specs.Prelude.{ℕ, Bool, true, false, List, [], ◌++◌, Option
 use Rattle.gang_model.specs.Debugger.Debugger.{Command}
 use Rattle.debug_answers.specs.declared.answer.Answer.{Answer}
 use Rattle.debug_answers.specs.declared.answer.Answer.TheVariants as answer
+use Rattle.debug_traits.specs.declared.machine.Shown.{Shown}
 use Rattle.debug_prompt.specs.Doing as doing
 use Rattle.debug_prompt.specs.Holding.{Held}
 
@@ -34,3 +35,12 @@ is_refusal given = false
 -- what follows a move
 abbrev pub follows : Held → Answer → List Command
 follows h given = if is_refusal given then [] else doing.deleted h.temporaries (stopped_number given) ++ doing.shown h.displays
+
+-- a move that was not refused has begun the program, and the top frame is selected
+abbrev pub begun : Held → Answer → Held
+begun h given = if is_refusal given then h else doing.started h
+
+-- whether a variable is of the file
+abbrev pub is_of_file : Option Shown → Bool
+is_of_file None = false
+is_of_file (Some shown) = doing.is_file shown.id

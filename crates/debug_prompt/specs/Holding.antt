@@ -1,20 +1,25 @@
 -- What a prompt holds from line to line, as far as it decides what is done.
-use Rattle.std.specs.Prelude.{ℕ, List, [], map}
+use Rattle.std.specs.Prelude.{ℕ, Bool, false, List, [], map}
+use Rattle.prompt_lines.specs.Sources.{Sheet}
 use Rattle.prompt_lines.specs.Words.{Spelled}
+use Rattle.prompt_texts.specs.declared.source.Source.{Source}
 use Rattle.prompt_lines.specs.declared.line.Kind.TheVariants as kind
 use Rattle.debug_prompt.specs.declared.holding.Displayed.{Displayed}
 use Rattle.debug_prompt.specs.declared.holding.Holding as declared
 
 -- the numbers of the last breakpoints that go when they have stopped a move; what is displayed after each move, by its number and
--- its command line; the next such number
+-- its command line; the next such number; whether the program has begun, by a move or by `run`; the number of the frame
+-- that is selected, the top one being number 0
 pub record Held : Type 0 where
   pub temporaries : List ℕ
   pub displays : List (ℕ × List ℕ)
   pub next : ℕ
+  pub has_begun : Bool
+  pub frame : ℕ
 
 -- what is held at the start
 abbrev pub held_at_start : Held
-held_at_start = record { temporaries = []; displays = []; next = 1 }
+held_at_start = record { temporaries = []; displays = []; next = 1; has_begun = false; frame = 0 }
 
 -- a blank line, which does nothing
 abbrev pub nothing_kept : Spelled
@@ -26,4 +31,8 @@ entry_of displayed = (displayed.number, displayed.text.items)
 
 -- what is held, as the definitions have it
 abbrev pub held : declared.Holding → Held
-held h = record { temporaries = h.temporaries.items; displays = map entry_of h.displays.items; next = h.next }
+held h = record { temporaries = h.temporaries.items; displays = map entry_of h.displays.items; next = h.next; has_begun = h.has_begun; frame = h.frame }
+
+-- the source that is shown
+abbrev pub sheet : Source → Sheet
+sheet source = record { name = source.name.now; text = source.text.now }

@@ -1,37 +1,131 @@
-//! What is done with a command line, by its kind.
-ghost use Rattle.std.specs.Prelude.{◌≡◌, Some, if◌then◌else◌};
+//! Moves and breakpoints, by the kind of a command line.
+ghost use Rattle.std.specs.Prelude.{◌≡◌, ◌==◌, [], Some, if◌then◌else◌};
 ghost use Rattle.gang_model.specs.Debugger.Debugger.{Debugger, Setting, DoNext};
 ghost use Rattle.gang_model.specs.Texts.CommandText.{command_of};
 ghost use Rattle.command_lists.specs.Lists.{HasDone};
 ghost use Rattle.debug_session.specs.Sessions.{StandsFor};
+ghost use Rattle.prompt_lines.specs.Sources.{line_named};
 ghost use Rattle.prompt_lines.specs.Words.{is_alone};
 ghost use Rattle.debug_prompt.specs.Doing as spec;
-ghost use Rattle.debug_prompt.specs.Holding.{held};
+ghost use Rattle.debug_prompt.specs.Holding.{held, sheet};
 
 use crate::holding::Holding;
-use crate::pieces::go_on;
-use crate::readings::{break_of, delete_of, is_shown, made_number, print_of};
-use crate::turning::{Scene, do_own, follow, show_displays};
+use crate::pieces::{go_on, stop_here};
+use crate::readings::{line_of, made_number};
+use crate::turning::{Scene, do_alone, do_own, follow};
 use debug_answers::Answer;
 use debug_commands::{Command, read_command};
 use debug_session::Session;
 use debug_traits::{AnswerWriter, RecordedMachine};
 use prompt_lines::is_alone;
-use prompt_texts::{Before, Page, tell, tell_hexadecimal, tell_move, tell_unknown};
+use prompt_texts::{Before, Page, tell, tell_move, tell_unknown};
+
+/// Why no outer frame is finished.
+const FINISHES_TOP: &[u8] =
+    b"`finish` leaves the top frame, number 0: `frame 0` selects it, and `finish` again leaves the next one.\n";
 
 /// Does the command that a command line spells; says of a line that spells none why.
 pub(crate) fn do_spelled<M: RecordedMachine, O: AnswerWriter + Drop>(
     text: &[u8],
-    holding: &Holding,
+    holding: &mut Holding,
     scene: Scene<'_>,
     session: &mut Session<M>,
     page: &mut Page<O>,
 )
     ensures { (s : Setting) (d : Debugger) → StandsFor M.stands session.old s d → s.limit ≡ scene.entry.most_steps
-        → HasDone M.stands s (spec.own s d (held holding.now) (command_of text.now)) d session.new }
+        → HasDone M.stands s (spec.own s d (held holding.old) (command_of text.now)) d session.new
+        × (held holding.new ≡ spec.after_own s d (held holding.old) (command_of text.now)) }
 {
     match read_command(text) {
         Some(command) => do_own(command, holding, scene, session, page),
+        None => tell_unknown(scene.line, page),
+    }
+}
+
+/// Begins the program, or goes on: before it has begun it stops at once at a breakpoint where it stands.
+pub(crate) fn run<M: RecordedMachine, O: AnswerWriter + Drop>(
+    text: &[u8],
+    holding: &mut Holding,
+    scene: Scene<'_>,
+    session: &mut Session<M>,
+    page: &mut Page<O>,
+)
+    ensures { (s : Setting) (d : Debugger) → StandsFor M.stands session.old s d → s.limit ≡ scene.entry.most_steps
+        → HasDone M.stands s (if is_alone text.now then spec.ran s d (held holding.old) (spec.stands_at s d (held holding.old)) else []) d session.new
+        × (held holding.new ≡ (if is_alone text.now then spec.after_run s d (held holding.old) (spec.stands_at s d (held holding.old)) else held holding.old)) }
+{
+    if is_alone(text) {
+        run_from(stands_at(holding, session), holding, scene, session, page);
+    } else {
+        tell_unknown(scene.line, page);
+    }
+}
+
+/// The breakpoint at which `run` stands already.
+fn stands_at<M: RecordedMachine>(holding: &Holding, session: &Session<M>) -> Option<u32>
+    ensures { (s : Setting) (d : Debugger) → StandsFor M.stands session.now s d → result ≡ spec.stands_at s d (held holding.now) }
+{
+    if holding.has_begun() {
+        None
+    } else {
+        stop_here(session)
+    }
+}
+
+/// Stops at once at a breakpoint where the program stands already, if there is one, else goes on.
+fn run_from<M: RecordedMachine, O: AnswerWriter + Drop>(
+    at: Option<u32>,
+    holding: &mut Holding,
+    scene: Scene<'_>,
+    session: &mut Session<M>,
+    page: &mut Page<O>,
+)
+    ensures { (s : Setting) (d : Debugger) → StandsFor M.stands session.old s d → s.limit ≡ scene.entry.most_steps
+        → HasDone M.stands s (spec.ran s d (held holding.old) at) d session.new
+        × (held holding.new ≡ spec.after_run s d (held holding.old) at) }
+{
+    match at {
+        None => do_own(Command::Continue, holding, scene, session, page),
+        Some(number) => {
+            let answer = Answer::AtBreakpoint(number);
+            let before = Before::note(session.machine());
+            tell_move(&answer, scene.line, &before, scene.source, session, page);
+            follow(&answer, holding, scene, session, page);
+        }
+    }
+}
+
+/// Goes on until the top frame is left.
+pub(crate) fn finish<M: RecordedMachine, O: AnswerWriter + Drop>(
+    text: &[u8],
+    holding: &mut Holding,
+    scene: Scene<'_>,
+    session: &mut Session<M>,
+    page: &mut Page<O>,
+)
+    ensures { (s : Setting) (d : Debugger) → StandsFor M.stands session.old s d → s.limit ≡ scene.entry.most_steps
+        → HasDone M.stands s (spec.in_top (held holding.old) (spec.own s d (held holding.old) (command_of text.now))) d session.new
+        × (held holding.new ≡ (if (held holding.old).frame == 0 then spec.after_own s d (held holding.old) (command_of text.now) else held holding.old)) }
+{
+    if holding.is_top() {
+        do_spelled(text, holding, scene, session, page);
+    } else {
+        page.put(FINISHES_TOP);
+    }
+}
+
+/// Makes a breakpoint.
+pub(crate) fn make_break<M: RecordedMachine, O: AnswerWriter + Drop>(
+    text: &[u8],
+    scene: Scene<'_>,
+    session: &mut Session<M>,
+    page: &mut Page<O>,
+)
+    ensures { (s : Setting) (d : Debugger) → StandsFor M.stands session.old s d
+        → HasDone M.stands s (spec.broken (line_named (sheet scene.entry.source) text.now)) d session.new }
+{
+    match line_of(text, scene.source) {
+        Some(line) => do_alone(Command::Break(line), scene, session, page),
         None => tell_unknown(scene.line, page),
     }
 }
@@ -45,10 +139,10 @@ pub(crate) fn break_temporarily<M: RecordedMachine, O: AnswerWriter + Drop>(
     page: &mut Page<O>,
 )
     ensures { (s : Setting) (d : Debugger) → StandsFor M.stands session.old s d
-        → HasDone M.stands s (spec.broken (spec.break_of (command_of text.now))) d session.new
-        × (held holding.new ≡ spec.after_break s d (held holding.old) (spec.break_of (command_of text.now))) }
+        → HasDone M.stands s (spec.broken (line_named (sheet scene.entry.source) text.now)) d session.new
+        × (held holding.new ≡ spec.after_break s d (held holding.old) (line_named (sheet scene.entry.source) text.now)) }
 {
-    if let Some(line) = break_of(text) {
+    if let Some(line) = line_of(text, scene.source) {
         let answer = session.do_command(Command::Break(line));
         holding.add_temporary(made_number(&answer));
         tell(&answer, scene.line, scene.source, session, page);
@@ -60,14 +154,16 @@ pub(crate) fn break_temporarily<M: RecordedMachine, O: AnswerWriter + Drop>(
 /// Goes on to a line, or, where none is named, to the next one of this function.
 pub(crate) fn go_until<M: RecordedMachine, O: AnswerWriter + Drop>(
     text: &[u8],
-    holding: &Holding,
+    holding: &mut Holding,
     scene: Scene<'_>,
     session: &mut Session<M>,
     page: &mut Page<O>,
 )
     ensures { (s : Setting) (d : Debugger) → StandsFor M.stands session.old s d → s.limit ≡ scene.entry.most_steps
-        → HasDone M.stands s (if is_alone text.now then spec.done_with s d (held holding.now) (DoNext 1)
-        else spec.until_line s d (held holding.now) (spec.break_of (command_of text.now))) d session.new }
+        → HasDone M.stands s (if is_alone text.now then spec.done_with s d (held holding.old) (DoNext 1)
+        else spec.until_line s d (held holding.old) (line_named (sheet scene.entry.source) text.now)) d session.new
+        × (held holding.new ≡ (if is_alone text.now then spec.after_command s d (held holding.old) (DoNext 1)
+        else spec.after_until s d (held holding.old) (line_named (sheet scene.entry.source) text.now))) }
 {
     if is_alone(text) {
         do_own(Command::Next(1), holding, scene, session, page);
@@ -79,15 +175,16 @@ pub(crate) fn go_until<M: RecordedMachine, O: AnswerWriter + Drop>(
 /// Goes on to the line of a breakpoint that a command line spells.
 fn go_to_spelled<M: RecordedMachine, O: AnswerWriter + Drop>(
     text: &[u8],
-    holding: &Holding,
+    holding: &mut Holding,
     scene: Scene<'_>,
     session: &mut Session<M>,
     page: &mut Page<O>,
 )
     ensures { (s : Setting) (d : Debugger) → StandsFor M.stands session.old s d → s.limit ≡ scene.entry.most_steps
-        → HasDone M.stands s (spec.until_line s d (held holding.now) (spec.break_of (command_of text.now))) d session.new }
+        → HasDone M.stands s (spec.until_line s d (held holding.old) (line_named (sheet scene.entry.source) text.now)) d session.new
+        × (held holding.new ≡ spec.after_until s d (held holding.old) (line_named (sheet scene.entry.source) text.now)) }
 {
-    if let Some(line) = break_of(text) {
+    if let Some(line) = line_of(text, scene.source) {
         go_to_line(line, holding, scene, session, page);
     } else {
         tell_unknown(scene.line, page);
@@ -97,13 +194,14 @@ fn go_to_spelled<M: RecordedMachine, O: AnswerWriter + Drop>(
 /// Makes a breakpoint, goes on to it, and deletes it.
 fn go_to_line<M: RecordedMachine, O: AnswerWriter + Drop>(
     line: u32,
-    holding: &Holding,
+    holding: &mut Holding,
     scene: Scene<'_>,
     session: &mut Session<M>,
     page: &mut Page<O>,
 )
     ensures { (s : Setting) (d : Debugger) → StandsFor M.stands session.old s d → s.limit ≡ scene.entry.most_steps
-        → HasDone M.stands s (spec.until_line s d (held holding.now) (Some line)) d session.new }
+        → HasDone M.stands s (spec.until_line s d (held holding.old) (Some line)) d session.new
+        × (held holding.new ≡ spec.after_until s d (held holding.old) (Some line)) }
 {
     let answer = session.do_command(Command::Break(line));
     match made_number(&answer) {
@@ -115,13 +213,14 @@ fn go_to_line<M: RecordedMachine, O: AnswerWriter + Drop>(
 /// Goes on to a breakpoint that has been made, and deletes it.
 fn go_to_stop<M: RecordedMachine, O: AnswerWriter + Drop>(
     number: u32,
-    holding: &Holding,
+    holding: &mut Holding,
     scene: Scene<'_>,
     session: &mut Session<M>,
     page: &mut Page<O>,
 )
     ensures { (s : Setting) (d : Debugger) → StandsFor M.stands session.old s d → s.limit ≡ scene.entry.most_steps
-        → HasDone M.stands s (spec.going s (held holding.now) d (Some number)) d session.new }
+        → HasDone M.stands s (spec.going s (held holding.old) d (Some number)) d session.new
+        × (held holding.new ≡ spec.after_going s (held holding.old) d (Some number)) }
 {
     let before = Before::note(session.machine());
     let answer = go_on(scene.most_steps, session, page);
@@ -144,96 +243,4 @@ fn tell_until<M: RecordedMachine, O: AnswerWriter + Drop>(
         other => *other,
     };
     tell_move(&told, scene.line, before, scene.source, session, page);
-}
-
-/// Prints a target in hexadecimal digits.
-pub(crate) fn print_hexadecimal<M: RecordedMachine, O: AnswerWriter + Drop>(
-    text: &[u8],
-    scene: Scene<'_>,
-    session: &mut Session<M>,
-    page: &mut Page<O>,
-)
-    ensures { (s : Setting) (d : Debugger) → StandsFor M.stands session.old s d
-        → HasDone M.stands s (spec.printed (spec.print_of (command_of text.now))) d session.new }
-{
-    if let Some(target) = print_of(text) {
-        let answer = session.do_command(Command::Print(target));
-        tell_hexadecimal(&answer, scene.line, session, page);
-    } else {
-        tell_unknown(scene.line, page);
-    }
-}
-
-/// Prints all that is displayed, or displays a target from now on.
-pub(crate) fn display<M: RecordedMachine, O: AnswerWriter + Drop>(
-    text: &[u8],
-    holding: &mut Holding,
-    scene: Scene<'_>,
-    session: &mut Session<M>,
-    page: &mut Page<O>,
-)
-    ensures { (s : Setting) (d : Debugger) → StandsFor M.stands session.old s d
-        → HasDone M.stands s (if is_alone text.now then spec.shown (held holding.old).displays else spec.printed (spec.print_of (command_of text.now))) d session.new
-        × (held holding.new ≡ (if is_alone text.now then held holding.old else spec.after_print s d (held holding.old) text.now (spec.print_of (command_of text.now)))) }
-{
-    if is_alone(text) {
-        show_displays(holding.displays(), scene, session, page);
-        if holding.displays().is_empty() {
-            page.put(b"nothing is displayed\n");
-        }
-    } else {
-        display_target(text, holding, scene, session, page);
-    }
-}
-
-/// Prints a target, and displays it from now on.
-fn display_target<M: RecordedMachine, O: AnswerWriter + Drop>(
-    text: &[u8],
-    holding: &mut Holding,
-    scene: Scene<'_>,
-    session: &mut Session<M>,
-    page: &mut Page<O>,
-)
-    ensures { (s : Setting) (d : Debugger) → StandsFor M.stands session.old s d
-        → HasDone M.stands s (spec.printed (spec.print_of (command_of text.now))) d session.new
-        × (held holding.new ≡ spec.after_print s d (held holding.old) text.now (spec.print_of (command_of text.now))) }
-{
-    if let Some(target) = print_of(text) {
-        let answer = session.do_command(Command::Print(target));
-        if is_shown(&answer) {
-            holding.add_display(text);
-        }
-        tell(&answer, scene.line, scene.source, session, page);
-    } else {
-        tell_unknown(scene.line, page);
-    }
-}
-
-/// Writes what is displayed no more.
-fn tell_undisplayed<O: AnswerWriter + Drop>(number: Option<u32>, page: &mut Page<O>) {
-    match number {
-        None => page.put(b"nothing is displayed any more\n"),
-        Some(number) => {
-            page.put(b"nothing is displayed by number ");
-            page.put_number(i128::from(number));
-            page.put(b"\n");
-        }
-    }
-}
-
-/// Displays what has a number no more, or nothing.
-pub(crate) fn undisplay<O: AnswerWriter + Drop>(
-    text: &[u8],
-    holding: &mut Holding,
-    scene: Scene<'_>,
-    page: &mut Page<O>,
-)
-    ensures { held holding.new ≡ spec.after_delete (held holding.old) (spec.delete_of (command_of text.now)) }
-{
-    if let Some(number) = delete_of(text) {
-        holding.remove_display(number);
-        tell_undisplayed(number, page);
-    } else {
-        tell_unknown(scene.line, page);
-    }
 }

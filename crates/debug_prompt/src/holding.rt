@@ -35,12 +35,15 @@ impl Default for Displayed {
     }
 }
 
-/// The numbers of the last temporary breakpoints, and what is displayed.
+/// The numbers of the last temporary breakpoints, what is displayed, whether the program has begun, and which frame
+/// is selected.
 #[derive(Drop)]
 pub(crate) struct Holding {
     temporaries: ArrayVec<u32, TEMPORARIES>,
     displays: ArrayVec<Displayed, DISPLAYS>,
     next: u32,
+    has_begun: bool,
+    frame: usize,
 }
 
 impl Holding {
@@ -52,6 +55,8 @@ impl Holding {
             temporaries: ArrayVec::new(),
             displays: ArrayVec::new(),
             next: 1,
+            has_begun: false,
+            frame: 0,
         }
     }
 
@@ -60,6 +65,42 @@ impl Holding {
         ensures { result.now ≡ self.now.displays.items }
     {
         self.displays.as_slice()
+    }
+
+    /// Whether the program has begun, by a move or by `run`.
+    pub(crate) fn has_begun(&self) -> bool
+        ensures { result ≡ (held self.now).has_begun }
+    {
+        self.has_begun
+    }
+
+    /// Notes that the program has begun, and selects the top frame.
+    pub(crate) fn start(&mut self)
+        ensures { held self.new ≡ spec.started (held self.old) }
+    {
+        self.has_begun = true;
+        self.frame = 0;
+    }
+
+    /// The number of the frame that is selected, the top one being number 0.
+    pub(crate) fn frame(&self) -> usize
+        ensures { result ≡ (held self.now).frame }
+    {
+        self.frame
+    }
+
+    /// Whether the top frame is selected.
+    pub(crate) fn is_top(&self) -> bool
+        ensures { result ≡ ((held self.now).frame == 0) }
+    {
+        self.frame == 0
+    }
+
+    /// Selects a frame.
+    pub(crate) fn select(&mut self, number: usize)
+        ensures { held self.new ≡ record (held self.old) { frame = number } }
+    {
+        self.frame = number;
     }
 
     /// Whether a breakpoint is temporary.

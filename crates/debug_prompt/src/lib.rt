@@ -2,9 +2,12 @@
 #![tactic(auto)]
 
 mod doing;
+mod frames;
 mod holding;
+mod listing;
 mod looking;
 mod pieces;
+mod printing;
 mod prompt;
 mod readings;
 mod turning;

@@ -1,48 +1,85 @@
 //! What is looked at: the debugger does nothing.
+ghost use Rattle.std.specs.Prelude.{◌≡◌};
+ghost use Rattle.gang_model.specs.Debugger.Debugger.{Debugger, Setting};
+ghost use Rattle.debug_session.specs.Sessions.{StandsFor};
+ghost use Rattle.prompt_lines.specs.declared.line.Kind.TheVariants as kind;
+ghost use Rattle.debug_prompt.specs.Doing as spec;
+ghost use Rattle.debug_prompt.specs.Holding.{held, sheet};
+
+use crate::frames::{frame_above, frame_below, frame_named, select, selected_depth};
 use crate::holding::Holding;
-use crate::readings::is_move;
+use crate::listing::{Lines, Listed, lines_of};
+use crate::readings::{delete_of, is_move, line_of, print_of};
 use crate::turning::Scene;
 use debug_commands::{Command, read_command};
 use debug_session::Session;
-use debug_traits::{AnswerWriter, RecordedMachine};
-use prompt_lines::{Look, is_alone};
+use debug_traits::{AnswerWriter, FramedMachine, RecordedMachine};
+use debug_words::is_blank_line;
+use prompt_lines::{Kind, Look, PromptLine, is_alone};
 use prompt_texts::{
-    Page, list_lines, show_arguments, show_displayed, show_frame, show_help, show_here,
-    show_recording, show_source, show_type, show_watches, tell_unknown,
+    Page, list_lines, show_arguments, show_displayed, show_frame, show_frames, show_full_frames,
+    show_help, show_here, show_line, show_lists, show_locals, show_recording, show_source,
+    show_text, show_type, show_variables, show_watches, tell_unknown,
 };
 
-/// How many lines are listed at once.
-const LISTED: u32 = 10;
-
-/// Which frame is looked at, the top one being number 0, and from which line on the source is listed next.
+/// From which line on and up to which one the source was listed last, and whether the history was ever full.
 #[derive(Drop)]
 pub(crate) struct Looking {
-    frame: usize,
-    next_line: Option<u32>,
+    listed: Option<Listed>,
+    was_full: bool,
 }
 
 impl Looking {
-    /// The top frame, and the lines around the place.
+    /// Nothing was listed, and the history is not full.
     pub(crate) fn new() -> Self {
         Looking {
-            frame: 0,
-            next_line: None,
+            listed: None,
+            was_full: false,
         }
     }
 
-    /// Looks at the top frame and the lines around the place again, where a command line moves.
-    pub(crate) fn leave(&mut self, text: &[u8]) {
-        if let Some(command) = read_command(text) {
-            if is_move(command) {
-                *self = Looking::new();
-            }
+    /// Notes what a line led to: behind a move, or in another frame, the lines around the place are listed first.
+    pub(crate) fn note<M: RecordedMachine>(&mut self, line: &PromptLine, session: &Session<M>) {
+        if may_move(line) {
+            self.listed = None;
+        }
+        if session.machine().kept() >= session.machine().limit() {
+            self.was_full = true;
         }
     }
 
-    /// Shows what is looked at. A look that repeats by an empty line has no number.
-    pub(crate) fn look<M: RecordedMachine, O: AnswerWriter + Drop>(
+    /// Shows what is looked at, and selects a frame. A look that repeats by an empty line names no line.
+    pub(crate) fn look<M: FramedMachine, O: AnswerWriter + Drop>(
         &mut self,
         look: Look,
+        text: &[u8],
+        is_again: bool,
+        holding: &mut Holding,
+        scene: Scene<'_>,
+        session: &Session<M>,
+        page: &mut Page<O>,
+    )
+        ensures { (s : Setting) (d : Debugger) → StandsFor M.stands session.now s d
+            → held holding.new ≡ spec.changed_by (kind.Look look) (sheet scene.entry.source) s d (held holding.old) text.now }
+    {
+        match look {
+            Look::Frame => go_to(frame_named(holding, text), holding, scene, session, page),
+            Look::Up => go_to(frame_above(holding, text), holding, scene, session, page),
+            Look::Down => go_to(frame_below(holding, text), holding, scene, session, page),
+            Look::List => self.list(text, is_again, holding, scene, session, page),
+            Look::Recording => self.show_recording(text, scene, session, page),
+            Look::Frames | Look::Full | Look::Here | Look::Line | Look::Source | Look::Watches =>
+                look_at_program(look, text, scene, session, page),
+            Look::Type | Look::Locals | Look::Arguments | Look::Variables | Look::Displays => {
+                look_at_values(look, text, holding, scene, session, page);
+            }
+            Look::Lists | Look::Help | Look::Text => look_at_texts(look, text, scene, page),
+        }
+    }
+
+    /// Lists lines.
+    fn list<M: RecordedMachine, O: AnswerWriter + Drop>(
+        &mut self,
         text: &[u8],
         is_again: bool,
         holding: &Holding,
@@ -50,143 +87,128 @@ impl Looking {
         session: &Session<M>,
         page: &mut Page<O>,
     ) {
-        match look {
-            Look::List => self.list(text, is_again, scene, session, page),
-            Look::Frame => self.show_named_frame(text, scene, session, page),
-            Look::Up => self.go_up(text, scene, session, page),
-            Look::Down => self.go_down(text, scene, session, page),
-            Look::Type => show_named_type(text, scene, session, page),
-            Look::Arguments => show_arguments(session, page),
-            Look::Displays => show_displays(holding, page),
-            Look::Recording => show_recording(session, page),
-            Look::Watches => show_watches(session, page),
-            Look::Source => show_source(scene.source, page),
-            Look::Here => show_here(scene.source, session, page),
-            Look::Help => show_help(topic(text), page),
-        }
-    }
-
-    /// Lists lines: around a line that is named, else the next ones, else those around the place.
-    fn list<M: RecordedMachine, O: AnswerWriter + Drop>(
-        &mut self,
-        text: &[u8],
-        is_again: bool,
-        scene: Scene<'_>,
-        session: &Session<M>,
-        page: &mut Page<O>,
-    ) {
-        let around = match read_command(text) {
-            Some(Command::Delete(Some(line))) if !is_again => Some(line),
-            Some(Command::Delete(_)) => None,
-            _ => {
-                tell_unknown(scene.line, page);
-                return;
-            }
+        let named = if is_again {
+            Some(Lines::Next)
+        } else {
+            lines_of(text, scene.source)
         };
-        let from = match (around, self.next_line, session.machine().position()) {
-            (Some(line), _, _) => around_line(line),
-            (None, Some(line), _) => line,
-            (None, None, Some(position)) => around_line(position.place.line),
-            (None, None, None) => 1,
+        let Some(lines) = named else {
+            tell_unknown(scene.line, page);
+            return;
         };
-        self.next_line = Some(list_lines(from, LISTED, scene.source, session, page));
+        let listed = lines.after(self.listed, holding.frame(), session);
+        list_lines(listed.first, listed.next, scene.source, session, page);
+        self.listed = Some(listed);
     }
 
-    /// Shows the frame of a number, or that which is looked at.
-    fn show_named_frame<M: RecordedMachine, O: AnswerWriter + Drop>(
-        &mut self,
+    /// Shows how much can be taken back.
+    fn show_recording<M: RecordedMachine, O: AnswerWriter + Drop>(
+        &self,
         text: &[u8],
         scene: Scene<'_>,
         session: &Session<M>,
         page: &mut Page<O>,
     ) {
-        match frame_number(text, self.frame) {
-            Some(number) => self.show_frame(number, scene, session, page),
-            None => tell_unknown(scene.line, page),
-        }
-    }
-
-    /// Shows the frame of the caller, or of so many calls before.
-    fn go_up<M: RecordedMachine, O: AnswerWriter + Drop>(
-        &mut self,
-        text: &[u8],
-        scene: Scene<'_>,
-        session: &Session<M>,
-        page: &mut Page<O>,
-    ) {
-        match read_command(text) {
-            Some(Command::Step(count)) => {
-                let number = self.frame.saturating_add(count as usize);
-                self.show_frame(number, scene, session, page);
-            }
-            _ => tell_unknown(scene.line, page),
-        }
-    }
-
-    /// Shows the frame that was called, or that of so many calls further.
-    fn go_down<M: RecordedMachine, O: AnswerWriter + Drop>(
-        &mut self,
-        text: &[u8],
-        scene: Scene<'_>,
-        session: &Session<M>,
-        page: &mut Page<O>,
-    ) {
-        match read_command(text) {
-            Some(Command::Step(count)) => {
-                let number = self.frame.saturating_sub(count as usize);
-                self.show_frame(number, scene, session, page);
-            }
-            _ => tell_unknown(scene.line, page),
-        }
-    }
-
-    /// Shows a frame, and looks at it from now on where there is one of this number.
-    fn show_frame<M: RecordedMachine, O: AnswerWriter + Drop>(
-        &mut self,
-        number: usize,
-        scene: Scene<'_>,
-        session: &Session<M>,
-        page: &mut Page<O>,
-    ) {
-        if show_frame(number, scene.source, session, page) {
-            self.frame = number;
+        if is_blank_line(text) {
+            show_recording(self.was_full, session, page);
+        } else {
+            tell_unknown(scene.line, page);
         }
     }
 }
 
-/// The first line of those that are listed around one.
-fn around_line(line: u32) -> u32 {
-    line.saturating_sub(LISTED / 2).max(1)
-}
-
-/// The number of a frame behind a word, or that which is looked at where there is none; none of a wrong line. The top frame,
-/// number 0, is spelled as no number of a command is.
-fn frame_number(text: &[u8], looked_at: usize) -> Option<usize> {
-    if is_top(text) {
-        return Some(0);
+/// Whether a line may move, or select another frame.
+fn may_move(line: &PromptLine) -> bool {
+    match line.kind {
+        Kind::Run
+        | Kind::Finish
+        | Kind::Until
+        | Kind::Look(Look::Frame)
+        | Kind::Look(Look::Up)
+        | Kind::Look(Look::Down) => true,
+        Kind::Own => match read_command(line.text.as_slice()) {
+            Some(command) => is_move(command),
+            None => false,
+        },
+        _ => false,
     }
-    match read_command(text) {
-        Some(Command::Delete(Some(number))) => Some(number as usize),
-        Some(Command::Delete(None)) => Some(looked_at),
-        _ => None,
+}
+
+/// Selects a frame, if there is one of this number, and shows it.
+fn go_to<M: RecordedMachine, O: AnswerWriter + Drop>(
+    number: Option<u128>,
+    holding: &mut Holding,
+    scene: Scene<'_>,
+    session: &Session<M>,
+    page: &mut Page<O>,
+)
+    ensures { (s : Setting) (d : Debugger) → StandsFor M.stands session.now s d → held holding.new ≡ spec.selected s d (held holding.old) number }
+{
+    select(number, holding, session);
+    match number {
+        Some(number) => show_frame(number, scene.source, session, page),
+        None => tell_unknown(scene.line, page),
     }
 }
 
-/// Whether a text ends with the word `0`.
-fn is_top(text: &[u8]) -> bool {
-    matches!(text, [.., b' ', b'0'])
-}
-
-/// Shows the type of a target.
-fn show_named_type<M: RecordedMachine, O: AnswerWriter + Drop>(
+/// Shows where the program stands, or what stops it.
+fn look_at_program<M: FramedMachine, O: AnswerWriter + Drop>(
+    look: Look,
     text: &[u8],
     scene: Scene<'_>,
     session: &Session<M>,
     page: &mut Page<O>,
 ) {
-    match read_command(text) {
-        Some(Command::Print(target)) => show_type(target, session, page),
-        _ => tell_unknown(scene.line, page),
+    match look {
+        Look::Frames => match delete_of(text) {
+            Some(most) => show_frames(most, scene.source, session, page),
+            None => tell_unknown(scene.line, page),
+        },
+        Look::Full => show_full_frames(scene.source, session, page),
+        Look::Line if is_alone(text) => show_here(scene.source, session, page),
+        Look::Line => match line_of(text, scene.source) {
+            Some(line) => show_line(line, session, page),
+            None => tell_unknown(scene.line, page),
+        },
+        Look::Source => show_source(scene.source, page),
+        Look::Watches => show_watches(session, page),
+        _ => show_here(scene.source, session, page),
+    }
+}
+
+/// Shows variables, in the frame that is selected.
+fn look_at_values<M: FramedMachine, O: AnswerWriter + Drop>(
+    look: Look,
+    text: &[u8],
+    holding: &Holding,
+    scene: Scene<'_>,
+    session: &Session<M>,
+    page: &mut Page<O>,
+) {
+    let depth = selected_depth(holding, session);
+    match look {
+        Look::Type => match print_of(text) {
+            Some(target) => show_type(target, depth, session, page),
+            None => tell_unknown(scene.line, page),
+        },
+        Look::Locals => show_locals(depth, session, page),
+        Look::Arguments => show_arguments(depth, session, page),
+        Look::Variables => show_variables(session, page),
+        _ => show_displays(holding, page),
+    }
+}
+
+/// Writes help, what there is to look at, or a text.
+fn look_at_texts<O: AnswerWriter + Drop>(
+    look: Look,
+    text: &[u8],
+    scene: Scene<'_>,
+    page: &mut Page<O>,
+) {
+    match look {
+        Look::Help => show_help(topic(text), page),
+        Look::Lists => show_lists(scene.line, page),
+        _ => show_text(text, page),
     }
 }
 
@@ -202,11 +224,7 @@ fn show_displays<O: AnswerWriter + Drop>(holding: &Holding, page: &mut Page<O>) 
     }
 }
 
-/// What stands behind the blanks that a text begins with.
+/// A text, or nothing where it is blank.
 fn topic(text: &[u8]) -> &[u8] {
-    if is_alone(text) || text.iter().any(|byte| *byte != b' ') {
-        text
-    } else {
-        &[]
-    }
+    if is_blank_line(text) { &[] } else { text }
 }

@@ -3,6 +3,7 @@ ghost use Rattle.std.specs.Prelude.{◌≡◌, ◌≤◌, ◌-◌, ℕ};
 ghost use Rattle.std.specs.List.{list_any};
 ghost use Rattle.gang_model.specs.Debugger.Debugger.{Debugger, DoContinue, Setting};
 ghost use Rattle.debug_session.specs.Sessions.{Replied, RepliesTo, StandsFor};
+ghost use Rattle.debug_prompt.specs.Doing as spec;
 ghost use Rattle.debug_prompt.specs.Pieces.{GoesBy, MeansEnd, NoWatch, continued, ends_there, is_watch};
 
 use crate::readings::is_here;
@@ -80,6 +81,16 @@ fn end_here<'a, M: RecordedMachine>(session: &Session<M>) -> Option<Answer<'a>>
     };
     match breakpoint_on(position.place.line, session.stops()) {
         Some(number) => Some(Answer::AtBreakpoint(number)),
+        None => None,
+    }
+}
+
+/// The breakpoint on the line where the program stands.
+pub(crate) fn stop_here<M: RecordedMachine>(session: &Session<M>) -> Option<u32>
+    ensures { (s : Setting) (d : Debugger) → StandsFor M.stands session.now s d → result ≡ spec.stop_here s d }
+{
+    match session.machine().position() {
+        Some(position) => breakpoint_on(position.place.line, session.stops()),
         None => None,
     }
 }

@@ -5,18 +5,17 @@ ghost use Rattle.command_lists.specs.Lists.{HasDone};
 ghost use Rattle.debug_session.specs.Sessions.{StandsFor};
 ghost use Rattle.prompt_lines.specs.Readings.{spelled};
 ghost use Rattle.debug_prompt.specs.Doing as spec;
-ghost use Rattle.debug_prompt.specs.Holding.{held, held_at_start, nothing_kept};
+ghost use Rattle.debug_prompt.specs.Holding.{held, held_at_start, nothing_kept, sheet};
 
-use crate::doing::{
-    break_temporarily, display, do_spelled, go_until, print_hexadecimal, undisplay,
-};
+use crate::doing::{break_temporarily, do_spelled, finish, go_until, make_break, run};
 use crate::holding::Holding;
 use crate::looking::Looking;
+use crate::printing::{display, print, print_hexadecimal, set_spelled, undisplay};
 use crate::readings::command_repeats;
 use crate::turning::Scene;
 use debug_commands::{Command, read_command};
 use debug_session::Session;
-use debug_traits::{AnswerWriter, RecordedMachine};
+use debug_traits::{AnswerWriter, FramedMachine, RecordedMachine};
 use prompt_lines::{Kind, Look, PromptLine, Text, read_line};
 use prompt_texts::{Page, Source, show_here};
 use std::mem::replace;
@@ -69,7 +68,7 @@ impl Prompt {
     /// Does a line, its line feed not included, by a list of the debugger's commands, and shows what they came to. A long
     /// `continue` shows on a terminal how many moves it has made. Where the writer has failed, the commands are done, and nothing
     /// is shown any more.
-    pub fn do_line<M: RecordedMachine, O: AnswerWriter + Drop>(
+    pub fn do_line<M: FramedMachine, O: AnswerWriter + Drop>(
         &mut self,
         line: &[u8],
         source: Source<'_>,
@@ -77,8 +76,8 @@ impl Prompt {
         page: &mut Page<O>,
     ) -> Turn
         ensures done { (s : Setting) (d : Debugger) → StandsFor M.stands session.old s d → s.limit ≡ self.old.most_steps
-            → HasDone M.stands s (spec.commands_of (spelled self.old.kept) (held self.old.holding) s d line.now) d session.new
-            × (held self.new.holding ≡ spec.held_after (spelled self.old.kept) (held self.old.holding) s d line.now) }
+            → HasDone M.stands s (spec.commands_of (sheet source.entry) (spelled self.old.kept) (held self.old.holding) s d line.now) d session.new
+            × (held self.new.holding ≡ spec.held_after (sheet source.entry) (spelled self.old.kept) (held self.old.holding) s d line.now) }
         ensures kept { spelled self.new.kept ≡ spec.kept_after (spelled self.old.kept) line.now }
         ensures limit { self.new.most_steps ≡ self.old.most_steps }
     {
@@ -103,6 +102,7 @@ impl Prompt {
             session,
             page,
         );
+        self.looking.note(&meant, session);
         let turn = turn_of(&meant, page);
         self.kept = if_repeats(meant);
         turn
@@ -141,18 +141,27 @@ fn repeats(line: &PromptLine) -> bool
     ensures { result ≡ spec.repeats line.now.kind line.now.text.items }
 {
     match line.kind {
-        Kind::Own => command_repeats(read_command(line.text.as_slice())),
-        Kind::Until
+        Kind::Own | Kind::Finish | Kind::Print => {
+            command_repeats(read_command(line.text.as_slice()))
+        }
+        Kind::Run
+        | Kind::Until
         | Kind::Hexadecimal
         | Kind::Look(Look::List)
         | Kind::Look(Look::Up)
         | Kind::Look(Look::Down) => true,
-        Kind::Again | Kind::Temporary | Kind::Display | Kind::Undisplay | Kind::Look(_) => false,
+        Kind::Again
+        | Kind::Set
+        | Kind::Break
+        | Kind::Temporary
+        | Kind::Display
+        | Kind::Undisplay
+        | Kind::Look(_) => false,
     }
 }
 
 /// Does a command line, by its kind.
-fn do_meant<M: RecordedMachine, O: AnswerWriter + Drop>(
+fn do_meant<M: FramedMachine, O: AnswerWriter + Drop>(
     line: &PromptLine,
     is_again: bool,
     holding: &mut Holding,
@@ -162,22 +171,21 @@ fn do_meant<M: RecordedMachine, O: AnswerWriter + Drop>(
     page: &mut Page<O>,
 )
     ensures { (s : Setting) (d : Debugger) → StandsFor M.stands session.old s d → s.limit ≡ scene.entry.most_steps
-        → HasDone M.stands s (spec.commands_by line.now.kind s d (held holding.old) line.now.text.items) d session.new
-        × (held holding.new ≡ spec.changed_by line.now.kind s d (held holding.old) line.now.text.items) }
+        → HasDone M.stands s (spec.commands_by line.now.kind (sheet scene.entry.source) s d (held holding.old) line.now.text.items) d session.new
+        × (held holding.new ≡ spec.changed_by line.now.kind (sheet scene.entry.source) s d (held holding.old) line.now.text.items) }
 {
     let text = line.text.as_slice();
     match line.kind {
         Kind::Again => {}
-        Kind::Own => {
-            looking.leave(text);
-            do_spelled(text, holding, scene, session, page);
-        }
+        Kind::Own => do_spelled(text, holding, scene, session, page),
+        Kind::Run => run(text, holding, scene, session, page),
+        Kind::Finish => finish(text, holding, scene, session, page),
+        Kind::Print => print(text, holding, scene, session, page),
+        Kind::Hexadecimal => print_hexadecimal(text, holding, scene, session, page),
+        Kind::Set => set_spelled(text, holding, scene, session, page),
+        Kind::Break => make_break(text, scene, session, page),
         Kind::Temporary => break_temporarily(text, holding, scene, session, page),
-        Kind::Until => {
-            *looking = Looking::new();
-            go_until(text, holding, scene, session, page);
-        }
-        Kind::Hexadecimal => print_hexadecimal(text, scene, session, page),
+        Kind::Until => go_until(text, holding, scene, session, page),
         Kind::Display => display(text, holding, scene, session, page),
         Kind::Undisplay => undisplay(text, holding, scene, page),
         Kind::Look(look) => looking.look(look, text, is_again, holding, scene, session, page),

@@ -3,11 +3,15 @@ ghost use Rattle.std.specs.Prelude.{◌≡◌};
 ghost use Rattle.gang_model.specs.Texts.CommandText.{command_of};
 ghost use Rattle.debug_commands.specs.TargetViews.{target_option};
 ghost use Rattle.debug_commands.specs.Views.{command_view, option_view};
+ghost use Rattle.prompt_lines.specs.Sources.{line_named};
 ghost use Rattle.debug_prompt.specs.Doing as spec;
 ghost use Rattle.debug_prompt.specs.Given as given;
+ghost use Rattle.debug_prompt.specs.Holding.{sheet};
 
 use debug_answers::Answer;
 use debug_commands::{Command, Target, read_command};
+use prompt_lines::line_named;
+use prompt_texts::Source;
 
 /// Whether a command moves.
 pub(crate) fn is_move(command: Command<'_>) -> bool
@@ -58,14 +62,21 @@ pub(crate) fn print_of(text: &[u8]) -> Option<Target<'_>>
     }
 }
 
-/// The line of a breakpoint that a command line makes.
-pub(crate) fn break_of(text: &[u8]) -> Option<u32>
-    ensures { result ≡ spec.break_of (command_of text.now) }
+/// How many calls a command line goes up or down.
+pub(crate) fn count_of(text: &[u8]) -> Option<u32>
+    ensures { result ≡ spec.count_of (command_of text.now) }
 {
     match read_command(text) {
-        Some(Command::Break(line)) => Some(line),
+        Some(Command::Step(count)) => Some(count),
         _ => None,
     }
+}
+
+/// The line that a command line names, in a source.
+pub(crate) fn line_of(text: &[u8], source: Source<'_>) -> Option<u32>
+    ensures { result ≡ line_named (sheet source.entry) text.now }
+{
+    line_named(text, source.name, source.text)
 }
 
 /// The number that a command line deletes, or all.

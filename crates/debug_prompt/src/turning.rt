@@ -29,13 +29,14 @@ pub(crate) struct Scene<'a> {
 /// Does a command, and what follows a move.
 pub(crate) fn do_own<M: RecordedMachine, O: AnswerWriter + Drop>(
     command: Command<'_>,
-    holding: &Holding,
+    holding: &mut Holding,
     scene: Scene<'_>,
     session: &mut Session<M>,
     page: &mut Page<O>,
 )
     ensures { (s : Setting) (d : Debugger) → StandsFor M.stands session.old s d → s.limit ≡ scene.entry.most_steps
-        → HasDone M.stands s (spec.done_with s d (held holding.now) (command_view command.entry)) d session.new }
+        → HasDone M.stands s (spec.done_with s d (held holding.old) (command_view command.entry)) d session.new
+        × (held holding.new ≡ spec.after_command s d (held holding.old) (command_view command.entry)) }
 {
     if is_move(command) {
         do_move(command, holding, scene, session, page);
@@ -45,7 +46,7 @@ pub(crate) fn do_own<M: RecordedMachine, O: AnswerWriter + Drop>(
 }
 
 /// Does a command that does not move, and tells what it came to.
-fn do_alone<M: RecordedMachine, O: AnswerWriter + Drop>(
+pub(crate) fn do_alone<M: RecordedMachine, O: AnswerWriter + Drop>(
     command: Command<'_>,
     scene: Scene<'_>,
     session: &mut Session<M>,
@@ -61,14 +62,15 @@ fn do_alone<M: RecordedMachine, O: AnswerWriter + Drop>(
 /// Moves, and tells where to and what changed; then what follows a move.
 fn do_move<M: RecordedMachine, O: AnswerWriter + Drop>(
     command: Command<'_>,
-    holding: &Holding,
+    holding: &mut Holding,
     scene: Scene<'_>,
     session: &mut Session<M>,
     page: &mut Page<O>,
 )
     requires { spec.moves (command_view command) ≡ true }
     ensures { (s : Setting) (d : Debugger) → StandsFor M.stands session.old s d → s.limit ≡ scene.entry.most_steps
-        → HasDone M.stands s (command_view command.entry ∷ spec.follows (held holding.now) (do_command s (command_view command.entry) d).answer) d session.new }
+        → HasDone M.stands s (command_view command.entry ∷ spec.follows (held holding.old) (do_command s (command_view command.entry) d).answer) d session.new
+        × (held holding.new ≡ spec.begun (held holding.old) (do_command s (command_view command.entry) d).answer) }
 {
     let before = Before::note(session.machine());
     let answer = make_moves(command, scene, session, page);
@@ -92,20 +94,22 @@ fn make_moves<'a, M: RecordedMachine, O: AnswerWriter + Drop>(
     }
 }
 
-/// What follows a move: the temporary breakpoint that stopped it goes, and all that is displayed is printed.
+/// What follows a move: the program has begun, the temporary breakpoint that stopped it goes, and all that is displayed is printed.
 pub(crate) fn follow<M: RecordedMachine, O: AnswerWriter + Drop>(
     answer: &Answer<'_>,
-    holding: &Holding,
+    holding: &mut Holding,
     scene: Scene<'_>,
     session: &mut Session<M>,
     page: &mut Page<O>,
 )
-    ensures { (s : Setting) (d : Debugger) → StandsFor M.stands session.old s d
-        → HasDone M.stands s (given.follows (held holding.now) answer.now) d session.new }
+    ensures done { (s : Setting) (d : Debugger) → StandsFor M.stands session.old s d
+        → HasDone M.stands s (given.follows (held holding.old) answer.now) d session.new }
+    ensures begun { held holding.new ≡ given.begun (held holding.old) answer.now }
 {
     if is_refusal(answer) {
         return;
     }
+    holding.start();
     follow_done(answer, holding, scene, session, page);
 }
 

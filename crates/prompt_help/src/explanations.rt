@@ -1,12 +1,15 @@
 //! Why there are no such commands as GDB has.
 use debug_words::{Marks, next_word};
 
-/// Words, and why no command begins with them.
+/// Words, and what is said of a line that begins with them.
 #[derive(Clone, Copy)]
-struct Reason(&'static [&'static [u8]], &'static [u8]);
+pub(crate) struct Reason(
+    pub(crate) &'static [&'static [u8]],
+    pub(crate) &'static [u8],
+);
 
 /// The first words of commands.
-const COMMANDS: [Reason; 26] = [
+const COMMANDS: [Reason; 16] = [
     Reason(
         &[b"kill", b"k"],
         b"There is no process to kill: the program runs inside the debugger; `quit` ends it.",
@@ -41,11 +44,34 @@ const COMMANDS: [Reason; 26] = [
     ),
     Reason(
         &[b"ignore", b"condition", b"commands"],
-        b"Breakpoints have no conditions, counts or commands: `watch T` stops where a value changes.",
+        b"Breakpoints have no conditions, counts or commands: `watch T` stops where a value changes, `tbreak N` once.",
     ),
     Reason(
         &[b"clear"],
         b"`delete N` deletes a breakpoint by its number; `info breakpoints` lists the numbers.",
+    ),
+    Reason(
+        &[b"interrupt"],
+        b"The program stands while the prompt waits: `--steps N` limits the moves of one command.",
+    ),
+    Reason(
+        &[b"apropos"],
+        b"`help` lists all commands with what each does.",
+    ),
+    Reason(
+        &[
+            b"display/x",
+            b"display/d",
+            b"display/t",
+            b"display/i",
+            b"display/u",
+            b"display/c",
+        ],
+        b"`display T` shows decimal digits after each move; `p/x T` shows hexadecimal ones when it is typed.",
+    ),
+    Reason(
+        &[b"frame/", b"faas", b"select-frame"],
+        b"`frame N` selects a frame and shows it; `where` lists the frames with their numbers.",
     ),
     Reason(
         &[b"rwatch", b"awatch"],
@@ -55,6 +81,10 @@ const COMMANDS: [Reason; 26] = [
         &[b"hbreak", b"thbreak", b"rbreak", b"dprintf"],
         b"There is one kind of breakpoint: `break N`, and `tbreak N`, which goes after its first stop.",
     ),
+];
+
+/// Further first words.
+const FURTHER: [Reason; 15] = [
     Reason(
         &[b"catch", b"tcatch", b"handle", b"signal", b"signals"],
         b"There are no signals or exceptions: a fault stops the program by itself, before the statement that has it.",
@@ -90,11 +120,11 @@ const COMMANDS: [Reason; 26] = [
     ),
     Reason(
         &[b"checkpoint", b"restart"],
-        b"There are no checkpoints: the history goes back to any step that is kept.",
+        b"There are no checkpoints: `reverse-step`, `reverse-continue` and `undo` go back to any step that is kept.",
     ),
     Reason(
-        &[b"echo", b"printf", b"output", b"eval"],
-        b"`print T` shows a variable.",
+        &[b"printf", b"eval"],
+        b"No format is filled in: `print T` shows a variable, `p/x T` in hexadecimal digits, `echo TEXT` writes a text.",
     ),
     Reason(
         &[
@@ -113,7 +143,7 @@ const COMMANDS: [Reason; 26] = [
     ),
     Reason(
         &[b"show"],
-        b"`info` lists what there is, and `help` the commands.",
+        b"Settings are not shown: `info` lists what there is, and `help` the commands.",
     ),
     Reason(
         &[b"target", b"monitor", b"remote", b"compile"],
@@ -131,11 +161,10 @@ const COMMANDS: [Reason; 26] = [
             b"generate-core-file",
             b"gcore",
         ],
-        b"Nothing is saved: the same lines give the same answers again.",
+        b"Nothing is saved: keep the lines in a file, which standard input may come from; the same lines give the same answers again.",
     ),
     Reason(
         &[
-            b"explore",
             b"macro",
             b"maintenance",
             b"mt",
@@ -148,16 +177,36 @@ const COMMANDS: [Reason; 26] = [
         b"This command of GDB has nothing to do here; `help` lists those that there are.",
     ),
     Reason(
+        &[b"explore"],
+        b"`whatis T` shows the type of a variable, `print T` its values.",
+    ),
+    Reason(
         &[
-            b"p/t", b"p/c", b"p/o", b"p/a", b"p/f", b"p/s", b"p/z", b"print/t", b"print/c",
+            b"p/t",
+            b"p/c",
+            b"p/o",
+            b"p/a",
+            b"p/f",
+            b"p/s",
+            b"p/z",
+            b"print/t",
+            b"print/c",
             b"print/o",
+            b"p/u",
+            b"p/i",
+            b"output/t",
+            b"output/d",
         ],
         b"Values are shown in decimal digits by `print T`, and in hexadecimal ones by `p/x T`.",
     ),
 ];
 
 /// The words behind `info`.
-const LISTS: [Reason; 4] = [
+const LISTS: [Reason; 6] = [
+    Reason(
+        &[b"checkpoints"],
+        b"There are no checkpoints: `reverse-step`, `reverse-continue` and `undo` go back to any step that is kept.",
+    ),
     Reason(
         &[b"registers", b"all-registers", b"reg"],
         b"There are no registers: `info locals`, `info args` and `print T` show variables.",
@@ -167,15 +216,12 @@ const LISTS: [Reason; 4] = [
         b"There are no threads: the gang's lanes run together, and the marks behind a place show which are active.",
     ),
     Reason(
-        &[
-            b"functions",
-            b"variables",
-            b"types",
-            b"symbol",
-            b"scope",
-            b"address",
-        ],
-        b"The source has them: `list N` shows it, `whatis T` the type of a variable.",
+        &[b"functions"],
+        b"The functions are not listed: `list NAME` shows one, `break NAME` stops in it, and `list` goes through the source.",
+    ),
+    Reason(
+        &[b"types", b"symbol", b"scope", b"address"],
+        b"Names have no addresses: `whatis T` shows the type of a variable, `info locals`, `info args` and `info variables` what there is.",
     ),
     Reason(
         &[
@@ -184,7 +230,6 @@ const LISTS: [Reason; 4] = [
             b"files",
             b"proc",
             b"target",
-            b"checkpoints",
             b"macro",
             b"os",
         ],
@@ -192,14 +237,160 @@ const LISTS: [Reason; 4] = [
     ),
 ];
 
+/// The words behind `set`.
+const SETTINGS: [Reason; 3] = [
+    Reason(
+        &[b"exec-direction"],
+        b"The direction is in the command: `reverse-step`, `reverse-next` and `reverse-continue` go back.",
+    ),
+    Reason(
+        &[b"args", b"environment", b"cwd"],
+        b"What the program is given is named when the debugger is called: rinddecade debug SOURCE --input FILE.",
+    ),
+    Reason(
+        &[b"listsize"],
+        b"`list` shows ten lines; `list 3,40` shows others.",
+    ),
+];
+
+/// The words behind `set` that change how GDB shows things.
+const SILENT: [&[u8]; 18] = [
+    b"pagination",
+    b"height",
+    b"width",
+    b"confirm",
+    b"print",
+    b"p",
+    b"verbose",
+    b"style",
+    b"history",
+    b"logging",
+    b"prompt",
+    b"editing",
+    b"complaints",
+    b"debuginfod",
+    b"disassembly-flavor",
+    b"max-value-size",
+    b"trace-commands",
+    b"breakpoint",
+];
+
+/// What may stand in the text behind a command that shows or stops, and why nothing is done for it.
+const PARTS: [Reason; 5] = [
+    Reason(
+        &[b"programIndex", b"programCount", b"taskIndex"],
+        b"Lanes have no names here: values stand in the order of the lanes, lane 0 first, and `print T[K]` shows that of lane K.",
+    ),
+    Reason(
+        &[b"if"],
+        b"There are no conditions: `break N` and `watch T` stop each time; `print T` then shows a value.",
+    ),
+    Reason(
+        &[b"@"],
+        b"`print T` shows all elements of an array, and `print T[K]` the element K.",
+    ),
+    Reason(
+        &[b"$"],
+        b"There are no registers, and values have no numbers: `print T` shows a variable.",
+    ),
+    Reason(
+        &[b"("],
+        b"No function is called from the prompt, and no expression is worked out: `break NAME` stops in a function, where `print T` shows its variables and `whatis T` their types.",
+    ),
+];
+
+/// Why nothing is done for an address.
+const NO_ADDRESS: &[u8] = b"Variables have no addresses: `print T` shows one, `whatis T` its type.";
+
+/// The commands whose text may have a part that nothing is done for.
+const SHOWING: [&[u8]; 15] = [
+    b"print", b"p", b"p/x", b"print/x", b"output", b"inspect", b"display", b"whatis", b"ptype",
+    b"break", b"b", b"br", b"tbreak", b"tb", b"watch",
+];
+
+/// Whether a line is a setting of how GDB shows things, which changes nothing here.
+pub fn is_setting(text: &[u8]) -> bool {
+    match next_word(Marks::OfCommands, text) {
+        Some((word, rest)) => { word == b"set".as_slice() && is_one_of(&SILENT, first_word(rest)) }
+        None => false,
+    }
+}
+
 /// Why there is no such command, where it is known.
 pub fn explanation(text: &[u8]) -> Option<&'static [u8]> {
-    let (word, rest) = next_word(Marks::OfCommands, text)?;
-    if word == b"info".as_slice() || word == b"i".as_slice() {
-        let (word, _) = next_word(Marks::OfCommands, rest)?;
-        return why_of(&LISTS, word);
+    if text.first() == Some(&b'!') {
+        return why_of_command(b"!");
     }
-    why_of(&COMMANDS, word).or(why_of(&COMMANDS, front(word)))
+    let (word, rest) = next_word(Marks::OfCommands, text)?;
+    if is_one_of(&[b"info", b"i"], word) {
+        return why_of(&LISTS, first_word(rest));
+    }
+    if word == b"set".as_slice() {
+        return why_of(&SETTINGS, first_word(rest));
+    }
+    if is_one_of(&SHOWING, word) {
+        return why_of_part(rest);
+    }
+    why_of_command(word).or(why_of_command(front(word)))
+}
+
+/// Why no command has a word, where it is known.
+fn why_of_command(word: &[u8]) -> Option<&'static [u8]> {
+    why_of(&COMMANDS, word).or(why_of(&FURTHER, word))
+}
+
+/// The first word of a text, or nothing.
+fn first_word(text: &[u8]) -> &[u8] {
+    match next_word(Marks::OfCommands, text) {
+        Some((word, _)) => word,
+        None => &[],
+    }
+}
+
+/// Whether a word is one of these.
+fn is_one_of(words: &[&[u8]], word: &[u8]) -> bool {
+    words.iter().any(|other| *other == word)
+}
+
+/// Why nothing is done for what a text has.
+fn why_of_part(text: &[u8]) -> Option<&'static [u8]> {
+    if begins_with_address(text) {
+        return Some(NO_ADDRESS);
+    }
+    for Reason(parts, why) in &PARTS {
+        if parts.iter().any(|part| has_part(text, part)) {
+            return Some(why);
+        }
+    }
+    None
+}
+
+/// Whether a text begins with a mark of an address, behind blanks.
+fn begins_with_address(text: &[u8]) -> bool {
+    match first_word(text).first() {
+        Some(byte) => *byte == b'&' || *byte == b'*',
+        None => false,
+    }
+}
+
+/// Whether a text has a mark, or a word by itself.
+fn has_part(text: &[u8], part: &[u8]) -> bool {
+    if part.len() == 1 {
+        return text.iter().any(|byte| part.first() == Some(byte));
+    }
+    let mut rest = text;
+    for _ in 0..text.len() {
+        match next_word(Marks::OfCommands, rest) {
+            Some((word, behind)) => {
+                if word == part {
+                    return true;
+                }
+                rest = behind;
+            }
+            None => return false,
+        }
+    }
+    false
 }
 
 /// A word up to its first `/`, behind which GDB has formats.
@@ -211,7 +402,7 @@ fn front(word: &[u8]) -> &[u8] {
 }
 
 /// The reason that has a word.
-fn why_of(reasons: &[Reason], word: &[u8]) -> Option<&'static [u8]> {
+pub(crate) fn why_of(reasons: &[Reason], word: &[u8]) -> Option<&'static [u8]> {
     for Reason(words, why) in reasons {
         if words.iter().any(|other| *other == word) {
             return Some(why);

@@ -9,8 +9,8 @@ pub struct Topic {
     pub text: &'static [u8],
 }
 
-/// All commands, in the order in which help lists them.
-const TOPICS: [Topic; 30] = [
+/// The commands that move, print and stop, in the order in which help lists them.
+const FIRST: [Topic; 16] = [
     Topic {
         names: &[b"step", b"s", b"stepi", b"si"],
         usage: b"step [N]",
@@ -27,17 +27,22 @@ const TOPICS: [Topic; 30] = [
         text: b"goes on until this function has returned.",
     },
     Topic {
-        names: &[b"continue", b"c", b"cont", b"fg", b"run", b"r"],
+        names: &[b"run", b"r"],
+        usage: b"run",
+        text: b"begins the program: it stops at once at a breakpoint of the first line; later the same as `continue`.",
+    },
+    Topic {
+        names: &[b"continue", b"c", b"cont", b"fg"],
         usage: b"continue",
-        text: b"goes on to a breakpoint, a change of a watched variable, a fault or the end. `run` is the same: the program has begun already.",
+        text: b"goes on to a breakpoint, a change of a watched variable, a fault or the end.",
     },
     Topic {
         names: &[b"until", b"u", b"advance"],
         usage: b"until [N]",
-        text: b"goes on to the first line from N on that has a step; without N the same as `next`. `advance N` is the same.",
+        text: b"goes on to the first line from N on that has a step; without N the same as `next`. `advance N` is the same; N may be a function.",
     },
     Topic {
-        names: &[b"start"],
+        names: &[b"start", b"starti"],
         usage: b"start",
         text: b"shows where the program stands: it has begun already.",
     },
@@ -67,12 +72,12 @@ const TOPICS: [Topic; 30] = [
         text: b"takes the last step, or the last change by `set var`, back.",
     },
     Topic {
-        names: &[b"print", b"p", b"inspect"],
+        names: &[b"print", b"p", b"inspect", b"output"],
         usage: b"print T",
-        text: b"shows a variable T, or one lane or element as T[K]. `p/x T` shows it in hexadecimal digits.",
+        text: b"shows a variable T, or one lane or element as T[K], in the frame that is selected. `print T = V` sets it first.",
     },
     Topic {
-        names: &[b"p/x", b"print/x"],
+        names: &[b"p/x", b"print/x", b"output/x"],
         usage: b"p/x T",
         text: b"shows a variable, a lane or an element in hexadecimal digits.",
     },
@@ -86,6 +91,10 @@ const TOPICS: [Topic; 30] = [
         usage: b"display [T]",
         text: b"shows T now and after each move; without T all that is displayed.",
     },
+];
+
+/// The other commands.
+const OTHERS: [Topic; 16] = [
     Topic {
         names: &[b"undisplay"],
         usage: b"undisplay [N]",
@@ -94,7 +103,7 @@ const TOPICS: [Topic; 30] = [
     Topic {
         names: &[b"break", b"b", b"br"],
         usage: b"break N",
-        text: b"stops where the program comes to the first line from N on that has a step.",
+        text: b"stops where the program comes to the first line from N on that has a step; N may be FILE:N or a function.",
     },
     Topic {
         names: &[b"tbreak", b"tb"],
@@ -114,32 +123,32 @@ const TOPICS: [Topic; 30] = [
     Topic {
         names: &[b"info", b"i"],
         usage: b"info WHAT",
-        text: b"lists: breakpoints, watchpoints, locals, args, display, frame, record, source, line.",
+        text: b"lists: breakpoints, watchpoints, locals, args, variables, display, frame, stack, record, source, line [N], program.",
     },
     Topic {
         names: &[b"backtrace", b"bt", b"where"],
-        usage: b"backtrace",
-        text: b"lists the frames, the top one first.",
+        usage: b"backtrace [N]",
+        text: b"lists the frames, the top one first, or the first N; `backtrace full` with their variables.",
     },
     Topic {
         names: &[b"frame", b"f"],
         usage: b"frame [N]",
-        text: b"shows frame N, and where its call stands; names are looked up in the top frame.",
+        text: b"selects frame N, the top one being 0, and shows it: names then stand for its variables, up to the next move.",
     },
     Topic {
         names: &[b"up"],
         usage: b"up [N]",
-        text: b"shows the frame of the caller.",
+        text: b"selects the frame of the caller.",
     },
     Topic {
         names: &[b"down"],
         usage: b"down [N]",
-        text: b"shows the frame that was called.",
+        text: b"selects the frame that was called.",
     },
     Topic {
         names: &[b"list", b"l"],
         usage: b"list [N]",
-        text: b"shows ten lines of the source, around line N or where the program stands; again shows the next ones.",
+        text: b"shows ten lines of the source, around line N or where the program stands; again shows the next ones. `list 3,9`, `list -` and `list NAME` show others.",
     },
     Topic {
         names: &[b"whatis", b"ptype"],
@@ -150,6 +159,11 @@ const TOPICS: [Topic; 30] = [
         names: &[b"record"],
         usage: b"record",
         text: b"says how much can be taken back; all is recorded. `set record full insn-number-max N` sets how much at most.",
+    },
+    Topic {
+        names: &[b"echo"],
+        usage: b"echo TEXT",
+        text: b"writes a text.",
     },
     Topic {
         names: &[b"help", b"h"],
@@ -163,15 +177,20 @@ const TOPICS: [Topic; 30] = [
     },
 ];
 
-/// All commands, in the order in which help lists them.
-pub fn topics() -> &'static [Topic] {
-    &TOPICS
+/// All commands, in two parts, in the order in which help lists them.
+pub fn topics() -> [&'static [Topic]; 2] {
+    [&FIRST, &OTHERS]
 }
 
 /// The command that has the first word of a text.
 pub fn topic_of(text: &[u8]) -> Option<Topic> {
     let (word, _) = next_word(Marks::OfCommands, text)?;
-    for topic in topics() {
+    topic_in(&FIRST, word).or(topic_in(&OTHERS, word))
+}
+
+/// The command that has a word, among these.
+fn topic_in(topics: &[Topic], word: &[u8]) -> Option<Topic> {
+    for topic in topics {
         if topic.names.iter().any(|name| *name == word) {
             return Some(*topic);
         }

@@ -3,6 +3,8 @@
 
 mod explanations;
 mod help;
+mod usages;
 
-pub use explanations::explanation;
+pub use explanations::{explanation, is_setting};
 pub use help::{Topic, topic_of, topics};
+pub use usages::usage_of;

@@ -2,3 +2,4 @@ mod HeldTexts
 mod Prefixes
 mod Rows
 mod WorkedLines
+mod Places

@@ -8,10 +8,10 @@ use Rattle.prompt_lines.specs.Words.{line_of}
 temporary_row : line_of (codes "tbreak 5") ≡ record { kind = kind.Temporary; text = codes "break  5" }
 temporary_row = refl
 
-set_row : line_of (codes "  set x[1] = 3") ≡ record { kind = kind.Own; text = codes "set var  x[1] = 3" }
+set_row : line_of (codes "  set x[1] = 3") ≡ record { kind = kind.Set; text = codes "set var  x[1] = 3" }
 set_row = refl
 
-set_var_row : line_of (codes "set var x = 3") ≡ record { kind = kind.Own; text = codes "set var  x = 3" }
+set_var_row : line_of (codes "set var x = 3") ≡ record { kind = kind.Set; text = codes "set var  x = 3" }
 set_var_row = refl
 
 hexadecimal_row : line_of (codes "p/x x") ≡ record { kind = kind.Hexadecimal; text = codes "print  x" }

@@ -18,3 +18,8 @@ row_view row = record { words = texts row.0.now; kind = row.1; own = row.2.now }
 abbrev pub bytes_option : Option (Bor (List ℕ)) → Option (List ℕ)
 bytes_option None = None
 bytes_option (Some text) = Some text.now
+
+-- a line that may be found
+abbrev pub spelled_option : Option PromptLine → Option Spelled
+spelled_option None = None
+spelled_option (Some line) = Some (spelled line)

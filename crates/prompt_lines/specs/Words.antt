@@ -2,6 +2,7 @@
 -- (GDB manual; which words there are, and what they stand for, are choices of this project).
 use Rattle.std.specs.Prelude.{ℕ, Bool, true, false, ◌||◌, List, [], ◌∷◌, ◌++◌, drop, take, Option, Some, None, option_and_then, codes, if◌then◌else◌}
 use Rattle.std.specs.List.{prefix_len}
+use Rattle.std.specs.Option.{option_or}
 use Rattle.gang_model.specs.Texts.Spellings.{Word, behind, is_blank, words_of_line}
 use Rattle.gang_model.specs.Texts.CommandText.{is_mark}
 use Rattle.prompt_lines.specs.declared.line.Kind.{Kind}
@@ -22,13 +23,14 @@ pub record Row : Type 0 where
 abbrev pub row : List Word → Kind → List ℕ → Row
 row words kind own = record { words = words; kind = kind; own = own }
 
--- all words that people type beside the debugger's own
+-- all words that people type for what is done, beside the debugger's own
 abbrev pub rows : List Row
 rows =
-    row (codes "set" ∷ codes "var" ∷ []) kind.Own (codes "set var")
-    ∷ row (codes "set" ∷ codes "variable" ∷ []) kind.Own (codes "set var")
+    row (codes "set" ∷ codes "var" ∷ []) kind.Set (codes "set var")
+    ∷ row (codes "set" ∷ codes "variable" ∷ []) kind.Set (codes "set var")
+    ∷ row (codes "set" ∷ codes "record" ∷ codes "full" ∷ codes "insn-number-max" ∷ codes "unlimited" ∷ []) kind.Own (codes "set record full insn-number-max 65536")
     ∷ row (codes "set" ∷ codes "record" ∷ []) kind.Own (codes "set record")
-    ∷ row (codes "set" ∷ []) kind.Own (codes "set var")
+    ∷ row (codes "set" ∷ []) kind.Set (codes "set var")
     ∷ row (codes "stepi" ∷ []) kind.Own (codes "step")
     ∷ row (codes "si" ∷ []) kind.Own (codes "step")
     ∷ row (codes "nexti" ∷ []) kind.Own (codes "next")
@@ -37,59 +39,83 @@ rows =
     ∷ row (codes "rsi" ∷ []) kind.Own (codes "reverse-step")
     ∷ row (codes "reverse-nexti" ∷ []) kind.Own (codes "reverse-next")
     ∷ row (codes "rni" ∷ []) kind.Own (codes "reverse-next")
-    ∷ row (codes "run" ∷ []) kind.Own (codes "continue")
-    ∷ row (codes "r" ∷ []) kind.Own (codes "continue")
+    ∷ row (codes "run" ∷ []) kind.Run (codes "continue")
+    ∷ row (codes "r" ∷ []) kind.Run (codes "continue")
     ∷ row (codes "cont" ∷ []) kind.Own (codes "continue")
     ∷ row (codes "fg" ∷ []) kind.Own (codes "continue")
-    ∷ row (codes "fin" ∷ []) kind.Own (codes "finish")
-    ∷ row (codes "inspect" ∷ []) kind.Own (codes "print")
-    ∷ row (codes "p/d" ∷ []) kind.Own (codes "print")
-    ∷ row (codes "print/d" ∷ []) kind.Own (codes "print")
-    ∷ row (codes "br" ∷ []) kind.Own (codes "break")
-    ∷ row (codes "d" ∷ []) kind.Own (codes "delete")
-    ∷ row (codes "del" ∷ []) kind.Own (codes "delete")
-    ∷ row (codes "delete" ∷ codes "breakpoints" ∷ []) kind.Own (codes "delete")
-    ∷ row (codes "info" ∷ codes "b" ∷ []) kind.Own (codes "info breakpoints")
-    ∷ row (codes "info" ∷ codes "break" ∷ []) kind.Own (codes "info breakpoints")
-    ∷ row (codes "i" ∷ codes "b" ∷ []) kind.Own (codes "info breakpoints")
-    ∷ row (codes "i" ∷ codes "breakpoints" ∷ []) kind.Own (codes "info breakpoints")
-    ∷ row (codes "i" ∷ codes "locals" ∷ []) kind.Own (codes "info locals")
-    ∷ row (codes "where" ∷ []) kind.Own (codes "backtrace")
-    ∷ row (codes "info" ∷ codes "stack" ∷ []) kind.Own (codes "backtrace")
-    ∷ row (codes "exit" ∷ []) kind.Own (codes "quit")
+    ∷ row (codes "finish" ∷ []) kind.Finish (codes "finish")
+    ∷ row (codes "fin" ∷ []) kind.Finish (codes "finish")
+    ∷ row (codes "print" ∷ []) kind.Print (codes "print")
+    ∷ row (codes "p" ∷ []) kind.Print (codes "print")
+    ∷ row (codes "inspect" ∷ []) kind.Print (codes "print")
+    ∷ row (codes "output" ∷ []) kind.Print (codes "print")
+    ∷ row (codes "p/d" ∷ []) kind.Print (codes "print")
+    ∷ row (codes "print/d" ∷ []) kind.Print (codes "print")
+    ∷ row (codes "p/x" ∷ []) kind.Hexadecimal (codes "print")
+    ∷ row (codes "print/x" ∷ []) kind.Hexadecimal (codes "print")
+    ∷ row (codes "output/x" ∷ []) kind.Hexadecimal (codes "print")
+    ∷ row (codes "break" ∷ []) kind.Break (codes "break")
+    ∷ row (codes "b" ∷ []) kind.Break (codes "break")
+    ∷ row (codes "br" ∷ []) kind.Break (codes "break")
     ∷ row (codes "tbreak" ∷ []) kind.Temporary (codes "break")
     ∷ row (codes "tb" ∷ []) kind.Temporary (codes "break")
     ∷ row (codes "until" ∷ []) kind.Until (codes "break")
     ∷ row (codes "u" ∷ []) kind.Until (codes "break")
     ∷ row (codes "advance" ∷ []) kind.Until (codes "break")
-    ∷ row (codes "p/x" ∷ []) kind.Hexadecimal (codes "print")
-    ∷ row (codes "print/x" ∷ []) kind.Hexadecimal (codes "print")
     ∷ row (codes "undisplay" ∷ []) kind.Undisplay (codes "delete")
     ∷ row (codes "delete" ∷ codes "display" ∷ []) kind.Undisplay (codes "delete")
+    ∷ row (codes "delete" ∷ codes "breakpoints" ∷ []) kind.Own (codes "delete")
+    ∷ row (codes "d" ∷ []) kind.Own (codes "delete")
+    ∷ row (codes "del" ∷ []) kind.Own (codes "delete")
     ∷ row (codes "display" ∷ []) kind.Display (codes "print")
-    ∷ row (codes "list" ∷ []) (kind.Look look.List) (codes "delete")
-    ∷ row (codes "l" ∷ []) (kind.Look look.List) (codes "delete")
-    ∷ row (codes "frame" ∷ []) (kind.Look look.Frame) (codes "delete")
-    ∷ row (codes "f" ∷ []) (kind.Look look.Frame) (codes "delete")
+    ∷ row (codes "info" ∷ codes "b" ∷ []) kind.Own (codes "info breakpoints")
+    ∷ row (codes "info" ∷ codes "break" ∷ []) kind.Own (codes "info breakpoints")
+    ∷ row (codes "i" ∷ codes "b" ∷ []) kind.Own (codes "info breakpoints")
+    ∷ row (codes "i" ∷ codes "breakpoints" ∷ []) kind.Own (codes "info breakpoints")
+    ∷ row (codes "info" ∷ codes "breakpoints" ∷ []) kind.Own (codes "info breakpoints")
+    ∷ row (codes "exit" ∷ []) kind.Own (codes "quit")
+    ∷ []
+
+-- all words that people type for what is looked at
+abbrev pub looks : List Row
+looks =
+    row (codes "backtrace" ∷ codes "full" ∷ []) (kind.Look look.Full) []
+    ∷ row (codes "bt" ∷ codes "full" ∷ []) (kind.Look look.Full) []
+    ∷ row (codes "where" ∷ codes "full" ∷ []) (kind.Look look.Full) []
+    ∷ row (codes "backtrace" ∷ []) (kind.Look look.Frames) (codes "delete")
+    ∷ row (codes "bt" ∷ []) (kind.Look look.Frames) (codes "delete")
+    ∷ row (codes "where" ∷ []) (kind.Look look.Frames) (codes "delete")
+    ∷ row (codes "info" ∷ codes "stack" ∷ []) (kind.Look look.Frames) (codes "delete")
+    ∷ row (codes "list" ∷ []) (kind.Look look.List) (codes "break")
+    ∷ row (codes "l" ∷ []) (kind.Look look.List) (codes "break")
+    ∷ row (codes "frame" ∷ []) (kind.Look look.Frame) (codes "frame")
+    ∷ row (codes "f" ∷ []) (kind.Look look.Frame) (codes "frame")
+    ∷ row (codes "info" ∷ codes "frame" ∷ []) (kind.Look look.Frame) (codes "frame")
+    ∷ row (codes "i" ∷ codes "f" ∷ []) (kind.Look look.Frame) (codes "frame")
     ∷ row (codes "up" ∷ []) (kind.Look look.Up) (codes "step")
     ∷ row (codes "down" ∷ []) (kind.Look look.Down) (codes "step")
     ∷ row (codes "whatis" ∷ []) (kind.Look look.Type) (codes "print")
     ∷ row (codes "ptype" ∷ []) (kind.Look look.Type) (codes "print")
+    ∷ row (codes "info" ∷ codes "locals" ∷ []) (kind.Look look.Locals) []
+    ∷ row (codes "i" ∷ codes "locals" ∷ []) (kind.Look look.Locals) []
     ∷ row (codes "info" ∷ codes "args" ∷ []) (kind.Look look.Arguments) []
     ∷ row (codes "i" ∷ codes "args" ∷ []) (kind.Look look.Arguments) []
+    ∷ row (codes "info" ∷ codes "variables" ∷ []) (kind.Look look.Variables) []
     ∷ row (codes "info" ∷ codes "display" ∷ []) (kind.Look look.Displays) []
-    ∷ row (codes "info" ∷ codes "frame" ∷ []) (kind.Look look.Frame) (codes "delete")
-    ∷ row (codes "i" ∷ codes "f" ∷ []) (kind.Look look.Frame) (codes "delete")
     ∷ row (codes "info" ∷ codes "record" ∷ []) (kind.Look look.Recording) []
     ∷ row (codes "record" ∷ []) (kind.Look look.Recording) []
     ∷ row (codes "info" ∷ codes "watchpoints" ∷ []) (kind.Look look.Watches) []
     ∷ row (codes "i" ∷ codes "watchpoints" ∷ []) (kind.Look look.Watches) []
     ∷ row (codes "info" ∷ codes "source" ∷ []) (kind.Look look.Source) []
-    ∷ row (codes "info" ∷ codes "line" ∷ []) (kind.Look look.Here) []
+    ∷ row (codes "info" ∷ codes "line" ∷ []) (kind.Look look.Line) (codes "break")
     ∷ row (codes "info" ∷ codes "program" ∷ []) (kind.Look look.Here) []
     ∷ row (codes "start" ∷ []) (kind.Look look.Here) []
+    ∷ row (codes "starti" ∷ []) (kind.Look look.Here) []
+    ∷ row (codes "info" ∷ []) (kind.Look look.Lists) []
+    ∷ row (codes "i" ∷ []) (kind.Look look.Lists) []
     ∷ row (codes "help" ∷ []) (kind.Look look.Help) []
     ∷ row (codes "h" ∷ []) (kind.Look look.Help) []
+    ∷ row (codes "echo" ∷ []) (kind.Look look.Text) []
     ∷ []
 
 -- a text without the blanks at its beginning
@@ -120,19 +146,24 @@ abbrev pub held_text : List ℕ → List ℕ
 held_text text = take 257 text
 
 -- a line that begins with the words of a row, else another reading
-abbrev pub row_or : Option (List ℕ) → Row → Spelled → Spelled
+abbrev pub row_or : Option (List ℕ) → Row → Option Spelled → Option Spelled
 row_or None row other = other
-row_or (Some rest) row other = record { kind = row.kind; text = held_text (row.own ++ 32 ∷ rest) }
+row_or (Some rest) row other = Some (record { kind = row.kind; text = held_text (row.own ++ 32 ∷ rest) })
 
--- a text by a table: the first row whose words it begins with, else the debugger's own words
-abbrev pub spelled_by : List Row → List ℕ → Spelled
-spelled_by [] text = record { kind = kind.Own; text = held_text text }
-spelled_by (row ∷ rows) text = row_or (behind_words row.words text) row (spelled_by rows text)
+-- a text by a table: the first row whose words it begins with
+abbrev pub found_by : List Row → List ℕ → Option Spelled
+found_by [] text = None
+found_by (row ∷ rows) text = row_or (behind_words row.words text) row (found_by rows text)
+
+-- a text by the tables, else the debugger's own words
+abbrev pub own_or : Option Spelled → List ℕ → Spelled
+own_or None text = record { kind = kind.Own; text = held_text text }
+own_or (Some line) text = line
 
 -- a text that has no blank at its beginning
 abbrev pub text_spelled : List ℕ → Spelled
 text_spelled [] = record { kind = kind.Again; text = [] }
-text_spelled (byte ∷ bytes) = spelled_by rows (byte ∷ bytes)
+text_spelled (byte ∷ bytes) = own_or (option_or (found_by rows (byte ∷ bytes)) (found_by looks (byte ∷ bytes))) (byte ∷ bytes)
 
 -- what a line stands for, its LF not included
 abbrev pub line_of : List ℕ → Spelled
@@ -147,3 +178,20 @@ is_one (word ∷ other ∷ words) = false
 -- whether a command line is one word alone
 abbrev pub is_alone : List ℕ → Bool
 is_alone text = is_one (words_of_line is_mark text)
+
+-- the second of two words
+abbrev pub second : List Word → Option Word
+second (word ∷ other ∷ []) = Some other
+second words = None
+
+-- what stands behind the first word of a command line of two words
+abbrev pub argument_of : List ℕ → Option Word
+argument_of text = second (words_of_line is_mark text)
+
+-- the command line that sets what another, which begins with `print`, names
+abbrev pub setting_text : List ℕ → List ℕ
+setting_text text = held_text (codes "set var" ++ 32 ∷ drop 5 text)
+
+-- the command line of a breakpoint on what a word names
+abbrev pub breaking_text : Word → List ℕ
+breaking_text word = held_text (codes "break" ++ 32 ∷ word)

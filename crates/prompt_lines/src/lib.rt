@@ -3,7 +3,9 @@
 
 mod line;
 mod reading;
+mod sources;
 mod table;
 
 pub use line::{HELD, Kind, Look, PromptLine, Text};
-pub use reading::{held_line, is_alone, read_line};
+pub use reading::{argument, breaking_line, held_line, index, is_alone, read_line, setting_line};
+pub use sources::line_named;

@@ -12,6 +12,10 @@ pub type Text = ArrayVec<u8, HELD>;
 pub enum Look {
     /// Lines of the source.
     List,
+    /// The frames.
+    Frames,
+    /// The frames with their variables.
+    Full,
     /// A frame.
     Frame,
     /// The frame of the caller.
@@ -20,8 +24,12 @@ pub enum Look {
     Down,
     /// The type of a variable.
     Type,
+    /// The local variables of the function.
+    Locals,
     /// The parameters of the function.
     Arguments,
+    /// The variables of the file.
+    Variables,
     /// What is displayed after each move.
     Displays,
     /// How much can be taken back.
@@ -30,10 +38,16 @@ pub enum Look {
     Watches,
     /// The source.
     Source,
+    /// Whether a line has a step.
+    Line,
     /// Where the program stands.
     Here,
+    /// What there is to look at.
+    Lists,
     /// What commands there are, or what one does.
     Help,
+    /// A text.
+    Text,
 }
 
 /// What is done with a command line.
@@ -43,12 +57,22 @@ pub enum Kind {
     Again,
     /// The command is done.
     Own,
+    /// The program is begun, or goes on.
+    Run,
+    /// The program goes on until a frame is left.
+    Finish,
+    /// A target is printed, or set first.
+    Print,
+    /// What is printed is written in hexadecimal digits.
+    Hexadecimal,
+    /// A target is set.
+    Set,
+    /// A breakpoint is made.
+    Break,
     /// A breakpoint, which goes once it has stopped a move.
     Temporary,
     /// The program goes on to a line.
     Until,
-    /// What is printed is written in hexadecimal digits.
-    Hexadecimal,
     /// What is printed is printed again after each move.
     Display,
     /// What has the number is displayed no more.

@@ -1,15 +1,21 @@
 //! How a line is read.
-ghost use Rattle.std.specs.Prelude.{◌≡◌, ◌≤◌, ◌++◌, ◌∷◌, length, map};
+ghost use Rattle.std.specs.Prelude.{◌≡◌, ◌≤◌, ◌++◌, ◌∷◌, drop, length, map};
 ghost use Rattle.std.specs.List.{prefix_len};
 ghost use Rattle.gang_model.specs.Texts.CommandText as text;
 ghost use Rattle.gang_model.specs.Texts.Spellings as spelling;
 ghost use Rattle.debug_commands.specs.LineWords.{texts};
-ghost use Rattle.prompt_lines.specs.Readings.{bytes_option, row_view, spelled};
+ghost use Rattle.prompt_lines.specs.Readings.{bytes_option, row_view, spelled, spelled_option};
 ghost use Rattle.prompt_lines.specs.Words as spec;
 
 use crate::line::{HELD, Kind, PromptLine, Text};
-use crate::table::{ROWS, Row};
-use debug_words::{Marks, is_blank, next_word};
+use crate::table::{LOOKS, ROWS, Row};
+use debug_words::{Marks, Radix, digits_number, is_blank, next_word};
+
+/// The word that prints.
+const PRINT: &[u8] = b"print";
+
+/// The largest number of a command.
+const LARGEST: u128 = 10_000_000;
 
 /// What a line stands for, its line feed not included. It takes no memory and never fails.
 pub fn read_line(line: &[u8]) -> PromptLine
@@ -22,25 +28,38 @@ pub fn read_line(line: &[u8]) -> PromptLine
             text: Text::new(),
         };
     }
-    spelled_by(&ROWS, text)
+    match found_by(&ROWS, text) {
+        Some(line) => line,
+        None => look_or_own(text),
+    }
 }
 
-/// The first row whose words the text begins with, else the debugger's own words.
-fn spelled_by(rows: &[Row], text: &[u8]) -> PromptLine
-    ensures { spelled result ≡ spec.spelled_by (map row_view rows.now) text.now }
+/// What is looked at, else the debugger's own words.
+fn look_or_own(text: &[u8]) -> PromptLine
+    ensures { spelled result ≡ spec.own_or (spec.found_by spec.looks text.now) text.now }
+{
+    match found_by(&LOOKS, text) {
+        Some(line) => line,
+        None => PromptLine {
+            kind: Kind::Own,
+            text: held_line(text),
+        },
+    }
+}
+
+/// The first row whose words the text begins with.
+fn found_by(rows: &[Row], text: &[u8]) -> Option<PromptLine>
+    ensures { spelled_option result ≡ spec.found_by (map row_view rows.now) text.now }
 {
     for Row(words, kind, own) in rows {
         if let Some(rest) = behind_words(words, text) {
-            return PromptLine {
+            return Some(PromptLine {
                 kind: *kind,
                 text: joined(own, rest),
-            };
+            });
         }
     }
-    PromptLine {
-        kind: Kind::Own,
-        text: held_line(text),
-    }
+    None
 }
 
 /// What follows words that the text begins with.
@@ -58,8 +77,15 @@ fn behind_words<'a>(words: &[&[u8]], text: &'a [u8]) -> Option<&'a [u8]>
 fn behind_word<'a>(word: &[u8], text: &'a [u8]) -> Option<&'a [u8]>
     ensures { bytes_option result ≡ spec.behind_word word.now text.now }
 {
-    let rest = unblanked(text).strip_prefix(word)?;
+    let rest = behind(word, unblanked(text))?;
     if ends_word(rest) { Some(rest) } else { None }
+}
+
+/// What follows a prefix that a text begins with.
+pub(crate) fn behind<'a>(prefix: &[u8], text: &'a [u8]) -> Option<&'a [u8]>
+    ensures { bytes_option result ≡ spelling.behind prefix.now text.now }
+{
+    text.strip_prefix(prefix)
 }
 
 /// Whether a word ends before this text.
@@ -81,7 +107,7 @@ fn blank_len(text: &[u8]) -> usize
 }
 
 /// A text without the blanks at its beginning.
-fn unblanked(text: &[u8]) -> &[u8]
+pub(crate) fn unblanked(text: &[u8]) -> &[u8]
     ensures { result.now ≡ spec.unblanked text.now }
 {
     &text[blank_len(text)..]
@@ -128,4 +154,53 @@ pub fn is_alone(text: &[u8]) -> bool
         return false;
     };
     next_word(Marks::OfCommands, rest).is_none()
+}
+
+/// What stands behind the first word of a command line of two words.
+pub fn argument(text: &[u8]) -> Option<&[u8]>
+    ensures { bytes_option result ≡ spec.argument_of text.now }
+{
+    let (_, rest) = next_word(Marks::OfCommands, text)?;
+    let (word, rest) = next_word(Marks::OfCommands, rest)?;
+    match next_word(Marks::OfCommands, rest) {
+        None => Some(word),
+        Some(_) => None,
+    }
+}
+
+/// The number of a lane, an element or a frame.
+pub fn index(word: &[u8]) -> Option<u32>
+    ensures { result ≡ text.index word.now }
+{
+    let number = digits_number(Radix::Decimal, word)?;
+    if number <= LARGEST {
+        Some(number as u32)
+    } else {
+        None
+    }
+}
+
+/// The command line that sets what another, which begins with `print`, names.
+pub fn setting_line(text: &[u8]) -> Text
+    ensures { result.items ≡ spec.setting_text text.now }
+{
+    joined(b"set var", behind_print(text))
+}
+
+/// What follows the first word of a command line that begins with `print`.
+fn behind_print(text: &[u8]) -> &[u8]
+    ensures { result.now ≡ drop 5 text.now }
+{
+    if text.len() < PRINT.len() {
+        &[]
+    } else {
+        &text[PRINT.len()..]
+    }
+}
+
+/// The command line of a breakpoint on what a word names.
+pub fn breaking_line(word: &[u8]) -> Text
+    ensures { result.items ≡ spec.breaking_text word.now }
+{
+    joined(b"break", word)
 }

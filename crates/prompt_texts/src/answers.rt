@@ -1,5 +1,6 @@
 //! What a command is answered, for people.
 use crate::changes::Before;
+use crate::frames::put_frames;
 use crate::page::Page;
 use crate::places::{put_around, put_place};
 use crate::refusals::tell_refused;
@@ -124,7 +125,7 @@ fn tell_list<M: RecordedMachine, O: AnswerWriter + Drop>(
         ),
         Answer::ListsStops => put_stops(session, page),
         Answer::ListsLocals => put_locals(session.machine(), page),
-        Answer::ListsFrames => put_frames(source, session.machine(), page),
+        Answer::ListsFrames => put_frames(None, source, session.machine(), page),
         _ => {}
     }
 }
@@ -207,7 +208,7 @@ fn put_locals<M: RecordedMachine, O: AnswerWriter + Drop>(machine: &M, page: &mu
 }
 
 /// Writes a line: a variable's name and values.
-pub(crate) fn put_variable<M: RecordedMachine, O: AnswerWriter + Drop>(
+fn put_variable<M: RecordedMachine, O: AnswerWriter + Drop>(
     name: &[u8],
     shown: Shown,
     machine: &M,
@@ -217,22 +218,4 @@ pub(crate) fn put_variable<M: RecordedMachine, O: AnswerWriter + Drop>(
     page.put(b" =");
     put_values(shown, None, machine, page);
     page.put(b"\n");
-}
-
-/// Writes a line for each frame, the top one first.
-fn put_frames<M: RecordedMachine, O: AnswerWriter + Drop>(
-    source: Source<'_>,
-    machine: &M,
-    page: &mut Page<O>,
-) {
-    let Some(position) = machine.position() else {
-        page.put(b"the program has ended: no frames\n");
-        return;
-    };
-    put_place(b"#0  ", Some(position), source, page);
-    for number in 1..position.depth {
-        page.put(b"#");
-        page.put_number(number as i128);
-        put_place(b"  ", machine.call(position.depth - number), source, page);
-    }
 }

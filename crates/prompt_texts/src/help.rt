@@ -8,12 +8,19 @@ const USAGE: usize = 20;
 
 /// Writes a line for each command.
 pub(crate) fn put_help<O: AnswerWriter + Drop>(page: &mut Page<O>) {
-    for topic in topics() {
-        put_entry(*topic, page);
+    for topics in topics() {
+        put_entries(topics, page);
     }
     page.put(
         b"A place has a mark for each lane: # is active, and . waits. An empty line repeats a move, `print`, `list`, `up` or `down`.\n",
     );
+}
+
+/// Writes a line for each of these commands.
+fn put_entries<O: AnswerWriter + Drop>(topics: &[Topic], page: &mut Page<O>) {
+    for topic in topics {
+        put_entry(*topic, page);
+    }
 }
 
 /// Writes how a command is used, and what it does.

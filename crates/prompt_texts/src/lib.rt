@@ -3,6 +3,7 @@
 
 mod answers;
 mod changes;
+mod frames;
 mod help;
 mod looks;
 mod page;
@@ -13,9 +14,12 @@ mod values;
 
 pub use answers::{tell, tell_hexadecimal, tell_move};
 pub use changes::Before;
+pub use frames::{
+    show_arguments, show_bits, show_frame, show_frames, show_full_frames, show_locals, show_value,
+};
 pub use looks::{
-    list_lines, show_arguments, show_displayed, show_frame, show_help, show_here, show_marked,
-    show_recording, show_source, show_type, show_watches,
+    list_lines, show_displayed, show_help, show_here, show_line, show_lists, show_marked,
+    show_recording, show_source, show_text, show_type, show_variables, show_watches,
 };
 pub use page::Page;
 pub use refusals::{tell_refused, tell_unknown};

@@ -1,5 +1,5 @@
 //! What is looked at: nothing changes in the debugger.
-use crate::answers::{put_target, put_variable, put_watched};
+use crate::answers::{put_target, put_watched};
 use crate::help::{put_help, put_topic};
 use crate::page::Page;
 use crate::places::{put_around, put_line, put_mark, put_place};
@@ -7,71 +7,44 @@ use crate::source::Source;
 use debug_answers::Stop;
 use debug_commands::Target;
 use debug_session::Session;
-use debug_traits::{AnswerWriter, RecordedMachine, Shown};
+use debug_traits::{AnswerWriter, FramedMachine, RecordedMachine, Shown};
+use debug_words::is_blank;
 use gang_types::{IntType, Rate};
+use prompt_help::explanation;
 
-/// The most parameters of a function.
-const PARAMETERS: u32 = 8;
+/// What `info` lists.
+const LISTS: &[u8] =
+    b"`info` lists: breakpoints, watchpoints, locals, args, variables, display, frame, stack, record, source, line [N], program.\n";
 
-/// Writes lines of the source from one on, that of the place with a mark, and says which line comes next.
+/// The most variables of a file that are shown.
+const VARIABLES: usize = 256;
+
+/// Writes lines of the source from one on up to another, that of the place with a mark.
 pub fn list_lines<M: RecordedMachine, O: AnswerWriter + Drop>(
-    from: u32,
-    count: u32,
+    first: u32,
+    next: u32,
     source: Source<'_>,
     session: &Session<M>,
     page: &mut Page<O>,
-) -> u32 {
+) {
     let here = match session.machine().position() {
         Some(position) => position.place.line,
         None => 0,
     };
-    if source.line(from).is_none() {
+    if first >= next {
+        page.put(b"line 1 is the first one\n");
+        return;
+    }
+    if source.line(first).is_none() {
         page.put(b"the source has no line ");
-        page.put_number(i128::from(from));
+        page.put_number(i128::from(first));
         page.put(b"\n");
-        return from;
+        return;
     }
-    for number in from..from.saturating_add(count) {
-        put_line(
-            number,
-            if number == here { b"-> " } else { b"   " },
-            source,
-            page,
-        );
+    for number in first..next.min(source.lines().saturating_add(1)) {
+        let mark = if number == here { b"-> " } else { b"   " };
+        put_line(number, mark, source, page);
     }
-    from.saturating_add(count)
-}
-
-/// Writes where a frame stands, the top one being number 0. Says whether there is one of this number.
-pub fn show_frame<M: RecordedMachine, O: AnswerWriter + Drop>(
-    number: usize,
-    source: Source<'_>,
-    session: &Session<M>,
-    page: &mut Page<O>,
-) -> bool {
-    let Some(top) = session.machine().position() else {
-        page.put(b"the program has ended: no frames\n");
-        return false;
-    };
-    if number >= top.depth {
-        page.put(b"there is no such frame; `where` lists them\n");
-        return false;
-    }
-    let position = if number == 0 {
-        Some(top)
-    } else {
-        session.machine().call(top.depth - number)
-    };
-    page.put(b"#");
-    page.put_number(number as i128);
-    put_place(b"  ", position, source, page);
-    if let Some(position) = position {
-        put_around(&position, source, page);
-    }
-    if number > 0 {
-        page.put(b"names are looked up in frame #0, the top one\n");
-    }
-    true
 }
 
 /// Writes where the program stands.
@@ -86,29 +59,39 @@ pub fn show_here<M: RecordedMachine, O: AnswerWriter + Drop>(
     }
 }
 
-/// Writes the parameters of the function where the program stands, with their values.
-pub fn show_arguments<M: RecordedMachine, O: AnswerWriter + Drop>(
+/// Writes whether a line has a step, and which one from there on has the first.
+pub fn show_line<M: RecordedMachine, O: AnswerWriter + Drop>(
+    line: u32,
+    session: &Session<M>,
+    page: &mut Page<O>,
+) {
+    page.put(b"line ");
+    page.put_number(i128::from(line));
+    match session.machine().line_from(line) {
+        Some(first) if first == line => page.put(b" has a step\n"),
+        Some(first) => {
+            page.put(b" has no step; the first line from there on that has one is ");
+            page.put_number(i128::from(first));
+            page.put(b"\n");
+        }
+        None => page.put(b" has no step, and none behind it has one\n"),
+    }
+}
+
+/// Writes the types of the variables of the file.
+pub fn show_variables<M: RecordedMachine, O: AnswerWriter + Drop>(
     session: &Session<M>,
     page: &mut Page<O>,
 ) {
     let machine = session.machine();
-    if machine.position().is_none() {
-        page.put(b"the program has ended: no parameters\n");
-        return;
+    if machine.file_variable(0).is_none() {
+        page.put(b"no variables of the file\n");
     }
-    if machine.next_parameter(0).is_none() {
-        page.put(b"no parameters\n");
-    }
-    let mut place = 0;
-    for _ in 0..PARAMETERS {
-        if let Some(parameter) = machine.next_parameter(place) {
-            put_variable(
-                parameter.variable.name,
-                parameter.variable.shown,
-                machine,
-                page,
-            );
-            place = parameter.next;
+    for number in 0..VARIABLES {
+        if let Some(named) = machine.file_variable(number) {
+            page.put(named.name);
+            page.put(b": ");
+            put_type(named.shown, false, page);
         }
     }
 }
@@ -121,16 +104,23 @@ pub fn show_displayed<O: AnswerWriter + Drop>(number: u32, target: Target<'_>, p
     page.put(b"\n");
 }
 
-/// Writes how much can be taken back.
+/// Writes how much can be taken back, and that there may be older steps where the history was full once.
 pub fn show_recording<M: RecordedMachine, O: AnswerWriter + Drop>(
+    was_full: bool,
     session: &Session<M>,
     page: &mut Page<O>,
 ) {
-    page.put(b"all is recorded: ");
+    if !was_full {
+        page.put(b"all is recorded: ");
+    }
     page.put_number(session.machine().kept() as i128);
     page.put(b" steps and changes can be taken back, of ");
     page.put_number(session.machine().limit() as i128);
-    page.put(b" at most (`set record full insn-number-max N` changes that)\n");
+    page.put(b" at most");
+    if was_full {
+        page.put(b"; older ones, if there were any, are gone");
+    }
+    page.put(b" (`set record full insn-number-max N` changes that)\n");
 }
 
 /// Writes a line for each watch.
@@ -160,13 +150,14 @@ pub fn show_source<O: AnswerWriter + Drop>(source: Source<'_>, page: &mut Page<O
     page.put(b" lines\n");
 }
 
-/// Writes the type of a variable.
-pub fn show_type<M: RecordedMachine, O: AnswerWriter + Drop>(
+/// Writes the type of a variable in the frame at a depth.
+pub fn show_type<M: FramedMachine, O: AnswerWriter + Drop>(
     target: Target<'_>,
+    depth: usize,
     session: &Session<M>,
     page: &mut Page<O>,
 ) {
-    match session.machine().find(target.name) {
+    match session.machine().find_at(depth, target.name) {
         None => page.put(b"C2 NoSuchName: no variable in scope or of the file has this name.\n"),
         Some(shown) => {
             put_target(target, page);
@@ -218,6 +209,27 @@ pub fn show_help<O: AnswerWriter + Drop>(topic: &[u8], page: &mut Page<O>) {
     } else {
         put_topic(topic, page);
     }
+}
+
+/// Writes why there is nothing of a kind that `info` could list, else what there is.
+pub fn show_lists<O: AnswerWriter + Drop>(line: &[u8], page: &mut Page<O>) {
+    if let Some(why) = explanation(line) {
+        page.put(why);
+        page.put(b"\n");
+    } else {
+        page.put(LISTS);
+    }
+}
+
+/// Writes a text behind the blanks that it begins with, and ends the line; `\\n` ends a line too.
+pub fn show_text<O: AnswerWriter + Drop>(text: &[u8], page: &mut Page<O>) {
+    let blanks = text.iter().take_while(|byte| is_blank(**byte)).count();
+    let mut rest = text.get(blanks..).unwrap_or(&[]);
+    if let Some(front) = rest.strip_suffix(b"\\n") {
+        rest = front;
+    }
+    page.put(rest);
+    page.put(b"\n");
 }
 
 /// Writes a line of a text, with a mark under a column where one is named.

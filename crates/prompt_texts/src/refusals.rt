@@ -4,7 +4,7 @@ use crate::places::put_caret;
 use debug_answers::Refusal;
 use debug_traits::AnswerWriter;
 use debug_words::{Marks, is_blank, next_word};
-use prompt_help::{explanation, topic_of};
+use prompt_help::{explanation, is_setting, usage_of};
 
 /// Writes why a command is refused, and the line with a mark under what it is refused for.
 pub fn tell_refused<O: AnswerWriter + Drop>(refusal: Refusal, line: &[u8], page: &mut Page<O>) {
@@ -22,17 +22,21 @@ pub fn tell_refused<O: AnswerWriter + Drop>(refusal: Refusal, line: &[u8], page:
     }
 }
 
-/// Writes what is wrong with a line that stands for no command: why there is no such command, how one is used, or where help is.
+/// Writes what is wrong with a line that stands for no command: why there is no such command, what to type in its place, or where
+/// help is. A setting of how GDB shows things is taken in silence.
 pub fn tell_unknown<O: AnswerWriter + Drop>(line: &[u8], page: &mut Page<O>) {
     let first = blanks(line);
     let text = line.get(first..).unwrap_or(&[]);
+    if is_setting(text) {
+        return;
+    }
     if let Some(why) = explanation(text) {
         page.put(why);
         page.put(b"\n");
-    } else if let Some(topic) = topic_of(text) {
-        page.put(b"C1 BadCommand: the usage is `");
-        page.put(topic.usage);
-        page.put(b"`.\n");
+    } else if let Some(usage) = usage_of(text) {
+        page.put(b"C1 BadCommand: ");
+        page.put(usage);
+        page.put(b"\n");
         put_marked(line, argument(line).unwrap_or(first), page);
     } else {
         page.put(b"C1 BadCommand: there is no such command; `help` lists those that there are.\n");

@@ -1,6 +1,6 @@
 //! The values of a variable.
 use crate::page::Page;
-use debug_traits::{AnswerWriter, RecordedMachine, Shown};
+use debug_traits::{AnswerWriter, FramedMachine, RecordedMachine, Shown};
 use gang_types::{IntType, value, width};
 
 /// Writes a blank and the value of a word.
@@ -29,6 +29,48 @@ pub(crate) fn put_values<M: RecordedMachine, O: AnswerWriter + Drop>(
         None => {
             for index in 0..shown.count {
                 put_value(shown.value_type, machine.word(shown, index), page);
+            }
+        }
+    }
+}
+
+/// Writes a blank and the value of each word of a variable in the frame at a depth, or of one of them.
+pub(crate) fn put_values_at<M: FramedMachine, O: AnswerWriter + Drop>(
+    shown: Shown,
+    at: Option<u32>,
+    depth: usize,
+    machine: &M,
+    page: &mut Page<O>,
+) {
+    match at {
+        Some(index) => {
+            let word = machine.word_at(depth, shown, index as usize);
+            put_value(shown.value_type, word, page);
+        }
+        None => {
+            for index in 0..shown.count {
+                put_value(shown.value_type, machine.word_at(depth, shown, index), page);
+            }
+        }
+    }
+}
+
+/// Writes a blank and the bits of each word of a variable in the frame at a depth, or of one of them, in hexadecimal digits.
+pub(crate) fn put_bits_at<M: FramedMachine, O: AnswerWriter + Drop>(
+    shown: Shown,
+    at: Option<u32>,
+    depth: usize,
+    machine: &M,
+    page: &mut Page<O>,
+) {
+    match at {
+        Some(index) => {
+            let word = machine.word_at(depth, shown, index as usize);
+            put_digits(shown.value_type, word, page);
+        }
+        None => {
+            for index in 0..shown.count {
+                put_digits(shown.value_type, machine.word_at(depth, shown, index), page);
             }
         }
     }

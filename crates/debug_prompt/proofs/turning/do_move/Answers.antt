@@ -1,9 +1,9 @@
-use Rattle.std.proofs.Common.{◌∷◌, subst}
+use Rattle.std.proofs.Common.{◌∷◌, subst, ◌∙◌}
 use Rattle.command_lists.specs.Lists.{HasDone}
 use Rattle.debug_commands.specs.Views.{command_view}
 use Rattle.debug_prompt.specs.Given as given
 use Rattle.debug_prompt.specs.Holding.{held}
-use Rattle.debug_prompt.proofs.DoneCommands.{move_follows, one_then}
+use Rattle.debug_prompt.proofs.DoneCommands.{move_begun, move_follows, one_then}
 use Rattle.debug_prompt.proofs.turning.do_move.Goals as goal
 
 pub returns : goal.returns
@@ -14,6 +14,8 @@ returns g c s d st limit =
     let told = c.make_moves-answer.result in
     let middle = c.make_moves-answer.new.session in
     let new = c.follow.new.session in
-    let replies = c.make_moves-answer.ensures s d st limit in
-    subst (λ more. HasDone stands s (command ∷ more) d new) (move_follows stands s d h command told middle c.requires replies)
-    (one_then stands s d command (given.follows h told) told middle new replies (λ e there. c.follow.ensures s e there))
+    let replies = c.make_moves-answer.ensures s d st limit in (
+      subst (λ more. HasDone stands s (command ∷ more) d new) (move_follows stands s d h command told middle c.requires replies)
+          (one_then stands s d command (given.follows h told) told middle new replies (λ e there. c.follow.ensures.done s e there)),
+      c.follow.ensures.begun ∙ move_begun stands s d h command told middle c.requires replies,
+    )

@@ -11,7 +11,7 @@ pub returns-in-Some : goal.returns-in-Some
 returns-in-Some c =
     let old = c.args.self.now in
     let n = c.in-Some.number in
-    let left : List (ℕ × List ℕ) → Held = λ displays. record { temporaries = old.temporaries.items; displays = displays; next = old.next } in
+    let left : List (ℕ × List ℕ) → Held = λ displays. record (held old) { displays = displays } in
     let kept : c.retain.new.self.items ≡ filter (λ (e : Displayed). not (e.number == n)) old.displays.items =
     filter-from_retain _ _ _ (λ x b f' y called. search rules) _ _ c.retain.ensures.filtered in
     ap (λ xs. left (map entry_of xs)) kept ∙ ap left (without_entries n old.displays.items) ∙ ap (without_display (held old)) (sym c.in-Some.is)

@@ -1,0 +1,317 @@
+//! Values that are printed, set and displayed, in the frame that is selected.
+ghost use Rattle.std.specs.Prelude.{◌≡◌, ◌==◌, ◌∷◌, [], Some, if◌then◌else◌};
+ghost use Rattle.gang_model.specs.Debugger.Debugger.{Debugger, DoPrint, DoSet, Setting, do_command, now};
+ghost use Rattle.gang_model.specs.Texts.CommandText.{command_of};
+ghost use Rattle.command_lists.specs.Lists.{HasDone};
+ghost use Rattle.debug_commands.specs.Views.{target_view};
+ghost use Rattle.debug_session.specs.Sessions.{StandsFor};
+ghost use Rattle.debug_traits.specs.Frames.{found_at};
+ghost use Rattle.prompt_lines.specs.Words.{is_alone, setting_text};
+ghost use Rattle.debug_prompt.specs.Doing as spec;
+ghost use Rattle.debug_prompt.specs.Holding.{held};
+
+use crate::frames::{find_part, may_set, selected_depth};
+use crate::holding::Holding;
+use crate::readings::{delete_of, is_shown, print_of};
+use crate::turning::{Scene, do_alone, show_displays};
+use debug_commands::{Command, Target, read_command};
+use debug_session::Session;
+use debug_traits::{AnswerWriter, FramedMachine, RecordedMachine};
+use prompt_lines::{is_alone, setting_line};
+use prompt_texts::{
+    Page, show_bits, show_value, tell, tell_hexadecimal, tell_refused, tell_unknown,
+};
+
+/// Why a local variable of an outer frame is not set.
+const SETS_TOP: &[u8] =
+    b"Values of outer frames cannot be set, since what is set is of the top frame or of the file: `frame 0` first.\n";
+
+/// Prints a target, or sets it where the line goes on with `=` and a value.
+pub(crate) fn print<M: FramedMachine, O: AnswerWriter + Drop>(
+    text: &[u8],
+    holding: &Holding,
+    scene: Scene<'_>,
+    session: &mut Session<M>,
+    page: &mut Page<O>,
+)
+    ensures { (s : Setting) (d : Debugger) → StandsFor M.stands session.old s d
+        → HasDone M.stands s (spec.printed_or_set s d (held holding.now) (spec.print_of (command_of text.now)) (command_of (setting_text text.now))) d session.new }
+{
+    if let Some(target) = print_of(text) {
+        let _ = print_target(target, holding, scene, session, page);
+    } else {
+        set_spelled(setting_line(text).as_slice(), holding, scene, session, page);
+    }
+}
+
+/// Prints a target in the frame that is selected. Says whether it is shown.
+fn print_target<M: FramedMachine, O: AnswerWriter + Drop>(
+    target: Target<'_>,
+    holding: &Holding,
+    scene: Scene<'_>,
+    session: &mut Session<M>,
+    page: &mut Page<O>,
+) -> bool
+    ensures { (s : Setting) (d : Debugger) → StandsFor M.stands session.old s d
+        → HasDone M.stands s (spec.in_top (held holding.now) (DoPrint (target_view target.entry) ∷ [])) d session.new
+        × (result ≡ spec.shows s d (held holding.now) (target_view target.entry)) }
+{
+    if holding.is_top() {
+        print_here(target, scene, session, page)
+    } else {
+        let depth = selected_depth(holding, session);
+        print_at(target, depth, scene, session, page)
+    }
+}
+
+/// Prints a target in the top frame. Says whether it is shown.
+fn print_here<M: RecordedMachine, O: AnswerWriter + Drop>(
+    target: Target<'_>,
+    scene: Scene<'_>,
+    session: &mut Session<M>,
+    page: &mut Page<O>,
+) -> bool
+    ensures { (s : Setting) (d : Debugger) → StandsFor M.stands session.old s d
+        → HasDone M.stands s (DoPrint (target_view target.entry) ∷ []) d session.new
+        × (result ≡ spec.is_shown (do_command s (DoPrint (target_view target.entry)) d).answer) }
+{
+    let answer = session.do_command(Command::Print(target));
+    tell(&answer, scene.line, scene.source, session, page);
+    is_shown(&answer)
+}
+
+/// Shows a target of the frame at a depth. Says whether it is shown.
+fn print_at<M: FramedMachine, O: AnswerWriter + Drop>(
+    target: Target<'_>,
+    depth: usize,
+    scene: Scene<'_>,
+    session: &Session<M>,
+    page: &mut Page<O>,
+) -> bool
+    ensures { (s : Setting) (d : Debugger) → StandsFor M.stands session.now s d
+        → result ≡ spec.can_show s d depth (target_view target.entry) (found_at s.program depth (now s d) (target_view target.entry).name) }
+{
+    match find_part(target, depth, session.machine()) {
+        Ok(shown) => {
+            show_value(target, shown, depth, session.machine(), page);
+            true
+        }
+        Err(refusal) => {
+            tell_refused(refusal, scene.line, page);
+            false
+        }
+    }
+}
+
+/// Prints a target in hexadecimal digits.
+pub(crate) fn print_hexadecimal<M: FramedMachine, O: AnswerWriter + Drop>(
+    text: &[u8],
+    holding: &Holding,
+    scene: Scene<'_>,
+    session: &mut Session<M>,
+    page: &mut Page<O>,
+)
+    ensures { (s : Setting) (d : Debugger) → StandsFor M.stands session.old s d
+        → HasDone M.stands s (spec.in_top (held holding.now) (spec.printed (spec.print_of (command_of text.now)))) d session.new }
+{
+    if let Some(target) = print_of(text) {
+        print_bits(target, holding, scene, session, page);
+    } else {
+        tell_unknown(scene.line, page);
+    }
+}
+
+/// Prints a target in hexadecimal digits, in the frame that is selected.
+fn print_bits<M: FramedMachine, O: AnswerWriter + Drop>(
+    target: Target<'_>,
+    holding: &Holding,
+    scene: Scene<'_>,
+    session: &mut Session<M>,
+    page: &mut Page<O>,
+)
+    ensures { (s : Setting) (d : Debugger) → StandsFor M.stands session.old s d
+        → HasDone M.stands s (spec.in_top (held holding.now) (DoPrint (target_view target.entry) ∷ [])) d session.new }
+{
+    if holding.is_top() {
+        let answer = session.do_command(Command::Print(target));
+        tell_hexadecimal(&answer, scene.line, session, page);
+    } else {
+        let depth = selected_depth(holding, session);
+        print_bits_at(target, depth, scene, session, page);
+    }
+}
+
+/// Shows a target of the frame at a depth in hexadecimal digits.
+fn print_bits_at<M: FramedMachine, O: AnswerWriter + Drop>(
+    target: Target<'_>,
+    depth: usize,
+    scene: Scene<'_>,
+    session: &Session<M>,
+    page: &mut Page<O>,
+) {
+    match find_part(target, depth, session.machine()) {
+        Ok(shown) => show_bits(target, shown, depth, session.machine(), page),
+        Err(refusal) => tell_refused(refusal, scene.line, page),
+    }
+}
+
+/// Sets what a command line spells.
+pub(crate) fn set_spelled<M: FramedMachine, O: AnswerWriter + Drop>(
+    text: &[u8],
+    holding: &Holding,
+    scene: Scene<'_>,
+    session: &mut Session<M>,
+    page: &mut Page<O>,
+)
+    ensures { (s : Setting) (d : Debugger) → StandsFor M.stands session.old s d
+        → HasDone M.stands s (spec.set_by s d (held holding.now) (command_of text.now)) d session.new }
+{
+    match read_command(text) {
+        Some(Command::Set { target, value }) => {
+            set_target(target, value, holding, scene, session, page);
+        }
+        _ => tell_unknown(scene.line, page),
+    }
+}
+
+/// Sets a target, where it can be set.
+fn set_target<M: FramedMachine, O: AnswerWriter + Drop>(
+    target: Target<'_>,
+    value: i128,
+    holding: &Holding,
+    scene: Scene<'_>,
+    session: &mut Session<M>,
+    page: &mut Page<O>,
+)
+    ensures { (s : Setting) (d : Debugger) → StandsFor M.stands session.old s d
+        → HasDone M.stands s (if spec.may_set s d (held holding.now) (target_view target.entry).name then DoSet (target_view target.entry) value ∷ [] else []) d session.new }
+{
+    if may_set(target.name, holding, session) {
+        do_alone(Command::Set { target, value }, scene, session, page);
+    } else {
+        tell_unset(target, holding, scene, session, page);
+    }
+}
+
+/// Writes why a target is not set in an outer frame: there is none of this name, or it is none of the file.
+fn tell_unset<M: FramedMachine, O: AnswerWriter + Drop>(
+    target: Target<'_>,
+    holding: &Holding,
+    scene: Scene<'_>,
+    session: &Session<M>,
+    page: &mut Page<O>,
+) {
+    let depth = selected_depth(holding, session);
+    match find_part(target, depth, session.machine()) {
+        Ok(_) => page.put(SETS_TOP),
+        Err(refusal) => tell_refused(refusal, scene.line, page),
+    }
+}
+
+/// Prints all that is displayed, or displays a target from now on.
+pub(crate) fn display<M: FramedMachine, O: AnswerWriter + Drop>(
+    text: &[u8],
+    holding: &mut Holding,
+    scene: Scene<'_>,
+    session: &mut Session<M>,
+    page: &mut Page<O>,
+)
+    ensures { (s : Setting) (d : Debugger) → StandsFor M.stands session.old s d
+        → HasDone M.stands s (spec.in_top (held holding.old) (if is_alone text.now then spec.shown (held holding.old).displays else spec.printed (spec.print_of (command_of text.now)))) d session.new
+        × (held holding.new ≡ (if is_alone text.now then held holding.old else spec.after_print s d (held holding.old) text.now (spec.print_of (command_of text.now)))) }
+{
+    if is_alone(text) {
+        display_all(holding, scene, session, page);
+    } else {
+        display_target(text, holding, scene, session, page);
+    }
+}
+
+/// Prints all that is displayed, in the frame that is selected.
+fn display_all<M: FramedMachine, O: AnswerWriter + Drop>(
+    holding: &Holding,
+    scene: Scene<'_>,
+    session: &mut Session<M>,
+    page: &mut Page<O>,
+)
+    ensures { (s : Setting) (d : Debugger) → StandsFor M.stands session.old s d
+        → HasDone M.stands s (spec.in_top (held holding.now) (spec.shown (held holding.now).displays)) d session.new }
+{
+    if holding.displays().is_empty() {
+        page.put(b"nothing is displayed\n");
+    }
+    if holding.is_top() {
+        show_displays(holding.displays(), scene, session, page);
+    } else {
+        let depth = selected_depth(holding, session);
+        display_all_at(holding, depth, session, page);
+    }
+}
+
+/// Shows all that is displayed, of the frame at a depth. What is not in scope there is left out.
+fn display_all_at<M: FramedMachine, O: AnswerWriter + Drop>(
+    holding: &Holding,
+    depth: usize,
+    session: &Session<M>,
+    page: &mut Page<O>,
+) {
+    for displayed in holding.displays() {
+        if let Some(target) = print_of(displayed.text.as_slice()) {
+            if let Ok(shown) = find_part(target, depth, session.machine()) {
+                page.put_number(i128::from(displayed.number));
+                page.put(b": ");
+                show_value(target, shown, depth, session.machine(), page);
+            }
+        }
+    }
+}
+
+/// Prints a target, and displays it from now on.
+fn display_target<M: FramedMachine, O: AnswerWriter + Drop>(
+    text: &[u8],
+    holding: &mut Holding,
+    scene: Scene<'_>,
+    session: &mut Session<M>,
+    page: &mut Page<O>,
+)
+    ensures { (s : Setting) (d : Debugger) → StandsFor M.stands session.old s d
+        → HasDone M.stands s (spec.in_top (held holding.old) (spec.printed (spec.print_of (command_of text.now)))) d session.new
+        × (held holding.new ≡ spec.after_print s d (held holding.old) text.now (spec.print_of (command_of text.now))) }
+{
+    if let Some(target) = print_of(text) {
+        if print_target(target, holding, scene, session, page) {
+            holding.add_display(text);
+        }
+    } else {
+        tell_unknown(scene.line, page);
+    }
+}
+
+/// Writes what is displayed no more.
+fn tell_undisplayed<O: AnswerWriter + Drop>(number: Option<u32>, page: &mut Page<O>) {
+    match number {
+        None => page.put(b"nothing is displayed any more\n"),
+        Some(number) => {
+            page.put(b"nothing is displayed by number ");
+            page.put_number(i128::from(number));
+            page.put(b"\n");
+        }
+    }
+}
+
+/// Displays what has a number no more, or nothing.
+pub(crate) fn undisplay<O: AnswerWriter + Drop>(
+    text: &[u8],
+    holding: &mut Holding,
+    scene: Scene<'_>,
+    page: &mut Page<O>,
+)
+    ensures { held holding.new ≡ spec.after_delete (held holding.old) (spec.delete_of (command_of text.now)) }
+{
+    if let Some(number) = delete_of(text) {
+        holding.remove_display(number);
+        tell_undisplayed(number, page);
+    } else {
+        tell_unknown(scene.line, page);
+    }
+}

@@ -1,0 +1,219 @@
+//! The frames, and the variables of each.
+use crate::answers::put_target;
+use crate::page::Page;
+use crate::places::{put_around, put_place};
+use crate::source::Source;
+use crate::values::{put_bits_at, put_values_at};
+use debug_commands::Target;
+use debug_session::Session;
+use debug_traits::{AnswerWriter, FramedMachine, NamedVariable, RecordedMachine, Shown};
+
+/// The most variables of a program.
+const VARIABLES: u32 = 256;
+
+/// Writes a line for each frame, the top one first, or for so many.
+pub(crate) fn put_frames<M: RecordedMachine, O: AnswerWriter + Drop>(
+    most: Option<u32>,
+    source: Source<'_>,
+    machine: &M,
+    page: &mut Page<O>,
+) {
+    let Some(position) = machine.position() else {
+        page.put(b"the program has ended: no frames\n");
+        return;
+    };
+    let count = match most {
+        Some(most) => position.depth.min(most as usize),
+        None => position.depth,
+    };
+    for number in 0..count {
+        put_frame(number, position.depth, source, machine, page);
+    }
+    if count < position.depth {
+        page.put(b"there are more frames; `where` lists all\n");
+    }
+}
+
+/// Writes a line: the number of a frame, of so many, and where it stands.
+fn put_frame<M: RecordedMachine, O: AnswerWriter + Drop>(
+    number: usize,
+    depth: usize,
+    source: Source<'_>,
+    machine: &M,
+    page: &mut Page<O>,
+) {
+    page.put(b"#");
+    page.put_number(number as i128);
+    if number == 0 {
+        put_place(b"  ", machine.position(), source, page);
+    } else {
+        put_place(
+            b"  ",
+            machine.call(depth.saturating_sub(number)),
+            source,
+            page,
+        );
+    }
+}
+
+/// Writes a line for each frame, the top one first, or for so many.
+pub fn show_frames<M: RecordedMachine, O: AnswerWriter + Drop>(
+    most: Option<u32>,
+    source: Source<'_>,
+    session: &Session<M>,
+    page: &mut Page<O>,
+) {
+    put_frames(most, source, session.machine(), page);
+}
+
+/// Writes a line for each frame, the top one first, with its parameters and local variables.
+pub fn show_full_frames<M: FramedMachine, O: AnswerWriter + Drop>(
+    source: Source<'_>,
+    session: &Session<M>,
+    page: &mut Page<O>,
+) {
+    let machine = session.machine();
+    let Some(position) = machine.position() else {
+        page.put(b"the program has ended: no frames\n");
+        return;
+    };
+    for number in 0..position.depth {
+        let depth = position.depth - number;
+        put_frame(number, position.depth, source, machine, page);
+        put_parameters_at(b"    ", depth, machine, page);
+        put_locals_at(b"    ", depth, machine, page);
+    }
+}
+
+/// Writes where a frame stands, the top one being number 0, with the source around it.
+pub fn show_frame<M: RecordedMachine, O: AnswerWriter + Drop>(
+    number: u128,
+    source: Source<'_>,
+    session: &Session<M>,
+    page: &mut Page<O>,
+) {
+    let machine = session.machine();
+    let Some(top) = machine.position() else {
+        page.put(b"the program has ended: no frames\n");
+        return;
+    };
+    if number >= top.depth as u128 {
+        page.put(b"there is no such frame; `where` lists them\n");
+        return;
+    }
+    let number = number as usize;
+    put_frame(number, top.depth, source, machine, page);
+    let position = if number == 0 {
+        Some(top)
+    } else {
+        machine.call(top.depth - number)
+    };
+    if let Some(position) = position {
+        put_around(&position, source, page);
+    }
+}
+
+/// Writes the parameters of the frame at a depth, with their values.
+pub fn show_arguments<M: FramedMachine, O: AnswerWriter + Drop>(
+    depth: usize,
+    session: &Session<M>,
+    page: &mut Page<O>,
+) {
+    let machine = session.machine();
+    if machine.position().is_none() {
+        page.put(b"the program has ended: no parameters\n");
+    } else if machine.next_parameter_at(depth, 0).is_none() {
+        page.put(b"no parameters\n");
+    } else {
+        put_parameters_at(b"", depth, machine, page);
+    }
+}
+
+/// Writes the local variables in scope in the frame at a depth, parameters left out, with their values.
+pub fn show_locals<M: FramedMachine, O: AnswerWriter + Drop>(
+    depth: usize,
+    session: &Session<M>,
+    page: &mut Page<O>,
+) {
+    let machine = session.machine();
+    if machine.next_local_at(depth, 0).is_none() {
+        page.put(b"no locals\n");
+    } else {
+        put_locals_at(b"", depth, machine, page);
+    }
+}
+
+/// Writes a line for each parameter in scope in the frame at a depth, behind blanks.
+fn put_parameters_at<M: FramedMachine, O: AnswerWriter + Drop>(
+    front: &[u8],
+    depth: usize,
+    machine: &M,
+    page: &mut Page<O>,
+) {
+    let mut place = 0;
+    for _ in 0..VARIABLES {
+        if let Some(parameter) = machine.next_parameter_at(depth, place) {
+            put_variable_at(front, parameter.variable, depth, machine, page);
+            place = parameter.next;
+        }
+    }
+}
+
+/// Writes a line for each local variable in scope in the frame at a depth, behind blanks.
+fn put_locals_at<M: FramedMachine, O: AnswerWriter + Drop>(
+    front: &[u8],
+    depth: usize,
+    machine: &M,
+    page: &mut Page<O>,
+) {
+    let mut place = 0;
+    for _ in 0..VARIABLES {
+        if let Some(local) = machine.next_local_at(depth, place) {
+            put_variable_at(front, local.variable, depth, machine, page);
+            place = local.next;
+        }
+    }
+}
+
+/// Writes a line: a variable's name, and its values in the frame at a depth.
+fn put_variable_at<M: FramedMachine, O: AnswerWriter + Drop>(
+    front: &[u8],
+    named: NamedVariable<'_>,
+    depth: usize,
+    machine: &M,
+    page: &mut Page<O>,
+) {
+    page.put(front);
+    page.put(named.name);
+    page.put(b" =");
+    put_values_at(named.shown, None, depth, machine, page);
+    page.put(b"\n");
+}
+
+/// Writes a target, and its values in the frame at a depth.
+pub fn show_value<M: FramedMachine, O: AnswerWriter + Drop>(
+    target: Target<'_>,
+    shown: Shown,
+    depth: usize,
+    machine: &M,
+    page: &mut Page<O>,
+) {
+    put_target(target, page);
+    page.put(b" =");
+    put_values_at(shown, target.at, depth, machine, page);
+    page.put(b"\n");
+}
+
+/// Writes a target, and its values in the frame at a depth in hexadecimal digits.
+pub fn show_bits<M: FramedMachine, O: AnswerWriter + Drop>(
+    target: Target<'_>,
+    shown: Shown,
+    depth: usize,
+    machine: &M,
+    page: &mut Page<O>,
+) {
+    put_target(target, page);
+    page.put(b" =");
+    put_bits_at(shown, target.at, depth, machine, page);
+    page.put(b"\n");
+}
