@@ -1,13 +1,12 @@
 -- Commands that a prompt does, and the lists that they make.
-use Rattle.std.proofs.Common.{◌≡◌, true, false, List, [], ◌∷◌, ◌++◌, sym, subst, ap, ◌∙◌, inl, inr}
-use Rattle.std.specs.Prelude.{◌==◌, if◌then◌else◌}
+use Rattle.std.proofs.Common.{◌≡◌, true, List, [], ◌∷◌, ◌++◌, sym, ap, ◌∙◌, inl, inr}
 use Rattle.std.proofs.lemmas.Bool.{true≢false}
 use Rattle.gang_model.specs.Debugger.Debugger.{Command, Debugger, DoBacktrace, DoBreak, DoContinue, DoDelete, DoFinish, DoInfoBreakpoints, DoInfoLocals, DoNext, DoNothing, DoPrint, DoQuit, DoReverseContinue, DoReverseFinish, DoReverseNext, DoReverseStep, DoSet, DoSetHistory, DoStep, DoUndo, DoWatch, IsReply, MayRunOut, Reply, Setting, do_command}
 use Rattle.debug_answers.specs.declared.answer.Answer.{Answer}
 use Rattle.debug_session.specs.declared.session.Session.{Session}
 use Rattle.debug_session.specs.Sessions.{RepliesTo, StandsFor}
 use Rattle.command_lists.specs.Lists.{HasDone}
-use Rattle.command_lists.proofs.DoneLists.{done_nothing, done_one, done_then}
+use Rattle.command_lists.proofs.DoneLists.{done_one, done_then}
 use Rattle.debug_prompt.specs.Doing as doing
 use Rattle.debug_prompt.specs.Given as given
 use Rattle.debug_prompt.specs.Holding.{Held}
@@ -66,10 +65,3 @@ module _ {M : Type 0} (stands : M → Setting → Debugger → Type 0) (s : Sett
   move_begun h command told middle moving replies =
       begun-means s replies.reply.next h told replies.reply.answer replies.replied.means
       ∙ ap (λ (r : Reply). doing.begun h r.answer) (sure_reply s command d replies.reply (move_sure command d moving) replies.is_reply)
-
-  -- what is done in the top frame alone: all of it there, and nothing in an outer one
-  pub done_in_top : (h : Held) (cs : List Command) (new : Session M) → (h.frame == 0) ≡ true → HasDone stands s cs d new → HasDone stands s (doing.in_top h cs) d new
-  done_in_top h cs new top done = subst (λ b. HasDone stands s (if b then cs else []) d new) (sym top) done
-
-  pub done_in_outer : (h : Held) (cs : List Command) (session : Session M) → (h.frame == 0) ≡ false → StandsFor stands session s d → HasDone stands s (doing.in_top h cs) d session
-  done_in_outer h cs session outer there = subst (λ b. HasDone stands s (if b then cs else []) d session) (sym outer) (done_nothing stands s d session there)

@@ -3,4 +3,3 @@ mod DoneCommands
 mod Displays
 mod WorkedLines
 mod PieceLaws
-mod FoundNames
