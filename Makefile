@@ -1,9 +1,13 @@
-# The work of the repository, from a clone with the toolchain's `rt` on the path.
+# The work of the repository, from a clone with the toolchain's `rt` on the path. Each target says first what it lacks.
 
-.PHONY: demo program test test-editors prove gate build bench
+# Where the programs are installed: in PREFIX/bin.
+PREFIX = /usr/local
+
+.PHONY: demo program install uninstall test extension test-editors prove gate build bench
 
 # Builds the program without its proofs, and shows the first example: its source, then each command with its answer; and where a picture is.
 demo:
+	@tools/needs $@ rt python3
 	@echo "A build without proofs: it takes a minute or two, and shows what the program does. 'make prove' proves it."
 	@tools/quick_build ispc_cli
 	@echo "examples/first.ispc:"
@@ -14,41 +18,58 @@ demo:
 # Builds both programs that people call without their proofs, in a minute or two: crates/ispc_cli/out/quick and crates/rinddecade/out/quick.
 # They are about as fast as the proved ones; nothing of them is proved or checked as they run.
 program:
+	@tools/needs $@ rt python3
 	tools/quick_build
+
+# Puts both programs into PREFIX/bin: the proved ones where they are built of the files as they are, else the quick ones, and says which.
+install:
+	@tools/needs $@ rt python3
+	@tools/install "$(DESTDIR)$(PREFIX)/bin"
+
+uninstall:
+	rm -f "$(DESTDIR)$(PREFIX)/bin/ispc_cli" "$(DESTDIR)$(PREFIX)/bin/rinddecade"
 
 # Every test and every stored run, without proofs.
 test:
+	@tools/needs $@ rt python3 cc
 	tools/run_tests
 
 # Packs the extension of VS Code from editors/vscode: editors/vscode/out/rinddecade.vsix.
-.PHONY: extension
 extension:
+	@tools/needs $@ python3
 	tools/pack_extension
 
-# Emacs, Neovim, Kate's highlighter, and node with VS Code's extension try editors/ with the quick build. Debian's packages have them.
+# Emacs, Neovim, Kate's highlighter, and node with VS Code's extension try editors/ with the quick build, which is built first. Debian's packages
+# have them.
 test-editors:
+	@tools/needs $@ rt python3 apt-get
+	tools/quick_build rinddecade
 	apt-get update
 	apt-get install -y --no-install-recommends emacs-nox elpa-dap-mode neovim nodejs libkf5syntaxhighlighting-tools
-	test -x crates/rinddecade/out/quick || tools/quick_build rinddecade
-	tools/test_editors $(CURDIR)/crates/rinddecade/out/quick
+	tools/test_editors "$(CURDIR)/crates/rinddecade/out/quick"
 
 # Proves what is not proved yet.
 prove:
+	@tools/needs $@ rt python3
 	tools/prove
 
 # The whole gate: every proof from nothing, the edits that must be refused, the tests and the stored runs.
 gate:
+	@tools/needs $@ rt python3
 	rt ci
 
-# Proves the program and builds it, and runs it once, on its stored run.
+# Proves both programs and builds them, and runs each once, on its stored run.
 build:
-	@echo "Proving the program and all below it takes an hour or more the first time, and minutes where little has changed."
+	@tools/needs $@ rt python3
+	@echo "Proving the programs and all below them takes an hour or more the first time, and minutes where little has changed."
 	cd crates/ispc_cli && rt run < stdin
-	@echo "The proved program is crates/ispc_cli/out/ispc_cli"
+	cd crates/rinddecade && rt run -- debug data/first.ispc < stdin
+	@echo "The proved programs are crates/ispc_cli/out/ispc_cli and crates/rinddecade/out/rinddecade"
 
 # Times of the lane kernels and of an expression's code beside their plain loops, as ratios; of the two records of old words; and of the
 # built program: steps, prints and moves a second, and ratios, also to gdb where it is on the path.
 bench:
+	@tools/needs $@ rt python3
 	cd crates/kernel_bench && rt run -- signed && rt run -- unsigned
 	cd crates/expression_bench && rt run -- 1000000
 	cd crates/record_bench && rt run -- 100000
