@@ -43,6 +43,7 @@ CALLS = {
     "undo_log::SnapshotRing::set_limit": 0,
     "ispc_options::read_options": 0,
     "ispc_options::wrong_arguments": 0,
+    "desk_options::read_verb": 0,
     "lane_report::report": 0,
     "ispc_debugger::open_session": 0,
     "ispc_debugger::run": 0,

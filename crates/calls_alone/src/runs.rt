@@ -2,6 +2,7 @@
 use crate::ends::{Ended, end_of, end_of_command};
 use crate::samples::{INPUT, OPTIONS, SOURCE};
 use debug_commands::Command;
+use desk_options::read_verb;
 use ispc_debugger::{ProgramSession, open_session, run};
 use ispc_options::{read_options, wrong_arguments};
 use lane_picture::{Form, Subject, draw};
@@ -16,6 +17,9 @@ pub(crate) fn call(alloc: Global, name: &str) -> Option<Ended> {
             Some(end_of(&read_options(alloc, &["it.ispc", "--width", "8"])))
         }
         "ispc_options::wrong_arguments" => Some(end_of(&wrong_arguments(alloc, "it is wrong"))),
+        "desk_options::read_verb" => {
+            Some(end_of(&read_verb(alloc, &["picture", "it.ispc", "--watch", "x"])))
+        }
         "lane_report::report" => Some(report_lanes(alloc)),
         "ispc_debugger::open_session" => {
             Some(end_of(&open_session::<4>(alloc, SOURCE, INPUT, &OPTIONS)))
