@@ -23,13 +23,13 @@ module _ (p : Program) where
   with_column state (first ∷ columns) column are stands = (are.0, with_column (next_state p state) columns column are.1 stands)
 
   -- the column of a position where a state stands
-  pub stands_at : (state : State) (position : Position) (column : Column) → where_text p state ≡ position_text (Some position) → IsColumnOf position column → StandsAt p state column
-  stands_at state position column place is =
+  pub stands_at : (state : State) (position : Position) (from to : ℕ) (column : Column) → where_text p state ≡ position_text (Some position) → IsColumnOf position from to column → StandsAt p state column
+  stands_at state position from to column place is =
       (position.function.now, position.width, rw (is.place, is.depth, is.lanes) place)
 
   -- columns with that of the position where the run stands now
-  pub columns_more : (first here : State) (taken : ℕ) (position : Position) (column : Column) (old new : List Column) → length old ≡ taken → here ≡ state_after p taken first
-      → where_text p here ≡ position_text (Some position) → IsColumnOf position column → new ≡ old ++ column ∷ [] → AreColumns p first old → AreColumns p first new
-  columns_more first here taken position column old new each stood place is more are =
+  pub columns_more : (first here : State) (taken : ℕ) (position : Position) (from to : ℕ) (column : Column) (old new : List Column) → length old ≡ taken → here ≡ state_after p taken first
+      → where_text p here ≡ position_text (Some position) → IsColumnOf position from to column → new ≡ old ++ column ∷ [] → AreColumns p first old → AreColumns p first new
+  columns_more first here taken position from to column old new each stood place is more are =
       let reached : here ≡ state_after p (length old) first = stood ∙ ap (λ n. state_after p n first) (sym each) in
-      subst (AreColumns p first) (sym more) (with_column first old column are (subst (λ state. StandsAt p state column) reached (stands_at here position column place is)))
+      subst (AreColumns p first) (sym more) (with_column first old column are (subst (λ state. StandsAt p state column) reached (stands_at here position from to column place is)))

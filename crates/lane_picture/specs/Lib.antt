@@ -2,3 +2,4 @@ pub mod Runs
 pub mod Tries
 pub mod Seen
 pub mod Pictures
+pub mod Watched

@@ -36,15 +36,17 @@ abbrev pub AreColumns : Program → State → List Column → Type 0
 AreColumns p state [] = Unit {0}
 AreColumns p state (column ∷ columns) = StandsAt p state column × AreColumns p (next_state p state) columns
 
--- a column is that of a position
-pub record IsColumnOf (position : Position) (column : Column) : Type 0 where
+-- a column is that of a position, with the values from one to another
+pub record IsColumnOf (position : Position) (from to : ℕ) (column : Column) : Type 0 where
   pub place : column.place ≡ position.place
   pub depth : column.depth ≡ position.depth
   pub lanes : column.lanes ≡ position.lanes
+  pub from_is : column.first_value ≡ from
+  pub to_is : column.end_of_values ≡ to
 
--- the column of a position was put behind others
-abbrev pub IsNoted : Position → (old new : List Column) → Type 0
-IsNoted position old new = (column : Column) × (new ≡ old ++ column ∷ []) × IsColumnOf position column
+-- the column of a position, with the values from one to another, was put behind others
+abbrev pub IsNoted : Position → (from to : ℕ) → (old new : List Column) → Type 0
+IsNoted position from to old new = (column : Column) × (new ≡ old ++ column ∷ []) × IsColumnOf position from to column
 
 -- a session has run, and for each step that it tried there is a column; if it may do a step, the columns stand where the states of
 -- the run do

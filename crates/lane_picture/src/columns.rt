@@ -1,10 +1,12 @@
 //! What is seen of a run: a column for each step, and the values of a variable before it.
-ghost use Rattle.std.specs.Prelude.{◌≡◌, [], IfOk, OnErr};
-ghost use Rattle.gang_model.specs.Debugger.Debugger.{Debugger, Setting, now};
+ghost use Rattle.std.specs.Prelude.{◌≡◌, ◌<◌, ◌≤◌, true, Some, [], IfOk, OnErr, is_none, length};
+ghost use Rattle.gang_model.specs.Debugger.Debugger.{Debugger, Setting, bad_part, now};
+ghost use Rattle.debug_commands.specs.TargetViews.{target_option};
 ghost use Rattle.debug_session.specs.Sessions.{StandsFor, bare};
 ghost use Rattle.lane_picture.specs.Runs.{run_end};
 ghost use Rattle.lane_picture.specs.Seen.{HasSeen, IsNoted};
 ghost use Rattle.lane_picture.specs.Tries.{HasBegun, Tries, end_view};
+ghost use Rattle.lane_picture.specs.Watched.{HaveValues, NotesTarget, NotesWords, values_of};
 
 use debug_answers::Answer;
 use debug_commands::{Command, Target};
@@ -55,7 +57,8 @@ pub(crate) struct Seen {
 
 impl Seen {
     fn new(alloc: Global) -> Seen
-        ensures { result.columns.items ≡ [] }
+        ensures columns { result.columns.items ≡ [] }
+        ensures values { result.values.items ≡ [] }
     {
         Seen {
             width: 0,
@@ -70,7 +73,10 @@ impl Seen {
     }
 
     /// The values of the watched variable before the step of a column; none where it is not in scope.
-    pub(crate) fn values_at(&self, column: &Column) -> &[Value] {
+    pub(crate) fn values_at(&self, column: &Column) -> &[Value]
+        ensures { column.now.first_value ≤ column.now.end_of_values → column.now.end_of_values ≤ length self.now.values.items
+            → result.now ≡ values_of self.now.values.items column.now }
+    {
         self.values
             .get(column.first_value..column.end_of_values)
             .unwrap_or(&[])
@@ -83,7 +89,8 @@ impl Seen {
         watched: Option<Target<'_>>,
         machine: &M,
     ) -> Result<(), AllocError>
-        ensures noted { IfOk result (λ _. IsNoted position.entry self.old.columns.items self.new.columns.items) }
+        ensures noted { IfOk result (λ _. IsNoted position.entry (length self.old.values.items) (length self.new.values.items) self.old.columns.items self.new.columns.items) }
+        ensures values { IfOk result (λ _. NotesTarget M.stands machine.now (target_option watched.entry) self.old.values.items self.new.values.items) }
     {
         let first_value = self.values.len();
         if let Some(target) = watched {
@@ -106,7 +113,9 @@ fn note_target<M: RecordedMachine>(
     target: Target<'_>,
     machine: &M,
     values: &mut Vec<Value>,
-) -> Result<(), AllocError> {
+) -> Result<(), AllocError>
+    ensures noted { IfOk result (λ _. NotesTarget M.stands machine.now (target_option (Some target.entry)) values.old.items values.new.items) }
+{
     let Some(shown) = machine.find(target.name) else {
         return Ok(());
     };
@@ -126,19 +135,31 @@ fn note_words<M: RecordedMachine>(
     shown: Shown,
     machine: &M,
     values: &mut Vec<Value>,
-) -> Result<(), AllocError> {
+) -> Result<(), AllocError>
+    requires order { from ≤ to }
+    ensures noted { IfOk result (λ _. NotesWords M.stands machine.now shown from to values.old.items values.new.items) }
+{
+    let is_of_lane = is_by_lanes(shown);
     for index in from..to {
         values.push(Value {
             value_type: shown.value_type,
             word: machine.word(shown, index),
-            is_of_lane: !shown.is_array && shown.rate == Rate::Varying,
+            is_of_lane,
         })?;
     }
     Ok(())
 }
 
+/// Whether a variable has a word for each lane.
+fn is_by_lanes(shown: Shown) -> bool {
+    !shown.is_array && shown.rate == Rate::Varying
+}
+
 /// Whether a variable has an element or a lane of this number.
-fn has_part(shown: Shown, index: usize) -> bool {
+fn has_part(shown: Shown, index: usize) -> bool
+    ensures shown { result ≡ is_none (bad_part true (Some index) shown.is_array shown.rate shown.count) }
+    ensures inside { result ≡ true → index < shown.count }
+{
     index < shown.count && (shown.is_array || shown.rate == Rate::Varying)
 }
 
@@ -155,6 +176,8 @@ pub(crate) fn see_steps<M: RecordedMachine>(
 ) -> Result<(Seen, StepsEnd), AllocError>
     ensures seen { IfOk result (λ seen. (s : Setting) (d : Debugger) → StandsFor M.stands session.old s d
         → HasSeen M.stands s most_steps d seen.0.columns.items seen.1 session.new) }
+    ensures values { IfOk result (λ seen. (s : Setting) (d : Debugger) → StandsFor M.stands session.old s d → 1 ≤ s.limit
+        → HaveValues s.program (target_option watched.entry) seen.0.values.items (now s d) seen.0.columns.items) }
     ensures memory { OnErr result ((s : Setting) (d : Debugger) → StandsFor M.stands session.old s d
         → HasBegun M.stands s most_steps d session.new) }
 {
