@@ -2,7 +2,7 @@
 ghost use Rattle.std.specs.Prelude.{◌≡◌, false, is_err};
 
 use crate::columns::{Seen, StepsEnd};
-use crate::layout::Layout;
+use crate::layout::{FIRST_LANE, LANE_NAME, Layout};
 use crate::parts::Part::{Any, Number, Text};
 use crate::parts::write_parts;
 use crate::source::{MOST_SHOWN, shown_part};
@@ -131,7 +131,7 @@ pub(crate) fn write_lane_names<O: AnswerWriter>(
 {
     writer.write_all(b"<text class=\"number\" x=\"48\" y=\"22\">lanes</text>\n")?;
     for lane in 0..width {
-        let x = lane.saturating_mul(24).saturating_add(92);
+        let x = lane.saturating_mul(LANE_NAME).saturating_add(FIRST_LANE);
         let parts = [
             Text(b"<circle cx=\""),
             Number(x),
@@ -207,7 +207,7 @@ pub(crate) fn write_end<O: AnswerWriter>(
             write_parts(writer, &[Text(b"ended after step "), Number(steps)])?;
         }
         StepsEnd::StepLimit => {
-            write_parts(writer, &[Text(b"goes on after step "), Number(steps)])?;
+            write_parts(writer, &[Text(b"step limit after step "), Number(steps)])?;
         }
         StepsEnd::AtFault(fault) => {
             let told = [

@@ -24,6 +24,12 @@ const ABOVE: usize = 34;
 /// The space below the last line or row, for how the run ended.
 const BELOW: usize = 26;
 
+/// Where the name of the first lane stands, above the source.
+pub(crate) const FIRST_LANE: usize = 92;
+
+/// The space for the name of a lane.
+pub(crate) const LANE_NAME: usize = 24;
+
 /// The space left of the source, for the numbers of its lines.
 const NUMBERS: usize = 48;
 
@@ -73,7 +79,7 @@ impl Layout {
                 .saturating_mul(DIGIT)
                 .saturating_add(6)
                 .max(LEAST_COLUMN),
-            left: text.saturating_add(NUMBERS).saturating_add(16),
+            left: text.saturating_add(NUMBERS + 16).max(names_end(seen.width)),
             columns: seen.columns.len(),
             value_rows: most_values(seen),
         })
@@ -142,6 +148,11 @@ fn most_values(seen: &Seen) -> usize {
         .map(|column| seen.values_at(column).len())
         .max();
     most.unwrap_or(0).min(MOST_WORDS)
+}
+
+/// Where the names of so many lanes end, above the source.
+fn names_end(width: usize) -> usize {
+    width.saturating_mul(LANE_NAME).saturating_add(FIRST_LANE)
 }
 
 /// The space between the dots of two lanes.
