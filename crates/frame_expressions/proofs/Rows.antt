@@ -12,7 +12,7 @@ use Rattle.gang_model.specs.Source.Judged.{Sound, refused}
 use Rattle.gang_model.specs.Source.Parsed.{ParsedName}
 use Rattle.gang_model.specs.declared.refusals.RefusalNumber.TheVariants.{S5}
 use Rattle.gang_model.specs.Types.Conversions.{typed}
-use Rattle.gang_model.specs.Types.Tree.{Empty, Function, Nothing, Program, ProgramIndex, Read, Variable}
+use Rattle.gang_model.specs.Types.Tree.{Empty, Nothing, Program, ProgramIndex, Read, Variable}
 use Rattle.gang_model.specs.Types.Typing.{expression}
 use Rattle.gang_model.specs.Running.State.{Frame, RoundEnd, State, Task}
 use Rattle.frame_expressions.specs.Lanes.{lanes_at}
