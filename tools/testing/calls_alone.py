@@ -33,6 +33,7 @@ CALLS = {
     "codegen::compile": 0,
     "machine_names::step_lines": 0,
     "gang_memory::Layout::plan": 0,
+    "placed_expressions::place_expression": 0,
     "debug_inputs::read_inputs": 0,
     "machine_steps::entry_lengths": 0,
     "gang_machine::PreparedProgram::new": 0,

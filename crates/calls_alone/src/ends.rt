@@ -5,6 +5,7 @@ use clap::error::{Error, ErrorKind};
 use debug_answers::{Answer, Refusal as AnswerRefusal};
 use debug_inputs::InputFault;
 use ispc_refusals::Refusal;
+use placed_expressions::ExpressionRefusal;
 use source_answers::SourceFault;
 use std::alloc::AllocError;
 use std::io;
@@ -61,6 +62,12 @@ impl CallFault for AllocError {
 impl CallFault for SourceFault {
     fn is_memory(&self) -> bool {
         matches!(self, SourceFault::Memory)
+    }
+}
+
+impl CallFault for ExpressionRefusal {
+    fn is_memory(&self) -> bool {
+        matches!(self, ExpressionRefusal::Memory)
     }
 }
 

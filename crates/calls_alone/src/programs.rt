@@ -8,18 +8,19 @@ ghost use Rattle.ispc_compiler.specs.Front.{Compiles};
 ghost use Rattle.machine_steps.specs.Beginning.{MayBegin};
 
 use crate::ends::{Ended, end_of};
-use crate::samples::{INPUT, compiled};
+use crate::samples::{FIRST, INPUT, compiled};
 use codegen::compile;
 use debug_inputs::read_inputs;
 use foreach_lowering::lower_rounds;
 use gang_machine::{PreparedProgram, open};
 use gang_memory::Layout;
-use gang_types::{BinaryOp, IntType};
+use gang_types::{BinaryOp, IntType, Spot};
 use input_rows::InputRow;
 use ispc_compiler::Compiled;
 use machine_names::step_lines;
 use machine_steps::entry_lengths;
 use mask_lowering::lower;
+use placed_expressions::place_expression;
 use std::alloc::Global;
 use typed_tree::{Expr, Program};
 use undo_log::DeltaRing;
@@ -36,6 +37,7 @@ pub(crate) fn call(alloc: Global, name: &str) -> Option<Ended> {
             &compiled(alloc)?.program.functions,
         ))),
         "gang_memory::Layout::plan" => Some(lay_out(alloc, &compiled(alloc)?.program)),
+        "placed_expressions::place_expression" => Some(place(alloc, &compiled(alloc)?.program)),
         "debug_inputs::read_inputs" => Some(read_input(alloc, &compiled(alloc)?)),
         "machine_steps::entry_lengths" => measure(alloc, &compiled(alloc)?),
         "gang_machine::PreparedProgram::new" => prepare(alloc, compiled(alloc)?),
@@ -70,6 +72,15 @@ fn compile_code(alloc: Global, made: &Compiled) -> Ended
 /// Where the words of a program lie, whose entry has an array of four elements.
 fn lay_out(alloc: Global, program: &Program) -> Ended {
     end_of(&Layout::plan::<4>(alloc, program, &[4], &[1], &[1]))
+}
+
+/// An expression at the first step of the first function.
+fn place(alloc: Global, program: &Program) -> Ended {
+    let spot = Spot {
+        function: FIRST,
+        number: 0,
+    };
+    end_of(&place_expression(alloc, b"x + t[1]", program, spot))
 }
 
 /// The rows of an input.
