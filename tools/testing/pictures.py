@@ -1,9 +1,15 @@
 """The pictures of examples/: `rinddecade picture` of NAME.ispc, with NAME.args, NAME.input and NAME.watched if there, writes NAME.svg.
 
+Those of other sources show each step, lane, call and value that tools/meaning works out, and how the run ends.
+
 Every picture is well-formed XML, also that of a source with bytes that are no text.
 """
 
+import re
 import xml.etree.ElementTree as trees
+
+from meaning.debugging import Debugger, Refused
+from meaning.values import Fault
 
 from . import examples
 from .tried import Result, Run
@@ -17,6 +23,65 @@ REPORTED = "--lane-pure"
 ODD = b'export void go() { // <&>"\' \x00\x07\x7f\x80\xff \xc3\xa9 \xef\xbf\xbf \xed\xa0\x80\r\n\tint breaks = 1;\n\tbreaks += 1; // ' + b"\xe2\x82\xac" * 60 + b"\n}\n"
 
 SVG = "{http://www.w3.org/2000/svg}"
+
+# Sources whose pictures tools/meaning works out.
+LANES = """export void go() {
+    int x = programIndex * programIndex - 5;
+    bool b = x < 4;
+    while (x > 0) {
+        x -= 7;
+        if (x == 4) break;
+    }
+    int64 y = x;
+    y = y * 1000000000000;
+    if (b) return;
+    b = !b;
+    y++;
+}
+"""
+
+OF_LANES = [(4, "x"), (8, "y"), (16, "x"), (16, "b"), (8, "b[3]"), (16, "x[15]"), (4, "none")]
+
+ELEMENTS = """uniform int8 t[20];
+uniform int64 sum;
+uniform unsigned int64 most;
+uniform unsigned int8 byte;
+uniform bool odd;
+export void go() {
+    t[2] = 30;
+    t[0] = -128;
+    t[19] = 7;
+    t[2] = t[0];
+    t[1] = 12;
+    odd = t[1] > t[2];
+    sum = t[2];
+    sum = sum * 3 - 1;
+    most = most - 1;
+    byte = byte - 1;
+    odd = !odd;
+}
+"""
+
+OF_ELEMENTS = ["t", "t[2]", "t[0]", "t[19]", "t[20]", "sum", "most", "byte", "odd"]
+
+DEEP = """int f(int k) {
+    int r = k + 1;
+    if (r > 5) return r;
+    return f(r);
+}
+export void go() {
+    int x = f(programIndex);
+    x -= 9;
+}
+"""
+
+HALT = "export void go() {\n    int x = 7;\n    x = x / (programIndex - 6);\n}\n"
+
+MARK = re.compile(r"step (\d+), line (\d+), lane (\d+)")
+MOST_VALUES = 16
+
+# After so many lanes the colours are the same again, and so is that of their values; values of no lane have none of them.
+COLOURS, NO_LANE = 8, -1
 
 
 def options(root, name):
@@ -78,7 +143,7 @@ def has_titles(*wanted):
 
 
 def runs(root):
-    return [run_of(root, it) for it in examples.names(root) if is_drawn(root, it) and (root / f"examples/{it}.svg").is_file()] + other_runs()
+    return [run_of(root, it) for it in examples.names(root) if is_drawn(root, it) and (root / f"examples/{it}.svg").is_file()] + other_runs() + meant_runs()
 
 
 def run_of(root, name):
@@ -99,3 +164,160 @@ def other_runs():
         Run("picture of a fault", b"", ["picture", "fault.ispc"], has_titles("F1 DivideByZero in lane 2"), b"", data={"fault.ispc": fault}),
         Run("picture of a return", b"", ["picture", "first.ispc"], has_titles(*steps), b"", data={"first.ispc": first}),
     ]
+
+
+# ---- pictures that tools/meaning works out
+
+def seen_of(name, source, width, target, most):
+    """What a picture has to show of a run, step by step as tools/meaning goes."""
+    debugger = Debugger(source, width)
+    seen = {"title": name, "lanes": ["lanes", *map(str, range(width))], "marks": [], "depths": [], "values": [], "rows": [], "fault": []}
+    before, rows, step, end = [], [], 0, ""
+    while debugger.state.frames and step < most and not end:
+        step += 1
+        place, lanes = debugger.spot()[:2]
+        depth, values = len(debugger.state.frames), values_of(debugger, target)
+        seen["marks"] += [(step, place[0], lane) for lane in range(width) if lane in lanes]
+        seen["depths"] += [(step, depth)] if depth > 1 else []
+        seen["values"] += [(step, row, *it) for row, it in enumerate(values) if before[row : row + 1] != [it]]
+        before, rows = values, max([rows, row_names(target, values)], key=len)
+        try:
+            debugger.forward()
+        except Fault as fault:
+            seen["fault"] = [f"{fault.name} in lane {fault.lane}"]
+            end = f"fault {fault.name} lane {fault.lane} at step {step}"
+    seen["rows"] = rows
+    seen["end"] = end or f"{'step limit' if debugger.state.frames else 'ended'} after step {step}"
+    return seen
+
+
+def values_of(debugger, target):
+    """What `print` shows of a target, at most 16 values, each with the lane whose colour it has."""
+    try:
+        variable, first = debugger.target(target, whole_array=True)
+    except Refused:
+        return []
+    shown = debugger.answer(f"print {target}")[0].partition(" = ")[2].split()
+    is_of_lanes = variable.rate == "varying" and not variable.is_array
+    return [(it, ((first or 0) + row) % COLOURS if is_of_lanes else NO_LANE) for row, it in enumerate(shown[:MOST_VALUES])]
+
+
+def row_names(target, values):
+    """The names of the rows of values, each with the lane whose colour it has."""
+    name, bracket, index = target.partition("[")
+    first = int(index.strip("]")) if bracket else 0
+    return [(f"{name}[{first + row}]" if bracket or len(values) > 1 else name, lane) for row, (_, lane) in enumerate(values)]
+
+
+def shown_in(text):
+    """What a picture shows, and what is wrong with where it stands; what stands at no step is at step 0."""
+    tree = trees.fromstring(text)
+    marks, wrong = marks_in(tree)
+    steps = {mark.x: mark.step for mark in marks}
+    texts = list(tree.iter(f"{SVG}text"))
+    values = [it for it in texts if it.get("class") == "value"]
+    tops = sorted({int(it.get("y")) for it in values})
+    inks = {it.get("stroke"): lane for lane, it in enumerate(legend(tree)[:COLOURS])}
+    said = {
+        "title": tree.find(f"{SVG}title").text,
+        "lanes": [it.text for it in texts if it.get("y") == "22" and not it.get("text-anchor")],
+        "marks": sorted((mark.step, mark.line, mark.lane) for mark in marks),
+        "depths": [(steps.get(int(it.get("x")) + int(it.get("width")) // 2, 0), depth) for it, depth in depths_in(tree)],
+        "values": sorted((steps.get(int(it.get("x")), 0), tops.index(int(it.get("y"))), *word_of(it, inks)) for it in at(values, "middle")),
+        "rows": [word_of(it, inks) for it in at(values, "end")],
+        "fault": [it.text for it in tree.iter(f"{SVG}title") if " in lane " in it.text],
+        "end": texts[-1].text,
+    }
+    return said, wrong + legend_faults(tree, marks) + shade_faults(tree)
+
+
+def at(elements, anchor):
+    return [it for it in elements if it.get("text-anchor") == anchor]
+
+
+def word_of(element, inks):
+    """A value or the name of its row, with the lane whose colour it has."""
+    return element.text, inks.get(element.get("fill"), NO_LANE)
+
+
+def legend(tree):
+    """The dots at the names of the lanes."""
+    return [it for it in tree if it.tag == f"{SVG}circle"]
+
+
+class Mark:
+    """A dot or a bar, with its step, line and lane, its point and its colours."""
+
+    def __init__(self, element, colours):
+        self.step, self.line, self.lane = map(int, MARK.fullmatch(element.find(f"{SVG}title").text).groups())
+        point = (element.get("cx"), element.get("cy")) if element.get("cx") else re.match(r"M(\d+) (\d+)", element.get("d")).groups()
+        self.x, self.y = map(int, point)
+        self.colours = colours
+
+
+def marks_in(tree):
+    """The marks of all lanes; what is wrong where those of one step are not below one another, those of a lane not in the row of their line."""
+    marks = []
+    for group in tree.iter(f"{SVG}g"):
+        titled = [it for it in group if it.find(f"{SVG}title") is not None and MARK.fullmatch(it.find(f"{SVG}title").text)]
+        marks += [Mark(it, (group.get("fill"), group.get("stroke"))) for it in titled]
+    columns = sorted({(mark.step, mark.x) for mark in marks})
+    rows = sorted({(mark.line, mark.lane, mark.y) for mark in marks})
+    lefts, tops = [x for _, x in columns], [y for _, _, y in rows]
+    wrong = [] if lefts == sorted(set(lefts)) else ["the steps are not from left to right"]
+    return marks, wrong + ([] if tops == sorted(set(tops)) else ["the lines and their lanes are not from top to bottom"])
+
+
+def depths_in(tree):
+    """The grounds of steps in calls, each with its depth."""
+    titled = [(it, it.find(f"{SVG}title")) for it in tree.iter(f"{SVG}rect")]
+    return [(it, int(title.text.split()[1])) for it, title in titled if title is not None and title.text.startswith("depth ")]
+
+
+def legend_faults(tree, marks):
+    """What is wrong with the names of the lanes: each has the colours of its marks, and no two the same; none is at a step's number."""
+    names = legend(tree)
+    colours = [(it.get("fill"), it.get("stroke")) for it in names]
+    numbers = [int(it.get("x")) for it in tree if it.get("y") == "22" and it.get("text-anchor") == "middle"]
+    wrong = [] if len(set(colours)) == len(colours) else ["two lanes have the same colours"]
+    wrong += [f"lane {mark.lane} has other colours at step {mark.step}" for mark in marks if colours[mark.lane : mark.lane + 1] != [mark.colours]]
+    wrong += [f"the name of lane {lane} is at a step's number" for lane, it in enumerate(names) if numbers and int(it.get("cx")) + 16 > min(numbers)]
+    return wrong
+
+
+def shade_faults(tree):
+    """What is wrong with the grounds of steps in calls: a deeper one is darker."""
+    shades = [shade for _, shade in sorted({(depth, float(it.get("fill-opacity"))) for it, depth in depths_in(tree)})]
+    return [] if shades == sorted(set(shades)) else ["a deeper call is not darker"]
+
+
+def is_meant(name, source, width, target, most):
+    """Whether a text is the picture of a run as tools/meaning has it."""
+    wanted = seen_of(name, source, width, target, most)
+
+    def judged(text):
+        why = is_picture(text)
+        if why:
+            return why
+        said, wrong = shown_in(text)
+        return wrong + [f"{what}: {said[what]}, and {wanted[what]} is wanted" for what in wanted if said[what] != wanted[what]]
+
+    return judged
+
+
+def meant_runs():
+    """Pictures of each width, of elements, lanes, bools and negative values, of calls in calls, of a fault and of runs that are cut short."""
+    return [
+        *(meant_run("lanes.ispc", LANES, width, target) for width, target in OF_LANES),
+        *(meant_run("elements.ispc", ELEMENTS, 4, target) for target in OF_ELEMENTS),
+        *(meant_run("deep.ispc", DEEP, width, target) for width, target in [(4, "k"), (8, "r"), (16, "x")]),
+        *(meant_run("lanes.ispc", LANES, 4, "x", most) for most in [1, 3, 7]),
+        meant_run("halt.ispc", HALT, 8, "x"),
+        meant_run("another name.ispc", HALT, 4, "x"),
+    ]
+
+
+def meant_run(name, source, width, target, most=400):
+    words = ["picture", name, "--width", str(width), "--watch", target, "--most", str(most)]
+    what = f"picture of {name}, {width} lanes, {target}, at most {most}"
+    return Run(what, b"", words, is_meant(name, source, width, target, most), b"", data={name: source.encode()})
