@@ -1,5 +1,6 @@
 pub mod Agreeing
 pub mod Beginnings
+mod BegunAgain
 pub mod EntryArrays
 pub mod Finding
 pub mod FrameViews

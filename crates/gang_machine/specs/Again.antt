@@ -1,5 +1,6 @@
 -- What of a machine lasts all through its run, and what a copy of its words is.
 use Rattle.std.specs.Prelude.{◌≡◌, ℕ, List, []}
+use Rattle.std.proofs.Common.{subst, sym}
 use Rattle.undo_log.specs.History.{History}
 use Rattle.gang_model.specs.Debugger.Debugger.{Debugger, Setting}
 use Rattle.mask_states.specs.Masked.{Masked}
@@ -31,3 +32,10 @@ CanHave m words = AreWords (with_only [] m.seen) words
 -- a machine with these words stands there, where no event is kept
 abbrev pub Copies : Counted → List ℕ → Setting → Debugger → Type 0
 Copies m words s d = SeenStands (with_only words m.seen) s d
+
+-- what it can have, and what a copy is, lasts
+pub can_have_so : (old new : Counted) (words : List ℕ) → SameRun old new → CanHave old words → CanHave new words
+can_have_so old new words same has = subst (λ m. AreWords m words) (sym same) has
+
+pub copies_so : (old new : Counted) (words : List ℕ) (s : Setting) (d : Debugger) → SameRun old new → Copies old words s d → Copies new words s d
+copies_so old new words s d same copy = subst (λ m. SeenStands (with_only words m) s d) (sym same) copy

@@ -1,6 +1,7 @@
 //! A machine that runs a compiled program step by step, and takes steps back.
 #![tactic(auto)]
 
+mod again;
 mod frames;
 mod machine;
 mod mover;
