@@ -2,7 +2,7 @@
 -- What a prompt does beside a command is done by commands too: what is displayed is printed, and a temporary breakpoint is deleted.
 use Rattle.std.specs.Prelude.{ℕ, ◌+◌, ◌-◌, ◌==◌, ◌&&◌, Bool, true, false, not, nat_lt, List, [], ◌∷◌, ◌++◌, drop, length, filter, Option, Some, None, is_none, option_and_then, option_map, if◌then◌else◌}
 use Rattle.std.specs.List.{list_any}
-use Rattle.gang_model.specs.Debugger.Debugger.{Answer, AtBreakpoint, BreaksAt, Command, Debugger, DoBreak, DoContinue, DoDelete, DoFinish, DoNext, DoPrint, DoReverseContinue, DoReverseFinish, DoReverseNext, DoReverseStep, DoSet, DoStep, DoUndo, Here, Refused, Setting, Shows, Target, bad_part, depth, do_command, first_stop, found, now, on_line, shown_words}
+use Rattle.gang_model.specs.Debugger.Debugger.{Answer, AtBreakpoint, BreaksAt, Command, Debugger, DoBreak, DoContinue, DoDelete, DoFinish, DoNext, DoPrint, DoQuit, DoReverseContinue, DoReverseFinish, DoReverseNext, DoReverseStep, DoSet, DoStep, DoUndo, Here, Refused, Setting, Shows, Target, bad_part, depth, do_command, first_stop, found, least_from, now, on_line, shown_words, step_lines}
 use Rattle.gang_model.specs.Debugger.Positions.{line_now}
 use Rattle.gang_model.specs.Types.Tree.{Variable}
 use Rattle.gang_types.specs.declared.places.VarId.{VarId}
@@ -15,6 +15,8 @@ use Rattle.prompt_lines.specs.declared.line.Look.TheVariants as look
 use Rattle.prompt_lines.specs.Sources.{Sheet, line_named}
 use Rattle.prompt_lines.specs.Words.{Spelled, argument_of, held_text, is_alone, line_of, setting_text}
 use Rattle.debug_prompt.specs.Holding.{Held, nothing_kept}
+use Rattle.debug_prompt.specs.declared.prompt.Turn.{Turn}
+use Rattle.debug_prompt.specs.declared.prompt.Turn.TheVariants as turn
 
 -- ---- the line that is meant
 
@@ -176,6 +178,16 @@ abbrev pub broken : (line : Option ℕ) → List Command
 broken None = []
 broken (Some n) = DoBreak n ∷ []
 
+-- the first breakpoint on the line on which a breakpoint for this line would be
+abbrev pub stop_on : Setting → Debugger → (line : Option ℕ) → Option ℕ
+stop_on s d None = None
+stop_on s d (Some n) = first_stop (on_line (least_from n (step_lines s.program))) d.stops
+
+-- a breakpoint is deleted
+abbrev pub cleared : (number : Option ℕ) → List Command
+cleared None = []
+cleared (Some n) = DoDelete (Some n) ∷ []
+
 -- on to a breakpoint that has been made, which then goes
 abbrev pub going : Setting → Held → Debugger → (made : Option ℕ) → List Command
 going s h d None = []
@@ -204,6 +216,7 @@ commands_by kind.Print sheet s d h text = printed_or_set s d h (print_of (comman
 commands_by kind.Set sheet s d h text = set_by s d h (command_of text)
 commands_by kind.Break sheet s d h text = broken (line_named sheet text)
 commands_by kind.Run sheet s d h text = if is_alone text then ran s d h (stands_at s d h) else []
+commands_by kind.Clear sheet s d h text = cleared (stop_on s d (line_named sheet text))
 commands_by kind.Temporary sheet s d h text = broken (line_named sheet text)
 commands_by kind.Until sheet s d h text = if is_alone text then done_with s d h (DoNext 1) else until_line s d h (line_named sheet text)
 commands_by kind.Hexadecimal sheet s d h text = in_top h (printed (print_of (command_of text)))
@@ -334,3 +347,14 @@ if_repeats line = if repeats line.kind line.text then line else nothing_kept
 -- the line that is kept after a line
 abbrev pub kept_after : (kept : Spelled) → (line : List ℕ) → Spelled
 kept_after kept line = if_repeats (meant kept line)
+
+-- ---- what a line leads to
+
+-- whether a command line of a kind quits
+abbrev pub quits : Kind → Option Command → Bool
+quits kind.Own (Some DoQuit) = true
+quits kind command = false
+
+-- what a line leads to: the writer has failed by then, or the line quits, or neither
+abbrev pub turn_of : (failed : Bool) → Spelled → Turn
+turn_of failed line = if failed then turn.Fails else (if quits line.kind (command_of line.text) then turn.Quits else turn.Goes)

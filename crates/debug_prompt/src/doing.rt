@@ -10,7 +10,7 @@ ghost use Rattle.debug_prompt.specs.Doing as spec;
 ghost use Rattle.debug_prompt.specs.Holding.{held, sheet};
 
 use crate::holding::Holding;
-use crate::pieces::{go_on, stop_here};
+use crate::pieces::{go_on, stop_here, stop_on};
 use crate::readings::{line_of, made_number};
 use crate::turning::{Scene, do_alone, do_own, follow};
 use debug_answers::Answer;
@@ -127,6 +127,38 @@ pub(crate) fn make_break<M: RecordedMachine, O: AnswerWriter + Drop>(
     match line_of(text, scene.source) {
         Some(line) => do_alone(Command::Break(line), scene, session, page),
         None => tell_unknown(scene.line, page),
+    }
+}
+
+/// Deletes the first breakpoint on a line.
+pub(crate) fn clear<M: RecordedMachine, O: AnswerWriter + Drop>(
+    text: &[u8],
+    scene: Scene<'_>,
+    session: &mut Session<M>,
+    page: &mut Page<O>,
+)
+    ensures { (s : Setting) (d : Debugger) → StandsFor M.stands session.old s d
+        → HasDone M.stands s (spec.cleared (spec.stop_on s d (line_named (sheet scene.entry.source) text.now))) d session.new }
+{
+    match line_of(text, scene.source) {
+        Some(line) => clear_line(line, scene, session, page),
+        None => tell_unknown(scene.line, page),
+    }
+}
+
+/// Deletes the first breakpoint on a line of this number.
+fn clear_line<M: RecordedMachine, O: AnswerWriter + Drop>(
+    line: u32,
+    scene: Scene<'_>,
+    session: &mut Session<M>,
+    page: &mut Page<O>,
+)
+    ensures { (s : Setting) (d : Debugger) → StandsFor M.stands session.old s d
+        → HasDone M.stands s (spec.cleared (spec.stop_on s d (Some line))) d session.new }
+{
+    match stop_on(line, session) {
+        Some(number) => do_alone(Command::Delete(Some(number)), scene, session, page),
+        None => page.put(b"no breakpoint is on this line; `info breakpoints` lists them\n"),
     }
 }
 

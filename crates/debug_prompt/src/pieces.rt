@@ -1,5 +1,5 @@
 //! `continue`, which may take long, in pieces.
-ghost use Rattle.std.specs.Prelude.{◌≡◌, ◌≤◌, ◌-◌, ℕ};
+ghost use Rattle.std.specs.Prelude.{◌≡◌, ◌≤◌, ◌-◌, ℕ, Some};
 ghost use Rattle.std.specs.List.{list_any};
 ghost use Rattle.gang_model.specs.Debugger.Debugger.{Debugger, DoContinue, Setting};
 ghost use Rattle.debug_session.specs.Sessions.{Replied, RepliesTo, StandsFor};
@@ -91,6 +91,16 @@ pub(crate) fn stop_here<M: RecordedMachine>(session: &Session<M>) -> Option<u32>
 {
     match session.machine().position() {
         Some(position) => breakpoint_on(position.place.line, session.stops()),
+        None => None,
+    }
+}
+
+/// The first breakpoint on the line on which a breakpoint for this line would be.
+pub(crate) fn stop_on<M: RecordedMachine>(line: u32, session: &Session<M>) -> Option<u32>
+    ensures { (s : Setting) (d : Debugger) → StandsFor M.stands session.now s d → result ≡ spec.stop_on s d (Some line) }
+{
+    match session.machine().line_from(line) {
+        Some(line) => breakpoint_on(line, session.stops()),
         None => None,
     }
 }

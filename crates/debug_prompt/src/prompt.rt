@@ -7,7 +7,7 @@ ghost use Rattle.prompt_lines.specs.Readings.{spelled};
 ghost use Rattle.debug_prompt.specs.Doing as spec;
 ghost use Rattle.debug_prompt.specs.Holding.{held, held_at_start, nothing_kept, sheet};
 
-use crate::doing::{break_temporarily, do_spelled, finish, go_until, make_break, run};
+use crate::doing::{break_temporarily, clear, do_spelled, finish, go_until, make_break, run};
 use crate::holding::Holding;
 use crate::looking::Looking;
 use crate::printing::{display, print, print_hexadecimal, set_spelled, undisplay};
@@ -80,6 +80,7 @@ impl Prompt {
             × (held self.new.holding ≡ spec.held_after (sheet source.entry) (spelled self.old.kept) (held self.old.holding) s d line.now) }
         ensures kept { spelled self.new.kept ≡ spec.kept_after (spelled self.old.kept) line.now }
         ensures limit { self.new.most_steps ≡ self.old.most_steps }
+        ensures turn { result ≡ spec.turn_of page.new.has_failed (spec.meant (spelled self.old.kept) line.now) }
     {
         let read = read_line(line);
         let is_again = read.kind == Kind::Again;
@@ -153,6 +154,7 @@ fn repeats(line: &PromptLine) -> bool
         Kind::Again
         | Kind::Set
         | Kind::Break
+        | Kind::Clear
         | Kind::Temporary
         | Kind::Display
         | Kind::Undisplay
@@ -184,6 +186,7 @@ fn do_meant<M: FramedMachine, O: AnswerWriter + Drop>(
         Kind::Hexadecimal => print_hexadecimal(text, holding, scene, session, page),
         Kind::Set => set_spelled(text, holding, scene, session, page),
         Kind::Break => make_break(text, scene, session, page),
+        Kind::Clear => clear(text, scene, session, page),
         Kind::Temporary => break_temporarily(text, holding, scene, session, page),
         Kind::Until => go_until(text, holding, scene, session, page),
         Kind::Display => display(text, holding, scene, session, page),
@@ -193,7 +196,9 @@ fn do_meant<M: FramedMachine, O: AnswerWriter + Drop>(
 }
 
 /// What a line led to.
-fn turn_of<O: AnswerWriter + Drop>(line: &PromptLine, page: &Page<O>) -> Turn {
+fn turn_of<O: AnswerWriter + Drop>(line: &PromptLine, page: &Page<O>) -> Turn
+    ensures { result ≡ spec.turn_of page.now.has_failed (spelled line.now) }
+{
     if page.has_failed() {
         return Turn::Fails;
     }

@@ -57,6 +57,7 @@ rows =
     ∷ row (codes "break" ∷ []) kind.Break (codes "break")
     ∷ row (codes "b" ∷ []) kind.Break (codes "break")
     ∷ row (codes "br" ∷ []) kind.Break (codes "break")
+    ∷ row (codes "clear" ∷ []) kind.Clear (codes "break")
     ∷ row (codes "tbreak" ∷ []) kind.Temporary (codes "break")
     ∷ row (codes "tb" ∷ []) kind.Temporary (codes "break")
     ∷ row (codes "until" ∷ []) kind.Until (codes "break")

@@ -69,6 +69,8 @@ pub enum Kind {
     Set,
     /// A breakpoint is made.
     Break,
+    /// The first breakpoint on a line is deleted.
+    Clear,
     /// A breakpoint, which goes once it has stopped a move.
     Temporary,
     /// The program goes on to a line.

@@ -10,7 +10,7 @@ pub(crate) struct Row(
 );
 
 /// The words of what is done, mostly by their names in GDB. Of two that a line begins with the first one counts.
-pub(crate) const ROWS: [Row; 48] = [
+pub(crate) const ROWS: [Row; 49] = [
     Row(&[b"set", b"var"], Kind::Set, b"set var"),
     Row(&[b"set", b"variable"], Kind::Set, b"set var"),
     Row(
@@ -46,6 +46,7 @@ pub(crate) const ROWS: [Row; 48] = [
     Row(&[b"break"], Kind::Break, b"break"),
     Row(&[b"b"], Kind::Break, b"break"),
     Row(&[b"br"], Kind::Break, b"break"),
+    Row(&[b"clear"], Kind::Clear, b"break"),
     Row(&[b"tbreak"], Kind::Temporary, b"break"),
     Row(&[b"tb"], Kind::Temporary, b"break"),
     Row(&[b"until"], Kind::Until, b"break"),

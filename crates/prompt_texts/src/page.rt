@@ -56,7 +56,9 @@ impl<O: AnswerWriter + Drop> Page<O> {
     }
 
     /// Whether the writer has failed.
-    pub fn has_failed(&self) -> bool {
+    pub fn has_failed(&self) -> bool
+        ensures { result ≡ self.now.has_failed }
+    {
         self.has_failed
     }
 
