@@ -1,2 +1,3 @@
 mod Lists
+mod Needs
 mod WorkedRows

@@ -1,57 +1,27 @@
 -- What is read of each of a list, one after another.
-use Rattle.std.proofs.Common.{◌≡◌, ℕ, zero, suc, ◌+◌, ◌<◌, List, [], ◌∷◌, ◌++◌, map, length, take, get_or, Option, Some, None, refl, ap, sym, ◌∙◌, arith}
+use Rattle.std.proofs.Common.{◌≡◌, ℕ, ◌+◌, ◌<◌, List, [], ◌∷◌, ◌++◌, map, length, take, get_or, Option, Result, refl, ap, sym, ◌∙◌}
 use Rattle.std.proofs.lemmas.List.{map-append, map_more}
 use Rattle.serde_json.specs.Data.{Data}
 use Rattle.serde_json.specs.View.{items_of, view}
 use Rattle.serde_json.specs.declared.value.Value.{Value}
-use Rattle.gang_model.specs.Texts.Text.{Bytes}
-use Rattle.adapter_messages.specs.declared.requests.RequestFault.{RequestFault}
-use Rattle.adapter_messages.specs.declared.requests.RequestFault.TheVariants as fault
-use Rattle.adapter_messages.specs.Arguments.{each_in, in_front}
-use Rattle.adapter_messages.specs.Faults.{IsListRefused, NamesArgument}
-
--- the first and the others that were read
-record Front {A : Type 0} (first : Option A) (rest : Option (List A)) (all : List A) : Type 0 where
-  x : A
-  xs : List A
-  first_is : first ≡ Some x
-  rest_is : rest ≡ Some xs
-  all_is : x ∷ xs ≡ all
-
-front_of : {A : Type 0} (first : Option A) (rest : Option (List A)) (all : List A) → in_front first rest ≡ Some all → Front first rest all
-front_of None rest all e = absurd (cc)
-front_of (Some x) None all e = absurd (cc)
-front_of (Some x) (Some xs) all e = record { x = x; xs = xs; first_is = refl; rest_is = refl; all_is = cc }
+use Rattle.adapter_requests.specs.declared.reply.BreakpointFault.{BreakpointFault}
+use Rattle.adapter_messages.specs.Arguments.{asked, each_asked}
 
 -- one more at the end
-pub each_more : {A : Type 0} (read : Data → Option A) (ds : List Data) (d : Data) (xs : List A) (x : A) → each_in read (items_of ds) ≡ Some xs → read d ≡ Some x → each_in read (items_of (ds ++ d ∷ [])) ≡ Some (xs ++ x ∷ [])
-each_more read [] d xs x e is =
-    let none : [] ≡ xs = cc in
-    ap (λ first. in_front first (Some [])) is ∙ ap (λ xs. Some (xs ++ x ∷ [])) none
-each_more read (first ∷ ds) d xs x e is =
-    let f = front_of (read first) (each_in read (items_of ds)) xs e in
-    ap (λ o. in_front o (each_in read (items_of (ds ++ d ∷ [])))) f.first_is
-    ∙ ap (in_front (Some f.x)) (each_more read ds d f.xs x f.rest_is is)
-    ∙ ap (λ all. Some (all ++ x ∷ [])) f.all_is
+pub asked_more : {A : Type 0} (read : Data → Option A) (ds : List Data) (d : Data) → each_asked read (items_of (ds ++ d ∷ [])) ≡ each_asked read (items_of ds) ++ asked read d ∷ []
+asked_more read [] d = refl
+asked_more read (first ∷ ds) d = ap (λ others. asked read first ∷ others) (asked_more read ds d)
 
--- what is read of the elements up to an index and of the one there
-pub each_next : {A : Type 0} (read : Data → Option A) (vs : List Value) (i : ℕ) (v : Value) (xs new : List A) (x : A) → i < length vs → v ≡ get_or vs i v
-    → each_in read (items_of (map view (take i vs))) ≡ Some xs → read (view v) ≡ Some x → new ≡ xs ++ x ∷ [] → each_in read (items_of (map view (take (i + 1) vs))) ≡ Some new
-each_next read vs i v xs new x within is so read_is new_is =
-    ap (λ ds. each_in read (items_of ds)) (map_more view vs i v within)
-    ∙ each_more read (map view (take i vs)) (view (get_or vs i v)) xs x so (ap (λ v. read (view v)) (sym is) ∙ read_is)
-    ∙ ap (λ all. Some all) (sym new_is)
-
--- nothing behind what cannot be read
-in_front_none : {A : Type 0} (first : Option A) → in_front first None ≡ None
-in_front_none None = refl
-in_front_none (Some x) = refl
-
--- where one of a list cannot be read, the list cannot
-pub each_none : {A : Type 0} (read : Data → Option A) (vs : List Value) (i : ℕ) (v : Value) → i < length vs → v ≡ get_or vs i v → read (view v) ≡ None → each_in read (items_of (map view vs)) ≡ None
-each_none read [] i v within is none = absurd (omega arith)
-each_none read (w ∷ vs) zero v within is none = ap (λ first. in_front first (each_in read (items_of (map view vs)))) (ap (λ u. read (view u)) (sym is) ∙ none)
-each_none read (w ∷ vs) (suc i) v within is none = ap (in_front (read (view w))) (each_none read vs i v (omega arith) is none) ∙ in_front_none (read (view w))
+-- what the elements up to an index and the one there ask for
+pub asked_next : {A : Type 0} (read : Data → Option A) (vs : List Value) (i : ℕ) (v : Value) (old new : List (Result A BreakpointFault)) (one : Result A BreakpointFault) → i < length vs
+    → v ≡ get_or vs i v → old ≡ each_asked read (items_of (map view (take i vs))) → one ≡ asked read (view v) → new ≡ old ++ one ∷ []
+    → new ≡ each_asked read (items_of (map view (take (i + 1) vs)))
+asked_next read vs i v old new one within is so one_is new_is =
+    new_is
+    ∙ ap (λ front. front ++ one ∷ []) so
+    ∙ ap (λ last. each_asked read (items_of (map view (take i vs))) ++ last ∷ []) (one_is ∙ ap (λ w. asked read (view w)) is)
+    ∙ sym (asked_more read (map view (take i vs)) (view (get_or vs i v)))
+    ∙ sym (ap (λ ds. each_asked read (items_of ds)) (map_more view vs i v within))
 
 -- what is shown for the elements up to an index and for the one there, at any default
 pub shown_at : {A : Type 0} (shown : A → Data) (xs : List A) (i : ℕ) (d : A) (vs new : List Value) (v : Value) → i < length xs
@@ -67,8 +37,3 @@ shown_at shown xs i d vs new v within so shown_is new_is =
 pub shown_next : {A : Type 0} (shown : A → Data) (xs : List A) (i : ℕ) (x : A) (vs new : List Value) (v : Value) → i < length xs → x ≡ get_or xs i x
     → map view vs ≡ map shown (take i xs) → view v ≡ shown x → new ≡ vs ++ v ∷ [] → map view new ≡ map shown (take (i + 1) xs)
 shown_next shown xs i x vs new v within is so shown_is new_is = shown_at shown xs i x vs new v within so (shown_is ∙ ap shown is) new_is
-
--- a list is refused for the argument that one of it has not
-pub list_refused : {A : Type 0} (argument : Bytes) (read : Option (List A)) (found : RequestFault) → read ≡ None → NamesArgument argument found → IsListRefused argument read found
-list_refused argument read (fault.Argument named) none is = (is, none)
-list_refused argument read fault.Memory none is = absurd is

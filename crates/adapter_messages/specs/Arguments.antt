@@ -1,10 +1,12 @@
 -- What a request says.
-use Rattle.std.specs.Prelude.{◌≡◌, ℕ, ◌^◌, Bool, true, false, List, [], ◌∷◌, map, Option, Some, None, codes, if◌then◌else◌, nat_lt, option_and_then, option_map, unwrap_or}
+use Rattle.std.specs.Prelude.{◌≡◌, ℕ, ◌^◌, ◌||◌, Bool, true, false, not, List, [], ◌∷◌, map, Option, Some, None, Result, Ok, Err, codes, if◌then◌else◌, is_some, nat_lt, option_and_then, option_map, unwrap_or}
 use Rattle.std.specs.Borrow.{Bor}
 use Rattle.serde_json.specs.Data.{Data, Items, item, no_items}
-use Rattle.serde_json.specs.Find.{as_array, as_bool, as_number, as_str, as_u64, get, pointer}
+use Rattle.serde_json.specs.Find.{as_array, as_bool, as_null, as_number, as_str, as_u64, get, pointer}
 use Rattle.gang_model.specs.Source.Names.{same_text}
 use Rattle.gang_model.specs.Texts.Text.{Bytes}
+use Rattle.adapter_requests.specs.declared.reply.BreakpointFault.{BreakpointFault}
+use Rattle.adapter_requests.specs.declared.reply.BreakpointFault.TheVariants as fault
 use Rattle.adapter_requests.specs.declared.request.Launch.{Launch}
 use Rattle.adapter_requests.specs.declared.request.Request.{Request}
 use Rattle.adapter_requests.specs.declared.request.Request.TheVariants as request
@@ -51,11 +53,14 @@ abbrev pub in_console : Option Bytes → Bool
 in_console None = false
 in_console (Some context) = same_text context (codes "repl")
 
--- a value in front of others, if each is there
-abbrev pub in_front : {A : Type 0} → Option A → Option (List A) → Option (List A)
-in_front None others = None
-in_front (Some x) None = None
-in_front (Some x) (Some xs) = Some (x ∷ xs)
+-- a value is not there, or is `null`
+abbrev pub is_absent : Option Data → Bool
+is_absent None = true
+is_absent (Some d) = is_some (as_null d)
+
+-- what may be left out is not there, or is of the right type and so can be read
+abbrev pub is_right : {A : Type 0} → (read : Option A) → Option Data → Bool
+is_right read given = is_some read || is_absent given
 
 -- a number that a line can have
 abbrev pub as_line : ℕ → Option ℕ
@@ -69,18 +74,28 @@ line_in d = option_and_then as_line (option_and_then as_u64 (option_and_then as_
 abbrev pub target_in : Data → Option Bytes
 target_in d = option_and_then as_str (get (codes "dataId") d)
 
--- what is read of each of a list, if it can be read of each
-abbrev pub each_in : {A : Type 0} → (Data → Option A) → Items → Option (List A)
-each_in read no_items = Some []
-each_in read (item d ds) = in_front (read d) (each_in read ds)
+-- whether it is to stop on a condition, after a count, or to tell a text in place of stopping
+abbrev pub is_conditional : Data → Bool
+is_conditional d = not (is_absent (get (codes "condition") d)) || not (is_absent (get (codes "hitCondition") d)) || not (is_absent (get (codes "logMessage") d))
 
--- the line of each breakpoint of a list, if each has one
-abbrev pub lines_in : Items → Option (List ℕ)
-lines_in items = each_in line_in items
+-- a place that was read, or the fault that it says none
+abbrev pub placed : {A : Type 0} → Option A → Result A BreakpointFault
+placed None = Err fault.Unplaced
+placed (Some place) = Ok place
 
--- the target of each watch of a list, if each has one
-abbrev pub targets_in : Items → Option (List Bytes)
-targets_in items = each_in target_in items
+-- what one of a list asks for, by how its place is read
+abbrev pub asked : {A : Type 0} → (Data → Option A) → Data → Result A BreakpointFault
+asked read d = if is_conditional d then Err fault.Conditional else placed (read d)
+
+-- what each of a list asks for
+abbrev pub each_asked : {A : Type 0} → (Data → Option A) → Items → List (Result A BreakpointFault)
+each_asked read no_items = []
+each_asked read (item d ds) = asked read d ∷ each_asked read ds
+
+-- a text that is asked for
+abbrev pub asked_text : Result (Bor Bytes) BreakpointFault → Result Bytes BreakpointFault
+asked_text (Ok text) = Ok text.now
+asked_text (Err fault) = Err fault
 
 -- the breakpoints that a message lists; none where it has no list
 abbrev pub breakpoints_of : Data → Items
@@ -90,17 +105,21 @@ breakpoints_of message = unwrap_or (option_and_then as_array (pointer (codes "/a
 abbrev pub IsRequestNamed : Name → Data → Request → Type 0
 IsRequestNamed name.Initialize message request.Initialize = Unit {0}
 IsRequestNamed name.Launch message (request.Launch launch) = IsLaunch message launch
-IsRequestNamed name.SetBreakpoints message (request.SetBreakpoints source lines) = (text_at (codes "/arguments/source/path") message ≡ text_of source) × (lines_in (breakpoints_of message) ≡ Some lines.items)
+IsRequestNamed name.SetBreakpoints message (request.SetBreakpoints source lines) = (text_at (codes "/arguments/source/path") message ≡ text_of source) × (lines.items ≡ each_asked line_in (breakpoints_of message))
 IsRequestNamed name.SetExceptionBreakpoints message request.SetExceptionBreakpoints = Unit {0}
 IsRequestNamed name.DataBreakpointInfo message (request.DataBreakpointInfo text) = text_at (codes "/arguments/name") message ≡ Some text.now
-IsRequestNamed name.SetDataBreakpoints message (request.SetDataBreakpoints targets) = targets_in (breakpoints_of message) ≡ Some (map (λ target. target.now) targets.items)
+IsRequestNamed name.SetDataBreakpoints message (request.SetDataBreakpoints targets) = map asked_text targets.items ≡ each_asked target_in (breakpoints_of message)
 IsRequestNamed name.ConfigurationDone message request.ConfigurationDone = Unit {0}
 IsRequestNamed name.Threads message request.Threads = Unit {0}
 IsRequestNamed name.StackTrace message request.StackTrace = Unit {0}
-IsRequestNamed name.Scopes message request.Scopes = Unit {0}
+IsRequestNamed name.Scopes message (request.Scopes frame) = number_at (codes "/arguments/frameId") message ≡ Some frame
 IsRequestNamed name.Variables message (request.Variables reference) = number_at (codes "/arguments/variablesReference") message ≡ Some reference
-IsRequestNamed name.SetVariable message (request.SetVariable text value) = (text_at (codes "/arguments/name") message ≡ Some text.now) × (text_at (codes "/arguments/value") message ≡ Some value.now)
-IsRequestNamed name.Evaluate message (request.Evaluate expression is_console) = (text_at (codes "/arguments/expression") message ≡ Some expression.now) × (is_console ≡ in_console (text_at (codes "/arguments/context") message))
+IsRequestNamed name.SetVariable message (request.SetVariable reference text value) =
+    (number_at (codes "/arguments/variablesReference") message ≡ Some reference) × (text_at (codes "/arguments/name") message ≡ Some text.now)
+    × (text_at (codes "/arguments/value") message ≡ Some value.now)
+IsRequestNamed name.Evaluate message (request.Evaluate expression frame is_console) =
+    (text_at (codes "/arguments/expression") message ≡ Some expression.now) × (number_at (codes "/arguments/frameId") message ≡ frame)
+    × (is_console ≡ in_console (text_at (codes "/arguments/context") message))
 IsRequestNamed name.Next message request.Next = Unit {0}
 IsRequestNamed name.StepIn message request.StepIn = Unit {0}
 IsRequestNamed name.StepOut message request.StepOut = Unit {0}

@@ -1,22 +1,33 @@
 -- Why a request is refused: the first of its arguments that is missing or of a wrong type.
 use Rattle.std.specs.Prelude.{◌≡◌, Bool, true, false, List, [], ◌∷◌, Option, Some, None, codes, if◌then◌else◌, is_some}
 use Rattle.serde_json.specs.Data.{Data}
+use Rattle.serde_json.specs.Find.{pointer}
 use Rattle.gang_model.specs.Texts.Text.{Bytes}
 use Rattle.adapter_messages.specs.declared.names.Name.{Name}
 use Rattle.adapter_messages.specs.declared.names.Name.TheVariants as name
 use Rattle.adapter_messages.specs.declared.requests.RequestFault.{RequestFault}
 use Rattle.adapter_messages.specs.declared.requests.RequestFault.TheVariants as fault
 use Rattle.adapter_messages.specs.Names.{named}
-use Rattle.adapter_messages.specs.Arguments.{breakpoints_of, lines_in, number_at, targets_in, text_at}
+use Rattle.adapter_messages.specs.Arguments.{flag_at, is_right, number_at, text_at}
+
+-- the arguments of a launch that may be left out, and whether each is of the right type where it is there
+abbrev pub launch_options : Data → List (Bytes × Bool)
+launch_options message =
+    (codes "input", is_right (text_at (codes "/arguments/input") message) (pointer (codes "/arguments/input") message))
+    ∷ (codes "entry", is_right (text_at (codes "/arguments/entry") message) (pointer (codes "/arguments/entry") message))
+    ∷ (codes "width", is_right (number_at (codes "/arguments/width") message) (pointer (codes "/arguments/width") message))
+    ∷ (codes "history", is_right (number_at (codes "/arguments/history") message) (pointer (codes "/arguments/history") message))
+    ∷ (codes "steps", is_right (number_at (codes "/arguments/steps") message) (pointer (codes "/arguments/steps") message))
+    ∷ (codes "stopOnEntry", is_right (flag_at (codes "/arguments/stopOnEntry") message) (pointer (codes "/arguments/stopOnEntry") message))
+    ∷ []
 
 -- the arguments that a request of a name needs, in their order, and whether a message has each of the right type
 abbrev pub needs : Name → Data → List (Bytes × Bool)
-needs name.Launch message = (codes "program", is_some (text_at (codes "/arguments/program") message)) ∷ []
-needs name.SetBreakpoints message = (codes "line", is_some (lines_in (breakpoints_of message))) ∷ []
+needs name.Launch message = (codes "program", is_some (text_at (codes "/arguments/program") message)) ∷ launch_options message
 needs name.DataBreakpointInfo message = (codes "name", is_some (text_at (codes "/arguments/name") message)) ∷ []
-needs name.SetDataBreakpoints message = (codes "dataId", is_some (targets_in (breakpoints_of message))) ∷ []
+needs name.Scopes message = (codes "frameId", is_some (number_at (codes "/arguments/frameId") message)) ∷ []
 needs name.Variables message = (codes "variablesReference", is_some (number_at (codes "/arguments/variablesReference") message)) ∷ []
-needs name.SetVariable message = (codes "name", is_some (text_at (codes "/arguments/name") message)) ∷ (codes "value", is_some (text_at (codes "/arguments/value") message)) ∷ []
+needs name.SetVariable message = (codes "variablesReference", is_some (number_at (codes "/arguments/variablesReference") message)) ∷ (codes "name", is_some (text_at (codes "/arguments/name") message)) ∷ (codes "value", is_some (text_at (codes "/arguments/value") message)) ∷ []
 needs name.Evaluate message = (codes "expression", is_some (text_at (codes "/arguments/expression") message)) ∷ []
 needs name message = []
 
@@ -57,8 +68,3 @@ IsRefused command message fault = IsRefusedOf (named command) message fault
 abbrev pub NamesArgument : (argument : Bytes) → RequestFault → Type 0
 NamesArgument argument (fault.Argument named) = named.now ≡ argument
 NamesArgument argument fault.Memory = ⊥
-
--- a list is refused for an argument that one of it lacks, or out of memory
-abbrev pub IsListRefused : {A : Type 0} → (argument : Bytes) → (read : Option (List A)) → RequestFault → Type 0
-IsListRefused argument read (fault.Argument named) = (named.now ≡ argument) × (read ≡ None)
-IsListRefused argument read fault.Memory = Unit {0}

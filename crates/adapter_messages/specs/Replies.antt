@@ -5,9 +5,13 @@ use Rattle.serde_json.specs.Data.{Data, Members, array, boolean, item, member, n
 use Rattle.serde_json.specs.View.{items_of}
 use Rattle.gang_model.specs.Texts.Text.{Bytes}
 use Rattle.adapter_requests.specs.declared.reply.Breakpoint.{Breakpoint}
+use Rattle.adapter_requests.specs.declared.reply.Breakpoint.TheVariants.{Stands, Refused}
+use Rattle.adapter_requests.specs.declared.reply.BreakpointFault.{BreakpointFault}
+use Rattle.adapter_requests.specs.declared.reply.BreakpointFault.TheVariants as fault
 use Rattle.adapter_requests.specs.declared.reply.Frame.{Frame}
 use Rattle.adapter_requests.specs.declared.reply.Reply.{Reply}
 use Rattle.adapter_requests.specs.declared.reply.Reply.TheVariants as reply
+use Rattle.adapter_requests.specs.declared.reply.Scopes.{Scopes}
 use Rattle.adapter_requests.specs.declared.reply.StopReason.{StopReason}
 use Rattle.adapter_requests.specs.declared.reply.StopReason.TheVariants as reason
 use Rattle.adapter_requests.specs.declared.reply.Variable.{Variable}
@@ -31,15 +35,20 @@ capabilities = object
     (member (codes "supportsSetVariable") (boolean true)
     (member (codes "supportsStepBack") (boolean true) no_members))))))
 
--- a breakpoint or a watch by its number, and by its line if it has one; without a number it is not there
-abbrev pub stop_place : (number line : Option ℕ) → Data
-stop_place (Some number) (Some line) = object (member (codes "id") (natural number) (member (codes "line") (natural line) (member (codes "verified") (boolean true) no_members)))
-stop_place (Some number) None = object (member (codes "id") (natural number) (member (codes "verified") (boolean true) no_members))
-stop_place None line = object (member (codes "message") (string (codes "nothing can stop here")) (member (codes "verified") (boolean false) no_members))
+-- why a breakpoint or a watch is not there
+abbrev pub fault_text : BreakpointFault → Bytes
+fault_text fault.Unplaced = codes "its line or target is missing or of a wrong type"
+fault_text fault.Conditional = codes "conditions, counts and log messages are not there"
+fault_text fault.OtherSource = codes "this source is not the program's"
+fault_text fault.NoStep = codes "no step stands on this line or behind it"
+fault_text fault.NotWatched = codes "only scalars of the file, their lanes and elements of arrays are watched"
+fault_text fault.Full = codes "no more breakpoints and watches can be there"
 
--- a breakpoint or a watch that was asked for
+-- a breakpoint or a watch that was asked for: by its number, and by its line if it has one; or why it is not there
 abbrev pub breakpoint : Breakpoint → Data
-breakpoint asked = stop_place asked.number asked.line
+breakpoint (Stands number (Some line)) = object (member (codes "id") (natural number) (member (codes "line") (natural line) (member (codes "verified") (boolean true) no_members)))
+breakpoint (Stands number None) = object (member (codes "id") (natural number) (member (codes "verified") (boolean true) no_members))
+breakpoint (Refused why) = object (member (codes "message") (string (fault_text why)) (member (codes "verified") (boolean false) no_members))
 
 -- a target that can be watched: where it is written
 abbrev pub watchable : (target : Bytes) → Data
@@ -91,18 +100,18 @@ known_scope name kind reference = object
     (member (codes "variablesReference") (natural reference) no_members))))
 
 -- the variables of the file
-abbrev pub file_scope : Data
-file_scope = object
+abbrev pub file_scope : (reference : ℕ) → Data
+file_scope reference = object
     (member (codes "expensive") (boolean false)
     (member (codes "name") (string (codes "File"))
-    (member (codes "variablesReference") (natural 2) no_members)))
+    (member (codes "variablesReference") (natural reference) no_members)))
 
 -- the scopes of a frame
-abbrev pub scopes : Data
-scopes = array
-    (item (known_scope (codes "Locals") (codes "locals") 1)
-    (item (known_scope (codes "Arguments") (codes "arguments") 3)
-    (item file_scope no_items)))
+abbrev pub scopes : Scopes → Data
+scopes shown = array
+    (item (known_scope (codes "Locals") (codes "locals") shown.locals)
+    (item (known_scope (codes "Arguments") (codes "arguments") shown.arguments)
+    (item (file_scope shown.file) no_items)))
 
 -- a variable; the reference is that of its lanes or elements, 0 if it has none
 abbrev pub variable : Variable → Data
@@ -125,7 +134,7 @@ body_of program (reply.Watchable target) = watchable (string_bytes target)
 body_of program reply.NotWatchable = not_watchable
 body_of program reply.Threads = only (codes "threads") (array (item gang no_items))
 body_of program (reply.Frames shown) = frames program shown.items
-body_of program reply.Scopes = only (codes "scopes") scopes
+body_of program (reply.Scopes shown) = only (codes "scopes") (scopes shown)
 body_of program (reply.Variables shown) = only (codes "variables") (array_of variable shown.items)
 body_of program (reply.Set value) = only (codes "value") (string (string_bytes value))
 body_of program (reply.Evaluated text reason) = evaluated (string_bytes text)

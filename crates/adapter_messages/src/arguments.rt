@@ -1,11 +1,10 @@
 //! The arguments of requests.
-ghost use Rattle.std.specs.Prelude.{◌≡◌, [], ◌∷◌, ◌++◌, IfErr, IfOk, None, OnErr, OnOk, Some, codes, map, option_map};
+ghost use Rattle.std.specs.Prelude.{◌≡◌, Err, IfOk, if◌then◌else◌, map, option_map};
 ghost use Rattle.serde_json.specs.View.{items_view, view};
-ghost use Rattle.adapter_messages.specs.Arguments.{breakpoints_of, flag_at, line_in, lines_in, number_at, target_in, targets_in, text_at};
-ghost use Rattle.adapter_messages.specs.Faults.{IsListRefused, NamesArgument};
-ghost use Rattle.adapter_messages.specs.declared.requests.RequestFault.TheVariants.{Memory};
+ghost use Rattle.adapter_requests.specs.declared.reply.BreakpointFault.TheVariants.{Conditional};
+ghost use Rattle.adapter_messages.specs.Arguments.{asked, asked_text, breakpoints_of, each_asked, flag_at, is_absent, is_conditional, line_in, number_at, placed, target_in, text_at};
 
-use crate::requests::RequestFault;
+use adapter_requests::BreakpointFault;
 use serde_json::Value;
 use std::alloc::{AllocError, Global};
 
@@ -44,63 +43,78 @@ fn breakpoints_of(message: &Value) -> &[Value]
 }
 
 /// The lines of the breakpoints that a message lists.
-pub(crate) fn lines_of(alloc: Global, message: &Value) -> Result<Vec<u32>, RequestFault>
-    ensures read { IfOk result (λ lines. lines_in (breakpoints_of (view message.now)) ≡ Some lines.items) }
-    ensures refused { IfErr result (IsListRefused (codes "line") (lines_in (breakpoints_of (view message.now)))) }
+pub(crate) fn lines_of(
+    alloc: Global,
+    message: &Value,
+) -> Result<Vec<Result<u32, BreakpointFault>>, AllocError>
+    ensures { IfOk result (λ lines. lines.items ≡ each_asked line_in (breakpoints_of (view message.now))) }
 {
     let mut lines = Vec::new(alloc);
     for breakpoint in breakpoints_of(message) {
-        let line = line_of(breakpoint)?;
-        push(&mut lines, line)?;
+        lines.push(line_of(breakpoint))?;
     }
     Ok(lines)
 }
 
-/// The line of a breakpoint.
-fn line_of(breakpoint: &Value) -> Result<u32, RequestFault>
-    ensures read { IfOk result (λ line. line_in (view breakpoint.now) ≡ Some line) }
-    ensures missing { OnErr result (line_in (view breakpoint.now) ≡ None) }
-    ensures named { IfErr result (NamesArgument (codes "line")) }
+/// The line of a breakpoint, or why it is none.
+fn line_of(breakpoint: &Value) -> Result<u32, BreakpointFault>
+    ensures { result ≡ asked line_in (view breakpoint.now) }
 {
     let line = breakpoint.get("line").and_then(Value::as_u64);
-    match line.and_then(|line| u32::try_from(line).ok()) {
-        Some(line) => Ok(line),
-        None => Err(RequestFault::Argument("line")),
-    }
+    let line = line.and_then(|line| u32::try_from(line).ok());
+    asked(line, is_conditional(breakpoint))
 }
 
 /// The targets of the watches that a message lists.
-pub(crate) fn targets_of(alloc: Global, message: &Value) -> Result<Vec<&str>, RequestFault>
-    ensures read { IfOk result (λ targets. targets_in (breakpoints_of (view message.now)) ≡ Some (map (λ target. target.now) targets.items)) }
-    ensures refused { IfErr result (IsListRefused (codes "dataId") (targets_in (breakpoints_of (view message.now)))) }
+pub(crate) fn targets_of(
+    alloc: Global,
+    message: &Value,
+) -> Result<Vec<Result<&str, BreakpointFault>>, AllocError>
+    ensures { IfOk result (λ targets. map asked_text targets.items ≡ each_asked target_in (breakpoints_of (view message.now))) }
 {
     let mut targets = Vec::new(alloc);
     for watch in breakpoints_of(message) {
-        let target = target_of(watch)?;
-        push(&mut targets, target)?;
+        targets.push(target_of(watch))?;
     }
     Ok(targets)
 }
 
-/// The target of a watch.
-fn target_of(watch: &Value) -> Result<&str, RequestFault>
-    ensures read { IfOk result (λ target. target_in (view watch.now) ≡ Some target.now) }
-    ensures missing { OnErr result (target_in (view watch.now) ≡ None) }
-    ensures named { IfErr result (NamesArgument (codes "dataId")) }
+/// The target of a watch, or why it is none.
+fn target_of(watch: &Value) -> Result<&str, BreakpointFault>
+    ensures { asked_text result ≡ asked target_in (view watch.now) }
 {
-    match watch.get("dataId").and_then(Value::as_str) {
-        Some(target) => Ok(target),
-        None => Err(RequestFault::Argument("dataId")),
+    let target = watch.get("dataId").and_then(Value::as_str);
+    asked(target, is_conditional(watch))
+}
+
+/// A place that was read, unless a condition stands with it; or why there is none.
+fn asked<P: Copy>(place: Option<P>, is_conditional: bool) -> Result<P, BreakpointFault>
+    ensures { result ≡ (if is_conditional then Err Conditional else placed place) }
+{
+    if is_conditional {
+        return Err(BreakpointFault::Conditional);
+    }
+    match place {
+        None => Err(BreakpointFault::Unplaced),
+        Some(place) => Ok(place),
     }
 }
 
-/// Puts an item behind a list.
-fn push<T: Drop>(list: &mut Vec<T>, item: T) -> Result<(), RequestFault>
-    ensures ok { OnOk result (list.new.items ≡ list.old.items ++ item ∷ []) }
-    ensures err { IfErr result (λ fault. fault ≡ Memory) }
+/// Whether it is to stop on a condition, after a count, or to tell a text in place of stopping.
+fn is_conditional(breakpoint: &Value) -> bool
+    ensures { result ≡ is_conditional (view breakpoint.now) }
 {
-    match list.push(item) {
-        Ok(()) => Ok(()),
-        Err(fault) => Err(RequestFault::from(AllocError::from(fault))),
+    !is_absent(breakpoint.get("condition"))
+        || !is_absent(breakpoint.get("hitCondition"))
+        || !is_absent(breakpoint.get("logMessage"))
+}
+
+/// Whether a value is not there, or is `null`.
+pub(crate) fn is_absent(value: Option<&Value>) -> bool
+    ensures { result ≡ is_absent (option_map (λ v. view v.now) value.entry) }
+{
+    match value {
+        None => true,
+        Some(value) => value.is_null(),
     }
 }

@@ -2,10 +2,10 @@
 ghost use Rattle.std.specs.Prelude.{◌≡◌, IfOk, codes};
 ghost use Rattle.serde_json.specs.Data.{no_members, object};
 ghost use Rattle.serde_json.specs.View.{view};
-ghost use Rattle.adapter_messages.specs.Replies.{array_of, body_of, breakpoint, capabilities, file_name, file_scope, frames, known_scope, not_watchable, only, scopes, source, variable, watchable};
+ghost use Rattle.adapter_messages.specs.Replies.{array_of, body_of, breakpoint, capabilities, fault_text, file_name, file_scope, frames, known_scope, not_watchable, only, scopes, source, variable, watchable};
 ghost use Rattle.adapter_messages.specs.Replies as spec;
 
-use adapter_requests::{Breakpoint, Frame, Reply, Variable};
+use adapter_requests::{Breakpoint, BreakpointFault, Frame, Reply, Scopes, Variable};
 use serde_json::{Map, Value, json, push};
 use std::alloc::{AllocError, Global};
 use std::path::Path;
@@ -21,7 +21,7 @@ pub(crate) fn body_of(alloc: Global, program: &str, reply: &Reply) -> Result<Val
         Reply::NotWatchable => not_watchable(alloc),
         Reply::Threads => json!(in alloc; {"threads": [{"id": 1u64, "name": "gang"}]}),
         Reply::Frames(made) => frames(alloc, program, made),
-        Reply::Scopes => scopes(alloc),
+        Reply::Scopes(shown) => scopes(alloc, shown),
         Reply::Variables(found) => variables(alloc, found),
         Reply::Set(value) => json!(in alloc; {"value": value.as_str()}),
         Reply::Evaluated { text, reason: _ } => {
@@ -71,10 +71,33 @@ fn breakpoints(alloc: Global, made: &[Breakpoint]) -> Result<Value, AllocError>
 fn breakpoint_value(alloc: Global, breakpoint: &Breakpoint) -> Result<Value, AllocError>
     ensures { IfOk result (λ v. view v ≡ spec.breakpoint breakpoint.now) }
 {
-    match (breakpoint.number, breakpoint.line) {
-        (Some(id), Some(line)) => json!(in alloc; {"id": id, "line": line, "verified": true}),
-        (Some(id), None) => json!(in alloc; {"id": id, "verified": true}),
-        (None, _) => json!(in alloc; {"message": "nothing can stop here", "verified": false}),
+    match *breakpoint {
+        Breakpoint::Stands {
+            number,
+            line: Some(line),
+        } => json!(in alloc; {"id": number, "line": line, "verified": true}),
+        Breakpoint::Stands { number, line: None } => {
+            json!(in alloc; {"id": number, "verified": true})
+        }
+        Breakpoint::Refused(fault) => {
+            json!(in alloc; {"message": fault_text(fault), "verified": false})
+        }
+    }
+}
+
+/// Why a breakpoint or a watch is not there.
+fn fault_text(fault: BreakpointFault) -> &'static str
+    ensures { result.now ≡ fault_text fault }
+{
+    match fault {
+        BreakpointFault::Unplaced => "its line or target is missing or of a wrong type",
+        BreakpointFault::Conditional => "conditions, counts and log messages are not there",
+        BreakpointFault::OtherSource => "this source is not the program's",
+        BreakpointFault::NoStep => "no step stands on this line or behind it",
+        BreakpointFault::NotWatched => {
+            "only scalars of the file, their lanes and elements of arrays are watched"
+        }
+        BreakpointFault::Full => "no more breakpoints and watches can be there",
     }
 }
 
@@ -146,12 +169,12 @@ fn file_name(path: &str) -> &str
 }
 
 /// The scopes of a frame.
-fn scopes(alloc: Global) -> Result<Value, AllocError>
-    ensures { IfOk result (λ v. view v ≡ only (codes "scopes") scopes) }
+fn scopes(alloc: Global, shown: &Scopes) -> Result<Value, AllocError>
+    ensures { IfOk result (λ v. view v ≡ only (codes "scopes") (scopes shown.now)) }
 {
-    let locals = known_scope(alloc, "Locals", "locals", 1)?;
-    let arguments = known_scope(alloc, "Arguments", "arguments", 3)?;
-    let file = file_scope(alloc)?;
+    let locals = known_scope(alloc, "Locals", "locals", shown.locals)?;
+    let arguments = known_scope(alloc, "Arguments", "arguments", shown.arguments)?;
+    let file = file_scope(alloc, shown.file)?;
     json!(in alloc; {"scopes": [locals, arguments, file]})
 }
 
@@ -168,10 +191,10 @@ fn known_scope(alloc: Global, name: &str, kind: &str, reference: u64) -> Result<
 }
 
 /// The variables of the file.
-fn file_scope(alloc: Global) -> Result<Value, AllocError>
-    ensures { IfOk result (λ v. view v ≡ file_scope) }
+fn file_scope(alloc: Global, reference: u64) -> Result<Value, AllocError>
+    ensures { IfOk result (λ v. view v ≡ file_scope reference) }
 {
-    json!(in alloc; {"expensive": false, "name": "File", "variablesReference": 2u64})
+    json!(in alloc; {"expensive": false, "name": "File", "variablesReference": reference})
 }
 
 /// Variables.

@@ -1,12 +1,12 @@
 //! Requests from JSON.
-ghost use Rattle.std.specs.Prelude.{◌≡◌, IfErr, IfNone, IfOk, IfSome, None, OnErr, OnOk, Some, codes, option_and_then};
-ghost use Rattle.serde_json.specs.Find.{as_number, as_str, as_u64, get};
+ghost use Rattle.std.specs.Prelude.{◌≡◌, IfErr, IfNone, IfOk, IfSome, None, OnErr, OnOk, Some, codes, if◌then◌else◌, option_and_then};
+ghost use Rattle.serde_json.specs.Find.{as_number, as_str, as_u64, get, pointer};
 ghost use Rattle.serde_json.specs.View.{view};
-ghost use Rattle.adapter_messages.specs.Arguments.{IsRequest, IsRequestNamed, head_of, text_of};
-ghost use Rattle.adapter_messages.specs.Faults.{IsRefused, IsRefusedNamed, NamesArgument, first_missing, missing, needs};
+ghost use Rattle.adapter_messages.specs.Arguments.{IsRequest, IsRequestNamed, flag_at, head_of, in_console, is_right, number_at, text_at, text_of};
+ghost use Rattle.adapter_messages.specs.Faults.{IsRefused, IsRefusedNamed, NamesArgument, first_missing, launch_options, missing, needs};
 ghost use Rattle.adapter_messages.specs.declared.requests.RequestFault.TheVariants.{Memory};
 
-use crate::arguments::{flag_at, lines_of, number_at, targets_of, text_at};
+use crate::arguments::{flag_at, is_absent, lines_of, number_at, targets_of, text_at};
 use crate::names::{Name, named};
 use adapter_requests::{Launch, Request};
 use debug_words::is_same;
@@ -78,7 +78,7 @@ pub fn read_request<'a>(
         Name::ConfigurationDone => Ok(Request::ConfigurationDone),
         Name::Threads => Ok(Request::Threads),
         Name::StackTrace => Ok(Request::StackTrace),
-        Name::Scopes => Ok(Request::Scopes),
+        Name::Scopes => read_scopes(message),
         Name::Variables => read_variables(message),
         Name::SetVariable => read_set_variable(message),
         Name::Evaluate => read_evaluate(message),
@@ -100,6 +100,9 @@ fn read_launch(message: &Value) -> Result<Request<'_>, RequestFault>
     ensures refused { IfErr result (IsRefusedNamed Name.Launch (view message.now)) }
 {
     let program = needed(text_at(message, "/arguments/program"), "program")?;
+    if let Some(argument) = wrong_option(message) {
+        return Err(RequestFault::Argument(argument));
+    }
     Ok(Request::Launch(Launch {
         program,
         input: text_at(message, "/arguments/input"),
@@ -109,6 +112,55 @@ fn read_launch(message: &Value) -> Result<Request<'_>, RequestFault>
         steps: number_at(message, "/arguments/steps"),
         stops_on_entry: flag_at(message, "/arguments/stopOnEntry").unwrap_or(true),
     }))
+}
+
+/// The first of the arguments of a launch that may be left out which is there by a wrong type.
+fn wrong_option(message: &Value) -> Option<&'static str>
+    ensures { text_of result ≡ first_missing (launch_options (view message.now)) }
+{
+    let stop = is_right_flag(message, "/arguments/stopOnEntry");
+    let wrong = wrong_or(stop, "stopOnEntry", None);
+    let wrong = wrong_or(is_right_number(message, "/arguments/steps"), "steps", wrong);
+    let wrong = wrong_or(
+        is_right_number(message, "/arguments/history"),
+        "history",
+        wrong,
+    );
+    let wrong = wrong_or(is_right_number(message, "/arguments/width"), "width", wrong);
+    let wrong = wrong_or(is_right_text(message, "/arguments/entry"), "entry", wrong);
+    wrong_or(is_right_text(message, "/arguments/input"), "input", wrong)
+}
+
+/// An argument, where it is of a wrong type; else the first of those behind it that is.
+fn wrong_or(
+    is_right: bool,
+    argument: &'static str,
+    behind: Option<&'static str>,
+) -> Option<&'static str>
+    ensures { text_of result ≡ (if is_right then text_of behind.entry else Some argument.now) }
+{
+    if is_right { behind } else { Some(argument) }
+}
+
+/// Whether a place of a message has a text, or nothing.
+fn is_right_text(message: &Value, path: &str) -> bool
+    ensures { result ≡ is_right (text_at path.now (view message.now)) (pointer path.now (view message.now)) }
+{
+    text_at(message, path).is_some() || is_absent(message.pointer(path))
+}
+
+/// Whether a place of a message has a number, or nothing.
+fn is_right_number(message: &Value, path: &str) -> bool
+    ensures { result ≡ is_right (number_at path.now (view message.now)) (pointer path.now (view message.now)) }
+{
+    number_at(message, path).is_some() || is_absent(message.pointer(path))
+}
+
+/// Whether a place of a message has a truth value, or nothing.
+fn is_right_flag(message: &Value, path: &str) -> bool
+    ensures { result ≡ is_right (flag_at path.now (view message.now)) (pointer path.now (view message.now)) }
+{
+    flag_at(message, path).is_some() || is_absent(message.pointer(path))
 }
 
 /// The breakpoints of a source.
@@ -156,15 +208,34 @@ fn read_variables(message: &Value) -> Result<Request<'_>, RequestFault>
     }
 }
 
+/// The scopes of a frame.
+fn read_scopes(message: &Value) -> Result<Request<'_>, RequestFault>
+    ensures accepted { IfOk result (λ request. IsRequestNamed Name.Scopes (view message.now) request) }
+    ensures complete { OnOk result (first_missing (needs Name.Scopes (view message.now)) ≡ None) }
+    ensures refused { IfErr result (IsRefusedNamed Name.Scopes (view message.now)) }
+{
+    match number_at(message, "/arguments/frameId") {
+        Some(frame) => Ok(Request::Scopes { frame }),
+        None => Err(RequestFault::Argument("frameId")),
+    }
+}
+
 /// A variable that is set.
 fn read_set_variable(message: &Value) -> Result<Request<'_>, RequestFault>
     ensures accepted { IfOk result (λ request. IsRequestNamed Name.SetVariable (view message.now) request) }
     ensures complete { OnOk result (first_missing (needs Name.SetVariable (view message.now)) ≡ None) }
     ensures refused { IfErr result (IsRefusedNamed Name.SetVariable (view message.now)) }
 {
+    let Some(reference) = number_at(message, "/arguments/variablesReference") else {
+        return Err(RequestFault::Argument("variablesReference"));
+    };
     let name = needed(text_at(message, "/arguments/name"), "name")?;
     let value = needed(text_at(message, "/arguments/value"), "value")?;
-    Ok(Request::SetVariable { name, value })
+    Ok(Request::SetVariable {
+        reference,
+        name,
+        value,
+    })
 }
 
 /// An expression that is evaluated.
@@ -174,14 +245,21 @@ fn read_evaluate(message: &Value) -> Result<Request<'_>, RequestFault>
     ensures refused { IfErr result (IsRefusedNamed Name.Evaluate (view message.now)) }
 {
     let expression = needed(text_at(message, "/arguments/expression"), "expression")?;
-    let is_console = match text_at(message, "/arguments/context") {
-        Some(context) => is_same(context.as_bytes(), b"repl"),
-        None => false,
-    };
     Ok(Request::Evaluate {
         expression,
-        is_console,
+        frame: number_at(message, "/arguments/frameId"),
+        is_console: is_console(message),
     })
+}
+
+/// Whether an expression stands in the console.
+fn is_console(message: &Value) -> bool
+    ensures { result ≡ in_console (text_at (codes "/arguments/context") (view message.now)) }
+{
+    match text_at(message, "/arguments/context") {
+        Some(context) => is_same(context.as_bytes(), b"repl"),
+        None => false,
+    }
 }
 
 /// An argument that must be there.

@@ -1,5 +1,5 @@
 -- Worked rows of what an editor is told.
-use Rattle.std.proofs.Common.{◌≡◌, refl, ap, ℕ, Bool, true, false, List, [], ◌∷◌, ◌++◌, Some, None, codes, map, string_bytes, arith}
+use Rattle.std.proofs.Common.{◌≡◌, refl, ap, ℕ, true, false, List, [], ◌∷◌, ◌++◌, Some, None, Ok, Err, codes, map, string_bytes, arith}
 use Rattle.std.specs.Fmt.{digits}
 use Rattle.std.proofs.lemmas.Str.{IsUtf8-from_ascii, utf8_lossy-IsUtf8}
 use Rattle.std.proofs.lemmas.Str.Ascii.{IsAscii-cons, IsAscii-nil}
@@ -14,13 +14,16 @@ use Rattle.gang_model.specs.Debugger.Debugger.{Line, Setting, Stop, Target, Watc
 use Rattle.gang_model.specs.Texts.Text.{Bytes, bits}
 use Rattle.debug_answers.specs.declared.answer.Answer.TheVariants as answer
 use Rattle.debug_answers.specs.declared.answer.Refusal.TheVariants as refusal
+use Rattle.adapter_requests.specs.declared.reply.Breakpoint.TheVariants.{Stands, Refused}
+use Rattle.adapter_requests.specs.declared.reply.BreakpointFault.TheVariants as fault
 use Rattle.adapter_requests.specs.declared.reply.Reply.TheVariants as reply
 use Rattle.adapter_requests.specs.declared.reply.StopReason.TheVariants as reason
 use Rattle.adapter_requests.specs.declared.request.Request.TheVariants as request
 use Rattle.adapter_replies.specs.declared.places.Place.TheVariants as place
 use Rattle.adapter_replies.specs.Breakpoints.{breakpoint_of, is_part, told_breakpoint, watches_target}
 use Rattle.adapter_replies.specs.Frames.{all_frames, call_frame, call_told, calls_told, frame_name, standing_frame}
-use Rattle.adapter_replies.specs.References.{place_of}
+use Rattle.adapter_replies.specs.declared.places.Scope.TheVariants.{Locals, Arguments}
+use Rattle.adapter_replies.specs.References.{is_set_there, place_now, place_of}
 use Rattle.adapter_replies.specs.Shown.{shown_text, without_end}
 use Rattle.adapter_replies.specs.Stopped.{reason_of}
 use Rattle.adapter_replies.specs.Told.{IsEvaluated, IsMoveTold, fixed_reply}
@@ -28,14 +31,33 @@ use Rattle.adapter_replies.specs.Variables.{told_parts, type_text, values, whole
 
 -- ---- references
 
-parameters : place_of 3 ≡ place.Arguments
-parameters = refl
+locals_of_the_entry : place_of 11 ≡ place.Variables Locals 1
+locals_of_the_entry = refl
 
-first_local : place_of 4 ≡ place.Local 0
+parameters_at_depth_64 : place_of 642 ≡ place.Variables Arguments 64
+parameters_at_depth_64 = refl
+
+first_local : place_of 13 ≡ place.Parts Locals 1 0
 first_local = refl
 
-second_parameter : place_of 9 ≡ place.Argument 1
+second_parameter : place_of 1034 ≡ place.Parts Arguments 3 1
 second_parameter = refl
+
+third_of_file : place_of 2006 ≡ place.OfFile 2
+third_of_file = refl
+
+-- of a program at depth 2 no frame is at depth 3
+frame_that_is_gone : place_now 2 31 ≡ place.Nothing
+frame_that_is_gone = refl
+
+outer_frame : place_now 2 11 ≡ place.Variables Locals 1
+outer_frame = refl
+
+set_in_the_top_frame : is_set_there 2 (place_of 21) ≡ true
+set_in_the_top_frame = refl
+
+not_set_in_the_outer_frame : is_set_there 2 (place_of 11) ≡ false
+not_set_in_the_outer_frame = refl
 
 no_reference : place_of 0 ≡ place.Nothing
 no_reference = refl
@@ -115,14 +137,20 @@ move_behind_the_end text = refl
 abbrev on_two_lines : List (ℕ × Stop)
 on_two_lines = (2, Line 7) ∷ (3, Line 5) ∷ (4, Line 5) ∷ []
 
-least_number : breakpoint_of on_two_lines (Some 5) ≡ record { number = Some 3; line = Some 5 }
+least_number : breakpoint_of on_two_lines (Some 5) ≡ Stands 3 (Some 5)
 least_number = refl
 
-no_number : breakpoint_of on_two_lines (Some 6) ≡ record { number = None; line = Some 6 }
+no_number : breakpoint_of on_two_lines (Some 6) ≡ Refused fault.Full
 no_number = refl
 
-in_another_source : (s : Setting) → told_breakpoint s false on_two_lines 5 ≡ record { number = None; line = None }
+no_step : breakpoint_of on_two_lines None ≡ Refused fault.NoStep
+no_step = refl
+
+in_another_source : (s : Setting) → told_breakpoint s false on_two_lines (Ok 5) ≡ Refused fault.OtherSource
 in_another_source s = refl
+
+on_a_condition : (s : Setting) → told_breakpoint s true on_two_lines (Err fault.Conditional) ≡ Refused fault.Conditional
+on_a_condition s = refl
 
 -- ---- watches
 
@@ -163,9 +191,6 @@ part_of_a_scalar : is_part (Some 0) false rate.Uniform 1 ≡ false
 part_of_a_scalar = refl
 
 -- ---- by the last answer
-
-nothing_to_evaluate : (is_console : Bool) (text words : Bytes) → IsEvaluated is_console None text words reply.Done
-nothing_to_evaluate is_console text words = refl
 
 -- an expression is told its values alone, a line of the console its answer
 values_alone : (target : _) (shown : _) (told : _) (text : Bytes) → IsEvaluated false (Some (answer.Shows target shown)) text (string_bytes told) (reply.Evaluated told None)

@@ -1,25 +1,25 @@
 -- The variables that an editor is told, one after another, and the texts of their values.
-use Rattle.std.proofs.Common.{◌≡◌, refl, sym, ap, ◌∙◌, ℕ, zero, suc, ◌+◌, ◌/◌, ◌%◌, ◌<◌, ◌≤◌, Bool, true, false, List, [], ◌∷◌, ◌++◌, length, drop, take, map, Option, Some, None, codes, decimal, add-one, append_assoc, append-nil, arith}
-use Rattle.std.specs.Prelude.{nat_lt, ◌==◌, ℤ, pos, negsuc, filter, slice_get, if◌then◌else◌}
+use Rattle.std.proofs.Common.{◌≡◌, refl, sym, ap, ◌∙◌, ℕ, zero, suc, ◌+◌, ◌/◌, ◌%◌, ◌<◌, Bool, true, false, List, [], ◌∷◌, ◌++◌, length, drop, get_or, take, Option, Some, None, Result, Ok, Err, codes, decimal, add-one, append_assoc, append-nil, arith}
+use Rattle.std.specs.Prelude.{nat_lt, ◌==◌, ℤ, pos, negsuc, if◌then◌else◌, is_err}
 use Rattle.std.specs.Fmt.{digits, digits_onto, digit_glyph, signed_decimal}
 use Rattle.std.specs.Str.{IsAscii}
 use Rattle.std.specs.Str.Lossy.{utf8_lossy}
-use Rattle.std.proofs.Math.Seq.{take-suc}
-use Rattle.std.proofs.lemmas.List.{map-append, take_all}
-use Rattle.std.proofs.lemmas.Option.{get_or_from_slice_get, slice_get_within}
-use Rattle.std.proofs.lemmas.List.Elements.{filter-append}
 use Rattle.std.proofs.lemmas.Str.{IsAscii-append, IsUtf8-from_ascii, utf8_lossy-IsUtf8}
 use Rattle.std.proofs.lemmas.Str.Ascii.{IsAscii-cons, IsAscii-nil}
 use Rattle.gang_types.specs.declared.types.IntType.{IntType}
 use Rattle.gang_types.specs.declared.types.IntType.TheVariants as t
 use Rattle.gang_types.specs.Values.{value_of}
 use Rattle.gang_model.specs.Types.Tree.{Variable}
-use Rattle.gang_model.specs.Debugger.Debugger.{Debugger, Setting, now, shown_words}
+use Rattle.gang_model.specs.Debugger.Debugger.{Debugger, Setting}
 use Rattle.gang_model.specs.Texts.Text.{word_text}
 use Rattle.debug_traits.specs.declared.machine.NamedVariable.{NamedVariable}
-use Rattle.debug_traits.specs.Machines.{ShowsNamed}
+use Rattle.debug_traits.specs.Devices.{Writes}
+use Rattle.debug_traits.specs.Frames.{ShowsNamedAt}
 use Rattle.debug_texts.specs.Wording.{value_text, values_text}
-use Rattle.adapter_replies.specs.Variables.{ToldVariable, is_found, told_all, told_whole, values}
+use Rattle.debug_texts.proofs.Pieces.{flat_more}
+use Rattle.adapter_replies.specs.declared.places.Place.{Place}
+use Rattle.adapter_replies.specs.References.{within}
+use Rattle.adapter_replies.specs.Variables.{ShowsOptionAt, ToldVariable, told_each, told_one, values}
 
 -- ---- the text of values is of ASCII characters
 
@@ -72,51 +72,48 @@ values_shown type (word ∷ words) =
     let text = word_text type word ++ values_text type words in
     utf8_lossy-IsUtf8 text (IsUtf8-from_ascii text (IsAscii-append (word_text type word) (values_text type words) (word_ascii type word) (values_ascii type words)))
 
+-- ---- what is written
+
+-- what a writer has behind what it had
+pub written : {X E : Type 0} (text old new : List ℕ) (failed : Bool) (r : Result X E) → Writes text (Some old) (Some new) failed r → is_err r ≡ false → new ≡ old ++ text
+written text old new failed (Ok x) (wrote, fine) is = wrote
+written text old new failed (Err e) wrote is = absurd (cc)
+
+pub still_works : {X E : Type 0} (text old new : List ℕ) (failed : Bool) (r : Result X E) → Writes text (Some old) (Some new) failed r → is_err r ≡ false → failed ≡ false
+still_works text old new failed (Ok x) (wrote, fine) is = fine
+still_works text old new failed (Err e) wrote is = absurd (cc)
+
+-- the values of some words and of one more, at any default
+pub values_more : (type : IntType) (words : List ℕ) (i d : ℕ) (old new : List ℕ) → i < length words → old ≡ values_text type (take i words) → new ≡ old ++ value_text type (get_or words i d)
+    → new ≡ values_text type (take (i + 1) words)
+values_more type words i d old new within so more = more ∙ ap (λ all. all ++ value_text type (get_or words i d)) so ∙ sym (flat_more (value_text type) words i d within)
+
 -- ---- one variable after another
 
 -- a variable that is told by its name, or none
-pub named : (s : Setting) (d : Debugger) (given : Option Variable) (told : NamedVariable) → ShowsNamed s d given (Some told) → (v : Variable) × (given ≡ Some v) × ShowsNamed s d (Some v) (Some told)
-named s d None told h = absurd h
-named s d (Some v) told h = (v, refl, h)
+pub named : (s : Setting) (d : Debugger) (deep : ℕ) (given : Option Variable) (told : NamedVariable) → ShowsOptionAt s d deep given (Some told)
+    → (v : Variable) × (given ≡ Some v) × ShowsNamedAt s d deep v told
+named s d deep None told h = absurd h
+named s d deep (Some v) told h = (v, refl, h)
 
-pub unnamed : (s : Setting) (d : Debugger) (given : Option Variable) → ShowsNamed s d given None → given ≡ None
-unnamed s d None h = refl
-unnamed s d (Some v) h = absurd h
+pub unnamed : (s : Setting) (d : Debugger) (deep : ℕ) (given : Option Variable) → ShowsOptionAt s d deep given None → given ≡ None
+unnamed s d deep None h = refl
+unnamed s d deep (Some v) h = absurd h
 
-module _ (s : Setting) (d : Debugger) where
-  told_append : (xs ys : List Variable) → told_all s d (xs ++ ys) ≡ told_all s d xs ++ told_all s d ys
-  told_append xs ys =
-      ap (map (λ v. told_whole v (shown_words (now s d) v))) (filter-append (λ v. is_found s d v) xs ys)
-      ∙ map-append (λ v. told_whole v (shown_words (now s d) v)) (filter (λ v. is_found s d v) xs) (filter (λ v. is_found s d v) ys)
-
+module _ (s : Setting) (d : Debugger) (deep : ℕ) (at : ℕ → Place) where
   -- one variable more, of those that are left
-  pub told_next : (all old new : List ToldVariable) (here rest : List Variable) (v : Variable) → all ≡ old ++ told_all s d here → here ≡ v ∷ rest → new ≡ old ++ told_all s d (v ∷ [])
-      → all ≡ new ++ told_all s d rest
-  told_next all old new here rest v so is more =
-      so ∙ ap (λ vs. old ++ told_all s d vs) is ∙ ap (λ told. old ++ told) (told_append (v ∷ []) rest)
-      ∙ sym (append_assoc old (told_all s d (v ∷ [])) (told_all s d rest)) ∙ ap (λ told. told ++ told_all s d rest) (sym more)
+  pub told_next : (all old new : List ToldVariable) (number : ℕ) (here rest : List Variable) (v : Variable) (parts : Place) → all ≡ old ++ told_each s d deep at number here → here ≡ v ∷ rest
+      → parts ≡ within (at number) → new ≡ old ++ told_one s d deep parts v → all ≡ new ++ told_each s d deep at (number + 1) rest
+  told_next all old new number here rest v parts so is where_is more =
+      let one = told_one s d deep (within (at number)) v in
+      let others = told_each s d deep at (suc number) rest in
+      so
+      ∙ ap (λ vs. old ++ told_each s d deep at number vs) is
+      ∙ sym (append_assoc old one others)
+      ∙ ap (λ p. (old ++ told_one s d deep p v) ++ others) (sym where_is)
+      ∙ ap (λ told. told ++ others) (sym more)
+      ∙ ap (λ n. new ++ told_each s d deep at n rest) (sym (add-one number))
 
   -- none is left
-  pub told_last : (all told : List ToldVariable) (here : List Variable) → all ≡ told ++ told_all s d here → here ≡ [] → told ≡ all
-  told_last all told here so none = sym (so ∙ ap (λ vs. told ++ told_all s d vs) none ∙ append-nil told)
-
-  -- the one at an index more
-  taken_more : (vs : List Variable) (i : ℕ) (v : Variable) → slice_get vs i ≡ Some v → take (i + 1) vs ≡ take i vs ++ v ∷ []
-  taken_more vs i v is =
-      ap (λ n. take n vs) (add-one i) ∙ take-suc vs i v (slice_get_within vs i v is) ∙ ap (λ w. take i vs ++ w ∷ []) (get_or_from_slice_get vs i v v is)
-
-  pub told_more : (old new : List ToldVariable) (vs : List Variable) (i : ℕ) (v : Variable) → old ≡ told_all s d (take i vs) → slice_get vs i ≡ Some v → new ≡ old ++ told_all s d (v ∷ [])
-      → new ≡ told_all s d (take (i + 1) vs)
-  told_more old new vs i v so is more =
-      more ∙ ap (λ told. told ++ told_all s d (v ∷ [])) so ∙ sym (told_append (take i vs) (v ∷ [])) ∙ ap (told_all s d) (sym (taken_more vs i v is))
-
-  past : (vs : List Variable) (i : ℕ) → slice_get vs i ≡ None → length vs ≤ i
-  past [] i is = omega arith
-  past (v ∷ vs) zero is = absurd (cc)
-  past (v ∷ vs) (suc i) is = let rest = past vs i is in omega (arith, rest)
-
-  -- there is none at an index, so there are no more than before it
-  pub told_short : (told : List ToldVariable) (vs : List Variable) (i n : ℕ) → told ≡ told_all s d (take i vs) → slice_get vs i ≡ None → i < n → told ≡ told_all s d (take n vs)
-  told_short told vs i n so is less =
-      let few = past vs i is in
-      so ∙ ap (told_all s d) (take_all i vs few ∙ sym (take_all n vs (omega (arith, few))))
+  pub told_last : (all told : List ToldVariable) (number : ℕ) (here : List Variable) → all ≡ told ++ told_each s d deep at number here → here ≡ [] → told ≡ all
+  told_last all told number here so none = sym (so ∙ ap (λ vs. told ++ told_each s d deep at number vs) none ∙ append-nil told)

@@ -1,5 +1,6 @@
 -- The breakpoints and watches that an editor is told.
-use Rattle.std.specs.Prelude.{◌≡◌, ℕ, Bool, true, false, ◌==◌, ◌&&◌, ◌++◌, List, length, Option, Some, None, is_none, codes, slice_get, string_bytes}
+use Rattle.std.specs.Prelude.{◌≡◌, ℕ, Bool, true, false, ◌==◌, ◌&&◌, ◌++◌, List, length, Option, Some, None, Result, Ok, Err, is_none, codes, slice_get, string_bytes}
+use Rattle.std.specs.Borrow.{Bor}
 use Rattle.gang_model.specs.Source.Names.{same_text}
 use Rattle.gang_types.specs.declared.types.Rate.{Rate}
 use Rattle.gang_model.specs.Types.Tree.{Variable}
@@ -8,18 +9,27 @@ use Rattle.gang_model.specs.Texts.CommandText.{command_of}
 use Rattle.gang_model.specs.Texts.Text.{Bytes}
 use Rattle.debug_traits.specs.Machines.{file_variables}
 use Rattle.adapter_requests.specs.declared.reply.Breakpoint.{Breakpoint}
+use Rattle.adapter_requests.specs.declared.reply.Breakpoint.TheVariants.{Stands, Refused}
+use Rattle.adapter_requests.specs.declared.reply.BreakpointFault.{BreakpointFault}
+use Rattle.adapter_requests.specs.declared.reply.BreakpointFault.TheVariants as fault
 use Rattle.adapter_requests.specs.declared.reply.Reply.{Reply}
 use Rattle.adapter_requests.specs.declared.reply.Reply.TheVariants as reply
 
--- the breakpoint on a line with its number among those that there are
+-- a breakpoint or a watch by its number, and its line if it has one; without a number it is not there for this reason
+abbrev pub standing : Option ℕ → (line : Option ℕ) → BreakpointFault → Breakpoint
+standing (Some number) line why = Stands number line
+standing None line why = Refused why
+
+-- the breakpoint on a line among those that there are: where it is not there no more can be
 abbrev pub breakpoint_of : List (ℕ × Stop) → Option ℕ → Breakpoint
-breakpoint_of stops None = record { number = None; line = None }
-breakpoint_of stops (Some line) = record { number = first_stop (on_line (Some line)) stops; line = Some line }
+breakpoint_of stops None = Refused fault.NoStep
+breakpoint_of stops (Some line) = standing (first_stop (on_line (Some line)) stops) (Some line) fault.Full
 
 -- the one that was asked for on a line: it stands on the first line from there on that has a place; another source has none
-abbrev pub told_breakpoint : Setting → (is_program : Bool) → List (ℕ × Stop) → ℕ → Breakpoint
-told_breakpoint s false stops line = breakpoint_of stops None
-told_breakpoint s true stops line = breakpoint_of stops (least_from line (step_lines s.program))
+abbrev pub told_breakpoint : Setting → (is_program : Bool) → List (ℕ × Stop) → Result ℕ BreakpointFault → Breakpoint
+told_breakpoint s is_program stops (Err why) = Refused why
+told_breakpoint s false stops (Ok line) = Refused fault.OtherSource
+told_breakpoint s true stops (Ok line) = breakpoint_of stops (least_from line (step_lines s.program))
 
 -- the same index, or none
 abbrev pub same_index : Option ℕ → Option ℕ → Bool
@@ -36,10 +46,6 @@ watches_target target (Watch other v) = same_text other.name target.name && same
 abbrev pub watch_number : Option Command → List (ℕ × Stop) → Option ℕ
 watch_number (Some (DoWatch target)) stops = first_stop (watches_target target) stops
 watch_number other stops = None
-
--- the watch of a target, as `watch` takes it
-abbrev pub told_watch : List (ℕ × Stop) → Bytes → Breakpoint
-told_watch stops text = record { number = watch_number (command_of (codes "watch " ++ text)) stops; line = None }
 
 abbrev pub is_called : Bytes → Option Variable → Bool
 is_called name None = false
@@ -66,6 +72,16 @@ can_watch s d other = false
 -- whether a text names what can be watched, as `watch` takes it
 abbrev pub is_watchable : Setting → Debugger → Bytes → Bool
 is_watchable s d text = can_watch s d (command_of (codes "watch " ++ text))
+
+-- why a watch of what can be watched, or cannot, is not there
+abbrev pub no_watch : (is_watchable : Bool) → BreakpointFault
+no_watch true = fault.Full
+no_watch false = fault.NotWatched
+
+-- the watch of a target, as `watch` takes it
+abbrev pub told_watch : Setting → Debugger → List (ℕ × Stop) → Result (Bor Bytes) BreakpointFault → Breakpoint
+told_watch s d stops (Err why) = Refused why
+told_watch s d stops (Ok text) = standing (watch_number (command_of (codes "watch " ++ text.now)) stops) None (no_watch (is_watchable s d text.now))
 
 -- what an editor is told that asks whether a text can be watched: the text, or that it cannot
 abbrev pub IsWatchableTold : (is_watchable : Bool) → Bytes → Reply → Type 0

@@ -1,30 +1,54 @@
 -- What the references stand for by which an editor asks for variables.
-use Rattle.std.specs.Prelude.{ℕ, ◌-◌, ◌/◌, ◌%◌, ◌==◌, ◌||◌, nat_lt, List, [], slice_get, take, if◌then◌else◌}
-use Rattle.gang_model.specs.Types.Tree as model
-use Rattle.gang_model.specs.Debugger.Debugger.{Debugger, Setting, now}
-use Rattle.debug_traits.specs.Machines.{file_variables, listed, listed_parameters}
+use Rattle.std.specs.Prelude.{ℕ, Bool, true, false, ◌/◌, ◌%◌, ◌==◌, ◌&&◌, nat_lt, not, if◌then◌else◌}
 use Rattle.adapter_replies.specs.declared.places.Place.{Place}
 use Rattle.adapter_replies.specs.declared.places.Place.TheVariants as place
-use Rattle.adapter_replies.specs.Variables.{ToldVariable, told_all, told_first, told_option}
+use Rattle.adapter_replies.specs.declared.places.Scope.TheVariants.{Locals, Arguments}
 
--- the lanes or elements of a local variable, of one of the file or of a parameter, by its place or number
-abbrev pub part_of : ℕ → Place
-part_of n = if n % 3 == 0 then place.Local (n / 3) else (if n % 3 == 1 then place.OfFile (n / 3) else place.Argument (n / 3))
+-- what a kind, a depth and a number stand for: 1 and 2 the local variables and the parameters of the frame at the depth, 3 and 4 the parts of one of them
+-- by its number, 5 the variables of the file, 6 the parts of one of those
+abbrev pub numbered : (kind depth number : ℕ) → Place
+numbered kind deep number =
+    if kind == 1 then place.Variables Locals deep
+    else (if kind == 2 then place.Variables Arguments deep
+    else (if kind == 3 then place.Parts Locals deep number
+    else (if kind == 4 then place.Parts Arguments deep number
+    else (if kind == 5 then place.File
+    else (if kind == 6 then place.OfFile number else place.Nothing)))))
 
--- 1 the local variables, 2 those of the file, 3 the parameters; from 4 on the parts of one of them
+-- a reference is written NUMBER DEPTH KIND: two digits are the depth's, the last one is the kind's
 abbrev pub place_of : ℕ → Place
-place_of n =
-    if n == 1 then place.Locals
-    else (if n == 2 then place.File
-    else (if n == 3 then place.Arguments
-    else (if (n == 0) || nat_lt 2147483647 n then place.Nothing else part_of (n - 4))))
+place_of n = if nat_lt 2147483647 n then place.Nothing else numbered (n % 10) (n / 10 % 100) (n / 1000)
 
--- what is told of a reference, by the local variables and the parameters from a place on
-abbrev pub told_of : Setting → Debugger → (locals parameters : ℕ → List model.Variable) → Place → List ToldVariable
-told_of s d locals parameters place.Locals = told_all s d (listed s d)
-told_of s d locals parameters place.Arguments = told_all s d (listed_parameters s d)
-told_of s d locals parameters place.File = told_all s d (take 1000 (file_variables s))
-told_of s d locals parameters (place.Local at) = told_first (now s d) (locals at)
-told_of s d locals parameters (place.Argument at) = told_first (now s d) (parameters at)
-told_of s d locals parameters (place.OfFile number) = told_option (now s d) (slice_get (file_variables s) number)
-told_of s d locals parameters place.Nothing = []
+-- whether the protocol's numbers have room for a depth and a number
+abbrev pub has_room : (depth number : ℕ) → Bool
+has_room deep number = nat_lt deep 100 && nat_lt number 2147483
+
+-- what a reference can stand for; what there is no room for has none
+abbrev pub within : Place → Place
+within (place.Variables scope deep) = if has_room deep 0 then place.Variables scope deep else place.Nothing
+within (place.Parts scope deep number) = if has_room deep number then place.Parts scope deep number else place.Nothing
+within place.File = place.File
+within (place.OfFile number) = if has_room 0 number then place.OfFile number else place.Nothing
+within place.Nothing = place.Nothing
+
+-- whether a program of this depth has a frame at another one
+abbrev pub is_frame : (top depth : ℕ) → Bool
+is_frame top deep = nat_lt 0 deep && not (nat_lt top deep)
+
+-- whether what a reference stands for is in a frame that is there, or in none
+abbrev pub is_there : (top : ℕ) → Place → Bool
+is_there top (place.Variables scope deep) = is_frame top deep
+is_there top (place.Parts scope deep number) = is_frame top deep
+is_there top other = true
+
+-- what a reference stands for where the program has this depth
+abbrev pub place_now : (top reference : ℕ) → Place
+place_now top reference = if is_there top (place_of reference) then place_of reference else place.Nothing
+
+-- whether a variable is set that is one of those of a reference: in the top frame, or in the file
+abbrev pub is_set_there : (top : ℕ) → Place → Bool
+is_set_there top (place.Variables scope deep) = deep == top
+is_set_there top (place.Parts scope deep number) = deep == top
+is_set_there top place.File = true
+is_set_there top (place.OfFile number) = true
+is_set_there top place.Nothing = false

@@ -1,15 +1,16 @@
 -- What each request is told.
 use Rattle.std.specs.Prelude.{◌≡◌, ℕ, Bool, true, false, List, [], ◌++◌, map, codes, string_bytes, Option, Some, None}
-use Rattle.gang_model.specs.Types.Tree as tree
 use Rattle.gang_model.specs.Running.State.{State}
 use Rattle.gang_model.specs.Debugger.Debugger as model
-use Rattle.gang_model.specs.Debugger.Debugger.{Debugger, Setting, now, target_words}
+use Rattle.gang_model.specs.Types.Tree.{Variable}
+use Rattle.gang_model.specs.Debugger.Debugger.{Debugger, Setting, depth, now, target_words}
 use Rattle.gang_model.specs.Texts.Text.{Bytes}
 use Rattle.debug_answers.specs.declared.answer.Answer.{Answer}
 use Rattle.debug_answers.specs.declared.answer.Answer.TheVariants as answer
 use Rattle.debug_answers.specs.declared.answer.Refusal.TheVariants as refusal
 use Rattle.debug_answers.specs.Meanings.{Means}
 use Rattle.debug_session.specs.Sessions.{is_refused}
+use Rattle.debug_traits.specs.Frames.{found_at}
 use Rattle.adapter_requests.specs.declared.reply.Breakpoint.{Breakpoint}
 use Rattle.adapter_requests.specs.declared.reply.StopReason.{StopReason}
 use Rattle.adapter_requests.specs.declared.reply.Reply.{Reply}
@@ -18,10 +19,13 @@ use Rattle.adapter_requests.specs.declared.request.Request.{Request}
 use Rattle.adapter_requests.specs.declared.request.Request.TheVariants as request
 use Rattle.adapter_replies.specs.Breakpoints.{IsWatchableTold, is_watchable, told_breakpoint, told_watch}
 use Rattle.adapter_replies.specs.Frames.{ToldFrame, all_frames, frame_view}
-use Rattle.adapter_replies.specs.References.{place_of, told_of}
+use Rattle.adapter_replies.specs.References.{is_frame, place_of, within}
+use Rattle.adapter_replies.specs.declared.places.Place.{Place}
+use Rattle.adapter_replies.specs.declared.places.Place.TheVariants as place
+use Rattle.adapter_replies.specs.declared.places.Scope.TheVariants.{Locals, Arguments}
 use Rattle.adapter_replies.specs.Shown.{shown_text}
 use Rattle.adapter_replies.specs.Stopped.{reason_of}
-use Rattle.adapter_replies.specs.Variables.{ToldVariable, values, variable_view}
+use Rattle.adapter_replies.specs.Variables.{ToldVariable, told_now, values, variable_view, words_at}
 
 -- the frames of a reply
 abbrev pub told_frames : Reply → Option (List ToldFrame)
@@ -33,18 +37,64 @@ abbrev pub told_variables : Reply → Option (List ToldVariable)
 told_variables (reply.Variables variables) = Some (map variable_view variables.items)
 told_variables other = None
 
--- what a request is told where a machine stands for a debugger, by the local variables and the parameters from a place on
-abbrev pub IsToldOf : Setting → Debugger → (locals parameters : ℕ → List tree.Variable) → Request → Reply → Type 0
-IsToldOf s d locals parameters request.StackTrace told = told_frames told ≡ Some (all_frames s.program (now s d).frames)
-IsToldOf s d locals parameters (request.Variables reference) told = told_variables told ≡ Some (told_of s d locals parameters (place_of reference))
-IsToldOf s d locals parameters (request.DataBreakpointInfo name) told = IsWatchableTold (is_watchable s d name.now) name.now told
-IsToldOf s d locals parameters other told = Unit {0}
+-- the text of a stop with its reason, or of a refusal
+abbrev pub told_stop : Reply → Option (Option StopReason × Bytes)
+told_stop (reply.Moved stop) = Some (Some stop.reason, string_bytes stop.text)
+told_stop (reply.Refused text) = Some (None, string_bytes text)
+told_stop other = None
+
+-- what a request for variables is told, or that there are none
+abbrev pub AreVariablesTold : Option (List ToldVariable) → Reply → Type 0
+AreVariablesTold None told = told_stop told ≡ Some (None, codes "nothing has this reference now")
+AreVariablesTold (Some variables) told = told_variables told ≡ Some variables
+
+-- what the references of a reply stand for: those of the local variables, of the parameters and of the variables of the file
+abbrev pub told_scopes : Reply → Option (Place × Place × Place)
+told_scopes (reply.Scopes shown) = Some (place_of shown.locals, place_of shown.arguments, place_of shown.file)
+told_scopes other = None
+
+-- a request for a frame that is not there is refused
+abbrev pub IsNoFrame : Reply → Type 0
+IsNoFrame told = told_stop told ≡ Some (None, codes "no frame has this number now")
+
+-- what a request for the scopes of a frame is told
+abbrev pub AreScopesTold : (is_frame : Bool) → (depth : ℕ) → Reply → Type 0
+AreScopesTold false deep told = IsNoFrame told
+AreScopesTold true deep told = told_scopes told ≡ Some (within (place.Variables Locals deep), within (place.Variables Arguments deep), place.File)
+
+-- the text of what was evaluated, with the reason of a stop
+abbrev pub told_value : Reply → Option (Option StopReason × Bytes)
+told_value (reply.Evaluated text reason) = Some (reason, string_bytes text)
+told_value other = None
+
+-- what is told of a name in the frame at a depth: the values of the variable that it finds there
+abbrev pub IsNameTold : Setting → Debugger → (depth : ℕ) → Option Variable → Reply → Type 0
+IsNameTold s d deep None told = told_stop told ≡ Some (None, codes "only the name of a variable is looked up in an outer frame")
+IsNameTold s d deep (Some v) told = told_value told ≡ Some (None, values v.type (words_at s d deep v))
+
+abbrev pub IsNameToldIn : (is_frame : Bool) → Setting → Debugger → (depth : ℕ) → (name : Bytes) → Reply → Type 0
+IsNameToldIn false s d deep name told = IsNoFrame told
+IsNameToldIn true s d deep name told = IsNameTold s d deep (found_at s.program deep (now s d) name) told
+
+-- what an expression is told for which no command was done: it is looked up in the frame that it names
+abbrev pub IsLookedUp : Setting → Debugger → Option Answer → (frame : Option ℕ) → (name : Bytes) → Reply → Type 0
+IsLookedUp s d (Some given) frame name told = Unit {0}
+IsLookedUp s d None None name told = told ≡ reply.Done
+IsLookedUp s d None (Some frame) name told = IsNameToldIn (is_frame (depth (now s d)) frame) s d frame name told
+
+-- what a request is told where a machine stands for a debugger
+abbrev pub IsToldOf : Setting → Debugger → (last : Option Answer) → Request → Reply → Type 0
+IsToldOf s d last request.StackTrace told = told_frames told ≡ Some (all_frames s.program (now s d).frames)
+IsToldOf s d last (request.Scopes frame) told = AreScopesTold (is_frame (depth (now s d)) frame) frame told
+IsToldOf s d last (request.Variables reference) told = AreVariablesTold (told_now s d reference) told
+IsToldOf s d last (request.Evaluate expression frame is_console) told = IsLookedUp s d last frame expression.now told
+IsToldOf s d last (request.DataBreakpointInfo name) told = IsWatchableTold (is_watchable s d name.now) name.now told
+IsToldOf s d last other told = Unit {0}
 
 -- what a request is told that has the same reply always
 abbrev pub fixed_reply : Request → Option Reply
 fixed_reply request.Initialize = Some reply.Capabilities
 fixed_reply request.Threads = Some reply.Threads
-fixed_reply request.Scopes = Some reply.Scopes
 fixed_reply request.SetExceptionBreakpoints = Some reply.Done
 fixed_reply request.ConfigurationDone = Some reply.Done
 fixed_reply request.Disconnect = Some reply.Done
@@ -65,10 +115,10 @@ told_breakpoints (reply.Breakpoints made) = Some made.items
 told_breakpoints other = None
 
 -- what a request for breakpoints or watches is told, each of them in order
-abbrev pub AreBreakpointsTold : Setting → (is_program : Bool) → List (ℕ × model.Stop) → Request → Reply → Type 0
-AreBreakpointsTold s is_program stops (request.SetBreakpoints source lines) told = told_breakpoints told ≡ Some (map (told_breakpoint s is_program stops) lines.items)
-AreBreakpointsTold s is_program stops (request.SetDataBreakpoints targets) told = told_breakpoints told ≡ Some (map (λ target. told_watch stops target.now) targets.items)
-AreBreakpointsTold s is_program stops other told = Unit {0}
+abbrev pub AreBreakpointsTold : Setting → Debugger → (is_program : Bool) → List (ℕ × model.Stop) → Request → Reply → Type 0
+AreBreakpointsTold s d is_program stops (request.SetBreakpoints source lines) told = told_breakpoints told ≡ Some (map (told_breakpoint s is_program stops) lines.items)
+AreBreakpointsTold s d is_program stops (request.SetDataBreakpoints targets) told = told_breakpoints told ≡ Some (map (told_watch s d stops) targets.items)
+AreBreakpointsTold s d is_program stops other told = Unit {0}
 
 -- ---- by the last answer
 
@@ -76,12 +126,6 @@ AreBreakpointsTold s is_program stops other told = Unit {0}
 abbrev pub MeansLast : Setting → Debugger → Option Answer → model.Answer → Type 0
 MeansLast s d None meant = Unit {0}
 MeansLast s d (Some given) meant = Means s d given meant
-
--- the text of a stop with its reason, or of a refusal
-abbrev pub told_stop : Reply → Option (Option StopReason × Bytes)
-told_stop (reply.Moved stop) = Some (Some stop.reason, string_bytes stop.text)
-told_stop (reply.Refused text) = Some (None, string_bytes text)
-told_stop other = None
 
 -- whether an answer refuses to move since the program has ended
 abbrev pub is_ended : Answer → Bool
@@ -97,17 +141,12 @@ abbrev pub IsMoveTold : Option Answer → Bytes → Reply → Type 0
 IsMoveTold None text told = told ≡ reply.Done
 IsMoveTold (Some given) text told = IsStopTold (is_ended given) given text told
 
--- what a request to set a variable is told: its values, or why it was not set
+-- what a request to set a variable is told: its values, or why it was not set; no command is done for one of an outer frame
 abbrev pub IsSetTold : Option Answer → (text values : Bytes) → Reply → Type 0
-IsSetTold None text values told = told ≡ reply.Done
+IsSetTold None text values told = told_stop told ≡ Some (None, codes "only a variable of the top frame or of the file can be set")
 IsSetTold (Some (answer.Shows target shown)) text values (reply.Set value) = string_bytes value ≡ values
 IsSetTold (Some (answer.Shows target shown)) text values told = ⊥
 IsSetTold (Some given) text values told = told_stop told ≡ Some (None, shown_text text)
-
--- the text of what was evaluated, with the reason of a stop
-abbrev pub told_value : Reply → Option (Option StopReason × Bytes)
-told_value (reply.Evaluated text reason) = Some (reason, string_bytes text)
-told_value other = None
 
 -- this text of an answer, with the reason of its stop, or as a refusal
 abbrev pub IsTextTold : (is_refused : Bool) → Answer → (shown : Bytes) → Reply → Type 0
@@ -123,9 +162,9 @@ abbrev pub IsValueTold : Answer → (text values : Bytes) → Reply → Type 0
 IsValueTold (answer.Shows target shown) text values told = told_value told ≡ Some (None, values)
 IsValueTold given text values told = IsLineTold given text told
 
--- what a request to evaluate is told
+-- what a request to evaluate is told by an answer
 abbrev pub IsEvaluated : (is_console : Bool) → Option Answer → (text values : Bytes) → Reply → Type 0
-IsEvaluated is_console None text values told = told ≡ reply.Done
+IsEvaluated is_console None text values told = Unit {0}
 IsEvaluated true (Some given) text values told = IsLineTold given text told
 IsEvaluated false (Some given) text values told = IsValueTold given text values told
 
@@ -142,6 +181,6 @@ IsAnswered last text values request.StepOut told = IsMoveTold last text told
 IsAnswered last text values request.Continue told = IsMoveTold last text told
 IsAnswered last text values request.StepBack told = IsMoveTold last text told
 IsAnswered last text values request.ReverseContinue told = IsMoveTold last text told
-IsAnswered last text values (request.SetVariable name value) told = IsSetTold last text values told
-IsAnswered last text values (request.Evaluate expression is_console) told = IsEvaluated is_console last text values told
+IsAnswered last text values (request.SetVariable reference name value) told = IsSetTold last text values told
+IsAnswered last text values (request.Evaluate expression frame is_console) told = IsEvaluated is_console last text values told
 IsAnswered last text values other told = Unit {0}

@@ -1,15 +1,15 @@
 //! The breakpoints and watches that were asked for.
-ghost use Rattle.std.specs.Prelude.{◌≡◌, ℕ, List, IfOk, map};
+ghost use Rattle.std.specs.Prelude.{◌≡◌, ℕ, List, IfOk, None, Ok, map, true};
 ghost use Rattle.gang_model.specs.Debugger.Debugger as model;
 ghost use Rattle.gang_model.specs.Debugger.Debugger.{Debugger, Setting, first_stop, global_named};
 ghost use Rattle.gang_model.specs.Texts.CommandText.{command_of};
 ghost use Rattle.debug_answers.specs.Meanings.{AreStops, IsStop};
 ghost use Rattle.debug_commands.specs.Views.{target_view};
 ghost use Rattle.gang_model.specs.Source.Names.{same_text};
-ghost use Rattle.adapter_replies.specs.Breakpoints.{IsWatchableTold, can_watch, has_name, has_target, is_part, is_watchable, same_index, told_breakpoint, told_watch, watches_target};
+ghost use Rattle.adapter_replies.specs.Breakpoints.{IsWatchableTold, can_watch, has_name, has_target, is_part, is_watchable, no_watch, same_index, standing, told_breakpoint, told_watch, watch_number, watches_target};
 
 use crate::scopes::has_parts;
-use adapter_requests::{Breakpoint, Reply};
+use adapter_requests::{Breakpoint, BreakpointFault, Reply};
 use debug_answers::{NumberedStop, Stop};
 use debug_commands::{Command, Target, read_command};
 use debug_session::breakpoint_on;
@@ -17,18 +17,12 @@ use debug_traits::{RecordedMachine, Shown};
 use debug_words::is_same;
 use std::alloc::{AllocError, Global};
 
-/// What is told of a breakpoint that stands nowhere.
-const NO_BREAKPOINT: Breakpoint = Breakpoint {
-    number: None,
-    line: None,
-};
-
 /// The breakpoints that were asked for on lines.
 pub(crate) fn breakpoints<M: RecordedMachine>(
     alloc: Global,
     machine: &M,
     stops: &[NumberedStop],
-    lines: &[u32],
+    lines: &[Result<u32, BreakpointFault>],
     is_program: bool,
 ) -> Result<Vec<Breakpoint>, AllocError>
     ensures { (s : Setting) (d : Debugger) (meant : List (ℕ × model.Stop)) → M.stands machine.now s d → AreStops s stops.now meant
@@ -46,21 +40,41 @@ pub(crate) fn breakpoints<M: RecordedMachine>(
 fn breakpoint<M: RecordedMachine>(
     machine: &M,
     stops: &[NumberedStop],
-    line: u32,
+    line: Result<u32, BreakpointFault>,
     is_program: bool,
 ) -> Breakpoint
     ensures { (s : Setting) (d : Debugger) (meant : List (ℕ × model.Stop)) → M.stands machine.now s d → AreStops s stops.now meant
         → result ≡ told_breakpoint s is_program meant line }
 {
-    if !is_program {
-        return NO_BREAKPOINT;
+    match line {
+        Err(fault) => Breakpoint::Refused(fault),
+        Ok(_) if !is_program => Breakpoint::Refused(BreakpointFault::OtherSource),
+        Ok(line) => breakpoint_from(machine, stops, line),
     }
+}
+
+/// The breakpoint on the first line from one on that has a place.
+fn breakpoint_from<M: RecordedMachine>(machine: &M, stops: &[NumberedStop], line: u32) -> Breakpoint
+    ensures { (s : Setting) (d : Debugger) (meant : List (ℕ × model.Stop)) → M.stands machine.now s d → AreStops s stops.now meant
+        → result ≡ told_breakpoint s true meant (Ok line) }
+{
     match machine.line_from(line) {
-        None => NO_BREAKPOINT,
-        Some(line) => Breakpoint {
-            number: breakpoint_on(line, stops),
-            line: Some(line),
-        },
+        None => Breakpoint::Refused(BreakpointFault::NoStep),
+        Some(line) => standing(
+            breakpoint_on(line, stops),
+            Some(line),
+            BreakpointFault::Full,
+        ),
+    }
+}
+
+/// A breakpoint or a watch by its number and its line; without a number it is not there for this reason.
+fn standing(number: Option<u32>, line: Option<u32>, fault: BreakpointFault) -> Breakpoint
+    ensures { result ≡ standing number line fault }
+{
+    match number {
+        Some(number) => Breakpoint::Stands { number, line },
+        None => Breakpoint::Refused(fault),
     }
 }
 
@@ -69,34 +83,52 @@ pub(crate) fn watches<M: RecordedMachine>(
     alloc: Global,
     machine: &M,
     stops: &[NumberedStop],
-    targets: &[&str],
+    targets: &[Result<&str, BreakpointFault>],
 ) -> Result<Vec<Breakpoint>, AllocError>
     ensures { (s : Setting) (d : Debugger) (meant : List (ℕ × model.Stop)) → M.stands machine.now s d → AreStops s stops.now meant
-        → IfOk result (λ made. made.items ≡ map (λ target. told_watch meant target.now) targets.now) }
+        → IfOk result (λ made. made.items ≡ map (told_watch s d meant) targets.now) }
 {
     let mut made = Vec::new(alloc);
     for target in targets {
-        made.push(watch_on(alloc, machine, stops, target)?)?;
+        made.push(watch(alloc, machine, stops, *target)?)?;
     }
     Ok(made)
 }
 
-/// The watch of a target, if there is one.
-fn watch_on<M: RecordedMachine>(
+/// The watch of a target, or why it is not there.
+fn watch<M: RecordedMachine>(
     alloc: Global,
     machine: &M,
     stops: &[NumberedStop],
-    target: &str,
+    target: Result<&str, BreakpointFault>,
 ) -> Result<Breakpoint, AllocError>
     ensures { (s : Setting) (d : Debugger) (meant : List (ℕ × model.Stop)) → M.stands machine.now s d → AreStops s stops.now meant
-        → IfOk result (λ made. made ≡ told_watch meant target.now) }
+        → IfOk result (λ made. made ≡ told_watch s d meant target.entry) }
 {
-    let line = format!(in alloc; "watch {target}")?;
-    let number = match read_command(line.as_bytes()) {
+    match target {
+        Err(fault) => Ok(Breakpoint::Refused(fault)),
+        Ok(target) => {
+            let line = format!(in alloc; "watch {target}")?;
+            Ok(watch_by(machine, stops, line.as_bytes()))
+        }
+    }
+}
+
+/// The watch that a line asks for, or why it is not there.
+fn watch_by<M: RecordedMachine>(machine: &M, stops: &[NumberedStop], line: &[u8]) -> Breakpoint
+    ensures { (s : Setting) (d : Debugger) (meant : List (ℕ × model.Stop)) → M.stands machine.now s d → AreStops s stops.now meant
+        → result ≡ standing (watch_number (command_of line.now) meant) None (no_watch (can_watch s d (command_of line.now))) }
+{
+    let fault = if can_watch(machine, line) {
+        BreakpointFault::Full
+    } else {
+        BreakpointFault::NotWatched
+    };
+    let number = match read_command(line) {
         Some(Command::Watch(target)) => watch_number(machine, stops, target),
         _ => None,
     };
-    Ok(Breakpoint { number, line: None })
+    standing(number, None, fault)
 }
 
 /// The least number of a watch of a target.

@@ -9,6 +9,7 @@ mod scopes;
 mod stops;
 mod texts;
 
+pub use places::{depth_of, is_set_there};
 pub use replies::reply_to;
 pub use stops::stop_of;
 pub use texts::answer_text;

@@ -1,81 +1,190 @@
 //! The references by which an editor asks for variables.
-ghost use Rattle.std.specs.Prelude.{◌≡◌};
-ghost use Rattle.adapter_replies.specs.References.{part_of, place_of};
+ghost use Rattle.std.specs.Prelude.{◌≡◌, ◌<◌, if◌then◌else◌};
+ghost use Rattle.gang_model.specs.Debugger.Debugger as model;
+ghost use Rattle.gang_model.specs.Debugger.Debugger.{Debugger, Setting, now};
+ghost use Rattle.adapter_replies.specs.References.{has_room, is_frame, is_set_there, is_there, numbered, place_now, place_of, within};
+ghost use Rattle.adapter_replies.specs.declared.places.Place.TheVariants as place;
+
+use debug_traits::RecordedMachine;
+
+/// The variables of a frame.
+#[derive(Clone, Copy, Debug, PartialEq, Eq)]
+pub(crate) enum Scope {
+    /// Its local variables in scope.
+    Locals,
+    /// Its parameters in scope.
+    Arguments,
+}
 
 /// What a reference stands for.
 #[derive(Clone, Copy, Debug, PartialEq, Eq)]
 pub(crate) enum Place {
-    /// The local variables in scope.
-    Locals,
-    /// The parameters in scope.
-    Arguments,
+    /// The variables of the frame at a depth.
+    Variables {
+        scope: Scope,
+        depth: usize,
+    },
+    /// The lanes or elements of one of them, by its number among them.
+    Parts {
+        scope: Scope,
+        depth: usize,
+        number: usize,
+    },
     /// The variables of the file.
     File,
-    /// The lanes or elements of the local variable at this place.
-    Local(usize),
-    /// The lanes or elements of the parameter at this place.
-    Argument(usize),
     /// The lanes or elements of the variable of the file of this number.
     OfFile(usize),
     Nothing,
 }
 
-/// The reference of the local variables.
-pub(crate) const LOCALS: u64 = 1;
-
-/// The reference of the variables of the file.
-pub(crate) const FILE: u64 = 2;
-
-/// The reference of the parameters.
-pub(crate) const ARGUMENTS: u64 = 3;
-
 /// The greatest reference that the protocol has room for.
 const GREATEST: u64 = 0x7fff_ffff;
 
+/// How many depths a reference has room for.
+const DEPTHS: usize = 100;
+
+/// How many numbers a reference has room for.
+const NUMBERS: usize = 2_147_483;
+
+/// How deep the program is; one that has ended counts as depth 1.
+pub fn depth_of<M: RecordedMachine>(machine: &M) -> usize
+    ensures { (s : Setting) (d : Debugger) → M.stands machine.now s d → result ≡ model.depth (now s d) }
+{
+    match machine.position() {
+        None => 1,
+        Some(position) => position.depth,
+    }
+}
+
+/// Whether a program of this depth has a frame at another one.
+pub(crate) fn is_frame(top: usize, depth: usize) -> bool
+    ensures { result ≡ is_frame top depth }
+{
+    depth > 0 && depth <= top
+}
+
 /// What a reference stands for.
-pub(crate) fn place_of(reference: u64) -> Place
+fn place_of(reference: u64) -> Place
     ensures { result ≡ place_of reference }
 {
-    match reference {
-        LOCALS => Place::Locals,
-        FILE => Place::File,
-        ARGUMENTS => Place::Arguments,
-        _ if reference == 0 || reference > GREATEST => Place::Nothing,
-        _ => part_of(reference.saturating_sub(4)),
+    if reference > GREATEST {
+        return Place::Nothing;
     }
+    let number = (reference / 1000) as usize;
+    let depth = (reference / 10 % 100) as usize;
+    numbered(reference % 10, depth, number)
 }
 
-/// The variable whose lanes or elements have the reference of this number among those of variables.
-fn part_of(number: u64) -> Place
-    ensures { result ≡ part_of number }
+/// What a kind, a depth and a number stand for.
+fn numbered(kind: u64, depth: usize, number: usize) -> Place
+    ensures { result ≡ numbered kind depth number }
 {
-    let place = (number / 3) as usize;
-    match number % 3 {
-        0 => Place::Local(place),
-        1 => Place::OfFile(place),
-        _ => Place::Argument(place),
+    match kind {
+        1 => Place::Variables {
+            scope: Scope::Locals,
+            depth,
+        },
+        2 => Place::Variables {
+            scope: Scope::Arguments,
+            depth,
+        },
+        3 => Place::Parts {
+            scope: Scope::Locals,
+            depth,
+            number,
+        },
+        4 => Place::Parts {
+            scope: Scope::Arguments,
+            depth,
+            number,
+        },
+        5 => Place::File,
+        6 => Place::OfFile(number),
+        _ => Place::Nothing,
     }
 }
 
-/// The reference of the lanes or elements of the local variable at a place, 0 if there is no room for it.
-pub(crate) fn local_reference(place: usize) -> u64 {
-    within(place as u128 * 3 + 4)
+/// The reference of a place; one that stands for nothing if there is no room for it.
+pub(crate) fn reference_of(place: Place) -> u64
+    ensures { place_of result ≡ within place }
+{
+    match place {
+        Place::Variables {
+            scope: Scope::Locals,
+            depth,
+        } => reference(1, depth, 0),
+        Place::Variables {
+            scope: Scope::Arguments,
+            depth,
+        } => reference(2, depth, 0),
+        Place::Parts {
+            scope: Scope::Locals,
+            depth,
+            number,
+        } => reference(3, depth, number),
+        Place::Parts {
+            scope: Scope::Arguments,
+            depth,
+            number,
+        } => reference(4, depth, number),
+        Place::File => reference(5, 0, 0),
+        Place::OfFile(number) => reference(6, 0, number),
+        Place::Nothing => 0,
+    }
 }
 
-/// The reference of the lanes or elements of a variable of the file, 0 if there is no room for it.
-pub(crate) fn file_reference(number: usize) -> u64 {
-    within(number as u128 * 3 + 5)
-}
-
-/// The reference of the lanes or elements of the parameter at a place, 0 if there is no room for it.
-pub(crate) fn argument_reference(place: usize) -> u64 {
-    within(place as u128 * 3 + 6)
-}
-
-fn within(reference: u128) -> u64 {
-    if reference > GREATEST as u128 {
-        0
+/// The reference of a kind, a depth and a number.
+fn reference(kind: u64, depth: usize, number: usize) -> u64
+    requires { kind < 10 }
+    ensures { place_of result ≡ (if has_room depth number then numbered kind depth number else place.Nothing) }
+{
+    if depth < DEPTHS && number < NUMBERS {
+        number as u64 * 1000 + depth as u64 * 10 + kind
     } else {
-        reference as u64
+        0
+    }
+}
+
+/// What a reference stands for where the program has this depth.
+pub(crate) fn place_now(top: usize, reference: u64) -> Place
+    ensures { result ≡ place_now top reference }
+{
+    let place = place_of(reference);
+    if is_there(top, place) {
+        place
+    } else {
+        Place::Nothing
+    }
+}
+
+/// Whether what a reference stands for is in a frame that is there, or in none.
+fn is_there(top: usize, place: Place) -> bool
+    ensures { result ≡ is_there top place }
+{
+    match place {
+        Place::Variables { scope: _, depth } => is_frame(top, depth),
+        Place::Parts {
+            scope: _,
+            depth,
+            number: _,
+        } => is_frame(top, depth),
+        Place::File | Place::OfFile(_) | Place::Nothing => true,
+    }
+}
+
+/// Whether a variable is set that is one of those of a reference, where the program has this depth: in the top frame, or in the
+/// file.
+pub fn is_set_there(top: usize, reference: u64) -> bool
+    ensures { result ≡ is_set_there top (place_of reference) }
+{
+    match place_of(reference) {
+        Place::Variables { scope: _, depth } => depth == top,
+        Place::Parts {
+            scope: _,
+            depth,
+            number: _,
+        } => depth == top,
+        Place::File | Place::OfFile(_) => true,
+        Place::Nothing => false,
     }
 }

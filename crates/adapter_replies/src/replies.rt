@@ -1,28 +1,43 @@
 //! What a request is told.
 ghost use Rattle.std.specs.Prelude.{◌≡◌, ◌++◌, ℕ, List, IfOk, IfSome, None, Some, codes, string_bytes};
 ghost use Rattle.gang_model.specs.Debugger.Debugger as model;
-ghost use Rattle.gang_model.specs.Debugger.Debugger.{Debugger, Setting, now};
+ghost use Rattle.gang_model.specs.Debugger.Debugger.{Debugger, Setting, depth, now};
 ghost use Rattle.gang_model.specs.Texts.Text.{text};
+ghost use Rattle.debug_traits.specs.Frames.{found_at};
 ghost use Rattle.debug_answers.specs.Meanings.{AreStops, Means};
 ghost use Rattle.debug_session.specs.Sessions.{is_refused};
-ghost use Rattle.adapter_replies.specs.Told.{AreBreakpointsTold, IsAnswered, IsEvaluated, IsLineTold, IsMoveTold, IsSetTold, IsTextTold, IsToldOf, IsValueTold, MeansLast, fixed_reply, is_ended, refusal_text, shown_values, told_stop};
+ghost use Rattle.adapter_replies.specs.References.{is_frame, place_of, within};
+ghost use Rattle.adapter_replies.specs.Variables.{told_now};
+ghost use Rattle.adapter_replies.specs.declared.places.Place.TheVariants as place;
+ghost use Rattle.adapter_replies.specs.declared.places.Scope.TheVariants.{Arguments, Locals};
+ghost use Rattle.adapter_replies.specs.Told.{AreBreakpointsTold, AreScopesTold, AreVariablesTold, IsAnswered, IsEvaluated, IsLineTold, IsLookedUp, IsMoveTold, IsNameTold, IsSetTold, IsTextTold, IsToldOf, IsValueTold, MeansLast, fixed_reply, is_ended, refusal_text, shown_values, told_stop};
 
 use crate::breakpoints::{breakpoints, watchable, watches};
 use crate::frames::frames;
+use crate::places::{Place, Scope, depth_of, is_frame, reference_of};
 use crate::scopes::variables;
 use crate::stops::stop_of;
-use crate::texts::{answer_text, value_text};
-use adapter_requests::{Reply, Request, Stop, StopReason};
+use crate::texts::{answer_text, value_text, value_text_at};
+use adapter_requests::{Reply, Request, Scopes, Stop, StopReason};
 use debug_answers::{Answer, NumberedStop, Refusal};
-use debug_traits::RecordedMachine;
+use debug_traits::{FramedMachine, RecordedMachine};
 use std::alloc::{AllocError, Global};
+
+/// Why a request for a frame is refused.
+const NO_FRAME: &str = "no frame has this number now";
+
+/// Why an expression is refused in an outer frame.
+const ONLY_NAMES: &str = "only the name of a variable is looked up in an outer frame";
+
+/// Why a variable is not set.
+const NOT_SET: &str = "only a variable of the top frame or of the file can be set";
 
 /// What a request is told once its commands are done, by the machine, the breakpoints and watches, and the last answer.
 ///
 /// # Errors
 ///
 /// Out of memory.
-pub fn reply_to<M: RecordedMachine>(
+pub fn reply_to<M: FramedMachine>(
     alloc: Global,
     machine: &M,
     stops: &[NumberedStop],
@@ -31,12 +46,12 @@ pub fn reply_to<M: RecordedMachine>(
     last: Option<Answer<'_>>,
 ) -> Result<Reply, AllocError>
     ensures stands { (s : Setting) (d : Debugger) → M.stands machine.now s d
-        → IfOk result (λ told. IsToldOf s d (M.locals_from machine.now s d) (M.parameters_from machine.now s d) request.now told) }
+        → IfOk result (IsToldOf s d last.entry request.now) }
     ensures answered { (s : Setting) (at d : Debugger) (meant : model.Answer) → M.stands machine.now s at → at.events ≡ d.events → AreStops s stops.now d.stops
         → MeansLast s d last.entry meant
         → IfOk result (λ told. IsAnswered last.entry (text s meant d) (shown_values (now s d) meant) request.now told) }
     ensures breakpoints { (s : Setting) (d : Debugger) (meant : List (ℕ × model.Stop)) → M.stands machine.now s d → AreStops s stops.now meant
-        → IfOk result (λ told. AreBreakpointsTold s is_program meant request.now told) }
+        → IfOk result (AreBreakpointsTold s d is_program meant request.now) }
     ensures fixed { IfSome (fixed_reply request.now) (λ reply. IfOk result (λ told. told ≡ reply)) }
     ensures refused { IfSome (refusal_text request.now) (λ text. IfOk result (λ told. told_stop told ≡ Some (None, text))) }
 {
@@ -50,9 +65,14 @@ pub fn reply_to<M: RecordedMachine>(
         }
         Request::DataBreakpointInfo { name } => watchable(alloc, machine, name),
         Request::SetVariable { .. } => set(alloc, machine, stops, last),
-        Request::Evaluate { is_console, .. } => {
-            evaluated(alloc, machine, stops, *is_console, last)
-        }
+        Request::Evaluate {
+            expression,
+            frame,
+            is_console,
+        } => match last {
+            Some(answer) => evaluated(alloc, machine, stops, *is_console, answer),
+            None => looked_up(alloc, machine, *frame, expression),
+        },
         Request::Next
         | Request::StepIn
         | Request::StepOut
@@ -60,10 +80,8 @@ pub fn reply_to<M: RecordedMachine>(
         | Request::StepBack
         | Request::ReverseContinue => moved(alloc, machine, stops, last),
         Request::StackTrace => Ok(Reply::Frames(frames(alloc, machine)?)),
-        Request::Variables { reference } => {
-            Ok(Reply::Variables(variables(alloc, machine, *reference)?))
-        }
-        Request::Scopes => Ok(Reply::Scopes),
+        Request::Variables { reference } => shown(alloc, machine, *reference),
+        Request::Scopes { frame } => scopes(alloc, machine, *frame),
         Request::Threads => Ok(Reply::Threads),
         Request::Initialize => Ok(Reply::Capabilities),
         Request::SetExceptionBreakpoints | Request::ConfigurationDone | Request::Disconnect => {
@@ -71,6 +89,85 @@ pub fn reply_to<M: RecordedMachine>(
         }
         Request::Launch(_) | Request::Restart => refused(alloc, "the program is launched already"),
         Request::Unknown(name) => unknown(alloc, name),
+    }
+}
+
+/// The variables that a reference stands for, or a refusal where it stands for none now.
+fn shown<M: FramedMachine>(alloc: Global, machine: &M, reference: u64) -> Result<Reply, AllocError>
+    ensures { (s : Setting) (d : Debugger) → M.stands machine.now s d → IfOk result (AreVariablesTold (told_now s d reference)) }
+{
+    match variables(alloc, machine, reference)? {
+        Some(variables) => Ok(Reply::Variables(variables)),
+        None => refused(alloc, "nothing has this reference now"),
+    }
+}
+
+/// The scopes of the frame of a number, or a refusal where there is no such frame.
+fn scopes<M: RecordedMachine>(alloc: Global, machine: &M, frame: u64) -> Result<Reply, AllocError>
+    ensures { (s : Setting) (d : Debugger) → M.stands machine.now s d → IfOk result (AreScopesTold (is_frame (depth (now s d)) frame) frame) }
+{
+    let depth = frame as usize;
+    if is_frame(depth_of(machine), depth) {
+        Ok(Reply::Scopes(scopes_of(depth)))
+    } else {
+        refused(alloc, NO_FRAME)
+    }
+}
+
+/// The scopes of the frame at a depth.
+fn scopes_of(depth: usize) -> Scopes
+    ensures locals { place_of result.locals ≡ within (place.Variables Locals depth) }
+    ensures arguments { place_of result.arguments ≡ within (place.Variables Arguments depth) }
+    ensures file { place_of result.file ≡ place.File }
+{
+    Scopes {
+        locals: reference_of(Place::Variables {
+            scope: Scope::Locals,
+            depth,
+        }),
+        arguments: reference_of(Place::Variables {
+            scope: Scope::Arguments,
+            depth,
+        }),
+        file: reference_of(Place::File),
+    }
+}
+
+/// What a name finds in the frame of a number, where there is such a frame.
+fn looked_up<M: FramedMachine>(
+    alloc: Global,
+    machine: &M,
+    frame: Option<u64>,
+    name: &str,
+) -> Result<Reply, AllocError>
+    ensures { (s : Setting) (d : Debugger) → M.stands machine.now s d → IfOk result (IsLookedUp s d None frame name.now) }
+{
+    let Some(frame) = frame else {
+        return Ok(Reply::Done);
+    };
+    let depth = frame as usize;
+    if !is_frame(depth_of(machine), depth) {
+        return refused(alloc, NO_FRAME);
+    }
+    found(alloc, machine, depth, name)
+}
+
+/// What a name finds in the frame at a depth.
+fn found<M: FramedMachine>(
+    alloc: Global,
+    machine: &M,
+    depth: usize,
+    name: &str,
+) -> Result<Reply, AllocError>
+    ensures { (s : Setting) (d : Debugger) → M.stands machine.now s d
+        → IfOk result (IsNameTold s d depth (found_at s.program depth (now s d) name.now)) }
+{
+    match machine.find_at(depth, name.as_bytes()) {
+        None => refused(alloc, ONLY_NAMES),
+        Some(shown) => Ok(Reply::Evaluated {
+            text: value_text_at(alloc, machine, depth, shown, None)?,
+            reason: None,
+        }),
     }
 }
 
@@ -136,7 +233,7 @@ fn set<M: RecordedMachine>(
         → MeansLast s d last.entry meant → IfOk result (λ told. IsSetTold last.entry (text s meant d) (shown_values (now s d) meant) told) }
 {
     let Some(answer) = last else {
-        return Ok(Reply::Done);
+        return refused(alloc, NOT_SET);
     };
     if let Answer::Shows { target, shown } = answer {
         return Ok(Reply::Set(value_text(alloc, machine, shown, target.at)?));
@@ -150,14 +247,12 @@ fn evaluated<M: RecordedMachine>(
     machine: &M,
     stops: &[NumberedStop],
     is_console: bool,
-    last: Option<Answer<'_>>,
+    answer: Answer<'_>,
 ) -> Result<Reply, AllocError>
     ensures { (s : Setting) (at d : Debugger) (meant : model.Answer) → M.stands machine.now s at → at.events ≡ d.events → AreStops s stops.now d.stops
-        → MeansLast s d last.entry meant → IfOk result (λ told. IsEvaluated is_console last.entry (text s meant d) (shown_values (now s d) meant) told) }
+        → Means s d answer.entry meant
+        → IfOk result (λ told. IsEvaluated is_console (Some answer.entry) (text s meant d) (shown_values (now s d) meant) told) }
 {
-    let Some(answer) = last else {
-        return Ok(Reply::Done);
-    };
     if is_console {
         line_of(alloc, machine, stops, answer)
     } else {

@@ -1,90 +1,98 @@
 //! The variables that an editor shows.
-ghost use Rattle.std.specs.Prelude.{◌≡◌, ◌∷◌, [], ◌++◌, ◌<◌, ◌≤◌, ◌||◌, IfOk, Some, map, string_bytes, take};
+ghost use Rattle.std.specs.Prelude.{◌≡◌, ◌++◌, ◌<◌, ◌≤◌, ◌||◌, IfOk, IfSome, Option, map, option_map, slice_get, string_bytes, take};
 ghost use Rattle.gang_model.specs.Types.Tree as model;
-ghost use Rattle.gang_model.specs.Debugger.Debugger.{Debugger, Setting, now, shown_words};
+ghost use Rattle.gang_model.specs.Debugger.Debugger as debugger;
+ghost use Rattle.gang_model.specs.Debugger.Debugger.{Debugger, Setting, now};
 ghost use Rattle.std.specs.List.{range_with_len};
-ghost use Rattle.debug_traits.specs.Machines.{IsShown, ShowsNamed, file_variables, listed, listed_parameters};
-ghost use Rattle.adapter_replies.specs.References.{place_of, told_of};
-ghost use Rattle.adapter_replies.specs.Variables.{is_found, is_varying, told_all, told_part, told_parts, told_whole, type_name, type_text, variable_view, whole_text};
+ghost use Rattle.debug_traits.specs.Frames.{IsShownAt, ShowsNamedAt, ShowsNextAt};
+ghost use Rattle.debug_traits.specs.Machines.{file_variables};
+ghost use Rattle.adapter_replies.specs.References.{place_of};
+ghost use Rattle.adapter_replies.specs.Variables.{ShowsOptionAt, is_found, is_varying, of_scope, scope_list, told_each, told_now, told_one, told_option, told_part, told_parts, told_whole, type_name, type_text, variable_view, whole_text, words_at};
+ghost use Rattle.adapter_replies.specs.declared.places.Place.TheVariants as place;
 
-use crate::places::{Place, argument_reference, file_reference, local_reference, place_of};
-use crate::texts::value_text;
+use crate::places::{Place, Scope, depth_of, place_now, reference_of};
+use crate::texts::value_text_at;
 use adapter_requests::Variable;
-use debug_traits::{NamedVariable, NextLocal, RecordedMachine, Shown};
+use debug_traits::{FramedMachine, NamedVariable, NextLocal, Shown};
 use gang_types::{IntType, Rate};
 use std::alloc::{AllocError, Global};
 
 /// The most variables of the file, and the most lanes or elements, that are shown at once.
 const MOST_SHOWN: usize = 1_000;
 
-/// The variables that a reference stands for.
-pub(crate) fn variables<M: RecordedMachine>(
+/// The variables that a reference stands for, if it stands for any now.
+pub(crate) fn variables<M: FramedMachine>(
     alloc: Global,
     machine: &M,
     reference: u64,
+) -> Result<Option<Vec<Variable>>, AllocError>
+    ensures { (s : Setting) (d : Debugger) → M.stands machine.now s d
+        → IfOk result (λ told. option_map (λ variables. map variable_view variables.items) told ≡ told_now s d reference) }
+{
+    let top = depth_of(machine);
+    match place_now(top, reference) {
+        Place::Variables { scope, depth } => Ok(Some(of_frame(alloc, machine, scope, depth)?)),
+        Place::Parts {
+            scope,
+            depth,
+            number,
+        } => {
+            let named = variable_of(machine, scope, depth, number);
+            parts_of(alloc, machine, depth, named)
+        }
+        Place::File => Ok(Some(of_file(alloc, machine, top)?)),
+        Place::OfFile(number) => {
+            let named = file_variable(machine, top, number);
+            parts_of(alloc, machine, top, named)
+        }
+        Place::Nothing => Ok(None),
+    }
+}
+
+/// The variables of the frame at a depth that a name finds there.
+fn of_frame<M: FramedMachine>(
+    alloc: Global,
+    machine: &M,
+    scope: Scope,
+    depth: usize,
 ) -> Result<Vec<Variable>, AllocError>
     ensures { (s : Setting) (d : Debugger) → M.stands machine.now s d
-        → IfOk result (λ told. map variable_view told.items
-        ≡ told_of s d (M.locals_from machine.now s d) (M.parameters_from machine.now s d) (place_of reference)) }
-{
-    match place_of(reference) {
-        Place::Locals => locals(alloc, machine),
-        Place::Arguments => arguments(alloc, machine),
-        Place::File => file_variables(alloc, machine),
-        Place::Local(place) => match machine.next_local(place) {
-            Some(local) => parts(alloc, machine, local.variable),
-            None => Ok(Vec::new(alloc)),
-        },
-        Place::Argument(place) => match machine.next_parameter(place) {
-            Some(parameter) => parts(alloc, machine, parameter.variable),
-            None => Ok(Vec::new(alloc)),
-        },
-        Place::OfFile(number) => match machine.file_variable(number) {
-            Some(variable) => parts(alloc, machine, variable),
-            None => Ok(Vec::new(alloc)),
-        },
-        Place::Nothing => Ok(Vec::new(alloc)),
-    }
-}
-
-/// The local variables in scope that a name finds.
-fn locals<M: RecordedMachine>(alloc: Global, machine: &M) -> Result<Vec<Variable>, AllocError>
-    ensures { (s : Setting) (d : Debugger) → M.stands machine.now s d
-        → IfOk result (λ told. map variable_view told.items ≡ told_all s d (listed s d)) }
+        → IfOk result (λ told. map variable_view told.items ≡ told_each s d depth (place.Parts scope depth) 0 (scope_list s d scope depth)) }
 {
     let mut told = Vec::new(alloc);
-    let mut place = 0;
-    while let Some(local) = machine.next_local(place) {
-        push_found(
-            alloc,
-            machine,
-            local.variable,
-            local_reference(place),
-            &mut told,
-        )?;
-        place = place_after(local);
+    let mut from = 0;
+    let mut number = 0;
+    while let Some(next) = next_of(machine, scope, depth, from) {
+        let reference = reference_of(Place::Parts {
+            scope,
+            depth,
+            number,
+        });
+        let named = variable_here(next);
+        push_found(alloc, machine, depth, named, reference, &mut told)?;
+        from = place_after(next);
+        number += 1;
     }
     Ok(told)
 }
 
-/// The parameters in scope that a name finds.
-fn arguments<M: RecordedMachine>(alloc: Global, machine: &M) -> Result<Vec<Variable>, AllocError>
-    ensures { (s : Setting) (d : Debugger) → M.stands machine.now s d
-        → IfOk result (λ told. map variable_view told.items ≡ told_all s d (listed_parameters s d)) }
+/// The first variable of the frame at a depth from a place on.
+fn next_of<M: FramedMachine>(
+    machine: &M,
+    scope: Scope,
+    depth: usize,
+    from: usize,
+) -> Option<NextLocal<'_>>
+    ensures all { (s : Setting) (d : Debugger) → M.stands machine.now s d
+        → of_scope scope (M.locals_at machine.now s d depth) (M.parameters_at machine.now s d depth) 0 ≡ scope_list s d scope depth }
+    ensures next { (s : Setting) (d : Debugger) → M.stands machine.now s d
+        → ShowsNextAt s d depth (of_scope scope (M.locals_at machine.now s d depth) (M.parameters_at machine.now s d depth)) from result }
+    ensures further { IfSome result (λ next. from < next.next) }
 {
-    let mut told = Vec::new(alloc);
-    let mut place = 0;
-    while let Some(parameter) = machine.next_parameter(place) {
-        push_found(
-            alloc,
-            machine,
-            parameter.variable,
-            argument_reference(place),
-            &mut told,
-        )?;
-        place = place_after(parameter);
+    match scope {
+        Scope::Locals => machine.next_local_at(depth, from),
+        Scope::Arguments => machine.next_parameter_at(depth, from),
     }
-    Ok(told)
 }
 
 /// The place from which on the variables after this one are.
@@ -94,138 +102,205 @@ fn place_after(local: NextLocal<'_>) -> usize
     local.next
 }
 
-/// The variables of the file that a name finds, of the first so many.
-fn file_variables<M: RecordedMachine>(
+/// The variable, without the place behind it.
+fn variable_here(local: NextLocal<'_>) -> NamedVariable<'_>
+    ensures { result ≡ local.entry.variable }
+{
+    local.variable
+}
+
+/// The variable of this number of the frame at a depth, if there is one.
+fn variable_of<M: FramedMachine>(
+    machine: &M,
+    scope: Scope,
+    depth: usize,
+    number: usize,
+) -> Option<NamedVariable<'_>>
+    ensures { (s : Setting) (d : Debugger) → M.stands machine.now s d → ShowsOptionAt s d depth (slice_get (scope_list s d scope depth) number) result }
+{
+    let mut from = 0;
+    for _ in 0..number {
+        match next_of(machine, scope, depth, from) {
+            None => return None,
+            Some(next) => from = place_after(next),
+        }
+    }
+    match next_of(machine, scope, depth, from) {
+        None => None,
+        Some(next) => Some(variable_here(next)),
+    }
+}
+
+/// The variables of the file that a name finds in the top frame, whose depth this is, of the first so many.
+fn of_file<M: FramedMachine>(
     alloc: Global,
     machine: &M,
+    top: usize,
 ) -> Result<Vec<Variable>, AllocError>
-    ensures { (s : Setting) (d : Debugger) → M.stands machine.now s d
-        → IfOk result (λ told. map variable_view told.items ≡ told_all s d (take 1000 (file_variables s))) }
+    ensures { (s : Setting) (d : Debugger) → M.stands machine.now s d → top ≡ debugger.depth (now s d)
+        → IfOk result (λ told. map variable_view told.items ≡ told_each s d top place.OfFile 0 (take 1000 (file_variables s))) }
 {
     let mut told = Vec::new(alloc);
     for number in 0..MOST_SHOWN {
-        match machine.file_variable(number) {
+        match file_variable(machine, top, number) {
             None => return Ok(told),
-            Some(named) => push_found(alloc, machine, named, file_reference(number), &mut told)?,
+            Some(named) => {
+                let reference = reference_of(Place::OfFile(number));
+                push_found(alloc, machine, top, named, reference, &mut told)?;
+            }
         }
     }
     Ok(told)
 }
 
-/// Puts a variable whose parts have this reference behind others, if its name finds it.
-fn push_found<M: RecordedMachine>(
+/// The variable of the file of this number as the top frame shows it, whose depth this is.
+fn file_variable<M: FramedMachine>(
+    machine: &M,
+    top: usize,
+    number: usize,
+) -> Option<NamedVariable<'_>>
+    ensures { (s : Setting) (d : Debugger) → M.stands machine.now s d → top ≡ debugger.depth (now s d)
+        → ShowsOptionAt s d top (slice_get (file_variables s) number) result }
+{
+    machine.file_variable(number)
+}
+
+/// Puts a variable whose parts have this reference behind others, if its name finds it in the frame at a depth.
+fn push_found<M: FramedMachine>(
     alloc: Global,
     machine: &M,
+    depth: usize,
     named: NamedVariable<'_>,
     reference: u64,
     told: &mut Vec<Variable>,
 ) -> Result<(), AllocError>
-    ensures { (s : Setting) (d : Debugger) (v : model.Variable) → M.stands machine.now s d → ShowsNamed s d (Some v) (Some named.entry)
-        → IfOk result (λ _. map variable_view told.new.items ≡ map variable_view told.old.items ++ told_all s d (v ∷ [])) }
+    ensures { (s : Setting) (d : Debugger) (v : model.Variable) → M.stands machine.now s d → ShowsNamedAt s d depth v named.entry
+        → IfOk result (λ _. map variable_view told.new.items ≡ map variable_view told.old.items ++ told_one s d depth (place_of reference) v) }
 {
-    if is_found(machine, named) {
-        told.push(whole(alloc, machine, named, reference)?)?;
+    if is_found(machine, depth, named) {
+        told.push(whole(alloc, machine, depth, named, reference)?)?;
     }
     Ok(())
 }
 
-/// Whether the name of a variable finds it, and no other one that hides it.
-fn is_found<M: RecordedMachine>(machine: &M, named: NamedVariable<'_>) -> bool
-    ensures { (s : Setting) (d : Debugger) (v : model.Variable) → M.stands machine.now s d → ShowsNamed s d (Some v) (Some named.entry)
-        → result ≡ is_found s d v }
+/// Whether the name of a variable finds it in the frame at a depth, and no other one that hides it.
+fn is_found<M: FramedMachine>(machine: &M, depth: usize, named: NamedVariable<'_>) -> bool
+    ensures { (s : Setting) (d : Debugger) (v : model.Variable) → M.stands machine.now s d → ShowsNamedAt s d depth v named.entry
+        → result ≡ is_found s d depth v }
 {
-    match machine.find(named.name) {
+    match machine.find_at(depth, named.name) {
         Some(shown) => shown.id == named.shown.id,
         None => false,
     }
 }
 
-/// A variable, whose lanes or elements have this reference.
-fn whole<M: RecordedMachine>(
+/// A variable of the frame at a depth, whose lanes or elements have this reference.
+fn whole<M: FramedMachine>(
     alloc: Global,
     machine: &M,
+    depth: usize,
     named: NamedVariable<'_>,
     reference: u64,
 ) -> Result<Variable, AllocError>
-    ensures { (s : Setting) (d : Debugger) (v : model.Variable) → M.stands machine.now s d → ShowsNamed s d (Some v) (Some named.entry)
-        → IfOk result (λ told. variable_view told ≡ told_whole v (shown_words (now s d) v)) }
+    ensures { (s : Setting) (d : Debugger) (v : model.Variable) → M.stands machine.now s d → ShowsNamedAt s d depth v named.entry
+        → IfOk result (λ told. variable_view told ≡ told_whole v (words_at s d depth v) (place_of reference)) }
 {
     let shown = named.shown;
     Ok(Variable {
         name: String::from_utf8_lossy(alloc, named.name)?,
-        value: whole_value(alloc, machine, shown)?,
+        value: whole_value(alloc, machine, depth, shown)?,
         type_name: type_text(alloc, shown)?,
         reference: if has_parts(shown) { reference } else { 0 },
     })
 }
 
 /// The values of a scalar, or how many elements an array has.
-fn whole_value<M: RecordedMachine>(
+fn whole_value<M: FramedMachine>(
     alloc: Global,
     machine: &M,
+    depth: usize,
     shown: Shown,
 ) -> Result<String, AllocError>
-    ensures { (s : Setting) (d : Debugger) (v : model.Variable) → M.stands machine.now s d → IsShown s d v shown
-        → IfOk result (λ text. string_bytes text ≡ whole_text v.type v.is_array (shown_words (now s d) v)) }
+    ensures { (s : Setting) (d : Debugger) (v : model.Variable) → M.stands machine.now s d → IsShownAt s d depth v shown
+        → IfOk result (λ text. string_bytes text ≡ whole_text v.type v.is_array (words_at s d depth v)) }
 {
     if shown.is_array {
         let count = shown.count;
         return format!(in alloc; "{count} elements");
     }
-    value_text(alloc, machine, shown, None)
+    value_text_at(alloc, machine, depth, shown, None)
+}
+
+/// The lanes or elements of a variable, if there is one.
+fn parts_of<M: FramedMachine>(
+    alloc: Global,
+    machine: &M,
+    depth: usize,
+    named: Option<NamedVariable<'_>>,
+) -> Result<Option<Vec<Variable>>, AllocError>
+    ensures { (s : Setting) (d : Debugger) (given : Option model.Variable) → M.stands machine.now s d → ShowsOptionAt s d depth given named.entry
+        → IfOk result (λ told. option_map (λ variables. map variable_view variables.items) told ≡ told_option s d depth given) }
+{
+    match named {
+        None => Ok(None),
+        Some(named) => Ok(Some(parts(alloc, machine, depth, named)?)),
+    }
 }
 
 /// The lanes or elements of a variable; of a uniform scalar there are none.
-fn parts<M: RecordedMachine>(
+fn parts<M: FramedMachine>(
     alloc: Global,
     machine: &M,
+    depth: usize,
     named: NamedVariable<'_>,
 ) -> Result<Vec<Variable>, AllocError>
-    ensures { (s : Setting) (d : Debugger) (v : model.Variable) → M.stands machine.now s d → ShowsNamed s d (Some v) (Some named.entry)
-        → IfOk result (λ told. map variable_view told.items ≡ told_parts v (shown_words (now s d) v)) }
+    ensures { (s : Setting) (d : Debugger) (v : model.Variable) → M.stands machine.now s d → ShowsNamedAt s d depth v named.entry
+        → IfOk result (λ told. map variable_view told.items ≡ told_parts v (words_at s d depth v)) }
 {
     let count = if has_parts(named.shown) {
         named.shown.count.min(MOST_SHOWN)
     } else {
         0
     };
-    first_parts(alloc, machine, named, count)
+    first_parts(alloc, machine, depth, named, count)
 }
 
 /// The first so many lanes or elements of a variable, which has as many.
-fn first_parts<M: RecordedMachine>(
+fn first_parts<M: FramedMachine>(
     alloc: Global,
     machine: &M,
+    depth: usize,
     named: NamedVariable<'_>,
     count: usize,
 ) -> Result<Vec<Variable>, AllocError>
     requires few { count ≤ 1000 }
     requires within { count ≤ named.shown.count }
-    ensures { (s : Setting) (d : Debugger) (v : model.Variable) → M.stands machine.now s d → ShowsNamed s d (Some v) (Some named.entry)
-        → IfOk result (λ told. map variable_view told.items ≡ map (told_part v (shown_words (now s d) v)) (range_with_len 0 count)) }
+    ensures { (s : Setting) (d : Debugger) (v : model.Variable) → M.stands machine.now s d → ShowsNamedAt s d depth v named.entry
+        → IfOk result (λ told. map variable_view told.items ≡ map (told_part v (words_at s d depth v)) (range_with_len 0 count)) }
 {
     let mut told = Vec::new(alloc);
     for index in 0..count {
-        told.push(part(alloc, machine, named, index as u32)?)?;
+        told.push(part(alloc, machine, depth, named, index as u32)?)?;
     }
     Ok(told)
 }
 
 /// A lane or an element of a variable.
-fn part<M: RecordedMachine>(
+fn part<M: FramedMachine>(
     alloc: Global,
     machine: &M,
+    depth: usize,
     named: NamedVariable<'_>,
     index: u32,
 ) -> Result<Variable, AllocError>
-    ensures { (s : Setting) (d : Debugger) (v : model.Variable) → M.stands machine.now s d → ShowsNamed s d (Some v) (Some named.entry)
-        → index < named.entry.shown.count → IfOk result (λ told. variable_view told ≡ told_part v (shown_words (now s d) v) index) }
+    ensures { (s : Setting) (d : Debugger) (v : model.Variable) → M.stands machine.now s d → ShowsNamedAt s d depth v named.entry
+        → index < named.entry.shown.count → IfOk result (λ told. variable_view told ≡ told_part v (words_at s d depth v) index) }
 {
     let mut name = String::from_utf8_lossy(alloc, named.name)?;
     name.push_str(format!(in alloc; "[{index}]")?.as_str())?;
     Ok(Variable {
         name,
-        value: value_text(alloc, machine, named.shown, Some(index))?,
+        value: value_text_at(alloc, machine, depth, named.shown, Some(index))?,
         type_name: String::from_str(alloc, type_name(named.shown.value_type))?,
         reference: 0,
     })

@@ -1,17 +1,20 @@
 //! The texts of answers.
-ghost use Rattle.std.specs.Prelude.{◌≡◌, [], drop, false, Some, IfOk, string_bytes};
+ghost use Rattle.std.specs.Prelude.{◌≡◌, ◌++◌, [], drop, false, Some, IfOk, string_bytes};
 ghost use Rattle.gang_model.specs.Types.Tree.{Variable};
 ghost use Rattle.gang_model.specs.Debugger.Debugger as model;
 ghost use Rattle.gang_model.specs.Debugger.Debugger.{Debugger, Setting, now, part_shown, shown_words};
 ghost use Rattle.gang_model.specs.Texts.Text.{text};
+ghost use Rattle.debug_traits.specs.Frames.{IsShownAt};
 ghost use Rattle.debug_traits.specs.Machines.{IsShown};
 ghost use Rattle.debug_answers.specs.Meanings.{AreStops, IsInside, Means};
+ghost use Rattle.debug_texts.specs.Wording.{value_text};
 ghost use Rattle.adapter_replies.specs.Shown.{shown_text, without_end};
-ghost use Rattle.adapter_replies.specs.Variables.{values};
+ghost use Rattle.adapter_replies.specs.Variables.{values, words_at};
 
 use debug_answers::{Answer, NumberedStop};
-use debug_texts::{write_answer, write_values};
-use debug_traits::{AnswerWriter, RecordedMachine, Shown, WriteFault};
+use debug_texts::{write_answer, write_value, write_values};
+use debug_traits::{AnswerWriter, FramedMachine, RecordedMachine, Shown, WriteFault};
+use gang_types::IntType;
 use std::alloc::{AllocError, Global};
 
 /// Takes what is written. It fails where there is no memory.
@@ -88,6 +91,85 @@ pub(crate) fn value_text<M: RecordedMachine>(
         return Err(AllocError);
     }
     String::from_utf8_lossy(alloc, behind_first(writer.bytes.as_slice()))
+}
+
+/// The values of a variable in the frame at a depth, or of a part of it, with blanks between.
+pub(crate) fn value_text_at<M: FramedMachine>(
+    alloc: Global,
+    machine: &M,
+    depth: usize,
+    shown: Shown,
+    at: Option<u32>,
+) -> Result<String, AllocError>
+    ensures { (s : Setting) (d : Debugger) (v : Variable) → M.stands machine.now s d → IsShownAt s d depth v shown → IsInside at shown.count
+        → IfOk result (λ text. string_bytes text ≡ values v.type (part_shown at (words_at s d depth v))) }
+{
+    let words = words_of(alloc, machine, depth, shown, at)?;
+    words_text(alloc, shown.value_type, words.as_slice())
+}
+
+/// The words of a variable in the frame at a depth, or one of them.
+fn words_of<M: FramedMachine>(
+    alloc: Global,
+    machine: &M,
+    depth: usize,
+    shown: Shown,
+    at: Option<u32>,
+) -> Result<Vec<u64>, AllocError>
+    ensures { (s : Setting) (d : Debugger) (v : Variable) → M.stands machine.now s d → IsShownAt s d depth v shown → IsInside at shown.count
+        → IfOk result (λ words. words.items ≡ part_shown at (words_at s d depth v)) }
+{
+    match at {
+        None => all_words(alloc, machine, depth, shown),
+        Some(index) => {
+            let mut words = Vec::new(alloc);
+            words.push(machine.word_at(depth, shown, index as usize))?;
+            Ok(words)
+        }
+    }
+}
+
+/// The words of a variable in the frame at a depth.
+fn all_words<M: FramedMachine>(
+    alloc: Global,
+    machine: &M,
+    depth: usize,
+    shown: Shown,
+) -> Result<Vec<u64>, AllocError>
+    ensures { (s : Setting) (d : Debugger) (v : Variable) → M.stands machine.now s d → IsShownAt s d depth v shown
+        → IfOk result (λ words. words.items ≡ words_at s d depth v) }
+{
+    let mut words = Vec::new(alloc);
+    for index in 0..shown.count {
+        words.push(machine.word_at(depth, shown, index))?;
+    }
+    Ok(words)
+}
+
+/// The values of words of a type, with blanks between.
+fn words_text(alloc: Global, value_type: IntType, words: &[u64]) -> Result<String, AllocError>
+    ensures { IfOk result (λ text. string_bytes text ≡ values value_type words.now) }
+{
+    let mut writer = TextWriter {
+        bytes: Vec::new(alloc),
+        has_failed: false,
+    };
+    for word in words {
+        push_value(value_type, *word, &mut writer)?;
+    }
+    String::from_utf8_lossy(alloc, behind_first(writer.bytes.as_slice()))
+}
+
+/// Puts a blank and the value of a word behind what is written.
+fn push_value(value_type: IntType, word: u64, writer: &mut TextWriter) -> Result<(), AllocError>
+    requires { writer.old.has_failed ≡ false }
+    ensures { IfOk result (λ _. (writer.new.bytes.items ≡ writer.old.bytes.items ++ value_text value_type word) × (writer.new.has_failed ≡ false)) }
+{
+    writer.bytes.push(b' ')?;
+    if write_value(value_type, word, writer).is_err() {
+        return Err(AllocError);
+    }
+    Ok(())
 }
 
 /// The bytes but the first one.

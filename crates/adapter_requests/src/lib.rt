@@ -4,5 +4,5 @@
 mod reply;
 mod request;
 
-pub use reply::{Breakpoint, Frame, Reply, Stop, StopReason, Variable};
+pub use reply::{Breakpoint, BreakpointFault, Frame, Reply, Scopes, Stop, StopReason, Variable};
 pub use request::{Launch, Request};

@@ -1,12 +1,40 @@
 //! What is told.
 
-/// A breakpoint or a watch that was asked for: where it is, if it is there.
+/// Why a breakpoint or a watch that was asked for is not there.
 #[derive(Clone, Copy, Debug, PartialEq, Eq)]
-pub struct Breakpoint {
-    /// Its number, if it is there.
-    pub number: Option<u32>,
-    /// Its line, if it has one.
-    pub line: Option<u32>,
+pub enum BreakpointFault {
+    /// It says no line or target that can be read.
+    Unplaced,
+    /// It is to stop on a condition, after a count, or to tell a text in place of stopping.
+    Conditional,
+    /// It is in another source than the program's.
+    OtherSource,
+    /// No step is on its line or behind it.
+    NoStep,
+    /// Its target cannot be watched.
+    NotWatched,
+    /// As many breakpoints and watches are there as can be.
+    Full,
+}
+
+/// A breakpoint or a watch that was asked for.
+#[derive(Clone, Copy, Debug, PartialEq, Eq)]
+pub enum Breakpoint {
+    /// It is there, by its number, and on its line if it has one.
+    Stands { number: u32, line: Option<u32> },
+    /// It is not there.
+    Refused(BreakpointFault),
+}
+
+/// The references of what can be shown of a frame.
+#[derive(Clone, Copy, Debug, PartialEq, Eq)]
+pub struct Scopes {
+    /// That of its local variables.
+    pub locals: u64,
+    /// That of its parameters.
+    pub arguments: u64,
+    /// That of the variables of the file.
+    pub file: u64,
 }
 
 /// A frame, by its depth.
@@ -64,7 +92,7 @@ pub enum Reply {
     NotWatchable,
     Threads,
     Frames(Vec<Frame>),
-    Scopes,
+    Scopes(Scopes),
     Variables(Vec<Variable>),
     /// The value that a variable was given.
     Set(String),

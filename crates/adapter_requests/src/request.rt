@@ -1,4 +1,5 @@
 //! Requests.
+use crate::reply::BreakpointFault;
 
 /// How a program is to be run.
 #[derive(Clone, Copy)]
@@ -24,34 +25,41 @@ pub struct Launch<'a> {
 pub enum Request<'a> {
     Initialize,
     Launch(Launch<'a>),
-    /// The breakpoints of a source, in place of those that it had.
+    /// The breakpoints of a source, in place of those that it had: the line of each, or why it is none.
     SetBreakpoints {
         source: Option<&'a str>,
-        lines: Vec<u32>,
+        lines: Vec<Result<u32, BreakpointFault>>,
     },
     SetExceptionBreakpoints,
     /// Whether a variable can be watched: one of the variables of this reference, or any where there is none.
     DataBreakpointInfo {
         name: &'a str,
     },
-    /// The watches, in place of those that there were.
+    /// The watches, in place of those that there were: the target of each, or why it is none.
     SetDataBreakpoints {
-        targets: Vec<&'a str>,
+        targets: Vec<Result<&'a str, BreakpointFault>>,
     },
     ConfigurationDone,
     Threads,
     StackTrace,
-    Scopes,
+    /// What can be shown of the frame of this number.
+    Scopes {
+        frame: u64,
+    },
     /// The variables of this reference.
     Variables {
         reference: u64,
     },
+    /// One of the variables of this reference is set.
     SetVariable {
+        reference: u64,
         name: &'a str,
         value: &'a str,
     },
+    /// An expression, in the frame of this number; in the top one where there is none.
     Evaluate {
         expression: &'a str,
+        frame: Option<u64>,
         is_console: bool,
     },
     Next,

@@ -1,5 +1,5 @@
 -- Requests, one behind another.
-use Rattle.std.proofs.Common.{◌≡◌, List, [], ◌∷◌, ◌++◌, Result, Ok, Err, IfOk, IfErr, refl, sym, subst}
+use Rattle.std.proofs.Common.{◌≡◌, ℕ, Bool, true, false, List, [], ◌∷◌, ◌++◌, Option, Some, None, Result, Ok, Err, IfOk, IfErr, OnOk, refl, ap, sym, subst, ◌∙◌}
 use Rattle.gang_model.specs.Debugger.Debugger.{Debugger, Setting}
 use Rattle.gang_model.specs.Texts.Text.{Bytes}
 use Rattle.debug_session.specs.declared.session.Session.{Session}
@@ -7,8 +7,9 @@ use Rattle.debug_session.specs.Sessions.{StandsFor}
 use Rattle.command_lists.specs.Lists.{HasDone}
 use Rattle.adapter_requests.specs.declared.request.Request.{Request}
 use Rattle.adapter_requests.specs.declared.request.Request.TheVariants as request
+use Rattle.adapter_session.specs.Beginning.{breakpoint_here}
 use Rattle.adapter_session.specs.Requested.{commands_of}
-use Rattle.adapter_server.specs.Serving.{Answers, Asks, Begins, ComesTo, Does, Follows, IsAsked, MayFollow, MessageComesTo, RequestsLead}
+use Rattle.adapter_server.specs.Serving.{Answers, Asks, Begins, ComesTo, Does, Follows, HasServed, IsAsked, MayFollow, MessageComesTo, RequestsLead, begun}
 use Rattle.serde_json.specs.Data.{Data}
 
 -- where requests lead, and others from there
@@ -30,7 +31,7 @@ module _ {M : Type 0} (stands : M → Setting → Debugger → Type 0) (program 
 
   -- one request is done, unless memory was wanting
   pub asks : {T E : Type 0} (request : Request) (old new : Session M) (result : Result T E)
-      → ((s : Setting) (d : Debugger) → StandsFor stands old s d → IfOk result (λ _. HasDone stands s (commands_of program d.stops request) d new)) → IfErr result (λ _. new ≡ old) → Asks stands program request old new result
+      → ((s : Setting) (d : Debugger) → StandsFor stands old s d → IfOk result (λ _. HasDone stands s (commands_of program s d request) d new)) → IfErr result (λ _. new ≡ old) → Asks stands program request old new result
   asks request old new (Ok reply) done none = λ s d there.
       let leads = done s d there in
       record { after = leads.after; leads = (leads.after, leads.leads, refl); there = leads.there }
@@ -43,6 +44,34 @@ module _ {M : Type 0} (stands : M → Setting → Debugger → Type 0) (program 
   pub begins_asking : {T E : Type 0} (old new : Session M) (result : Result T E) → Asks stands program request.Continue old new result → Begins stands program old new
   begins_asking old new (Ok reply) does = record { requests = request.Continue ∷ []; may = tt; does = does }
   begins_asking old new (Err error) same = subst (Begins stands program old) (sym same) (begins_nothing old)
+
+  -- a run that begins with nothing, where it is to stop or a breakpoint stands
+  begun_at : (stops : Bool) (number : ℕ) → begun stops (Some number) ≡ []
+  begun_at true number = refl
+  begun_at false number = refl
+
+  begun_nothing : (requests : List Request) (session : Session M) (s : Setting) (d : Debugger) → StandsFor stands session s d → requests ≡ [] → HasServed stands program s requests d session
+  begun_nothing requests session s d there is = subst (λ r. HasServed stands program s r d session) (sym is) (record { after = d; leads = refl; there = there })
+
+  pub begun_on_entry : {T E : Type 0} (result : Result T E) (stops : Bool) (session : Session M) → stops ≡ true
+      → OnOk result ((s : Setting) (d : Debugger) → StandsFor stands session s d → HasServed stands program s (begun stops (breakpoint_here s d)) d session)
+  begun_on_entry (Ok x) stops session is = λ s d there. begun_nothing (begun stops (breakpoint_here s d)) session s d there (ap (λ b. begun b (breakpoint_here s d)) is)
+  begun_on_entry (Err e) stops session is = tt
+
+  pub begun_at_breakpoint : {T E : Type 0} (result : Result T E) (stops : Bool) (here : Option ℕ) (number : ℕ) (session : Session M)
+      → ((s : Setting) (d : Debugger) → StandsFor stands session s d → here ≡ breakpoint_here s d) → here ≡ Some number
+      → OnOk result ((s : Setting) (d : Debugger) → StandsFor stands session s d → HasServed stands program s (begun stops (breakpoint_here s d)) d session)
+  begun_at_breakpoint (Ok x) stops here number session is some = λ s d there.
+      begun_nothing (begun stops (breakpoint_here s d)) session s d there (ap (begun stops) (sym (is s d there) ∙ some) ∙ begun_at stops number)
+  begun_at_breakpoint (Err e) stops here number session is some = tt
+
+  pub begun_going_on : {T E X F : Type 0} (result : Result T E) (stops : Bool) (here : Option ℕ) (old new : Session M) (asked : Result X F) (reply : X) → stops ≡ false
+      → ((s : Setting) (d : Debugger) → StandsFor stands old s d → here ≡ breakpoint_here s d) → here ≡ None → asked ≡ Ok reply → Asks stands program request.Continue old new asked
+      → OnOk result ((s : Setting) (d : Debugger) → StandsFor stands old s d → HasServed stands program s (begun stops (breakpoint_here s d)) d new)
+  begun_going_on (Ok x) stops here old new asked reply runs is none ok does = λ s d there.
+      let first : Does stands program (request.Continue ∷ []) old new = subst (Asks stands program request.Continue old new) ok does in
+      subst (λ r. HasServed stands program s r d new) (sym (ap (λ b. begun b (breakpoint_here s d)) runs ∙ ap (begun false) (sym (is s d there) ∙ none))) (first s d there)
+  begun_going_on (Err e) stops here old new asked reply runs is none ok does = tt
 
   -- a request that comes to nothing, or is done
   pub follows_nothing : (asked : Request) (session : Session M) → Follows stands program asked session session
@@ -58,10 +87,10 @@ module _ {M : Type 0} (stands : M → Setting → Debugger → Type 0) (program 
   alone request.ConfigurationDone = tt
   alone request.Threads = tt
   alone request.StackTrace = tt
-  alone request.Scopes = tt
+  alone (request.Scopes frame) = tt
   alone (request.Variables reference) = tt
-  alone (request.SetVariable name value) = tt
-  alone (request.Evaluate expression is_console) = tt
+  alone (request.SetVariable reference name value) = tt
+  alone (request.Evaluate expression frame is_console) = tt
   alone request.Next = tt
   alone request.StepIn = tt
   alone request.StepOut = tt

@@ -1,5 +1,5 @@
 -- What serving an editor does to a session, and which messages it is done for.
-use Rattle.std.specs.Prelude.{◌≡◌, List, [], ◌∷◌, ◌++◌, Option, Some, Result, MatchResult, codes, flat_map, option_and_then, unwrap_or}
+use Rattle.std.specs.Prelude.{◌≡◌, ℕ, Bool, true, false, List, [], ◌∷◌, ◌++◌, Option, Some, None, Result, MatchResult, codes, flat_map, option_and_then, unwrap_or}
 use Rattle.std.specs.Io.KnownBytes.{Consumes}
 use Rattle.serde_json.specs.Data.{Data}
 use Rattle.serde_json.specs.Find.{as_str, get}
@@ -38,7 +38,7 @@ unread left connection = frames.unread left (messages_of connection)
 -- where requests lead, one after another: each by its commands, which speak of the breakpoints and watches that there are then
 abbrev pub RequestsLead : (program : Bytes) → Setting → List Request → Debugger → Debugger → Type 0
 RequestsLead program s [] d e = e ≡ d
-RequestsLead program s (request ∷ requests) d e = (middle : Debugger) × Leads s (commands_of program d.stops request) d middle × RequestsLead program s requests middle e
+RequestsLead program s (request ∷ requests) d e = (middle : Debugger) × Leads s (commands_of program s d request) d middle × RequestsLead program s requests middle e
 
 -- a session that stood for a debugger has done these requests and nothing else
 pub record HasServed {M : Type 0} (stands : M → Setting → Debugger → Type 0) (program : Bytes) (s : Setting) (requests : List Request) (d : Debugger) (session : Session M) : Type 0 where
@@ -126,6 +126,12 @@ pub record Follows {M : Type 0} (stands : M → Setting → Debugger → Type 0)
 -- a request is done, or nothing is
 abbrev pub Asks : {M T E : Type 0} → (M → Setting → Debugger → Type 0) → (program : Bytes) → Request → (old new : Session M) → Result T E → Type 0
 Asks stands program request old new result = MatchResult result (λ reply. Does stands program (request ∷ []) old new) (λ error. new ≡ old)
+
+-- the requests by which a run begins: none where it is to stop, or where a breakpoint stands at its first step
+abbrev pub begun : (stops_on_entry : Bool) → (breakpoint : Option ℕ) → List Request
+begun true breakpoint = []
+begun false (Some number) = []
+begun false None = request.Continue ∷ []
 
 -- a run begins with nothing, or with `continue`
 pub record Begins {M : Type 0} (stands : M → Setting → Debugger → Type 0) (program : Bytes) (old new : Session M) : Type 0 where

@@ -49,7 +49,9 @@ impl<R: Read, O: Write> Connection<R, O> {
     ghost use Rattle.adapter_server.specs.Serving.{LetsGo, Reads, ReadsJson, messages_of, unread};
 
     /// A connection by a reader and a writer.
-    pub fn new(alloc: Global, reader: R, writer: O) -> Self {
+    pub fn new(alloc: Global, reader: R, writer: O) -> Self
+        ensures { unread R.remaining result ≡ R.remaining reader }
+    {
         Connection {
             alloc,
             messages: FrameReader::new(alloc, reader),

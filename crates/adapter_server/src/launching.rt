@@ -1,5 +1,7 @@
 //! What comes before a launch.
 ghost use Rattle.std.specs.Prelude.{◌≡◌, IfSome};
+ghost use Rattle.serde_json.specs.View.{view};
+ghost use Rattle.adapter_messages.specs.Arguments.{IsLaunch};
 ghost use Rattle.adapter_server.specs.Serving.{path_of};
 
 use crate::connection::{Connection, Ended};
@@ -19,7 +21,8 @@ pub struct LaunchMessage {
 impl LaunchMessage {
     /// How the program is to be run; none where memory is wanting.
     pub fn launch(&self) -> Option<Launch<'_>>
-        ensures { IfSome result (λ launch. launch.program.now ≡ path_of self.now) }
+        ensures launch { IfSome result (IsLaunch (view self.now.message)) }
+        ensures program { IfSome result (λ launch. launch.program.now ≡ path_of self.now) }
     {
         match read_request(self.alloc, "launch", &self.message) {
             Ok(Request::Launch(launch)) => Some(launch),

@@ -1,17 +1,20 @@
 //! The requests for a program that is launched.
-ghost use Rattle.std.specs.Prelude.{◌≡◌};
+ghost use Rattle.std.specs.Prelude.{◌≡◌, OnOk};
 ghost use Rattle.serde_json.specs.View.{view};
-ghost use Rattle.adapter_server.specs.Serving.{Answers, Asks, Begins, Follows, Serves, ServesAnew, messages_of, path_of, unread};
+ghost use Rattle.gang_model.specs.Debugger.Debugger.{Debugger, Setting};
+ghost use Rattle.debug_session.specs.Sessions.{StandsFor};
+ghost use Rattle.adapter_session.specs.Beginning.{breakpoint_here};
+ghost use Rattle.adapter_server.specs.Serving.{Answers, Asks, Begins, Follows, HasServed, Serves, ServesAnew, begun, messages_of, path_of, unread};
 
 use crate::connection::{Connection, Ended};
 use crate::launching::LaunchMessage;
 use adapter_messages::{Head, read_head, read_request};
 use adapter_replies::answer_text;
 use adapter_requests::{Launch, Reply, Request, StopReason};
-use adapter_session::{answer_request, restore_stops};
+use adapter_session::{answer_request, breakpoint_here, restore_stops};
 use debug_answers::Answer;
 use debug_session::Session;
-use debug_traits::RecordedMachine;
+use debug_traits::FramedMachine;
 use serde_json::Value;
 use std::alloc::{AllocError, Global};
 use std::io::{Read, Write};
@@ -39,7 +42,7 @@ impl<R: Read, O: Write> Connection<R, O> {
     ///
     /// How the connection ended before that.
     #[tactic(auto, using(crate::proofs::ReadMessages::serves_nothing, crate::proofs::ReadMessages::lets_nothing_go))]
-    pub fn serve<M: RecordedMachine>(
+    pub fn serve<M: FramedMachine>(
         &mut self,
         launch: &LaunchMessage,
         session: &mut Session<M>,
@@ -57,7 +60,7 @@ impl<R: Read, O: Write> Connection<R, O> {
     /// # Errors
     ///
     /// How the connection ended before that.
-    pub fn restart<M: RecordedMachine>(
+    pub fn restart<M: FramedMachine>(
         &mut self,
         launch: &LaunchMessage,
         old: &Session<M>,
@@ -97,7 +100,7 @@ impl<R: Read, O: Write> Connection<R, O> {
     ///
     /// How the connection ended before that.
     #[tactic(auto, using(crate::proofs::ReadMessages::serves_nothing, crate::proofs::ReadMessages::lets_nothing_go))]
-    pub fn go_on<M: RecordedMachine>(
+    pub fn go_on<M: FramedMachine>(
         &mut self,
         launch: &LaunchMessage,
         session: &mut Session<M>,
@@ -120,7 +123,7 @@ impl<R: Read, O: Write> Connection<R, O> {
 
     /// Answers a message.
     #[tactic(auto, using(crate::proofs::ServedRequests::answers_nothing, crate::proofs::ServedRequests::answers_following))]
-    fn answer<M: RecordedMachine>(
+    fn answer<M: FramedMachine>(
         &mut self,
         launch: &Launch<'_>,
         session: &mut Session<M>,
@@ -145,7 +148,7 @@ impl<R: Read, O: Write> Connection<R, O> {
 
     /// Does a request and answers it, and tells what came of it; a restart is not answered.
     #[tactic(auto, using(crate::proofs::ServedRequests::follows_nothing, crate::proofs::ServedRequests::follows_asking))]
-    fn do_request<M: RecordedMachine>(
+    fn do_request<M: FramedMachine>(
         &mut self,
         launch: &Launch<'_>,
         session: &mut Session<M>,
@@ -187,32 +190,46 @@ impl<R: Read, O: Write> Connection<R, O> {
         }
     }
 
-    /// Begins the run: the program stops before its first step, or runs to where it stops by itself.
+    /// Begins the run: the program stops before its first step, where it is to or a breakpoint stands there, or runs to where it
+    /// stops by itself.
     #[tactic(auto, using(crate::proofs::ServedRequests::begins_nothing, crate::proofs::ServedRequests::begins_asking))]
-    fn begin<M: RecordedMachine>(
+    fn begin<M: FramedMachine>(
         &mut self,
         launch: &Launch<'_>,
         session: &mut Session<M>,
     ) -> Result<(), Ended>
         ensures done { Begins M.stands launch.now.program.now session.old session.new }
+        ensures begun { OnOk result ((s : Setting) (d : Debugger) → StandsFor M.stands session.old s d
+            → HasServed M.stands launch.now.program.now s (begun launch.now.stops_on_entry (breakpoint_here s d)) d session.new) }
         ensures messages { messages_of self.new ≡ messages_of self.old }
     {
         if launch.stops_on_entry {
-            let text = answer_text(
-                self.alloc,
-                &Answer::Here,
-                session.machine(),
-                session.stops(),
-            )?;
-            return self.tell_stop(StopReason::Entry, text.as_str());
+            return self.tell_beginning(session, &Answer::Here, StopReason::Entry);
+        }
+        if let Some(number) = breakpoint_here(session) {
+            let answer = Answer::AtBreakpoint(number);
+            return self.tell_beginning(session, &answer, StopReason::Breakpoint(number));
         }
         let reply = ask(self.alloc, launch.program, session, &Request::Continue)?;
         self.tell_of(&reply)
     }
+
+    /// Tells that the program stands before its first step, and why.
+    fn tell_beginning<M: FramedMachine>(
+        &mut self,
+        session: &Session<M>,
+        answer: &Answer<'_>,
+        reason: StopReason,
+    ) -> Result<(), Ended>
+        ensures { messages_of self.new ≡ messages_of self.old }
+    {
+        let text = answer_text(self.alloc, answer, session.machine(), session.stops())?;
+        self.tell_stop(reason, text.as_str())
+    }
 }
 
 /// Does a request.
-fn ask<M: RecordedMachine>(
+fn ask<M: FramedMachine>(
     alloc: Global,
     program: &str,
     session: &mut Session<M>,

@@ -1,23 +1,25 @@
 -- Lines that are done one after another.
-use Rattle.std.proofs.Common.{◌≡◌, refl, ap, sym, subst, ℕ, List, [], ◌++◌, Option, Some, None}
+use Rattle.std.proofs.Common.{◌≡◌, refl, ap, sym, subst, List, [], ◌++◌, Option, Some, None}
 use Rattle.std.proofs.lemmas.Grind.{flat_map-append}
-use Rattle.gang_model.specs.Debugger.Debugger.{Command, Debugger, Reply, Setting, Stop}
+use Rattle.gang_model.specs.Debugger.Debugger as model
+use Rattle.gang_model.specs.Debugger.Debugger.{Command, Debugger, Setting, depth, now}
 use Rattle.gang_model.specs.Texts.CommandText.{command_of}
 use Rattle.gang_model.specs.Texts.Text.{Bytes}
 use Rattle.gang_model.specs.Texts.Transcript.{IsReplyTo}
 use Rattle.debug_answers.specs.declared.answer.Answer.{Answer}
-use Rattle.debug_answers.specs.declared.stops.NumberedStop.{NumberedStop}
-use Rattle.debug_answers.specs.Meanings.{AreStops}
 use Rattle.debug_session.specs.declared.session.Session.{Session}
 use Rattle.debug_session.specs.Sessions.{StandsFor}
+use Rattle.adapter_requests.specs.declared.reply.Reply.{Reply}
 use Rattle.adapter_requests.specs.declared.request.Request.{Request}
+use Rattle.adapter_replies.specs.Told.{MeansLast}
 use Rattle.command_lists.specs.Lists.{HasDone, Leads}
 use Rattle.command_lists.proofs.DoneLists.{leads_on}
+use Rattle.adapter_session.specs.Answered.{IsTold, MayTell}
 use Rattle.adapter_session.specs.Doing.{Does, DoesLines}
 use Rattle.adapter_session.specs.Requested.{command_list, commands_of, lines_of, only, spelled}
 
 -- where the command of a line leads, or the refusal of one that spells none
-leads_by_command : (s : Setting) (command : Option Command) (d : Debugger) (r : Reply) → IsReplyTo s command d r → Leads s (command_list command ++ []) d r.next
+leads_by_command : (s : Setting) (command : Option Command) (d : Debugger) (r : model.Reply) → IsReplyTo s command d r → Leads s (command_list command ++ []) d r.next
 leads_by_command s None d r is = ap (λ r. r.next) is
 leads_by_command s (Some command) d r is = (r, is, refl)
 
@@ -59,7 +61,16 @@ module _ {M : Type 0} (stands : M → Setting → Debugger → Type 0) (s : Sett
       }
 
   -- the lines of a request that were done are its commands that were done
-  pub request_done : (program : Bytes) (request : Request) (stops : List NumberedStop) (d : Debugger) (lines : List Bytes) (last : Option Answer) (new : Session M) → AreStops s stops d.stops
-      → ((s : Setting) (meant : List (ℕ × Stop)) → AreStops s stops meant → lines ≡ lines_of program meant request) → DoesLines stands s lines d last new → HasDone stands s (commands_of program d.stops request) d new
-  request_done program request stops d lines last new are is does =
-      subst (λ lines. HasDone stands s (spelled lines) d new) (is s d.stops are) (has_done lines d last new does)
+  pub request_done : (program : Bytes) (request : Request) (d : Debugger) (last : Option Answer) (new : Session M) → DoesLines stands s (lines_of program (depth (now s d)) d.stops request) d last new
+      → HasDone stands s (commands_of program s d request) d new
+  request_done program request d last new does = has_done (lines_of program (depth (now s d)) d.stops request) d last new does
+
+  -- what is told where a session stands after lines, told of the request whose lines they are
+  pub request_told : (program : Bytes) (request : Request) (d : Debugger) (told : Reply) (last : Option Answer) (new : Session M) → DoesLines stands s (lines_of program (depth (now s d)) d.stops request) d last new
+      → ((after : Debugger) (meant : model.Answer) → StandsFor stands new s after → MeansLast s after last meant → MayTell s program after last meant request told) → IsTold stands s program request d told new
+  request_told program request d told None new does tells =
+      record { last = None; does = does; after = d; there = does.1; meant = model.Silent; means = tt; tells = tells d model.Silent does.1 tt }
+  request_told program request d told (Some given) new does tells =
+      let reply = does.does.reply in
+      let replied = does.does.replied in
+      record { last = Some given; does = does; after = reply.next; there = replied.there; meant = reply.answer; means = replied.means; tells = tells reply.next reply.answer replied.there replied.means }

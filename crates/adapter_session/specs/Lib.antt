@@ -1,3 +1,5 @@
+pub mod Answered
+pub mod Beginning
 pub mod Doing
 pub mod Given
 pub mod Requested

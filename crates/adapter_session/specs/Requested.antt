@@ -1,11 +1,13 @@
 -- The commands that a request is: each is a line of the debugger.
-use Rattle.std.specs.Prelude.{ℕ, Bool, true, false, List, [], ◌∷◌, ◌++◌, flat_map, map, Option, Some, None, codes, decimal, is_some, ◌&&◌, if◌then◌else◌}
+use Rattle.std.specs.Prelude.{ℕ, Bool, true, false, not, List, [], ◌∷◌, ◌++◌, flat_map, map, Option, Some, None, Result, Ok, Err, codes, decimal, is_some, ◌&&◌, ◌==◌, if◌then◌else◌}
 use Rattle.gang_model.specs.Source.Names.{same_text}
-use Rattle.gang_model.specs.Debugger.Debugger.{Command, Stop, Line, Watch}
+use Rattle.gang_model.specs.Debugger.Debugger.{Command, Debugger, Setting, Stop, Line, Watch, depth, now}
 use Rattle.gang_model.specs.Texts.CommandText.{command_of}
 use Rattle.gang_model.specs.Texts.Text.{Bytes}
+use Rattle.adapter_requests.specs.declared.reply.BreakpointFault.{BreakpointFault}
 use Rattle.adapter_requests.specs.declared.request.Request.{Request}
 use Rattle.adapter_requests.specs.declared.request.Request.TheVariants as request
+use Rattle.adapter_replies.specs.References.{is_set_there, place_of}
 use Rattle.std.specs.Borrow.{Bor}
 
 -- whether a stop is a breakpoint
@@ -43,41 +45,61 @@ print_line target = codes "print " ++ target
 abbrev pub set_line : (target value : Bytes) → Bytes
 set_line target value = codes "set var " ++ (target ++ (codes " = " ++ value))
 
+-- a line alone
+abbrev pub only : Bytes → List Bytes
+only line = line ∷ []
+
+-- whether an expression is looked up in another frame than the top one
+abbrev pub is_elsewhere : (top : ℕ) → (frame : Option ℕ) → Bool
+is_elsewhere top None = false
+is_elsewhere top (Some frame) = not (frame == top)
+
+-- the line that shows an expression; none does it in another frame than the top one
+abbrev pub print_lines : (is_elsewhere : Bool) → Bytes → List Bytes
+print_lines true text = []
+print_lines false text = only (print_line text)
+
 -- the line of an expression: in the console the line itself, where it spells a command; else that which shows it
-abbrev pub evaluated : (is_console : Bool) → Bytes → Bytes
-evaluated is_console text = if is_console && is_some (command_of text) then text else print_line text
+abbrev pub evaluated : (is_console is_elsewhere : Bool) → Bytes → List Bytes
+evaluated is_console is_elsewhere text = if is_console && is_some (command_of text) then only text else print_lines is_elsewhere text
+
+-- the line that sets a target, where it can be set
+abbrev pub set_lines : (is_set : Bool) → (target value : Bytes) → List Bytes
+set_lines true target value = only (set_line target value)
+set_lines false target value = []
 
 -- whether a source is the program's
 abbrev pub is_program : (program : Bytes) → Option (Bor Bytes) → Bool
 is_program program None = false
 is_program program (Some source) = same_text source.now program
 
+-- the line for what is asked for; none for what cannot be made
+abbrev pub line_for : {A : Type 0} → (A → Bytes) → Result A BreakpointFault → List Bytes
+line_for line (Ok place) = only (line place)
+line_for line (Err fault) = []
+
 -- the lines that put breakpoints on lines of a source, in place of those that there are; another source has none
-abbrev pub break_lines : (is_program : Bool) → List (ℕ × Stop) → List ℕ → List Bytes
+abbrev pub break_lines : (is_program : Bool) → List (ℕ × Stop) → List (Result ℕ BreakpointFault) → List Bytes
 break_lines false stops lines = []
-break_lines true stops lines = map delete_line (numbers_of is_breakpoint stops) ++ map break_line lines
+break_lines true stops lines = map delete_line (numbers_of is_breakpoint stops) ++ flat_map (line_for break_line) lines
 
 -- the lines that watch targets, in place of those that are watched
-abbrev pub watch_lines : List (ℕ × Stop) → List (Bor Bytes) → List Bytes
-watch_lines stops targets = map delete_line (numbers_of is_watch stops) ++ map (λ target. watch_line target.now) targets
+abbrev pub watch_lines : List (ℕ × Stop) → List (Result (Bor Bytes) BreakpointFault) → List Bytes
+watch_lines stops targets = map delete_line (numbers_of is_watch stops) ++ flat_map (line_for (λ target. watch_line target.now)) targets
 
--- a line alone
-abbrev pub only : Bytes → List Bytes
-only line = line ∷ []
-
--- the lines that a request is, given the program's path and the breakpoints and watches
-abbrev pub lines_of : (program : Bytes) → List (ℕ × Stop) → Request → List Bytes
-lines_of program stops request.Next = only (codes "next")
-lines_of program stops request.StepIn = only (codes "step")
-lines_of program stops request.StepOut = only (codes "finish")
-lines_of program stops request.Continue = only (codes "continue")
-lines_of program stops request.StepBack = only (codes "reverse-step")
-lines_of program stops request.ReverseContinue = only (codes "reverse-continue")
-lines_of program stops (request.SetBreakpoints source lines) = break_lines (is_program program source) stops lines.items
-lines_of program stops (request.SetDataBreakpoints targets) = watch_lines stops targets.items
-lines_of program stops (request.SetVariable name value) = only (set_line name.now value.now)
-lines_of program stops (request.Evaluate expression is_console) = only (evaluated is_console expression.now)
-lines_of program stops other = []
+-- the lines that a request is, given the program's path, its depth, and the breakpoints and watches
+abbrev pub lines_of : (program : Bytes) → (top : ℕ) → List (ℕ × Stop) → Request → List Bytes
+lines_of program top stops request.Next = only (codes "next")
+lines_of program top stops request.StepIn = only (codes "step")
+lines_of program top stops request.StepOut = only (codes "finish")
+lines_of program top stops request.Continue = only (codes "continue")
+lines_of program top stops request.StepBack = only (codes "reverse-step")
+lines_of program top stops request.ReverseContinue = only (codes "reverse-continue")
+lines_of program top stops (request.SetBreakpoints source lines) = break_lines (is_program program source) stops lines.items
+lines_of program top stops (request.SetDataBreakpoints targets) = watch_lines stops targets.items
+lines_of program top stops (request.SetVariable reference name value) = set_lines (is_set_there top (place_of reference)) name.now value.now
+lines_of program top stops (request.Evaluate expression frame is_console) = evaluated is_console (is_elsewhere top frame) expression.now
+lines_of program top stops other = []
 
 -- the command of a line, where it spells one
 abbrev pub command_list : Option Command → List Command
@@ -88,6 +110,6 @@ command_list (Some command) = command ∷ []
 abbrev pub spelled : List Bytes → List Command
 spelled lines = flat_map (λ line. command_list (command_of line)) lines
 
--- the commands that a request is
-abbrev pub commands_of : (program : Bytes) → List (ℕ × Stop) → Request → List Command
-commands_of program stops request = spelled (lines_of program stops request)
+-- the commands that a request is where a debugger stands
+abbrev pub commands_of : (program : Bytes) → Setting → Debugger → Request → List Command
+commands_of program s d request = spelled (lines_of program (depth (now s d)) d.stops request)

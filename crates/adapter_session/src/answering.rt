@@ -1,17 +1,20 @@
 //! What a request does to a session, and what it is told.
 ghost use Rattle.std.specs.Prelude.{◌≡◌, IfErr, IfOk};
+ghost use Rattle.gang_model.specs.Debugger.Debugger as model;
 ghost use Rattle.gang_model.specs.Debugger.Debugger.{Debugger, Setting};
 ghost use Rattle.debug_session.specs.Sessions.{StandsFor};
 ghost use Rattle.command_lists.specs.Lists.{HasDone};
+ghost use Rattle.adapter_replies.specs.Told.{MeansLast};
+ghost use Rattle.adapter_session.specs.Answered.{IsTold, MayTell, is_source_of};
 ghost use Rattle.adapter_session.specs.Requested.{commands_of};
 
 use crate::doing::do_lines;
 use crate::lines::{command_lines, is_program};
-use adapter_replies::reply_to;
+use adapter_replies::{depth_of, reply_to};
 use adapter_requests::{Reply, Request};
 use debug_answers::Answer;
 use debug_session::Session;
-use debug_traits::RecordedMachine;
+use debug_traits::FramedMachine;
 use std::alloc::{AllocError, Global};
 
 /// Does the commands of a request, where the program's source has this path, and says what the request is told.
@@ -19,29 +22,35 @@ use std::alloc::{AllocError, Global};
 /// # Errors
 ///
 /// Out of memory, and then nothing was done.
-pub fn answer_request<M: RecordedMachine>(
+pub fn answer_request<M: FramedMachine>(
     alloc: Global,
     program: &str,
     session: &mut Session<M>,
     request: &Request<'_>,
 ) -> Result<Reply, AllocError>
     ensures done { (s : Setting) (d : Debugger) → StandsFor M.stands session.old s d
-        → IfOk result (λ _. HasDone M.stands s (commands_of program.now d.stops request.now) d session.new) }
+        → IfOk result (λ _. HasDone M.stands s (commands_of program.now s d request.now) d session.new) }
+    ensures told { (s : Setting) (d : Debugger) → StandsFor M.stands session.old s d
+        → IfOk result (λ told. IsTold M.stands s program.now request.now d told session.new) }
     ensures memory { IfErr result (λ _. session.new ≡ session.old) }
 {
-    let lines = command_lines(alloc, program, request, session.stops())?;
+    let depth = depth_of(session.machine());
+    let lines = command_lines(alloc, program, depth, request, session.stops())?;
     let last = do_lines(session, lines.as_slice());
     Ok(told(alloc, program, session, request, last))
 }
 
 /// What a request is told, or that there is no memory for it.
-fn told<M: RecordedMachine>(
+fn told<M: FramedMachine>(
     alloc: Global,
     program: &str,
     session: &Session<M>,
     request: &Request<'_>,
     last: Option<Answer<'_>>,
-) -> Reply {
+) -> Reply
+    ensures { (s : Setting) (d : Debugger) (meant : model.Answer) → StandsFor M.stands session.now s d → MeansLast s d last.entry meant
+        → MayTell s program.now d last.entry meant request.now result }
+{
     let machine = session.machine();
     let is_program = is_source_of(program, request);
     match reply_to(alloc, machine, session.stops(), request, is_program, last) {
@@ -51,7 +60,9 @@ fn told<M: RecordedMachine>(
 }
 
 /// Whether a request is of breakpoints in the program's source.
-fn is_source_of(program: &str, request: &Request<'_>) -> bool {
+fn is_source_of(program: &str, request: &Request<'_>) -> bool
+    ensures { result ≡ is_source_of program.now request.now }
+{
     match request {
         Request::SetBreakpoints { source, lines: _ } => is_program(program, *source),
         _ => false,

@@ -2,11 +2,13 @@
 #![tactic(auto)]
 
 mod answering;
+mod beginning;
 mod doing;
 mod lines;
 mod restoring;
 
 pub use answering::answer_request;
+pub use beginning::breakpoint_here;
 pub use doing::do_lines;
 pub use lines::command_lines;
 pub use restoring::restore_stops;

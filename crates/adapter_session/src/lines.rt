@@ -1,12 +1,13 @@
 //! The command lines that a request is.
-ghost use Rattle.std.specs.Prelude.{◌≡◌, ℕ, List, [], ◌∷◌, ◌++◌, map, codes, decimal, string_bytes, IfOk};
+ghost use Rattle.std.specs.Prelude.{◌≡◌, ℕ, List, ◌++◌, flat_map, map, string_bytes, IfOk};
 ghost use Rattle.gang_model.specs.Debugger.Debugger as model;
 ghost use Rattle.gang_model.specs.Debugger.Debugger.{Setting};
 ghost use Rattle.debug_answers.specs.Meanings.{AreStops};
 ghost use Rattle.adapter_session.specs.Given.{given_numbers, is_of};
-ghost use Rattle.adapter_session.specs.Requested.{break_line, delete_line, evaluated, is_program, lines_of, only, set_line, watch_line};
+ghost use Rattle.adapter_session.specs.Requested.{break_line, delete_line, evaluated, is_elsewhere, is_program, line_for, lines_of, only, set_lines, watch_line};
 
-use adapter_requests::Request;
+use adapter_replies::is_set_there;
+use adapter_requests::{BreakpointFault, Request};
 use debug_answers::{NumberedStop, Stop};
 use debug_commands::read_command;
 use debug_words::is_same;
@@ -19,7 +20,8 @@ pub(crate) enum Kind {
     Watches,
 }
 
-/// The command lines that a request is, where the program's source has this path, with these breakpoints and watches.
+/// The command lines that a request is, where the program's source has this path and the program this depth, with these
+/// breakpoints and watches.
 ///
 /// # Errors
 ///
@@ -28,11 +30,12 @@ pub(crate) enum Kind {
 pub fn command_lines(
     alloc: Global,
     program: &str,
+    depth: usize,
     request: &Request<'_>,
     stops: &[NumberedStop],
 ) -> Result<Vec<String>, AllocError>
     ensures { IfOk result (λ lines. (s : Setting) (meant : List (ℕ × model.Stop)) → AreStops s stops.now meant
-        → map string_bytes lines.items ≡ lines_of program.now meant request.now) }
+        → map string_bytes lines.items ≡ lines_of program.now depth meant request.now) }
 {
     match request {
         Request::Next => alone(alloc, "next"),
@@ -49,11 +52,16 @@ pub fn command_lines(
             }
         }
         Request::SetDataBreakpoints { targets } => watch_lines(alloc, stops, targets),
-        Request::SetVariable { name, value } => set_line(alloc, name, value),
+        Request::SetVariable {
+            reference,
+            name,
+            value,
+        } => set_lines(alloc, is_set_there(depth, *reference), name, value),
         Request::Evaluate {
             expression,
+            frame,
             is_console,
-        } => evaluated(alloc, expression, *is_console),
+        } => evaluated(alloc, expression, *is_console, is_elsewhere(depth, *frame)),
         Request::Initialize
         | Request::Launch(_)
         | Request::SetExceptionBreakpoints
@@ -61,7 +69,7 @@ pub fn command_lines(
         | Request::ConfigurationDone
         | Request::Threads
         | Request::StackTrace
-        | Request::Scopes
+        | Request::Scopes { .. }
         | Request::Variables { .. }
         | Request::Restart
         | Request::Disconnect
@@ -78,10 +86,18 @@ fn alone(alloc: Global, line: &str) -> Result<Vec<String>, AllocError>
     Ok(lines)
 }
 
-/// The line that sets a target.
-fn set_line(alloc: Global, target: &str, value: &str) -> Result<Vec<String>, AllocError>
-    ensures { IfOk result (λ lines. map string_bytes lines.items ≡ only (set_line target.now value.now)) }
+/// The line that sets a target, where it can be set.
+fn set_lines(
+    alloc: Global,
+    is_set: bool,
+    target: &str,
+    value: &str,
+) -> Result<Vec<String>, AllocError>
+    ensures { IfOk result (λ lines. map string_bytes lines.items ≡ set_lines is_set target.now value.now) }
 {
+    if !is_set {
+        return Ok(Vec::new(alloc));
+    }
     let line = format!(in alloc; "set var {target} = {value}")?;
     alone(alloc, line.as_str())
 }
@@ -96,12 +112,30 @@ pub(crate) fn is_program(program: &str, source: Option<&str>) -> bool
     }
 }
 
-/// The line of an expression: in the console the line itself, where it spells a command; else that which shows it.
-fn evaluated(alloc: Global, expression: &str, is_console: bool) -> Result<Vec<String>, AllocError>
-    ensures { IfOk result (λ lines. map string_bytes lines.items ≡ only (evaluated is_console expression.now)) }
+/// Whether an expression is looked up in another frame than the top one.
+fn is_elsewhere(top: usize, frame: Option<u64>) -> bool
+    ensures { result ≡ is_elsewhere top frame }
+{
+    match frame {
+        None => false,
+        Some(frame) => frame as usize != top,
+    }
+}
+
+/// The line of an expression: in the console the line itself, where it spells a command; else that which shows it, unless it is
+/// looked up in another frame than the top one.
+fn evaluated(
+    alloc: Global,
+    expression: &str,
+    is_console: bool,
+    is_elsewhere: bool,
+) -> Result<Vec<String>, AllocError>
+    ensures { IfOk result (λ lines. map string_bytes lines.items ≡ evaluated is_console is_elsewhere expression.now) }
 {
     if is_console && read_command(expression.as_bytes()).is_some() {
         alone(alloc, expression)
+    } else if is_elsewhere {
+        Ok(Vec::new(alloc))
     } else {
         let line = format!(in alloc; "print {expression}")?;
         alone(alloc, line.as_str())
@@ -112,32 +146,61 @@ fn evaluated(alloc: Global, expression: &str, is_console: bool) -> Result<Vec<St
 fn break_lines(
     alloc: Global,
     stops: &[NumberedStop],
-    lines: &[u32],
+    lines: &[Result<u32, BreakpointFault>],
 ) -> Result<Vec<String>, AllocError>
     ensures { IfOk result (λ all. map string_bytes all.items
-        ≡ map delete_line (given_numbers Kind.Breakpoints stops.now) ++ map break_line lines.now) }
+        ≡ map delete_line (given_numbers Kind.Breakpoints stops.now) ++ flat_map (line_for break_line) lines.now) }
 {
     let mut all = delete_lines(alloc, stops, Kind::Breakpoints)?;
     for line in lines {
-        all.push(format!(in alloc; "break {line}")?)?;
+        push_break(alloc, *line, &mut all)?;
     }
     Ok(all)
+}
+
+/// Puts the line that makes a breakpoint behind others, where it can be made.
+fn push_break(
+    alloc: Global,
+    line: Result<u32, BreakpointFault>,
+    all: &mut Vec<String>,
+) -> Result<(), AllocError>
+    ensures { IfOk result (λ _. map string_bytes all.new.items ≡ map string_bytes all.old.items ++ line_for break_line line) }
+{
+    if let Ok(line) = line {
+        all.push(format!(in alloc; "break {line}")?)?;
+    }
+    Ok(())
 }
 
 /// The lines that watch targets, in place of those that are watched.
 fn watch_lines(
     alloc: Global,
     stops: &[NumberedStop],
-    targets: &[&str],
+    targets: &[Result<&str, BreakpointFault>],
 ) -> Result<Vec<String>, AllocError>
     ensures { IfOk result (λ all. map string_bytes all.items
-        ≡ map delete_line (given_numbers Kind.Watches stops.now) ++ map (λ target. watch_line target.now) targets.now) }
+        ≡ map delete_line (given_numbers Kind.Watches stops.now) ++ flat_map (line_for (λ target. watch_line target.now)) targets.now) }
 {
     let mut all = delete_lines(alloc, stops, Kind::Watches)?;
     for target in targets {
-        all.push(format!(in alloc; "watch {target}")?)?;
+        push_watch(alloc, *target, &mut all)?;
     }
     Ok(all)
+}
+
+/// Puts the line that makes a watch behind others, where it can be made.
+fn push_watch(
+    alloc: Global,
+    target: Result<&str, BreakpointFault>,
+    all: &mut Vec<String>,
+) -> Result<(), AllocError>
+    ensures { IfOk result (λ _. map string_bytes all.new.items
+        ≡ map string_bytes all.old.items ++ line_for (λ target. watch_line target.now) target.entry) }
+{
+    if let Ok(target) = target {
+        all.push(format!(in alloc; "watch {target}")?)?;
+    }
+    Ok(())
 }
 
 /// The lines that delete the breakpoints, or the watches.

@@ -15,7 +15,7 @@ const PROGRAM: &str = "it.ispc";
 pub(crate) fn call(alloc: Global, name: &str) -> Option<Ended> {
     match name {
         "adapter_session::command_lines" => {
-            Some(end_of(&command_lines(alloc, PROGRAM, &Request::StepIn, &[])))
+            Some(end_of(&command_lines(alloc, PROGRAM, 1, &Request::StepIn, &[])))
         }
         "adapter_session::answer_request" => Some(step(alloc, &mut session(alloc)?)),
         "adapter_replies::reply_to" => Some(list_frames(alloc, &session(alloc)?)),

@@ -1,5 +1,8 @@
-use Rattle.std.proofs.Common.{true, Some, None, codes, ap, sym, ◌∙◌, is_some, if◌then◌else◌}
+use Rattle.std.proofs.Common.{true, Some, codes, ap, sym, ◌∙◌, is_some, if◌then◌else◌}
 use Rattle.std.specs.Prelude.{unwrap_or}
+use Rattle.serde_json.specs.View.{view}
+use Rattle.adapter_messages.specs.Arguments.{text_of}
+use Rattle.adapter_messages.specs.Faults.{first_missing, launch_options}
 use Rattle.adapter_messages.proofs.requests.read_launch.Goals as goal
 
 pub returns-clause-accepted : goal.returns-clause-accepted
@@ -15,4 +18,6 @@ returns-clause-accepted c = record {
 
 pub returns-clause-complete : goal.returns-clause-complete
 returns-clause-complete c =
-    ap (λ program. if is_some program then None else Some (codes "program")) (sym c.text_at.ensures ∙ c.in_ok-program.ensures.given)
+    let message = view c.args.message.now in
+    ap (λ program. if is_some program then first_missing (launch_options message) else Some (codes "program")) (sym c.text_at.ensures ∙ c.in_ok-program.ensures.given)
+    ∙ sym (ap text_of (sym c.in_default.is) ∙ c.wrong_option.ensures)

@@ -8,4 +8,4 @@ use Rattle.adapter_replies.proofs.breakpoints.watches.Given as goal
 
 abbrev pub invariant-loop-target : goal.invariant-loop-target
 invariant-loop-target g l = (s : Setting) (d : Debugger) (meant : List (ℕ × model.Stop)) → g.M.RecordedMachine.stands l.machine s d → AreStops s l.fn.stops meant
-    → l.made.items ≡ map (λ target. told_watch meant target.now) (take l.target-index l.targets)
+    → l.made.items ≡ map (told_watch s d meant) (take l.target-index l.targets)

@@ -1,19 +1,12 @@
-use Rattle.std.proofs.Common.{◌≡◌, ◌++◌, ◌∙◌, sym, ap, drop, false, List, ℕ, Bool, Some, Result, Ok, Err}
-use Rattle.std.specs.Prelude.{is_err}
+use Rattle.std.proofs.Common.{◌++◌, ◌∙◌, sym, ap, drop}
 use Rattle.std.specs.Str.Lossy.{utf8_lossy}
 use Rattle.std.proofs.lemmas.Result.{IfOk-weaker}
 use Rattle.gang_types.specs.declared.types.IntType.{IntType}
 use Rattle.gang_model.specs.Debugger.Debugger.{now, part_shown, shown_words}
-use Rattle.debug_traits.specs.Devices.{Writes}
 use Rattle.debug_texts.specs.Wording.{values_text}
 use Rattle.adapter_replies.specs.Variables.{values}
-use Rattle.adapter_replies.proofs.ToldVariables.{values_shown}
+use Rattle.adapter_replies.proofs.ToldVariables.{values_shown, written}
 use Rattle.adapter_replies.proofs.texts.value_text.Goals as goal
-
--- what a writer that had nothing has then
-written : {X E : Type 0} (text old new : List ℕ) (failed : Bool) (r : Result X E) → Writes text (Some old) (Some new) failed r → is_err r ≡ false → new ≡ old ++ text
-written text old new failed (Ok x) (wrote, works) is = wrote
-written text old new failed (Err e) wrote is = absurd (cc)
 
 pub returns : goal.returns
 returns g c s d v st shown inside =

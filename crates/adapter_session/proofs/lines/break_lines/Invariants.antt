@@ -1,9 +1,9 @@
 -- the lines so far
-use Rattle.std.proofs.Common.{◌≡◌, ◌++◌, map, string_bytes, take}
+use Rattle.std.proofs.Common.{◌≡◌, ◌++◌, flat_map, map, string_bytes, take}
 use Rattle.adapter_session.specs.declared.lines.Kind.TheVariants as kind
 use Rattle.adapter_session.specs.Given.{given_numbers}
-use Rattle.adapter_session.specs.Requested.{break_line, delete_line}
+use Rattle.adapter_session.specs.Requested.{break_line, delete_line, line_for}
 use Rattle.adapter_session.proofs.lines.break_lines.Given as goal
 
 abbrev pub invariant-loop-line : goal.invariant-loop-line
-invariant-loop-line l = map string_bytes l.all.items ≡ map delete_line (given_numbers kind.Breakpoints l.fn.stops) ++ map break_line (take l.line-index l.lines)
+invariant-loop-line l = map string_bytes l.all.items ≡ map delete_line (given_numbers kind.Breakpoints l.fn.stops) ++ flat_map (line_for break_line) (take l.line-index l.lines)

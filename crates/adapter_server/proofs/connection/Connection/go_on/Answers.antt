@@ -12,22 +12,22 @@ pub returns-in_err-answer : goal.returns-in_err-answer
 returns-in_err-answer g c =
     let left = g.R.Read.remaining in
     serves_answer g.M.RecordedMachine.stands (path_of c.args.launch.now) left (unread left c.args.self.now) c.loop.self c.next_value.new.self c.answer.new.self c.in-Some.asked.program.now (view c.in_ok-message.message)
-    c.args.session.now c.loop.session c.answer.new.session c.loop.invariant c.in_ok-message.ensures c.in-Some.ensures c.answer.ensures.done c.answer.ensures.messages
+    c.args.session.now c.loop.session c.answer.new.session c.loop.invariant c.in_ok-message.ensures c.in-Some.ensures.program c.answer.ensures.done c.answer.ensures.messages
 
 pub returns-in-Restarts : goal.returns-in-Restarts
 returns-in-Restarts g c =
     let left = g.R.Read.remaining in
     serves_answer g.M.RecordedMachine.stands (path_of c.args.launch.now) left (unread left c.args.self.now) c.loop.self c.next_value.new.self c.answer.new.self c.in-Some.asked.program.now (view c.in_ok-message.message)
-    c.args.session.now c.loop.session c.answer.new.session c.loop.invariant c.in_ok-message.ensures c.in-Some.ensures c.answer.ensures.done c.answer.ensures.messages
+    c.args.session.now c.loop.session c.answer.new.session c.loop.invariant c.in_ok-message.ensures c.in-Some.ensures.program c.answer.ensures.done c.answer.ensures.messages
 
 pub returns-in-Disconnects : goal.returns-in-Disconnects
 returns-in-Disconnects g c =
     let left = g.R.Read.remaining in
     serves_answer g.M.RecordedMachine.stands (path_of c.args.launch.now) left (unread left c.args.self.now) c.loop.self c.next_value.new.self c.answer.new.self c.in-Some.asked.program.now (view c.in_ok-message.message)
-    c.args.session.now c.loop.session c.answer.new.session c.loop.invariant c.in_ok-message.ensures c.in-Some.ensures c.answer.ensures.done c.answer.ensures.messages
+    c.args.session.now c.loop.session c.answer.new.session c.loop.invariant c.in_ok-message.ensures c.in-Some.ensures.program c.answer.ensures.done c.answer.ensures.messages
 
 pub loop-preserved : goal.loop-preserved
 loop-preserved g c =
     let left = g.R.Read.remaining in
     serves_answer g.M.RecordedMachine.stands (path_of c.args.launch.now) left (unread left c.args.self.now) c.loop.self c.next_value.new.self c.answer.new.self c.in-Some.asked.program.now (view c.in_ok-message.message)
-    c.args.session.now c.loop.session c.answer.new.session c.loop.invariant c.in_ok-message.ensures c.in-Some.ensures c.answer.ensures.done c.answer.ensures.messages
+    c.args.session.now c.loop.session c.answer.new.session c.loop.invariant c.in_ok-message.ensures c.in-Some.ensures.program c.answer.ensures.done c.answer.ensures.messages

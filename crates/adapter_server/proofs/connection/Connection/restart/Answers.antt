@@ -36,7 +36,7 @@ returns-in_err-begin g c =
     let here = unread left c.begin.new.self in
     let made = c.restore_stops.new.session in
     let begun = c.begin.new.session in
-    serves_anew stands path start here c.args.old.now c.args.session.now made begun begun c.restore_stops.ensures (subst (λ p. Begins stands p made begun) c.in-Some.ensures c.begin.ensures.done)
+    serves_anew stands path start here c.args.old.now c.args.session.now made begun begun c.restore_stops.ensures (subst (λ p. Begins stands p made begun) c.in-Some.ensures.program c.begin.ensures.done)
     (serves_nothing stands path start here begun (told left start (messages_of c.args.self.now) c.begin.new.self (c.begin.ensures.messages ∙ c.reply.ensures) (lets_nothing_go start)))
 
 pub returns : goal.returns
@@ -48,5 +48,5 @@ returns g c =
     let new = c.go_on.new.session in
     let after = unread left c.go_on.new.self in
     serves_anew stands path (unread left c.args.self.now) after c.args.old.now c.args.session.now c.restore_stops.new.session begun new c.restore_stops.ensures
-    (subst (λ p. Begins stands p c.restore_stops.new.session begun) c.in-Some.ensures c.begin.ensures.done)
+    (subst (λ p. Begins stands p c.restore_stops.new.session begun) c.in-Some.ensures.program c.begin.ensures.done)
     (subst (λ messages. Serves stands path (frames.unread left messages) after begun new) (c.begin.ensures.messages ∙ c.reply.ensures) c.go_on.ensures)
