@@ -11,7 +11,9 @@ import subprocess
 import sys
 import threading
 
-from .adapter_members import CAPABILITIES, EVENTS, MEMBERS, NUMBER, TEXT, THREAD, TRUTH, Wrong, need, need_body, need_members, need_stop
+from .adapter_members import CAPABILITIES, EVENTS, MEMBERS, NUMBER, TEXT, THREAD, TRUTH, Wrong, need, need_body, need_members, need_stop, same
+from .adapter_frames import FRAME_CHECKS
+from .adapter_launches import LAUNCH_CHECKS
 from .tried import Result
 
 # How long a check may take.
@@ -141,11 +143,22 @@ class Client:
         need(self.process.wait(10) == 0, "the status is not 0")
 
 
+    def scopes(self, frame):
+        """The references of the local variables, of the parameters and of the variables of the file of a frame."""
+        scopes = self.ask("scopes", frameId=frame)["scopes"]
+        same([it["name"] for it in scopes], ["Locals", "Arguments", "File"])
+        return [it["variablesReference"] for it in scopes]
+
+    def values(self, reference):
+        """The names and values of the variables of a reference."""
+        return {name: it["value"] for name, it in self.variables(reference).items()}
+
+    def value(self, expression, frame=None):
+        """The values of an expression, in a frame if it is given."""
+        return self.ask("evaluate", expression=expression, context="watch", **({} if frame is None else {"frameId": frame}))["result"]
+
+
 # ---- what is checked
-
-
-def same(found, wanted):
-    need(found == wanted, f"{found!r} and not {wanted!r}")
 
 
 def steps_and_back(client, examples):
@@ -177,7 +190,7 @@ def watches(client, examples):
     same(client.move("continue")["text"], "ended")
     same(client.place(), [])
     same(client.ask("evaluate", expression="total")["result"], "-15")
-    found = client.ask("dataBreakpointInfo", name="total", variablesReference=2)
+    found = client.ask("dataBreakpointInfo", name="total", variablesReference=client.scopes(1)[2])
     same(found["dataId"], "total")
     made = client.ask("setDataBreakpoints", breakpoints=[{"dataId": found["dataId"]}])["breakpoints"]
     same(made, [{"id": 1, "verified": True}])
@@ -213,16 +226,15 @@ def variables(client, examples):
     client.launch(examples / "first.ispc")
     client.begin()
     client.move("next")
-    scopes = client.ask("scopes", frameId=1)["scopes"]
-    same([it["name"] for it in scopes], ["Locals", "Arguments", "File"])
-    local = client.variables(scopes[0]["variablesReference"])
+    scopes = client.scopes(1)
+    local = client.variables(scopes[0])
     same({name: (it["value"], it["type"]) for name, it in local.items()}, {"x": ("0 3 6 9", "varying int32")})
     lanes = client.variables(local["x"]["variablesReference"])
     same([(name, it["value"]) for name, it in lanes.items()], [("x[0]", "0"), ("x[1]", "3"), ("x[2]", "6"), ("x[3]", "9")])
     same(client.ask("setVariable", variablesReference=local["x"]["variablesReference"], name="x[1]", value="7")["value"], "7")
     same(client.ask("evaluate", expression="x", context="hover")["result"], "0 7 6 9")
-    same(client.ask("setVariable", variablesReference=1, name="x", value="-2")["value"], "-2 -2 -2 -2")
-    same(client.refused("setVariable", variablesReference=1, name="x", value="3000000000"), "C8 OutOfRange")
+    same(client.ask("setVariable", variablesReference=scopes[0], name="x", value="-2")["value"], "-2 -2 -2 -2")
+    same(client.refused("setVariable", variablesReference=scopes[0], name="x", value="3000000000"), "C8 OutOfRange")
     same(client.ask("evaluate", expression="undo", context="repl")["result"], "undone poke: at 3:5 go depth 1 lanes 1111")
     same(client.event("stopped")["reason"], "step")
     same(client.ask("evaluate", expression="x", context="hover")["result"], "0 7 6 9")
@@ -241,7 +253,7 @@ def frames(client, examples):
     client.move("stepIn")
     same(len(client.place()), 2)
     same([it[2].split()[0] for it in client.place()], ["f", "go"])
-    arguments = client.variables(client.ask("scopes", frameId=1)["scopes"][1]["variablesReference"])
+    arguments = client.variables(client.scopes(2)[1])
     same({name: (it["value"], it["type"]) for name, it in arguments.items()}, {"k": ("0 1 2 3", "varying int32")})
     same(client.variables(arguments["k"]["variablesReference"])["k[3]"]["value"], "3")
     client.move("stepOut")
@@ -278,13 +290,12 @@ def the_end(client, examples):
 
 # Requests that lack an argument or have one of a wrong type, each with the first such argument.
 INCOMPLETE = [
-    ("setBreakpoints", {"source": {}, "breakpoints": [{"line": 3}, {"line": -1}]}, "line"),
-    ("setBreakpoints", {"source": {}, "breakpoints": [{"line": 2**32}]}, "line"),
-    ("setBreakpoints", {"source": {}, "breakpoints": [{"line": "3"}]}, "line"),
+    ("scopes", {}, "frameId"),
+    ("scopes", {"frameId": "1"}, "frameId"),
     ("dataBreakpointInfo", {"variablesReference": 2}, "name"),
-    ("setDataBreakpoints", {"breakpoints": [{"dataId": None}]}, "dataId"),
     ("variables", {}, "variablesReference"),
     ("variables", {"variablesReference": "1"}, "variablesReference"),
+    ("setVariable", {"name": "x", "value": "7"}, "variablesReference"),
     ("setVariable", {"variablesReference": 1}, "name"),
     ("setVariable", {"variablesReference": 1, "name": "x"}, "value"),
     ("setVariable", {"variablesReference": 1, "name": "x", "value": 7}, "value"),
@@ -320,7 +331,7 @@ def wrong_requests(client, examples):
     client.end()
 
 
-CHECKS = [steps_and_back, watches, breaks, variables, frames, faults, the_end, wrong_requests]
+CHECKS = [steps_and_back, watches, breaks, variables, frames, faults, the_end, wrong_requests, *FRAME_CHECKS, *LAUNCH_CHECKS]
 
 
 def check(root, command):

@@ -70,6 +70,10 @@ def need(holds, why):
         raise Wrong(why)
 
 
+def same(found, wanted):
+    need(found == wanted, f"{found!r} and not {wanted!r}")
+
+
 def need_members(what, given, needed, allowed):
     """An object has all the members that it needs and no others than it may have, each of its type."""
     need(isinstance(given, dict), f"{what} is {given!r} and no object")

@@ -27,7 +27,7 @@ REQUESTS = (
     ("next", {"threadId": 1}),
     ("stackTrace", {"threadId": 1}),
     ("scopes", {"frameId": 1}),
-    ("variables", {"variablesReference": 1}),
+    ("variables", {"variablesReference": 11}),
     ("evaluate", {"expression": "print x", "context": "repl"}),
     ("stepBack", {"threadId": 1}),
     ("restart", {}),

@@ -1,0 +1,137 @@
+"""Checks of the debug adapter: what a launch says, where a run begins, and breakpoints that are not set."""
+
+from .adapter_frames import written
+from .adapter_members import need, same
+
+# Two entries, and more lines than there can be breakpoints.
+ENTRIES = "export void go() {\n    int x = 1;\n}\nexport void other() {\n    int y = programIndex - 1;\n    y += 1;\n}\n"
+LINES = "export void go() {\n    int x = 0;\n" + "    x += 1;\n" * 70 + "}\n"
+
+# An argument of a launch by a wrong type.
+WRONG_TYPES = [
+    ("program", 3), ("input", 3), ("entry", ["go"]), ("width", "8"), ("width", 8.5), ("width", -4), ("history", "10"), ("steps", {}),
+    ("stopOnEntry", "false"), ("stopOnEntry", 0),
+]
+
+
+def arguments(client, examples):
+    """Each argument of a launch has its meaning, and one of a wrong type is refused by its name."""
+    source = str(examples / "first.ispc")
+    for name, value in WRONG_TYPES:
+        same(client.refused("launch", **{"program": source, name: value}), f"the argument `{name}` is missing or of a wrong type")
+    need(client.refused("launch", program=source, entry="none") != "", "no reason")
+    with written(ENTRIES) as path:
+        client.launch(path, width=16, entry="other", input=None, history=2)
+        client.begin()
+        same(client.place(), [(5, 5, "other [1111111111111111]")])
+        client.move("next")
+        client.move("next")
+        same(client.value("y"), " ".join(str(lane) for lane in range(16)))
+        client.end()
+
+
+def history(client, examples):
+    """As many steps are taken back as the history says, and no more."""
+    client.launch(examples / "lanes.ispc", history=2)
+    client.begin()
+    places = [client.place()]
+    for _ in range(3):
+        client.move("stepIn")
+        places.append(client.place())
+    client.move("stepBack")
+    client.move("stepBack")
+    same(client.place(), places[1])
+    same(client.refused("stepBack", threadId=1), "C3 NoHistory")
+    client.end()
+
+
+def default_history(client, examples):
+    """A launch without a history keeps as many steps as there can be."""
+    with written(LINES) as path:
+        client.ask("initialize", adapterID="rinddecade")
+        client.ask("launch", program=str(path))
+        client.event("initialized")
+        client.begin()
+        same(client.move("continue")["text"], "ended")
+        same(client.move("reverseContinue")["text"], "history end: at 2:5 go depth 1 lanes 1111")
+        client.end()
+
+
+def step_limit(client, examples):
+    """A forward command does as many moves as the launch says."""
+    with written(LINES) as path:
+        client.launch(path, steps=10)
+        client.begin()
+        stop = client.move("continue")
+        same((stop["reason"], client.value("x")), ("pause", "9 9 9 9"))
+        client.end()
+
+
+def given_input(client, examples):
+    """The input gives the entry's parameters and the variables of the file: those that examples/scale.input has."""
+    client.launch(examples / "scale.ispc", input=str(examples / "scale.input"))
+    client.begin()
+    given = client.variables(client.scopes(1)[1])
+    same((given["count"]["value"], given["factor"]["value"], given["a"]["value"]), ("6", "3", "6 elements"))
+    same(list(client.values(given["a"]["variablesReference"]).values()), ["10", "-20", "30", "40", "50", "-60"])
+    same(client.values(client.scopes(1)[2]), {"most": "90"})
+    client.end()
+
+
+def first_statement(client, examples):
+    """A breakpoint on the first statement stops a run that does not stop on entry, before any step."""
+    client.launch(examples / "first.ispc", stopOnEntry=False)
+    made = client.breakpoints(3, 2)
+    stop = client.begin()
+    same((stop["reason"], stop["hitBreakpointIds"]), ("breakpoint", [made[1]["id"]]))
+    same(stop["text"], f"breakpoint {made[1]['id']}: at 2:5 go depth 1 lanes 1111")
+    same(client.refused("stepBack", threadId=1), "C3 NoHistory")
+    same(client.move("continue")["hitBreakpointIds"], [made[0]["id"]])
+    client.end()
+
+
+def no_breakpoints(client, examples):
+    """Each entry that cannot be set is refused for itself, with its reason."""
+    client.launch(examples / "first.ispc")
+    client.begin()
+    asked = [
+        {"line": 2, "condition": "x > 1"}, {"line": 3}, {"line": 3, "hitCondition": "2"}, {"line": 3, "logMessage": "x"}, {"line": "3"},
+        {}, {"line": -1}, {"line": 2**32}, {"line": 50}, {"line": 4, "condition": None},
+    ]
+    found = client.ask("setBreakpoints", source={"path": client.source}, breakpoints=asked)["breakpoints"]
+    conditional, unplaced = "conditions, counts and log messages are not there", "its line or target is missing or of a wrong type"
+    same([it.get("message") for it in found], [
+        conditional, None, conditional, conditional, unplaced, unplaced, unplaced, unplaced, "no step stands on this line or behind it", None,
+    ])
+    same([it["line"] for it in found if it["verified"]], [3, 4])
+    same(len(client.ask("evaluate", expression="info breakpoints", context="repl")["result"].splitlines()), 2)
+    other = client.ask("setBreakpoints", source={"path": "/another.ispc"}, breakpoints=[{"line": 3}])["breakpoints"]
+    same([it.get("message") for it in other], ["this source is not the program's"])
+    same(len(client.ask("evaluate", expression="info breakpoints", context="repl")["result"].splitlines()), 2)
+    watched = client.ask("setDataBreakpoints", breakpoints=[{"dataId": "x"}, {"dataId": 3}, {"dataId": "x", "condition": "1"}])["breakpoints"]
+    same([it["message"] for it in watched], ["only scalars of the file, their lanes and elements of arrays are watched", unplaced, conditional])
+    client.end()
+
+
+def full(client, examples):
+    """The 65th breakpoint is refused for want of room."""
+    with written(LINES) as path:
+        client.launch(path)
+        client.begin()
+        made = client.breakpoints(*range(2, 68))
+        same([it["verified"] for it in made], [True] * 64 + [False] * 2)
+        same(made[64]["message"], "no more breakpoints and watches can be there")
+        client.end()
+
+
+def ends_before_a_launch(client, examples):
+    """A disconnect ends the adapter before a launch too, and each message before it is answered."""
+    client.ask("initialize", adapterID="rinddecade")
+    same(client.refused("scopes", frameId=1), "no program is launched")
+    client.ask("initialize", adapterID="rinddecade")
+    client.end()
+
+
+LAUNCH_CHECKS = [
+    arguments, history, default_history, step_limit, given_input, first_statement, no_breakpoints, full, ends_before_a_launch,
+]
