@@ -1,5 +1,7 @@
 //! What texts are written on.
 ghost use Rattle.std.specs.Prelude.{◌≡◌, false};
+ghost use Rattle.std.specs.Fmt.{signed_decimal};
+ghost use Rattle.prompt_texts.specs.Shown.{Puts};
 
 use debug_traits::AnswerWriter;
 use itoa::Buffer;
@@ -63,14 +65,18 @@ impl<O: AnswerWriter + Drop> Page<O> {
     }
 
     /// Writes bytes.
-    pub fn put(&mut self, bytes: &[u8]) {
+    pub fn put(&mut self, bytes: &[u8])
+        ensures { Puts bytes.now self.old.has_failed self.new.has_failed (O.written self.old.writer) (O.written self.new.writer) }
+    {
         if !self.has_failed {
             self.has_failed = self.writer.write_all(bytes).is_err();
         }
     }
 
     /// Writes a number in decimal digits.
-    pub fn put_number(&mut self, number: i128) {
+    pub fn put_number(&mut self, number: i128)
+        ensures { Puts (signed_decimal number) self.old.has_failed self.new.has_failed (O.written self.old.writer) (O.written self.new.writer) }
+    {
         let mut digits = Buffer::new();
         self.put(digits.format(number).as_bytes());
     }

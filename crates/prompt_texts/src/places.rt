@@ -1,7 +1,13 @@
 //! Where a frame stands: the place, the lanes, and the source around it.
+ghost use Rattle.std.specs.Prelude.{◌≡◌};
+ghost use Rattle.gang_types.specs.Masks.{IsGangWidth, lanes_of};
+ghost use Rattle.prompt_texts.specs.Shown as spec;
+ghost use Rattle.prompt_texts.specs.Shown.{Puts, marks};
+
 use crate::page::Page;
 use crate::source::Source;
 use debug_traits::{AnswerWriter, Position};
+use gang_types::Mask;
 
 /// How many lines are shown before and behind a place.
 const AROUND: u32 = 2;
@@ -21,7 +27,7 @@ pub(crate) fn put_place<O: AnswerWriter + Drop>(
         None => page.put(b"the program has ended\n"),
         Some(position) => {
             put_front(&position, source, page);
-            put_lanes(&position, page);
+            put_marks(position.width, position.lanes, page);
             page.put(b"\n");
         }
     }
@@ -47,15 +53,20 @@ fn put_front<O: AnswerWriter + Drop>(
     page.put(b", lanes ");
 }
 
-/// Writes a mark for each lane, lane 0 first: `#` where it is active, and `.` where it waits.
-fn put_lanes<O: AnswerWriter + Drop>(position: &Position<'_>, page: &mut Page<O>) {
-    for lane in 0..position.width.min(WIDEST) {
-        page.put(if position.lanes.has::<WIDEST>(lane) {
-            b"#"
-        } else {
-            b"."
-        });
+/// Writes a mark for each lane of the gang, lane 0 first: `#` where it is active, and `.` where it waits.
+fn put_marks<O: AnswerWriter + Drop>(width: usize, lanes: Mask, page: &mut Page<O>)
+    ensures { IsGangWidth width → Puts (marks (lanes_of width lanes)) page.old.has_failed page.new.has_failed (O.written page.old.writer) (O.written page.new.writer) }
+{
+    for lane in 0..width.min(WIDEST) {
+        page.put(mark(lanes.has::<WIDEST>(lane)));
     }
+}
+
+/// The mark of a lane.
+fn mark(is_active: bool) -> &'static [u8]
+    ensures { result.now ≡ spec.mark is_active }
+{
+    if is_active { b"#" } else { b"." }
 }
 
 /// Writes the line of a place and those around it, with a mark under the column.
