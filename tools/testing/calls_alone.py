@@ -42,6 +42,7 @@ CALLS = {
     "undo_log::DeltaRing::set_limit": 0,
     "undo_log::SnapshotRing::new": 0,
     "undo_log::SnapshotRing::set_limit": 0,
+    "undo_log::all_words": 0,
     "ispc_options::read_options": 0,
     "ispc_options::wrong_arguments": 0,
     "desk_options::read_verb": 0,

@@ -3,7 +3,7 @@ ghost use Rattle.std.specs.Prelude.{◌≡◌};
 
 use crate::ends::{Ended, end_of};
 use std::alloc::Global;
-use undo_log::{DeltaRing, SnapshotRing, Timeline};
+use undo_log::{DeltaRing, SnapshotRing, Timeline, all_words};
 
 /// How many words a record has, and how many of them an event sets at most.
 const WORDS: usize = 3;
@@ -19,7 +19,16 @@ pub(crate) fn call(alloc: Global, name: &str) -> Option<Ended> {
         "undo_log::SnapshotRing::set_limit" => {
             Some(grow(&mut SnapshotRing::new(alloc, WORDS, 1).ok()?))
         }
+        "undo_log::all_words" => copy(alloc),
         _ => None,
+    }
+}
+
+/// Copies the words of a record.
+fn copy(alloc: Global) -> Option<Ended> {
+    match DeltaRing::new(alloc, WORDS, 1, WORDS) {
+        Ok(record) => Some(end_of(&all_words(alloc, &record, WORDS))),
+        Err(_) => None,
     }
 }
 
