@@ -12,9 +12,6 @@ DEFINITIONS = "docs/DEFINITIONS.md"
 # The most characters of a paragraph or an item of a list. Rows of tables are not counted.
 MOST = 500
 
-# Crates whose pages are written anew with their calls, and are not measured until then.
-LATER = ("adapter_frames", "adapter_replies", "adapter_server", "adapter_session", "debug_prompt", "gang_machine")
-
 # What stands in a path for any name, or is made when the program is built or proved; files of an editor; and a format behind GDB's `print` or `x`.
 MADE_OR_ANY = re.compile(r"\b(NAME|CRATE|DIR|F|PATH)\b|\.\.$|\bout/|^proved\.txt$|^~|\*|^\.vscode/|^(?:p|print|x)/\w+$")
 CODE = re.compile(r"`([^`\n]+)`")
@@ -62,7 +59,7 @@ def long_ones(page):
 
 def long_ones_of_crates(root):
     """What each crate's own page has that is long."""
-    own = (it for it in sorted(root.glob("crates/*/README.md")) if it.parent.name not in LATER)
+    own = sorted(root.glob("crates/*/README.md"))
     return [f"{it.parent.name}: {why}" for it in own for why in long_ones(it)]
 
 
