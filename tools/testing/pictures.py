@@ -40,7 +40,7 @@ LANES = """export void go() {
 }
 """
 
-OF_LANES = [(4, "x"), (8, "y"), (16, "x"), (16, "b"), (8, "b[3]"), (16, "x[15]"), (4, "none")]
+OF_LANES = [(4, "x"), (8, "y"), (16, "x"), (16, "b"), (8, "b[3]"), (16, "x[15]"), (4, "go")]
 
 ELEMENTS = """uniform int8 t[20];
 uniform int64 sum;

@@ -30,7 +30,7 @@ pub(crate) fn debug(rt: &HostRuntime, program: &Program<'_>) -> ExitCode
         Ok(texts) => texts,
         Err(status) => return status,
     };
-    let texts = Texts::new(program, source.as_slice(), input.as_slice());
+    let texts = Texts::new(program.source, source.as_slice(), input.as_slice());
     match program.options.width {
         Width::Four => debug_wide::<4>(rt, texts, program),
         Width::Eight => debug_wide::<8>(rt, texts, program),

@@ -11,7 +11,7 @@ use debug_commands::{Command, Target, read_command};
 use debug_session::Session;
 use debug_streams::StreamWriter;
 use debug_traits::RecordedMachine;
-use desk_options::Picture;
+use desk_options::{Picture, Program};
 use ispc_debugger::{ProgramSession, open_session};
 use ispc_options::Width;
 use ispc_refusals::Refusal;
@@ -33,10 +33,29 @@ const NOT_NAMED: &[u8] = b"--watch: the source has no variable ";
 /// What is drawn of a run, and where to.
 #[derive(Clone, Copy)]
 struct Plan<'a> {
-    picture: &'a Picture<'a>,
     texts: Texts<'a>,
     commands: &'a [u8],
     watched: Option<Target<'a>>,
+    most_steps: u32,
+    to: Option<&'a str>,
+}
+
+impl<'a> Plan<'a> {
+    fn new(
+        texts: Texts<'a>,
+        commands: &'a [u8],
+        watched: Option<Target<'a>>,
+        most_steps: u32,
+        to: Option<&'a str>,
+    ) -> Self {
+        Plan {
+            texts,
+            commands,
+            watched,
+            most_steps,
+            to,
+        }
+    }
 }
 
 /// Draws the run of a program. Its files are read first, the source before the input and this before the commands.
@@ -54,7 +73,7 @@ pub(crate) fn draw_picture(rt: &HostRuntime, picture: &Picture<'_>) -> ExitCode
         Ok(commands) => commands,
         Err(status) => return status,
     };
-    let texts = Texts::new(&picture.program, source.as_slice(), input.as_slice());
+    let texts = Texts::new(picture.program.source, source.as_slice(), input.as_slice());
     draw_texts(rt, picture, texts, commands.as_slice())
 }
 
@@ -98,16 +117,12 @@ fn draw_texts(
             Err(_) => return refuse(rt, &Refusal::Memory),
         }
     }
-    let plan = Plan {
-        picture,
-        texts,
-        commands,
-        watched,
-    };
-    match picture.program.options.width {
-        Width::Four => draw_wide::<4>(rt, &plan),
-        Width::Eight => draw_wide::<8>(rt, &plan),
-        Width::Sixteen => draw_wide::<16>(rt, &plan),
+    let plan = Plan::new(texts, commands, watched, picture.most, picture.to);
+    let program = &picture.program;
+    match program.options.width {
+        Width::Four => draw_wide::<4>(rt, &plan, program),
+        Width::Eight => draw_wide::<8>(rt, &plan, program),
+        Width::Sixteen => draw_wide::<16>(rt, &plan, program),
     }
 }
 
@@ -118,13 +133,13 @@ fn line_of(rt: &HostRuntime, front: &[u8], rest: Option<&str>) -> Result<Vec<u8>
     Ok(line)
 }
 
-fn draw_wide<const W: usize>(rt: &HostRuntime, plan: &Plan<'_>) -> ExitCode
-    requires width { W ≡ lanes_of plan.now.picture.now.program.options.width }
-    requires range { AreInRange plan.now.picture.now.program.options }
+fn draw_wide<const W: usize>(rt: &HostRuntime, plan: &Plan<'_>, program: &Program<'_>) -> ExitCode
+    requires width { W ≡ lanes_of program.now.options.width }
+    requires range { AreInRange program.now.options }
 {
     let (source, input) = (plan.texts.source.text, plan.texts.input.text);
-    match open_session::<W>(rt.alloc(), source, input, &plan.picture.program.options) {
-        Err(refusal) => refuse_program(rt, &refusal, &plan.picture.program, plan.texts),
+    match open_session::<W>(rt.alloc(), source, input, &program.options) {
+        Err(refusal) => refuse_program(rt, &refusal, program, plan.texts),
         Ok(mut session) => {
             do_lines(plan.commands, &mut session);
             draw_session::<W>(rt, plan, &mut session)
@@ -155,7 +170,7 @@ fn draw_session<const W: usize>(
     plan: &Plan<'_>,
     session: &mut ProgramSession<W>,
 ) -> ExitCode {
-    let Some(path) = plan.picture.to else {
+    let Some(path) = plan.to else {
         return draw_on::<W, _>(rt, plan, Form::Image, rt.stdout(), session);
     };
     let form = if path.ends_with(".html") {
@@ -184,7 +199,7 @@ fn draw_on<const W: usize, O: Write + Drop>(
         title: plan.texts.source.name,
         source: plan.texts.source.text,
         watched: plan.watched,
-        most_steps: plan.picture.most,
+        most_steps: plan.most_steps,
         form,
     };
     let mut writer = StreamWriter::new(lines);

@@ -24,5 +24,5 @@ pub(crate) fn explain(rt: &HostRuntime, words: &[&str]) -> ExitCode {
 /// The page of the first word of a line that names one.
 pub(crate) fn page_in(line: &[u8]) -> Option<Page> {
     line.split(|byte| !byte.is_ascii_alphanumeric())
-        .find_map(page_of)
+        .find_map(|word| page_of(word))
 }

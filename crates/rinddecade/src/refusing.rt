@@ -19,10 +19,10 @@ pub(crate) struct Texts<'a> {
 
 impl<'a> Texts<'a> {
     /// The texts that a program's files have.
-    pub(crate) fn new(program: &Program<'a>, source: &'a [u8], input: &'a [u8]) -> Self {
+    pub(crate) fn new(path: &'a str, source: &'a [u8], input: &'a [u8]) -> Self {
         Texts {
             source: Source {
-                name: program.source.as_bytes(),
+                name: path.as_bytes(),
                 text: source,
             },
             input: Source {
