@@ -4,7 +4,8 @@ import re
 
 from .tried import Result
 
-LINES_OF_README = range(10, 26)
+# (blank ones are not counted)
+LINES_OF_README = range(5, 26)
 
 
 class Crate:
@@ -60,7 +61,7 @@ def faults(crate):
     if not readme.is_file():
         return why + ["it has no README.md"]
     told = readme.read_text(encoding="utf-8")
-    lines = len(told.splitlines())
+    lines = sum(1 for it in told.splitlines() if it.strip())
     if lines not in LINES_OF_README:
         why.append(f"its README.md has {lines} lines, and not {LINES_OF_README[0]} to {LINES_OF_README[-1]}")
     return why + [f"its README.md does not name proofs/{it}" for it in unnamed(crate, told)]
