@@ -5,7 +5,6 @@ use Rattle.gang_model.specs.Debugger.Debugger as model
 use Rattle.gang_model.specs.Debugger.Debugger.{Command, Debugger, Setting, depth, now}
 use Rattle.gang_model.specs.Texts.CommandText.{command_of}
 use Rattle.gang_model.specs.Texts.Text.{Bytes}
-use Rattle.gang_model.specs.Texts.Transcript.{IsReplyTo}
 use Rattle.debug_answers.specs.declared.answer.Answer.{Answer}
 use Rattle.debug_session.specs.declared.session.Session.{Session}
 use Rattle.debug_session.specs.Sessions.{StandsFor}
@@ -15,11 +14,11 @@ use Rattle.adapter_replies.specs.Told.{MeansLast}
 use Rattle.command_lists.specs.Lists.{HasDone, Leads}
 use Rattle.command_lists.proofs.DoneLists.{leads_on}
 use Rattle.adapter_session.specs.Answered.{IsTold, MayTell}
-use Rattle.adapter_session.specs.Doing.{Does, DoesLines}
+use Rattle.adapter_session.specs.Doing.{Does, DoesLines, MayReplyTo}
 use Rattle.adapter_session.specs.Requested.{command_list, commands_of, lines_of, only, spelled}
 
 -- where the command of a line leads, or the refusal of one that spells none
-leads_by_command : (s : Setting) (command : Option Command) (d : Debugger) (r : model.Reply) → IsReplyTo s command d r → Leads s (command_list command ++ []) d r.next
+leads_by_command : (s : Setting) (command : Option Command) (d : Debugger) (r : model.Reply) → MayReplyTo s command d r → Leads s (command_list command ++ []) d r.next
 leads_by_command s None d r is = ap (λ r. r.next) is
 leads_by_command s (Some command) d r is = (r, is, refl)
 

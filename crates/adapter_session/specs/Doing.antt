@@ -1,19 +1,23 @@
 -- What command lines do to a session, and what they are answered.
 use Rattle.std.specs.Prelude.{◌≡◌, List, [], ◌++◌, Option, Some, None}
-use Rattle.gang_model.specs.Debugger.Debugger.{Debugger, Reply, Setting}
+use Rattle.gang_model.specs.Debugger.Debugger.{BadCommand, Command, Debugger, Reply, Setting, refused}
 use Rattle.gang_model.specs.Texts.CommandText.{command_of}
 use Rattle.gang_model.specs.Texts.Text.{Bytes}
-use Rattle.gang_model.specs.Texts.Transcript.{IsReplyTo}
 use Rattle.debug_answers.specs.declared.answer.Answer.{Answer}
 use Rattle.debug_session.specs.declared.session.Session.{Session}
-use Rattle.debug_session.specs.Sessions.{Replied, StandsFor}
+use Rattle.debug_session.specs.Sessions.{MayReply, Replied, StandsFor}
 use Rattle.command_lists.specs.Lists.{Leads}
 use Rattle.adapter_session.specs.Requested.{only, spelled}
+
+-- a reply to a line that spells this command, or none; one that sets a value may find no memory
+abbrev pub MayReplyTo : Setting → Option Command → Debugger → Reply → Type 0
+MayReplyTo s None d r = r ≡ refused BadCommand d
+MayReplyTo s (Some command) d r = MayReply s command d r
 
 -- a session stands as after a reply to a line, and the answer is the reply's
 pub record Does {M : Type 0} (stands : M → Setting → Debugger → Type 0) (s : Setting) (line : Bytes) (d : Debugger) (given : Answer) (new : Session M) : Type 0 where
   pub reply : Reply
-  pub is_reply : IsReplyTo s (command_of line) d reply
+  pub is_reply : MayReplyTo s (command_of line) d reply
   pub replied : Replied stands s reply given new
 
 -- the last of some lines was done where those before it lead

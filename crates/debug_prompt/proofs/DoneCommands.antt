@@ -4,7 +4,7 @@ use Rattle.std.proofs.lemmas.Bool.{true≢false}
 use Rattle.gang_model.specs.Debugger.Debugger.{Command, Debugger, DoBacktrace, DoBreak, DoContinue, DoDelete, DoFinish, DoInfoBreakpoints, DoInfoLocals, DoNext, DoNothing, DoPrint, DoQuit, DoReverseContinue, DoReverseFinish, DoReverseNext, DoReverseStep, DoSet, DoSetHistory, DoStep, DoUndo, DoWatch, IsReply, MayRunOut, Reply, Setting, do_command}
 use Rattle.debug_answers.specs.declared.answer.Answer.{Answer}
 use Rattle.debug_session.specs.declared.session.Session.{Session}
-use Rattle.debug_session.specs.Sessions.{RepliesTo, StandsFor}
+use Rattle.debug_session.specs.Sessions.{RepliesOn, RepliesTo, Sets, StandsFor}
 use Rattle.command_lists.specs.Lists.{HasDone}
 use Rattle.command_lists.proofs.DoneLists.{done_one, done_then}
 use Rattle.debug_prompt.specs.Doing as doing
@@ -35,16 +35,24 @@ move_sure DoNothing d moving may = absurd (true≢false (sym moving))
 move_sure DoQuit d moving may = absurd (true≢false (sym moving))
 move_sure (DoSetHistory n) d moving may = absurd (true≢false (sym moving))
 
--- a command that wants for no memory has one reply
-pub sure_reply : (s : Setting) (command : Command) (d : Debugger) (r : Reply) → (MayRunOut command d → ⊥) → IsReply s command d r → r ≡ do_command s command d
-sure_reply s command d r sure is = elim is [ inl e ↦ e | inr out ↦ absurd (sure out.0) ]
+-- a command that moves sets no value
+sets_none : (command : Command) → doing.moves command ≡ true → Sets command → ⊥
+sets_none (DoSet target z) moving sets = true≢false (sym moving)
+sets_none other moving sets = sets
+
+reply_done : (s : Setting) (command : Command) (d : Debugger) (r : Reply) → (MayRunOut command d → ⊥) → IsReply s command d r → r ≡ do_command s command d
+reply_done s command d r sure is = elim is [ inl e ↦ e | inr out ↦ absurd (sure out.0) ]
+
+-- a command that moves has one reply
+pub sure_reply : (may_want : Type 0) (s : Setting) (command : Command) (d : Debugger) (r : Reply) → doing.moves command ≡ true → RepliesOn may_want s command d r → r ≡ do_command s command d
+sure_reply may_want s command d r moving is = elim is [ inl is ↦ reply_done s command d r (move_sure command d moving) is | inr none ↦ absurd (sets_none command moving none.1.0) ]
 
 module _ {M : Type 0} (stands : M → Setting → Debugger → Type 0) (s : Setting) (d : Debugger) where
   -- a command, and then what follows it from wherever it leads
-  pub one_then : (command : Command) (more : List Command) (told : Answer) (middle new : Session M) → RepliesTo stands s command d told middle
+  pub one_then : (may_want : Type 0) (command : Command) (more : List Command) (told : Answer) (middle new : Session M) → RepliesTo may_want stands s command d told middle
       → ((e : Debugger) → StandsFor stands middle s e → HasDone stands s more e new) → HasDone stands s (command ∷ more) d new
-  one_then command more told middle new replies next =
-      let first = done_one stands s command d told middle replies in
+  one_then may_want command more told middle new replies next =
+      let first = done_one stands s may_want command d told middle replies in
       done_then stands s (command ∷ []) more d middle new first (next first.after first.there)
 
   -- a list of commands, and then another
@@ -53,15 +61,15 @@ module _ {M : Type 0} (stands : M → Setting → Debugger → Type 0) (s : Sett
   list_then cs ds middle new first next = done_then stands s cs ds d middle new first (next first.after first.there)
 
   -- what follows a move is what its answer means
-  pub move_follows : (h : Held) (command : Command) (told : Answer) (middle : Session M) → doing.moves command ≡ true → RepliesTo stands s command d told middle
+  pub move_follows : (may_want : Type 0) (h : Held) (command : Command) (told : Answer) (middle : Session M) → doing.moves command ≡ true → RepliesTo may_want stands s command d told middle
       → given.follows h told ≡ doing.follows h (do_command s command d).answer
-  move_follows h command told middle moving replies =
+  move_follows may_want h command told middle moving replies =
       follows-means s replies.reply.next h told replies.reply.answer replies.replied.means
-      ∙ ap (λ (r : Reply). doing.follows h r.answer) (sure_reply s command d replies.reply (move_sure command d moving) replies.is_reply)
+      ∙ ap (λ (r : Reply). doing.follows h r.answer) (sure_reply may_want s command d replies.reply moving replies.is_reply)
 
   -- whether the program has begun by a move is what its answer means
-  pub move_begun : (h : Held) (command : Command) (told : Answer) (middle : Session M) → doing.moves command ≡ true → RepliesTo stands s command d told middle
+  pub move_begun : (may_want : Type 0) (h : Held) (command : Command) (told : Answer) (middle : Session M) → doing.moves command ≡ true → RepliesTo may_want stands s command d told middle
       → given.begun h told ≡ doing.begun h (do_command s command d).answer
-  move_begun h command told middle moving replies =
+  move_begun may_want h command told middle moving replies =
       begun-means s replies.reply.next h told replies.reply.answer replies.replied.means
-      ∙ ap (λ (r : Reply). doing.begun h r.answer) (sure_reply s command d replies.reply (move_sure command d moving) replies.is_reply)
+      ∙ ap (λ (r : Reply). doing.begun h r.answer) (sure_reply may_want s command d replies.reply moving replies.is_reply)

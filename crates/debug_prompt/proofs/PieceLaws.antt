@@ -216,16 +216,16 @@ module _ {M : Type 0} (stands : M → Setting → Debugger → Type 0) (s : Sett
   goes_there whole left e (Some told) None new there none means same is = absurd means
   goes_there whole left e None (Some meant) new there none means same is = absurd means
 
-  step_reply : (count : ℕ) (d : Debugger) (told : Answer) (new : Session M) (replies : RepliesTo stands s (DoStep count) d told new) → replies.reply ≡ do_command s (DoStep count) d
-  step_reply count d told new replies = sure_reply s (DoStep count) d replies.reply (λ may. may) replies.is_reply
+  step_reply : (may_want : Type 0) (count : ℕ) (d : Debugger) (told : Answer) (new : Session M) (replies : RepliesTo may_want stands s (DoStep count) d told new) → replies.reply ≡ do_command s (DoStep count) d
+  step_reply may_want count d told new replies = sure_reply may_want s (DoStep count) d replies.reply refl replies.is_reply
 
   -- a piece whose moves are made
-  pub piece_made : (count most : ℕ) (d : Debugger) (told : Answer) (end : Option Answer) (new : Session M) → NoWatch d.stops → 1 ≤ count → count ≤ s.limit → count ≤ most
-      → RepliesTo stands s (DoStep count) d told new → given.is_here told ≡ true → ((e : Debugger) → StandsFor stands new s e → MeansEnd s e end (ends_there s e))
+  pub piece_made : (may_want : Type 0) (count most : ℕ) (d : Debugger) (told : Answer) (end : Option Answer) (new : Session M) → NoWatch d.stops → 1 ≤ count → count ≤ s.limit → count ≤ most
+      → RepliesTo may_want stands s (DoStep count) d told new → given.is_here told ≡ true → ((e : Debugger) → StandsFor stands new s e → MeansEnd s e end (ends_there s e))
       → GoesBy stands s (continued most s d) (most - count) end new
-  piece_made count most d told end new none one within few replies here means =
+  piece_made may_want count most d told end new none one within few replies here means =
       let r = replies.reply in
-      let is : r ≡ do_command s (DoStep count) d = step_reply count d told new replies in
+      let is : r ≡ do_command s (DoStep count) d = step_reply may_want count d told new replies in
       let made : is_here r.answer ≡ true = sym (is_here-means s r.next told r.answer replies.replied.means) ∙ here in
       let whole : continued most s d ≡ from_there s (most - count) (ends_there s r.next) r.next =
       by_piece s count most d none one within few ∙ ap (behind_piece s (most - count)) (sym is)
@@ -234,11 +234,11 @@ module _ {M : Type 0} (stands : M → Setting → Debugger → Type 0) (s : Sett
       goes_there (continued most s d) (most - count) r.next end (ends_there s r.next) new replies.replied.there (subst NoWatch (sym same) none) (means r.next replies.replied.there) refl whole
 
   -- a piece that ended before
-  pub piece_ended : (count most : ℕ) (d : Debugger) (told : Answer) (new : Session M) → NoWatch d.stops → 1 ≤ count → count ≤ s.limit → count ≤ most
-      → RepliesTo stands s (DoStep count) d told new → given.is_here told ≡ false → Replied stands s (continued most s d) told new
-  piece_ended count most d told new none one within few replies here =
+  pub piece_ended : (may_want : Type 0) (count most : ℕ) (d : Debugger) (told : Answer) (new : Session M) → NoWatch d.stops → 1 ≤ count → count ≤ s.limit → count ≤ most
+      → RepliesTo may_want stands s (DoStep count) d told new → given.is_here told ≡ false → Replied stands s (continued most s d) told new
+  piece_ended may_want count most d told new none one within few replies here =
       let r = replies.reply in
-      let is : r ≡ do_command s (DoStep count) d = step_reply count d told new replies in
+      let is : r ≡ do_command s (DoStep count) d = step_reply may_want count d told new replies in
       let ended : is_here r.answer ≡ false = sym (is_here-means s r.next told r.answer replies.replied.means) ∙ here in
       let whole : continued most s d ≡ r =
       by_piece s count most d none one within few ∙ ap (behind_piece s (most - count)) (sym is)
@@ -246,10 +246,10 @@ module _ {M : Type 0} (stands : M → Setting → Debugger → Type 0) (s : Sett
       subst (λ r. Replied stands s r told new) (sym whole) replies.replied
 
   -- all of it is `continue`
-  pub as_continue : (most : ℕ) (d : Debugger) (told : Answer) (new : Session M) → s.limit ≡ most → Replied stands s (continued most s d) told new → RepliesTo stands s DoContinue d told new
-  as_continue most d told new limit replied = record {
+  pub as_continue : (may_want : Type 0) (most : ℕ) (d : Debugger) (told : Answer) (new : Session M) → s.limit ≡ most → Replied stands s (continued most s d) told new → RepliesTo may_want stands s DoContinue d told new
+  as_continue may_want most d told new limit replied = record {
     reply = do_command s DoContinue d;
-    is_reply = inl refl;
+    is_reply = inl (inl refl);
     replied = subst (λ n. Replied stands s (continued n s d) told new) (sym limit) replied;
   }
 

@@ -24,7 +24,7 @@ pub(crate) fn go_on<'a, M: RecordedMachine, O: AnswerWriter + Drop>(
     page: &mut Page<O>,
 ) -> Answer<'a>
     ensures { (s : Setting) (d : Debugger) → StandsFor M.stands session.old s d → s.limit ≡ most_steps
-        → RepliesTo M.stands s DoContinue d result session.new }
+        → RepliesTo M.may_want M.stands s DoContinue d result session.new }
 {
     if most_steps <= PIECE || has_watch(session.stops()) {
         return session.do_command(Command::Continue);

@@ -86,7 +86,7 @@ fn make_moves<'a, M: RecordedMachine, O: AnswerWriter + Drop>(
     page: &mut Page<O>,
 ) -> Answer<'a>
     ensures { (s : Setting) (d : Debugger) → StandsFor M.stands session.old s d → s.limit ≡ scene.entry.most_steps
-        → RepliesTo M.stands s (command_view command.entry) d result session.new }
+        → RepliesTo M.may_want M.stands s (command_view command.entry) d result session.new }
 {
     match command {
         Command::Continue => go_on(scene.most_steps, session, page),

@@ -1,8 +1,8 @@
--- A history limit that changes.
+-- A history limit that changes, and a value that finds no memory.
 use Rattle.std.proofs.Common.{◌≡◌, ◌≢◌, inl, inr, ◌<◌, ◌≤◌, refl, sym, ap, ap₂, ℕ, Bool, true, false, ◌||◌, arith}
-use Rattle.std.specs.Prelude.{◌==◌, if◌then◌else◌, nat_lt}
+use Rattle.std.specs.Prelude.{◌==◌, if◌then◌else◌, nat_lt, ℤ}
 use Rattle.std.proofs.lemmas.Bool.Decides.{nat_tests}
-use Rattle.gang_model.specs.Debugger.Debugger.{Debugger, DoSetHistory, KeepsHistory, Memory, OutOfRange, Setting, limited, refused, reply}
+use Rattle.gang_model.specs.Debugger.Debugger.{Debugger, DoSet, DoSetHistory, KeepsHistory, Memory, OutOfRange, Setting, Target, limited, refused, reply}
 use Rattle.debug_answers.specs.declared.answer.Answer.TheVariants as answer
 use Rattle.debug_answers.specs.declared.answer.Refusal.TheVariants as refusal
 use Rattle.debug_session.specs.Moves.{MayBeDone}
@@ -28,24 +28,30 @@ good n some few =
     let second : nat_lt 65536 n ≡ false = grind (arith, nat_tests) in
     ap₂ (λ a b. a || b) first second
 
-module _ {M : Type 0} (stands : M → Setting → Debugger → Type 0) (s : Setting) (d : Debugger) (n : ℕ) (machine : M) where
+module _ {M : Type 0} (may_want : Type 0) (stands : M → Setting → Debugger → Type 0) (s : Setting) (d : Debugger) (n : ℕ) (machine : M) where
   -- C8, and nothing changed
-  pub out_of_range : is_bad n ≡ true → stands machine s (bare d) → MayBeDone stands s d (DoSetHistory n) (answer.Refused refusal.OutOfRange) machine
+  pub out_of_range : is_bad n ≡ true → stands machine s (bare d) → MayBeDone may_want stands s d (DoSetHistory n) (answer.Refused refusal.OutOfRange) machine
   out_of_range bad st = (
     refused OutOfRange d,
-    inl (sym (ap (λ b. if b then refused OutOfRange d else reply (KeepsHistory n) (limited n d)) bad)),
+    inl (inl (sym (ap (λ b. if b then refused OutOfRange d else reply (KeepsHistory n) (limited n d)) bad))),
     record { follows = record { there = st; stops = refl; next = refl }; means = refl },
   )
 
   -- the limit is another
-  pub keeps_history : is_bad n ≡ false → stands machine s (limited n (bare d)) → MayBeDone stands s d (DoSetHistory n) (answer.KeepsHistory n) machine
+  pub keeps_history : is_bad n ≡ false → stands machine s (limited n (bare d)) → MayBeDone may_want stands s d (DoSetHistory n) (answer.KeepsHistory n) machine
   keeps_history fine st = (
     reply (KeepsHistory n) (limited n d),
-    inl (sym (ap (λ b. if b then refused OutOfRange d else reply (KeepsHistory n) (limited n d)) fine)),
+    inl (inl (sym (ap (λ b. if b then refused OutOfRange d else reply (KeepsHistory n) (limited n d)) fine))),
     record { follows = record { there = st; stops = refl; next = refl }; means = refl },
   )
 
   -- C12 for a larger limit, and nothing changed
-  pub finds_no_memory : n ≤ 65536 → d.history < n → stands machine s (bare d) → MayBeDone stands s d (DoSetHistory n) (answer.Refused refusal.Memory) machine
+  pub finds_no_memory : n ≤ 65536 → d.history < n → stands machine s (bare d) → MayBeDone may_want stands s d (DoSetHistory n) (answer.Refused refusal.Memory) machine
   finds_no_memory few larger st =
-      (refused Memory d, inr ((few, larger), refl), record { follows = record { there = st; stops = refl; next = refl }; means = refl })
+      (refused Memory d, inl (inr ((few, larger), refl)), record { follows = record { there = st; stops = refl; next = refl }; means = refl })
+
+-- C12 for a value that is set, and nothing changed
+pub finds_no_room : {M : Type 0} (may_want : Type 0) (stands : M → Setting → Debugger → Type 0) (s : Setting) (d : Debugger) (machine : M) (target : Target) (z : ℤ)
+    → may_want → stands machine s (bare d) → MayBeDone may_want stands s d (DoSet target z) (answer.Refused refusal.Memory) machine
+finds_no_room may_want stands s d machine target z may st =
+    (refused Memory d, inr (may, record {}, refl), record { follows = record { there = st; stops = refl; next = refl }; means = refl })

@@ -7,15 +7,20 @@ use Rattle.gang_model.specs.Debugger.Debugger.{Command, Debugger, Goal, NoHistor
 use Rattle.debug_answers.specs.declared.answer.Answer.{Answer}
 use Rattle.debug_answers.specs.Meanings.{AreStops}
 use Rattle.debug_session.specs.declared.session.Session.{Session}
-use Rattle.debug_session.specs.Moves.{Done}
+use Rattle.debug_session.specs.Moves.{Done, MayBeDone}
 use Rattle.debug_session.specs.Sessions.{Replied, RepliesTo, StandsFor, bare}
 use Rattle.debug_session.specs.Stops.{Table}
 use Rattle.debug_session.specs.Tables.{Listed}
 
 -- a command that was done
-pub done_replies : {M : Type 0} (stands : M → Setting → Debugger → Type 0) (s : Setting) (command : Command) (d : Debugger) (given : Answer) (new : Session M)
-    → Replied stands s (do_command s command d) given new → RepliesTo stands s command d given new
-done_replies stands s command d given new replied = record { reply = do_command s command d; is_reply = inl refl; replied = replied }
+pub done_replies : {M : Type 0} (may_want : Type 0) (stands : M → Setting → Debugger → Type 0) (s : Setting) (command : Command) (d : Debugger) (given : Answer) (new : Session M)
+    → Replied stands s (do_command s command d) given new → RepliesTo may_want stands s command d given new
+done_replies may_want stands s command d given new replied = record { reply = do_command s command d; is_reply = inl (inl refl); replied = replied }
+
+-- a command that a machine may want memory for was done
+pub done_surely : {M : Type 0} (may_want : Type 0) (stands : M → Setting → Debugger → Type 0) (s : Setting) (d : Debugger) (command : Command) (given : Answer) (machine : M)
+    → Done stands s d (do_command s command d) given machine → MayBeDone may_want stands s d command given machine
+done_surely may_want stands s d command given machine done = (do_command s command d, inl (inl refl), done)
 
 -- a debugger with no breakpoint or watch is all that a machine knows of it
 pub bare_already : (d : Debugger) → d.stops ≡ [] → d.next ≡ 1 → d ≡ bare d

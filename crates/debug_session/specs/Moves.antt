@@ -3,7 +3,7 @@ use Rattle.std.specs.Prelude.{◌≡◌, ℕ, false, List, [], ◌∷◌, ◌++�
 use Rattle.arrayvec.specs.ArrayVec.{ArrayVec}
 use Rattle.gang_model.specs.Running.State.{State}
 use Rattle.gang_model.specs.Debugger.Debugger as model
-use Rattle.gang_model.specs.Debugger.Debugger.{Debugger, IsReply, Reply, Setting, depth, has_ended, now, target_words}
+use Rattle.gang_model.specs.Debugger.Debugger.{Debugger, Reply, Setting, depth, has_ended, now, target_words}
 use Rattle.gang_model.specs.Debugger.Positions.{line_now}
 use Rattle.debug_answers.specs.declared.answer.Answer.{Answer}
 use Rattle.debug_answers.specs.declared.answer.Refusal.{Refusal}
@@ -12,7 +12,7 @@ use Rattle.debug_session.specs.declared.moving.AfterMove.{AfterMove}
 use Rattle.debug_session.specs.declared.moving.AfterMove.TheVariants.{Ends, GoesOn}
 use Rattle.debug_session.specs.declared.places.Reached.{Reached}
 use Rattle.debug_session.specs.Goals.{goal_view}
-use Rattle.debug_session.specs.Sessions.{bare, is_refused}
+use Rattle.debug_session.specs.Sessions.{RepliesOn, bare, is_refused}
 
 -- a machine stands for a debugger that has the breakpoints, watches and next number of another one
 pub record Follows {M : Type 0} (stands : M → Setting → Debugger → Type 0) (s : Setting) (d : Debugger) (machine : M) (e : Debugger) : Type 0 where
@@ -26,8 +26,8 @@ pub record Done {M : Type 0} (stands : M → Setting → Debugger → Type 0) (s
   pub means : Means s reply.next given reply.answer
 
 -- a command that may want for memory was done, or was refused for memory
-abbrev pub MayBeDone : {M : Type 0} → (M → Setting → Debugger → Type 0) → Setting → (d : Debugger) → model.Command → Answer → M → Type 0
-MayBeDone stands s d command given machine = (reply : Reply) × IsReply s command d reply × Done stands s d reply given machine
+abbrev pub MayBeDone : {M : Type 0} → (may_want : Type 0) → (M → Setting → Debugger → Type 0) → Setting → (d : Debugger) → model.Command → Answer → M → Type 0
+MayBeDone may_want stands s d command given machine = (reply : Reply) × RepliesOn may_want s command d reply × Done stands s d reply given machine
 
 -- the line and the depth are those where the debugger stands
 pub record IsReached (s : Setting) (d : Debugger) (reached : Reached) : Type 0 where

@@ -1,6 +1,6 @@
 //! Values that are set, events that are taken back, and how many can be.
 ghost use Rattle.std.specs.Prelude.{◌≡◌, suc, true};
-ghost use Rattle.gang_model.specs.Debugger.Debugger.{Debugger, DoSetHistory, Setting, do_set, do_undo, is_value};
+ghost use Rattle.gang_model.specs.Debugger.Debugger.{Debugger, DoSet, DoSetHistory, Setting, do_undo, is_value};
 ghost use Rattle.debug_commands.specs.Views.{target_view};
 ghost use Rattle.debug_session.specs.Moves.{Done, MayBeDone};
 ghost use Rattle.debug_session.specs.Sessions.{bare, is_refused};
@@ -10,16 +10,18 @@ use debug_answers::{Answer, Refusal};
 use debug_commands::Target;
 use debug_traits::RecordedMachine;
 use gang_types::{IntType, value, wrap};
+use std::alloc::AllocError;
 use undo_log::Undone;
 
-/// Sets a scalar, a lane of one or an element.
+/// Sets a scalar, a lane of one or an element. A machine that notes what is set may want for memory.
+#[tactic(auto, using(crate::proofs::Replies::done_surely))]
 pub(crate) fn set<'a, M: RecordedMachine>(
     machine: &mut M,
     target: Target<'a>,
     number: i128,
 ) -> Answer<'a>
     ensures replied { (s : Setting) (d : Debugger) → M.stands machine.old s (bare d)
-        → Done M.stands s d (do_set s (target_view target.entry) number d) result machine.new }
+        → MayBeDone M.may_want M.stands s d (DoSet (target_view target.entry) number) result machine.new }
     ensures refused { is_refused result ≡ true → M.history machine.new ≡ M.history machine.old }
     ensures moves { M.moves machine.new ≡ M.moves machine.old }
 {
@@ -35,8 +37,10 @@ pub(crate) fn set<'a, M: RecordedMachine>(
     if shown.is_constant {
         return Answer::Refused(Refusal::Constant);
     }
-    machine.poke(shown, target.at, wrap(shown.value_type, number));
-    Answer::Shows { target, shown }
+    match machine.poke(shown, target.at, wrap(shown.value_type, number)) {
+        Ok(()) => Answer::Shows { target, shown },
+        Err(AllocError) => Answer::Refused(Refusal::Memory),
+    }
 }
 
 /// Whether a type has this value.
@@ -66,7 +70,7 @@ const MOST_KEPT: u32 = 65_536;
 /// Changes how many events can be taken back. More than before may want for memory.
 pub(crate) fn set_history<'a, M: RecordedMachine>(machine: &mut M, limit: u32) -> Answer<'a>
     ensures replied { (s : Setting) (d : Debugger) → M.stands machine.old s (bare d)
-        → MayBeDone M.stands s d (DoSetHistory limit) result machine.new }
+        → MayBeDone M.may_want M.stands s d (DoSetHistory limit) result machine.new }
     ensures refused { is_refused result ≡ true → M.history machine.new ≡ M.history machine.old }
     ensures moves { M.moves machine.new ≡ M.moves machine.old }
 {

@@ -42,11 +42,11 @@ impl<M: RecordedMachine> Session<M> {
         }
     }
 
-    /// Does a command. That which raises the history limit may want for memory, and no other.
+    /// Does a command. That which raises the history limit may want for memory, one that sets a value too where the machine may, and no other.
     #[tactic(auto, using(crate::proofs::Replies::done_replies))]
     pub fn do_command<'a>(&mut self, command: Command<'a>) -> Answer<'a>
         ensures replied { (s : Setting) (d : Debugger) → StandsFor M.stands self.old s d
-            → RepliesTo M.stands s (command_view command.entry) d result self.new }
+            → RepliesTo M.may_want M.stands s (command_view command.entry) d result self.new }
         ensures refused { is_refused result ≡ true → IsUnchanged M.history self.old self.new }
         ensures moves { M.moves self.new.machine ≤ M.moves self.old.machine + most_moves self.old.most_steps (length (M.history self.old.machine).past) (command_view command.entry) }
     {

@@ -102,6 +102,11 @@ abbrev pub Pokes : {M : Type 0} → (M → Setting → Debugger → Type 0) → 
 Pokes stands s d v shown at word new =
     stands new s (moved (Poke (poked_by v at) word) d) × IsShown s (moved (Poke (poked_by v at) word) d) v shown
 
+-- a value was set and recorded; or there was no memory for it, and nothing changed
+abbrev pub PokesOrNot : {M X E : Type 0} → (M → Setting → Debugger → Type 0) → Setting → Debugger → Variable → Shown → Option ℕ → (word : ℕ) → Result X E → M → Type 0
+PokesOrNot stands s d v shown at word (Ok done) new = Pokes stands s d v shown at word new
+PokesOrNot stands s d v shown at word (Err memory) new = stands new s d
+
 -- so many events can be taken back at most, and older ones no longer; or a larger limit found no memory, and nothing changed
 abbrev pub Limits : {M X E : Type 0} → (M → Setting → Debugger → Type 0) → Setting → Debugger → (limit : ℕ) → Result X E → M → Type 0
 Limits stands s d limit (Ok done) new = stands new s (limited limit d)
@@ -119,9 +124,10 @@ StepsWords old end.Done new = RecordsWords undone.Step old new
 StepsWords old (end.Fault fault) new = new ≡ old
 StepsWords old end.Ended new = new ≡ old
 
--- a poke is recorded
-abbrev pub PokesWords : History → History → Type 0
-PokesWords old new = RecordsWords undone.Poke old new
+-- a poke is recorded; or there was no memory for it, and nothing changed
+abbrev pub PokesWords : {X E : Type 0} → History → Result X E → History → Type 0
+PokesWords old (Ok done) new = RecordsWords undone.Poke old new
+PokesWords old (Err memory) new = new ≡ old
 
 -- all words are those before the newest event kept, and those before the other events are as they were; or none is kept, and nothing changed
 abbrev pub UndoesWords : History → Result Undone NoHistory → History → Type 0

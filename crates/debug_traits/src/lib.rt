@@ -7,6 +7,7 @@ mod framed;
 mod journal;
 mod machine;
 mod moves;
+mod sure_pokes;
 mod taking_back;
 
 pub use begins_again::BeginsAgain;
@@ -15,4 +16,5 @@ pub use framed::FramedMachine;
 pub use journal::Journal;
 pub use machine::{Fault, NamedVariable, NextLocal, Position, RecordedMachine, Shown, StepEnd};
 pub use moves::Moves;
+pub use sure_pokes::PokesSurely;
 pub use taking_back::{poke_and_undo, step_and_undo};

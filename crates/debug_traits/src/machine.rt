@@ -1,12 +1,12 @@
 //! A machine whose events are recorded.
-ghost use Rattle.std.specs.Prelude.{◌≡◌, ℕ, suc, ◌<◌, ◌≤◌, false, is_none, length, List, slice_get, slice_index, IfSome, None};
+ghost use Rattle.std.specs.Prelude.{◌≡◌, ℕ, suc, ◌<◌, ◌≤◌, false, true, is_err, is_none, length, List, slice_get, slice_index, IfSome, None};
 ghost use Rattle.undo_log.specs.History.{steps_in};
 ghost use Rattle.gang_types.specs.Masks.{IsGangWidth};
 ghost use Rattle.gang_model.specs.Types.Tree.{Variable};
 ghost use Rattle.gang_model.specs.Debugger.Positions.{line_now};
 ghost use Rattle.gang_model.specs.Debugger.Debugger.{Debugger, Setting, bad_part, depth, found, has_ended, kept_steps, least_from, now, shown_words, step_lines};
 ghost use Rattle.gang_model.specs.Texts.Text.{where_text};
-ghost use Rattle.debug_traits.specs.Machines.{Finds, FindsInFile, IsPart, IsShown, Limits, LimitsWords, Pokes, PokesWords, ShowsNamed, ShowsNext, Steps, StepsWords, Undoes, UndoesWords, call_text, depth_of, file_variables, line_of_position, listed, listed_parameters, position_line, position_text};
+ghost use Rattle.debug_traits.specs.Machines.{Finds, FindsInFile, IsPart, IsShown, Limits, LimitsWords, PokesOrNot, PokesWords, ShowsNamed, ShowsNext, Steps, StepsWords, Undoes, UndoesWords, call_text, depth_of, file_variables, line_of_position, listed, listed_parameters, position_line, position_text};
 
 use gang_types::{FaultName, IntType, Mask, Place, Rate, VarId};
 use std::alloc::AllocError;
@@ -67,7 +67,8 @@ pub struct NextLocal<'a> {
     pub next: usize,
 }
 
-/// Runs a program step by step, takes values from outside, and takes both back. No call takes memory but `set_limit` to a larger limit.
+/// Runs a program step by step, takes values from outside, and takes both back. No call takes memory but `set_limit` to a larger limit, and
+/// `poke` of a machine that notes each poke in memory that grows.
 ///
 /// What a call tells of a variable or of a place is said of each state of the debugger of the definitions that the machine
 /// stands for. A variable that is none of that state has no meaning, and any word may be answered for it.
@@ -85,6 +86,9 @@ pub trait RecordedMachine {
 
     // How many times it has moved: how often a step was tried, and how often an event was to be taken back.
     ghost moves: { Self → ℕ };
+
+    // Whether a poke of such a machine may find no memory.
+    ghost may_want: { Type 0 };
 
     // Whether one machine is another at another moment of its run, as far as calls let it be: of the same program, whose words lie alike.
     ghost same_run: { Self → Self → Type 0 };
@@ -110,11 +114,16 @@ pub trait RecordedMachine {
         ensures moves { moves self.new ≡ suc (moves self.old) };
 
     /// Sets a scalar, in all lanes or in one, or an element of an array, and records it.
-    fn poke(&mut self, shown: Shown, at: Option<u32>, word: u64)
+    ///
+    /// # Errors
+    ///
+    /// Out of memory, of a machine that may want for it, and then nothing changes.
+    fn poke(&mut self, shown: Shown, at: Option<u32>, word: u64) -> Result<(), AllocError>
         ensures poke { (s : Setting) (d : Debugger) (v : Variable) → stands self.old s d → IsShown s d v shown → IsPart at shown
-            → Pokes stands s d v shown at word self.new }
+            → PokesOrNot stands s d v shown at word result self.new }
+        ensures memory { is_err result ≡ true → may_want }
         ensures run { same_run self.old self.new }
-        ensures words { PokesWords (history self.old) (history self.new) }
+        ensures words { PokesWords (history self.old) result (history self.new) }
         ensures moves { moves self.new ≡ moves self.old };
 
     /// The number of events that can be taken back.

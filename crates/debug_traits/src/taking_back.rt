@@ -4,6 +4,7 @@ ghost use Rattle.undo_log.specs.declared.timeline.Undone.TheVariants.{Poke};
 ghost use Rattle.debug_traits.specs.Machines.{AreBack, HasStepBack, tried_moves, undone_after};
 
 use crate::machine::{RecordedMachine, Shown, StepEnd};
+use crate::sure_pokes::PokesSurely;
 use undo_log::{NoHistory, Undone};
 
 /// Does the next step, and takes it back at once if it was done: what it came to, and the event that was taken back.
@@ -24,7 +25,7 @@ pub fn step_and_undo<M: RecordedMachine>(machine: &mut M) -> (StepEnd, Option<Un
 }
 
 /// Sets a value, and takes that back at once: the event that was taken back, and all words are those before it.
-pub fn poke_and_undo<M: RecordedMachine>(
+pub fn poke_and_undo<M: PokesSurely>(
     machine: &mut M,
     shown: Shown,
     at: Option<u32>,
@@ -36,6 +37,8 @@ pub fn poke_and_undo<M: RecordedMachine>(
 {
     let limit = machine.limit();
     prove!(1 <= limit);
-    machine.poke(shown, at, word);
-    machine.undo()
+    match machine.poke(shown, at, word) {
+        Ok(()) => machine.undo(),
+        Err(_) => Err(NoHistory),
+    }
 }

@@ -1,18 +1,18 @@
 //! The machine: a compiled program, and words that lie in a timeline.
-ghost use Rattle.std.specs.Prelude.{◌≡◌, ℕ, ◌<◌, ◌≤◌, false, length, slice_get, slice_index, IfSome};
+ghost use Rattle.std.specs.Prelude.{◌≡◌, ℕ, ◌<◌, ◌≤◌, false, true, is_err, length, slice_get, slice_index, IfSome};
 ghost use Rattle.gang_types.specs.Masks.{IsGangWidth};
 ghost use Rattle.undo_log.specs.History.{steps_in};
 ghost use Rattle.gang_model.specs.Types.Tree.{Variable};
 ghost use Rattle.gang_model.specs.Debugger.Debugger.{Debugger, Setting, depth, kept_steps, least_from, now, shown_words, step_lines};
 ghost use Rattle.gang_model.specs.Debugger.Positions.{line_now};
 ghost use Rattle.gang_model.specs.Texts.Text.{where_text};
-ghost use Rattle.debug_traits.specs.Machines.{Finds, FindsInFile, IsPart, IsShown, Limits, LimitsWords, Pokes, PokesWords, ShowsNamed, ShowsNext, Steps, StepsWords, Undoes, UndoesWords, call_text, depth_of, file_variables, line_of_position, listed, listed_parameters, position_line, position_text};
+ghost use Rattle.debug_traits.specs.Machines.{Finds, FindsInFile, IsPart, IsShown, Limits, LimitsWords, PokesOrNot, PokesWords, ShowsNamed, ShowsNext, Steps, StepsWords, Undoes, UndoesWords, call_text, depth_of, file_variables, line_of_position, listed, listed_parameters, position_line, position_text};
 ghost use Rattle.gang_machine.specs.Nexts.{listed_left};
 ghost use Rattle.gang_machine.specs.Again.{SameRun};
 ghost use Rattle.gang_machine.specs.Standings.{Stands, history_of, moves_of};
 
 use crate::mover::Mover;
-use debug_traits::{NamedVariable, NextLocal, Position, RecordedMachine, Shown, StepEnd};
+use debug_traits::{NamedVariable, NextLocal, PokesSurely, Position, RecordedMachine, Shown, StepEnd};
 use frame_steps::CompiledProgram;
 use machine_names::{ListedKind, file_number, least_from, named};
 use machine_shown::{call, poke, position};
@@ -56,6 +56,8 @@ impl<const W: usize, T: Timeline + Drop> RecordedMachine for Machine<W, T> {
 
     ghost moves = { moves_of };
 
+    ghost may_want = { ⊥ };
+
     ghost same_run = { SameRun };
 
     ghost locals_from = { λ m. listed_left Locals m.seen };
@@ -71,8 +73,9 @@ impl<const W: usize, T: Timeline + Drop> RecordedMachine for Machine<W, T> {
         Ok(back.event)
     }
 
-    fn poke(&mut self, shown: Shown, at: Option<u32>, word: u64) {
+    fn poke(&mut self, shown: Shown, at: Option<u32>, word: u64) -> Result<(), AllocError> {
         poke::<W, T>(&self.compiled, &mut self.words, shown.id, at, word);
+        Ok(())
     }
 
     fn kept(&self) -> usize {
@@ -127,6 +130,10 @@ impl<const W: usize, T: Timeline + Drop> RecordedMachine for Machine<W, T> {
     fn line_from(&self, line: u32) -> Option<u32> {
         least_from(&self.lines, line)
     }
+}
+
+impl<const W: usize, T: Timeline + Drop> PokesSurely for Machine<W, T> {
+    ghost pokes_surely = { λ wants. wants };
 }
 
 /// Changes how many events of the words are kept at most.

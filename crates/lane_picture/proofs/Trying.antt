@@ -13,7 +13,8 @@ use Rattle.debug_answers.specs.declared.answer.Answer.{Answer}
 use Rattle.debug_answers.specs.declared.answer.Answer.TheVariants as answer
 use Rattle.debug_answers.specs.Meanings.{Means}
 use Rattle.debug_session.specs.declared.session.Session.{Session}
-use Rattle.debug_session.specs.Sessions.{RepliesTo}
+use Rattle.debug_session.specs.Sessions.{RepliesOn, RepliesTo}
+use Rattle.command_lists.proofs.DoneLists.{may_reply}
 use Rattle.debug_session.proofs.Replies.{forward_done}
 use Rattle.lane_picture.specs.declared.columns.StepsEnd.{StepsEnd}
 use Rattle.lane_picture.specs.declared.columns.StepsEnd.TheVariants as end
@@ -79,6 +80,9 @@ module _ (s : Setting) (d : Debugger) where
     done_alone : (r : Reply) → IsReply s (DoStep 1) d r → r ≡ do_command s (DoStep 1) d
     done_alone r is = elim is [ inl e ↦ e | inr h ↦ absurd h.0 ]
 
+    done_surely : (may_want : Type 0) (r : Reply) → RepliesOn may_want s (DoStep 1) d r → IsReply s (DoStep 1) d r
+    done_surely may_want r is = elim is [ inl is ↦ is | inr none ↦ absurd none.1.0 ]
+
     reply_is : (r : Reply) → IsReply s (DoStep 1) d r → r ≡ reply_of (step s.program (now s d))
     reply_is r is = done_alone r is ∙ forward_done s d false (Moves 1) (suc n) limit (ap (λ b. if b then Some model.Ended else None) goes)
 
@@ -92,10 +96,10 @@ module _ (s : Setting) (d : Debugger) where
         subst (λ r. CameTo s d r.next (came given)) (sym replied) (came_here given new e (subst (λ r. Means s r.next given r.answer) replied means))
 
 -- a session has tried a step
-pub tries : {M : Type 0} (stands : M → Setting → Debugger → Type 0) (s : Setting) (d : Debugger) (given : Answer) (new : Session M) → RepliesTo stands s (DoStep 1) d given new → Tries stands s d (came given) new
-tries stands s d given new replies = record {
-  done = record { after = replies.reply.next; leads = (replies.reply, replies.is_reply, refl); there = replies.replied.there };
+pub tries : {M : Type 0} (may_want : Type 0) (stands : M → Setting → Debugger → Type 0) (s : Setting) (d : Debugger) (given : Answer) (new : Session M) → RepliesTo may_want stands s (DoStep 1) d given new → Tries stands s d (came given) new
+tries may_want stands s d given new replies = record {
+  done = record { after = replies.reply.next; leads = (replies.reply, may_reply may_want s (DoStep 1) d replies.reply replies.is_reply, refl); there = replies.replied.there };
   comes = λ limit goes.
       let some : s.limit ≡ suc (s.limit - 1) = omega (arith, limit) in
-      came_by s d (s.limit - 1) some goes (step s.program (now s d)) refl given replies.reply replies.is_reply replies.replied.means;
+      came_by s d (s.limit - 1) some goes (step s.program (now s d)) refl given replies.reply (done_surely s d (s.limit - 1) some goes may_want replies.reply replies.is_reply) replies.replied.means;
 }

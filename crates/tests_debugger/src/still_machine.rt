@@ -1,5 +1,7 @@
 //! A machine that stands still.
-use debug_traits::{Moves, NamedVariable, NextLocal, Position, RecordedMachine, Shown, StepEnd};
+use debug_traits::{
+    Moves, NamedVariable, NextLocal, PokesSurely, Position, RecordedMachine, Shown, StepEnd,
+};
 use gang_types::{IntType, Mask, Place, Rate, VarId};
 use std::alloc::AllocError;
 use undo_log::{NoHistory, Undone};
@@ -72,6 +74,8 @@ impl RecordedMachine for StillMachine {
 
     ghost moves = { λ m. m.moves.count };
 
+    ghost may_want = { ⊥ };
+
     ghost same_run = { λ _ _. Unit {0} };
 
     ghost locals_from = { λ _ _ _ _. [] };
@@ -92,8 +96,14 @@ impl RecordedMachine for StillMachine {
         Ok(Undone::Poke)
     }
 
-    fn poke(&mut self, _shown: Shown, _at: Option<u32>, _word: u64) {
+    fn poke(
+        &mut self,
+        _shown: Shown,
+        _at: Option<u32>,
+        _word: u64,
+    ) -> Result<(), AllocError> {
         self.has_poke = true;
+        Ok(())
     }
 
     fn kept(&self) -> usize {
@@ -190,4 +200,8 @@ impl RecordedMachine for StillMachine {
     fn line_from(&self, _line: u32) -> Option<u32> {
         None
     }
+}
+
+impl PokesSurely for StillMachine {
+    ghost pokes_surely = { λ wants. wants };
 }

@@ -2,7 +2,7 @@
 ghost use Rattle.std.specs.Prelude.{◌≡◌, ◌≤◌, ◌<◌, ◌^◌, ◌-◌, IfSome, length};
 
 use debug_traits::{
-    Fault, Moves, NamedVariable, NextLocal, Position, RecordedMachine, Shown, StepEnd,
+    Fault, Moves, NamedVariable, NextLocal, PokesSurely, Position, RecordedMachine, Shown, StepEnd,
 };
 use gang_types::{FaultName, IntType, Mask, Place, Rate, VarId};
 use std::alloc::{AllocError, Global};
@@ -121,6 +121,8 @@ impl RecordedMachine for TwoFrames {
 
     ghost moves = { λ m. m.moves.count };
 
+    ghost may_want = { ⊥ };
+
     ghost same_run = { λ _ _. Unit {0} };
 
     ghost locals_from = { λ _ _ _ _. [] };
@@ -157,7 +159,7 @@ impl RecordedMachine for TwoFrames {
         }
     }
 
-    fn poke(&mut self, shown: Shown, at: Option<u32>, word: u64) {
+    fn poke(&mut self, shown: Shown, at: Option<u32>, word: u64) -> Result<(), AllocError> {
         let base = TwoFrames::base(shown.id);
         self.words.mark(Undone::Poke);
         match at {
@@ -170,6 +172,7 @@ impl RecordedMachine for TwoFrames {
                 self.words.set(base + 3, word);
             }
         }
+        Ok(())
     }
 
     fn kept(&self) -> usize {
@@ -264,4 +267,8 @@ impl RecordedMachine for TwoFrames {
             _ => None,
         }
     }
+}
+
+impl PokesSurely for TwoFrames {
+    ghost pokes_surely = { λ wants. wants };
 }

@@ -57,6 +57,8 @@ impl RecordedMachine for WalkingMachine {
 
     ghost moves = { λ m. m.moves.count };
 
+    ghost may_want = { ⊥ };
+
     ghost same_run = { λ _ _. Unit {0} };
 
     ghost locals_from = { λ _ _ _ _. [] };
@@ -94,9 +96,15 @@ impl RecordedMachine for WalkingMachine {
         Err(NoHistory)
     }
 
-    fn poke(&mut self, _shown: Shown, _at: Option<u32>, _word: u64) {
+    fn poke(
+        &mut self,
+        _shown: Shown,
+        _at: Option<u32>,
+        _word: u64,
+    ) -> Result<(), AllocError> {
         self.keeps_step = false;
         self.keeps_poke = true;
+        Ok(())
     }
 
     fn kept(&self) -> usize {

@@ -12,9 +12,9 @@ use crate::debugger::{LineDebugger, Turn};
 use debug_answers::{Answer, Refusal};
 use debug_commands::{Command, read_command};
 use debug_session::Session;
-use debug_traits::{AnswerWriter, RecordedMachine, WriteFault};
+use debug_traits::{AnswerWriter, PokesSurely, RecordedMachine, WriteFault};
 
-impl<M: RecordedMachine> LineDebugger for Session<M> {
+impl<M: PokesSurely> LineDebugger for Session<M> {
     ghost use Rattle.debug_session.specs.Sessions.{StandsFor};
 
     ghost stands = { λ session s d. StandsFor M.stands session s d };

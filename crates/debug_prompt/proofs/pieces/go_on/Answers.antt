@@ -8,5 +8,5 @@ pub returns : goal.returns
 returns g c s d st limit =
     let stops = c.args.session.now.stops.items in
     let none : list_any is_watch stops ≡ false = ap (list_any is_watch) (sym c.stops.ensures) ∙ sym c.has_watch.ensures ∙ c.if-has_watch.false in
-    as_continue g.M.RecordedMachine.stands s c.args.most_steps d c.go_by_pieces-answer.result c.go_by_pieces-answer.new.session limit
+    as_continue g.M.RecordedMachine.stands s g.M.RecordedMachine.may_want c.args.most_steps d c.go_by_pieces-answer.result c.go_by_pieces-answer.new.session limit
     (c.go_by_pieces-answer.ensures s d st (no_watch s stops d.stops none st.stops) limit)

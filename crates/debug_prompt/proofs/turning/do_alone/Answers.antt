@@ -4,4 +4,4 @@ use Rattle.debug_prompt.proofs.turning.do_alone.Goals as goal
 
 pub returns : goal.returns
 returns g c s d st =
-    done_one g.M.RecordedMachine.stands s (command_view c.args.command) d c.do_command-answer.result c.do_command-answer.new.self (c.do_command-answer.ensures.replied s d st)
+    done_one g.M.RecordedMachine.stands s g.M.RecordedMachine.may_want (command_view c.args.command) d c.do_command-answer.result c.do_command-answer.new.self (c.do_command-answer.ensures.replied s d st)
