@@ -54,4 +54,4 @@ module _ {M : Type 0} (may_want : Type 0) (stands : M → Setting → Debugger �
 pub finds_no_room : {M : Type 0} (may_want : Type 0) (stands : M → Setting → Debugger → Type 0) (s : Setting) (d : Debugger) (machine : M) (target : Target) (z : ℤ)
     → may_want → stands machine s (bare d) → MayBeDone may_want stands s d (DoSet target z) (answer.Refused refusal.Memory) machine
 finds_no_room may_want stands s d machine target z may st =
-    (refused Memory d, inr (may, record {}, refl), record { follows = record { there = st; stops = refl; next = refl }; means = refl })
+    (refused Memory d, inr (may, (record {}, refl)), record { follows = record { there = st; stops = refl; next = refl }; means = refl })

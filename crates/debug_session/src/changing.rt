@@ -14,7 +14,6 @@ use std::alloc::AllocError;
 use undo_log::Undone;
 
 /// Sets a scalar, a lane of one or an element. A machine that notes what is set may want for memory.
-#[tactic(auto, using(crate::proofs::Replies::done_surely))]
 pub(crate) fn set<'a, M: RecordedMachine>(
     machine: &mut M,
     target: Target<'a>,

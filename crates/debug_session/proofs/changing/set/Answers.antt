@@ -1,4 +1,4 @@
-use Rattle.std.proofs.Common.{◌≡◌, sym, subst, ap, ◌∙◌, refl, true, false, not}
+use Rattle.std.proofs.Common.{◌≡◌, sym, subst, ap, ◌∙◌, refl, true, false, not, rules}
 use Rattle.std.proofs.lemmas.Int.{to_z-of_z}
 use mir.Syntax.{w128}
 use Rattle.std.specs.Prelude.{if◌then◌else◌}
@@ -49,3 +49,15 @@ returns-in-Err-clause-replied g c s d st =
     let fine = sym c.part_refusal.ensures.refused ∙ ap refusal_option c.in_default-part_refusal.is in
     let there = c.in-Err.ensures.poke s (bare d) v st is fine in
     finds_no_room g.M.RecordedMachine.may_want g.M.RecordedMachine.stands s d c.poke.new.self (target_view c.args.target) c.args.number (c.in-Err.ensures.memory refl) there
+
+pub returns-in_default-clause-replied : goal.returns-in_default-clause-replied
+returns-in_default-clause-replied g c s d st = done_surely g.M.RecordedMachine.may_want g.M.RecordedMachine.stands s d (DoSet (target_view c.args.target) c.args.number) _ _ (search rules)
+
+pub returns-in-Some-part_refusal-clause-replied : goal.returns-in-Some-part_refusal-clause-replied
+returns-in-Some-part_refusal-clause-replied g c s d st = done_surely g.M.RecordedMachine.may_want g.M.RecordedMachine.stands s d (DoSet (target_view c.args.target) c.args.number) _ _ (search rules)
+
+pub returns-then-not-is_value-clause-replied : goal.returns-then-not-is_value-clause-replied
+returns-then-not-is_value-clause-replied g c s d st = done_surely g.M.RecordedMachine.may_want g.M.RecordedMachine.stands s d (DoSet (target_view c.args.target) c.args.number) _ _ (search rules)
+
+pub returns-then-shown-clause-replied : goal.returns-then-shown-clause-replied
+returns-then-shown-clause-replied g c s d st = done_surely g.M.RecordedMachine.may_want g.M.RecordedMachine.stands s d (DoSet (target_view c.args.target) c.args.number) _ _ (search rules)
