@@ -10,7 +10,7 @@ returns-in-Some g c =
     let goes : quits c.args.line.now ≡ false = search rules in
     record {
       said = λ s d st.
-          says_replies g.M.RecordedMachine.stands s d c.args.line.now c.do_command-answer.new.self _ _ goes g.M.RecordedMachine.may_want g.M.PokesSurely.pokes_surely (command_view c.in-Some.command) c.do_command-answer.result
+          says_replies g.M.RecordedMachine.stands s d c.args.line.now c.do_command-answer.new.self _ _ goes g.M.RecordedMachine.may_want g.met.M.PokesSurely.pokes_surely (command_view c.in-Some.command) c.do_command-answer.result
           c.in-Some.ensures (c.do_command-answer.ensures.replied s d st) c.tell.result (λ r st means. c.tell.ensures.said s r.next r.answer st means);
       failed = c.tell.ensures.failed;
     }
