@@ -12,7 +12,9 @@ ghost use Rattle.gang_machine.specs.Again.{SameRun};
 ghost use Rattle.gang_machine.specs.Standings.{Stands, history_of, moves_of};
 
 use crate::mover::Mover;
-use debug_traits::{NamedVariable, NextLocal, PokesSurely, Position, RecordedMachine, Shown, StepEnd};
+use debug_traits::{
+    NamedVariable, NextLocal, PokesSurely, Position, RecordedMachine, Shown, StepEnd,
+};
 use frame_steps::CompiledProgram;
 use machine_names::{ListedKind, file_number, least_from, named};
 use machine_shown::{call, poke, position};

@@ -96,12 +96,7 @@ impl RecordedMachine for StillMachine {
         Ok(Undone::Poke)
     }
 
-    fn poke(
-        &mut self,
-        _shown: Shown,
-        _at: Option<u32>,
-        _word: u64,
-    ) -> Result<(), AllocError> {
+    fn poke(&mut self, _shown: Shown, _at: Option<u32>, _word: u64) -> Result<(), AllocError> {
         self.has_poke = true;
         Ok(())
     }

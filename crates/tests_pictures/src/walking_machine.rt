@@ -96,12 +96,7 @@ impl RecordedMachine for WalkingMachine {
         Err(NoHistory)
     }
 
-    fn poke(
-        &mut self,
-        _shown: Shown,
-        _at: Option<u32>,
-        _word: u64,
-    ) -> Result<(), AllocError> {
+    fn poke(&mut self, _shown: Shown, _at: Option<u32>, _word: u64) -> Result<(), AllocError> {
         self.keeps_step = false;
         self.keeps_poke = true;
         Ok(())
