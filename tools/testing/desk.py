@@ -125,7 +125,7 @@ def marks():
         "a mark behind tabs": (b"\t\tint x = @;", b"1:11: S1 BadByte\n" + marked(1, b"\t\tint x = @;", 10, b"\t\t" + b" " * 8)),
         "a mark past column 80": (long, b"1:177: S1 BadByte\n" + marked(1, b"..." + long[-60:], 61)),
         "a mark behind letters of several bytes": (b"/* \xc3\xa9\xe2\x82\xac */ @", b"1:13: S1 BadByte\n" + marked(1, b"/* \xc3\xa9\xe2\x82\xac */ @", 9)),
-        "controls are masked": (b"/* \x1b[31m\x07\x7f\xc2\x9b */ @", b"1:17: S1 BadByte\n" + marked(1, b"/* ?[31m??\xc2? */ @", 15)),
+        "controls are masked": (b"/* \x1b[31m\x07\x7f\xc2\x9b */ @", b"1:17: S1 BadByte\n" + marked(1, b"/* ?[31m??\xc2? */ @", 16)),
     }
     return [told(name, ["go.ispc"], errors + explained(b"S1"), {"go.ispc": text}) for name, (text, errors) in rows.items()]
 

@@ -340,7 +340,7 @@ fn why_of_command(word: &[u8]) -> Option<&'static [u8]> {
 }
 
 /// The first word of a text, or nothing.
-fn first_word(text: &[u8]) -> &[u8] {
+pub(crate) fn first_word(text: &[u8]) -> &[u8] {
     match next_word(Marks::OfCommands, text) {
         Some((word, _)) => word,
         None => &[],

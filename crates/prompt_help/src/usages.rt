@@ -1,5 +1,5 @@
 //! What may follow the words of a command.
-use crate::explanations::{Reason, why_of};
+use crate::explanations::{Reason, first_word, why_of};
 use debug_words::{Marks, next_word};
 
 /// The words of commands that move, print and stop, and what may follow them.
@@ -129,8 +129,15 @@ const OTHERS: [Reason; 16] = [
     Reason(&[b"quit", b"q", b"exit"], b"`quit` stands alone."),
 ];
 
+/// How the number of events that are kept is set.
+const HISTORY: &[u8] =
+    b"`set record full insn-number-max N` says how many events are kept, from 1 to 65536, or `unlimited`.";
+
 /// What may follow the first word of a text, where it is the word of a command.
 pub fn usage_of(text: &[u8]) -> Option<&'static [u8]> {
-    let (word, _) = next_word(Marks::OfCommands, text)?;
+    let (word, rest) = next_word(Marks::OfCommands, text)?;
+    if word == b"set".as_slice() && first_word(rest) == b"record".as_slice() {
+        return Some(HISTORY);
+    }
     why_of(&FIRST, word).or(why_of(&OTHERS, word))
 }

@@ -1,9 +1,11 @@
 //! What a command is answered, for people.
+use crate::causes::tell_refused_here;
 use crate::changes::Before;
 use crate::frames::put_frames;
+use crate::marked::digits;
 use crate::page::Page;
 use crate::places::{put_around, put_place};
-use crate::refusals::tell_refused;
+use crate::refusals::put_refused;
 use crate::source::Source;
 use crate::values::{put_bits, put_values};
 use debug_answers::{Answer, Stop};
@@ -11,6 +13,9 @@ use debug_commands::Target;
 use debug_session::Session;
 use debug_traits::{AnswerWriter, Fault, RecordedMachine, Shown};
 use gang_types::FaultName;
+
+/// What is said of every fault.
+const NOTHING_DONE: &[u8] = b"; nothing of this step is done:";
 
 /// Writes what a move came to: why it ended, where the program stands with the source around it, and what changed.
 pub fn tell_move<M: RecordedMachine, O: AnswerWriter + Drop>(
@@ -22,29 +27,48 @@ pub fn tell_move<M: RecordedMachine, O: AnswerWriter + Drop>(
     page: &mut Page<O>,
 ) {
     if let Answer::Refused(refusal) = answer {
-        tell_refused(*refusal, line, page);
+        put_refused(*refusal, line, page);
         return;
     }
-    put_reason(answer, page);
-    put_place(b"", session.machine().position(), source, page);
+    let columns = put_reason(answer, page);
+    put_place(columns, session.machine().position(), source, page);
     if let Some(position) = session.machine().position() {
         put_around(&position, source, page);
     }
     before.tell_changes(session.machine(), page);
 }
 
-/// Writes why a move ended, where it is not the goal or the end.
-fn put_reason<O: AnswerWriter + Drop>(answer: &Answer<'_>, page: &mut Page<O>) {
+/// Writes why a move ended, where it is not the goal or the end, and says how many columns that takes.
+fn put_reason<O: AnswerWriter + Drop>(answer: &Answer<'_>, page: &mut Page<O>) -> usize {
     match answer {
-        Answer::AtBreakpoint(number) => put_numbered(b"breakpoint ", *number, b": ", page),
-        Answer::AtWatch(number) => put_numbered(b"watch ", *number, b": ", page),
+        Answer::AtBreakpoint(number) => put_stop(b"breakpoint ", *number, page),
+        Answer::AtWatch(number) => put_stop(b"watch ", *number, page),
         Answer::AtFault(fault) => put_fault(*fault, page),
-        Answer::HistoryEnd => page.put(b"the history goes back no further: "),
-        Answer::StepLimit => page.put(b"the step limit of one command is reached: "),
-        Answer::UndoneStep => page.put(b"a step is taken back: "),
-        Answer::UndonePoke => page.put(b"a change by `set var` is taken back: "),
-        _ => {}
+        other => {
+            let reason = reason_text(other);
+            page.put(reason);
+            reason.len()
+        }
     }
+}
+
+/// Why a move ended, where it is no stop, no fault, and not the goal or the end.
+fn reason_text(answer: &Answer<'_>) -> &'static [u8] {
+    match answer {
+        Answer::HistoryEnd => b"the history goes back no further:",
+        Answer::StepLimit => b"the step limit of one command is reached:",
+        Answer::UndoneStep => b"a step is taken back:",
+        Answer::UndonePoke => b"a change by `set var` is taken back:",
+        _ => b"",
+    }
+}
+
+/// Writes a breakpoint or a watch that ended a move.
+fn put_stop<O: AnswerWriter + Drop>(name: &[u8], number: u32, page: &mut Page<O>) -> usize {
+    put_numbered(name, number, b":", page);
+    name.len()
+        .saturating_add(digits(number))
+        .saturating_add(1)
 }
 
 fn put_numbered<O: AnswerWriter + Drop>(
@@ -59,11 +83,13 @@ fn put_numbered<O: AnswerWriter + Drop>(
 }
 
 /// Writes a fault and its lane, as a sentence.
-fn put_fault<O: AnswerWriter + Drop>(fault: Fault, page: &mut Page<O>) {
-    page.put(fault_text(fault.name));
+fn put_fault<O: AnswerWriter + Drop>(fault: Fault, page: &mut Page<O>) -> usize {
+    let text = fault_text(fault.name);
+    page.put(text);
     page.put(b" in lane ");
     page.put_number(fault.lane as i128);
-    page.put(b"; nothing of this step is done: ");
+    page.put(NOTHING_DONE);
+    text.len().saturating_add(NOTHING_DONE.len())
 }
 
 /// A fault's number, its name and what it means.
@@ -102,7 +128,7 @@ pub fn tell<M: RecordedMachine, O: AnswerWriter + Drop>(
             put_target(*target, page);
             page.put(b"\n");
         }
-        Answer::Refused(refusal) => tell_refused(*refusal, line, page),
+        Answer::Refused(refusal) => tell_refused_here(*refusal, line, session.machine(), page),
         other => tell_list(other, source, session, page),
     }
 }
@@ -144,7 +170,7 @@ pub fn tell_hexadecimal<M: RecordedMachine, O: AnswerWriter + Drop>(
             put_bits(*shown, target.at, session.machine(), page);
             page.put(b"\n");
         }
-        Answer::Refused(refusal) => tell_refused(*refusal, line, page),
+        Answer::Refused(refusal) => tell_refused_here(*refusal, line, session.machine(), page),
         _ => {}
     }
 }

@@ -44,15 +44,11 @@ fn put_frame<M: RecordedMachine, O: AnswerWriter + Drop>(
 ) {
     page.put(b"#");
     page.put_number(number as i128);
+    page.put(b"  ");
     if number == 0 {
-        put_place(b"  ", machine.position(), source, page);
+        put_place(0, machine.position(), source, page);
     } else {
-        put_place(
-            b"  ",
-            machine.call(depth.saturating_sub(number)),
-            source,
-            page,
-        );
+        put_place(0, machine.call(depth.saturating_sub(number)), source, page);
     }
 }
 

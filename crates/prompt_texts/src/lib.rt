@@ -2,10 +2,12 @@
 #![tactic(auto)]
 
 mod answers;
+mod causes;
 mod changes;
 mod frames;
 mod help;
 mod looks;
+mod marked;
 mod page;
 mod places;
 mod refusals;
@@ -13,14 +15,16 @@ mod source;
 mod values;
 
 pub use answers::{tell, tell_hexadecimal, tell_move};
+pub use causes::tell_refused;
 pub use changes::Before;
 pub use frames::{
     show_arguments, show_bits, show_frame, show_frames, show_full_frames, show_locals, show_value,
 };
 pub use looks::{
-    list_lines, show_displayed, show_help, show_here, show_line, show_lists, show_marked,
+    list_lines, show_displayed, show_help, show_here, show_line, show_lists,
     show_recording, show_source, show_text, show_type, show_variables, show_watches,
 };
+pub use marked::put_marked;
 pub use page::Page;
-pub use refusals::{tell_refused, tell_unknown};
+pub use refusals::tell_unknown;
 pub use source::Source;

@@ -2,7 +2,7 @@
 use crate::answers::{put_target, put_watched};
 use crate::help::{put_help, put_topic};
 use crate::page::Page;
-use crate::places::{put_around, put_line, put_mark, put_place};
+use crate::places::{put_around, put_line, put_place};
 use crate::source::Source;
 use debug_answers::Stop;
 use debug_commands::Target;
@@ -36,9 +36,7 @@ pub fn list_lines<M: RecordedMachine, O: AnswerWriter + Drop>(
         return;
     }
     if source.line(first).is_none() {
-        page.put(b"the source has no line ");
-        page.put_number(i128::from(first));
-        page.put(b"\n");
+        put_past_end(first, source, page);
         return;
     }
     for number in first..next.min(source.lines().saturating_add(1)) {
@@ -47,13 +45,22 @@ pub fn list_lines<M: RecordedMachine, O: AnswerWriter + Drop>(
     }
 }
 
+/// Writes that there is no line of a number.
+fn put_past_end<O: AnswerWriter + Drop>(line: u32, source: Source<'_>, page: &mut Page<O>) {
+    page.put(b"there is no line ");
+    page.put_number(i128::from(line));
+    page.put(b": the source has ");
+    page.put_number(i128::from(source.lines()));
+    page.put(b" lines\n");
+}
+
 /// Writes where the program stands.
 pub fn show_here<M: RecordedMachine, O: AnswerWriter + Drop>(
     source: Source<'_>,
     session: &Session<M>,
     page: &mut Page<O>,
 ) {
-    put_place(b"", session.machine().position(), source, page);
+    put_place(0, session.machine().position(), source, page);
     if let Some(position) = session.machine().position() {
         put_around(&position, source, page);
     }
@@ -144,7 +151,7 @@ pub fn show_watches<M: RecordedMachine, O: AnswerWriter + Drop>(
 
 /// Writes the name of the source, and how many lines it has.
 pub fn show_source<O: AnswerWriter + Drop>(source: Source<'_>, page: &mut Page<O>) {
-    page.put(source.name);
+    page.put_masked(source.name);
     page.put(b", ");
     page.put_number(i128::from(source.lines()));
     page.put(b" lines\n");
@@ -228,19 +235,6 @@ pub fn show_text<O: AnswerWriter + Drop>(text: &[u8], page: &mut Page<O>) {
     if let Some(front) = rest.strip_suffix(b"\\n") {
         rest = front;
     }
-    page.put(rest);
+    page.put_masked(rest);
     page.put(b"\n");
-}
-
-/// Writes a line of a text, with a mark under a column where one is named.
-pub fn show_marked<O: AnswerWriter + Drop>(
-    line: u32,
-    column: Option<u32>,
-    source: Source<'_>,
-    page: &mut Page<O>,
-) {
-    put_line(line, b"-> ", source, page);
-    if let Some(column) = column {
-        put_mark(line, column, source, page);
-    }
 }

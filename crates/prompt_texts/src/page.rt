@@ -1,10 +1,15 @@
 //! What texts are written on.
 ghost use Rattle.std.specs.Prelude.{◌≡◌, false};
 ghost use Rattle.std.specs.Fmt.{signed_decimal};
-ghost use Rattle.prompt_texts.specs.Shown.{Puts};
+ghost use Rattle.prompt_texts.specs.Shown as spec;
+ghost use Rattle.prompt_texts.specs.Shown.{Puts, masked};
 
+use arrayvec::ArrayVec;
 use debug_traits::AnswerWriter;
 use itoa::Buffer;
+
+/// The most bytes of a progress.
+const PROGRESS: usize = 32;
 
 /// Writes over what stands on a line of a terminal, as long as the longest progress.
 const BLANK_LINE: &[u8] = b"\r                \r";
@@ -41,12 +46,10 @@ impl<O: AnswerWriter + Drop> Page<O> {
         }
     }
 
-    /// Writes how many moves a command has made, over what was written of it before.
+    /// Writes how many moves a command has made, over what was written of it before, all at once.
     pub fn put_progress(&mut self, moves: u32) {
         if self.shows_progress {
-            self.put(b"\r");
-            self.put_grouped(moves);
-            self.put(b" moves");
+            self.put(progress_text(moves).as_slice());
         }
     }
 
@@ -81,15 +84,13 @@ impl<O: AnswerWriter + Drop> Page<O> {
         self.put(digits.format(number).as_bytes());
     }
 
-    /// Writes a number in decimal digits, with a comma before each three but the first ones.
-    fn put_grouped(&mut self, number: u32) {
-        let mut digits = Buffer::new();
-        let text = digits.format(number).as_bytes();
-        for (place, digit) in text.iter().enumerate() {
-            if place > 0 && (text.len() - place) % 3 == 0 {
-                self.put(b",");
-            }
-            self.put(&[*digit]);
+    /// Writes a text as a terminal may have it: `?` stands for each byte by which it would do something in place of showing it.
+    pub fn put_masked(&mut self, text: &[u8])
+        ensures { Puts (masked text.now) self.old.has_failed self.new.has_failed (O.written self.old.writer) (O.written self.new.writer) }
+    {
+        for at in 0..text.len() {
+            let before = if at == 0 { 0 } else { text[at - 1] };
+            self.put(&[shown_byte(before, text[at])]);
         }
     }
 
@@ -101,5 +102,49 @@ impl<O: AnswerWriter + Drop> Page<O> {
             self.put(b" ");
         }
         self.put(text);
+    }
+}
+
+/// A byte as it is shown behind another one.
+fn shown_byte(before: u8, byte: u8) -> u8
+    ensures { result ≡ spec.shown_byte before byte }
+{
+    if is_control(before, byte) { b'?' } else { byte }
+}
+
+/// Whether a byte ends a control character: one of ASCII but the tab, or one of those that Unicode spells behind `0xc2`.
+pub(crate) fn is_control(before: u8, byte: u8) -> bool
+    ensures { result ≡ spec.is_control before byte }
+{
+    match byte {
+        b'\t' => false,
+        0..=31 | 127 => true,
+        128..=159 => before == 0xc2,
+        _ => false,
+    }
+}
+
+/// How many moves a command has made, with a comma before each three digits but the first ones, behind a return to the line's start.
+fn progress_text(moves: u32) -> ArrayVec<u8, PROGRESS> {
+    let mut digits = Buffer::new();
+    let number = digits.format(moves).as_bytes();
+    let mut text = ArrayVec::new();
+    add(b'\r', &mut text);
+    for (place, digit) in number.iter().enumerate() {
+        if place > 0 && (number.len() - place) % 3 == 0 {
+            add(b',', &mut text);
+        }
+        add(*digit, &mut text);
+    }
+    for byte in b" moves" {
+        add(*byte, &mut text);
+    }
+    text
+}
+
+/// Adds a byte, where there is room.
+fn add(byte: u8, text: &mut ArrayVec<u8, PROGRESS>) {
+    if !text.is_full() {
+        text.push(byte);
     }
 }

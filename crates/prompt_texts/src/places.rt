@@ -4,6 +4,7 @@ ghost use Rattle.gang_types.specs.Masks.{IsGangWidth, lanes_of};
 ghost use Rattle.prompt_texts.specs.Shown as spec;
 ghost use Rattle.prompt_texts.specs.Shown.{Puts, marks};
 
+use crate::marked::{digits, put_marked};
 use crate::page::Page;
 use crate::source::Source;
 use debug_traits::{AnswerWriter, Position};
@@ -15,21 +16,79 @@ const AROUND: u32 = 2;
 /// The widest gang.
 const WIDEST: usize = 16;
 
-/// Writes a line: why the program stands there, the function, the place, and a mark for each lane, `#` where it is active.
+/// The most columns of a line that no terminal breaks.
+const COLUMNS: usize = 80;
+
+/// How many columns a frame's number takes at most.
+const NUMBER: usize = 5;
+
+/// How many columns stand in a place around its words and numbers: `at`, two colons and `, lanes`.
+const BETWEEN: usize = 14;
+
+/// How many stand before the number of a depth.
+const DEPTH: usize = 8;
+
+/// Writes where the program stands, behind a reason of so many columns, on the same line if it has room there.
 pub(crate) fn put_place<O: AnswerWriter + Drop>(
-    why: &[u8],
+    before: usize,
     position: Option<Position<'_>>,
     source: Source<'_>,
     page: &mut Page<O>,
 ) {
-    page.put(why);
     match position {
-        None => page.put(b"the program has ended\n"),
+        None => {
+            page.put(between(before, 0));
+            page.put(b"the program has ended\n");
+        }
         Some(position) => {
+            page.put(between(before, columns(&position, source)));
             put_front(&position, source, page);
+            page.put(front_end(&position, source));
             put_marks(position.width, position.lanes, page);
             page.put(b"\n");
         }
+    }
+}
+
+/// What stands between a reason of so many columns and a place.
+fn between(before: usize, place: usize) -> &'static [u8] {
+    if before == 0 {
+        b""
+    } else if before.saturating_add(place) < COLUMNS {
+        b" "
+    } else {
+        b"\n"
+    }
+}
+
+/// How many columns a place takes.
+fn columns(position: &Position<'_>, source: Source<'_>) -> usize {
+    position
+        .function
+        .len()
+        .saturating_add(source.name.len())
+        .saturating_add(digits(position.place.line))
+        .saturating_add(digits(position.place.col))
+        .saturating_add(depth_columns(position.depth))
+        .saturating_add(position.width)
+        .saturating_add(BETWEEN)
+}
+
+/// How many columns a depth takes, which stands in a place where it is not 1.
+fn depth_columns(depth: usize) -> usize {
+    match depth {
+        0 | 1 => 0,
+        2..=9 => DEPTH + 1,
+        _ => DEPTH + 2,
+    }
+}
+
+/// What stands before the lanes' marks: behind long names they have a line of their own, so that no terminal breaks them.
+fn front_end(position: &Position<'_>, source: Source<'_>) -> &'static [u8] {
+    if columns(position, source).saturating_add(NUMBER) > COLUMNS {
+        b",\n    lanes "
+    } else {
+        b", lanes "
     }
 }
 
@@ -41,7 +100,7 @@ fn put_front<O: AnswerWriter + Drop>(
 ) {
     page.put(position.function);
     page.put(b" at ");
-    page.put(source.name);
+    page.put_masked(source.name);
     page.put(b":");
     page.put_number(i128::from(position.place.line));
     page.put(b":");
@@ -50,7 +109,6 @@ fn put_front<O: AnswerWriter + Drop>(
         page.put(b", depth ");
         page.put_number(position.depth as i128);
     }
-    page.put(b", lanes ");
 }
 
 /// Writes a mark for each lane of the gang, lane 0 first: `#` where it is active, and `.` where it waits.
@@ -79,8 +137,7 @@ pub(crate) fn put_around<O: AnswerWriter + Drop>(
     for number in line.saturating_sub(AROUND).max(1)..line {
         put_line(number, b"   ", source, page);
     }
-    put_line(line, b"-> ", source, page);
-    put_mark(line, position.place.col, source, page);
+    put_column(line, position.place.col, source, page);
     for number in line.saturating_add(1)..line.saturating_add(AROUND + 1) {
         put_line(number, b"   ", source, page);
     }
@@ -97,28 +154,19 @@ pub(crate) fn put_line<O: AnswerWriter + Drop>(
         page.put(mark);
         page.put_line_number(number);
         page.put(b"  ");
-        page.put(text);
+        page.put_masked(text);
         page.put(b"\n");
     }
 }
 
-/// Writes `^` under a column of a line that stands behind its number. A tab before it stays one.
-pub(crate) fn put_mark<O: AnswerWriter + Drop>(
+/// Writes a line of the source, where there is one of this number, with a mark under a column.
+fn put_column<O: AnswerWriter + Drop>(
     number: u32,
     column: u32,
     source: Source<'_>,
     page: &mut Page<O>,
 ) {
     if let Some(text) = source.line(number) {
-        page.put(b"          ");
-        put_caret(text, column.saturating_sub(1) as usize, page);
+        put_marked(number, text, column.saturating_sub(1) as usize, page);
     }
-}
-
-/// Writes `^` under a byte of a text, and ends the line. A tab before it stays one.
-pub(crate) fn put_caret<O: AnswerWriter + Drop>(text: &[u8], before: usize, page: &mut Page<O>) {
-    for byte in text.iter().take(before) {
-        page.put(if *byte == b'\t' { b"\t" } else { b" " });
-    }
-    page.put(b"^\n");
 }

@@ -1,13 +1,17 @@
 //! Refusals of commands, as sentences with the line and a mark.
 use crate::page::Page;
-use crate::places::put_caret;
+use crate::marked::put_caret;
 use debug_answers::Refusal;
 use debug_traits::AnswerWriter;
 use debug_words::{Marks, is_blank, next_word};
 use prompt_help::{explanation, is_setting, usage_of};
 
 /// Writes why a command is refused, and the line with a mark under what it is refused for.
-pub fn tell_refused<O: AnswerWriter + Drop>(refusal: Refusal, line: &[u8], page: &mut Page<O>) {
+pub(crate) fn put_refused<O: AnswerWriter + Drop>(
+    refusal: Refusal,
+    line: &[u8],
+    page: &mut Page<O>,
+) {
     page.put(sentence(refusal));
     let first = blanks(line);
     match refusal {
@@ -15,11 +19,14 @@ pub fn tell_refused<O: AnswerWriter + Drop>(refusal: Refusal, line: &[u8], page:
         | Refusal::NoLine
         | Refusal::OutOfRange
         | Refusal::Constant
-        | Refusal::NoSuchNumber => {
-            put_marked(line, argument(line).unwrap_or(first), page);
-        }
-        _ => put_marked(line, first, page),
+        | Refusal::NoSuchNumber => put_refused_part(line, page),
+        _ => put_typed(line, first, page),
     }
+}
+
+/// Writes a line, and a mark under what it is refused for.
+pub(crate) fn put_refused_part<O: AnswerWriter + Drop>(line: &[u8], page: &mut Page<O>) {
+    put_typed(line, argument(line).unwrap_or(blanks(line)), page);
 }
 
 /// Writes what is wrong with a line that stands for no command: why there is no such command, what to type in its place, or where
@@ -37,30 +44,19 @@ pub fn tell_unknown<O: AnswerWriter + Drop>(line: &[u8], page: &mut Page<O>) {
         page.put(b"C1 BadCommand: ");
         page.put(usage);
         page.put(b"\n");
-        put_marked(line, argument(line).unwrap_or(first), page);
+        put_refused_part(line, page);
     } else {
         page.put(b"C1 BadCommand: there is no such command; `help` lists those that there are.\n");
-        put_marked(line, first, page);
+        put_typed(line, first, page);
     }
 }
 
-/// Writes a line, and a mark under one of its bytes.
-fn put_marked<O: AnswerWriter + Drop>(line: &[u8], at: usize, page: &mut Page<O>) {
+/// Writes a line that was typed, and a mark under one of its bytes.
+fn put_typed<O: AnswerWriter + Drop>(line: &[u8], at: usize, page: &mut Page<O>) {
     page.put(b"    ");
-    for byte in line {
-        page.put(&[visible(*byte)]);
-    }
+    page.put_masked(line);
     page.put(b"\n    ");
     put_caret(line, at, page);
-}
-
-/// A byte of a line as it is shown: a terminal would obey a control character.
-fn visible(byte: u8) -> u8 {
-    match byte {
-        b'\t' => byte,
-        0..=31 | 127 => b'?',
-        _ => byte,
-    }
 }
 
 /// How many blanks a line begins with.
@@ -69,7 +65,7 @@ fn blanks(line: &[u8]) -> usize {
 }
 
 /// Where the last word of a line begins that no mark comes before, behind the first word.
-fn argument(line: &[u8]) -> Option<usize> {
+pub(crate) fn argument(line: &[u8]) -> Option<usize> {
     let (_, rest) = next_word(Marks::OfCommands, line)?;
     let (word, behind) = next_word(Marks::OfCommands, rest)?;
     let mut place = start_of(line, word, behind);
@@ -92,15 +88,15 @@ fn sentence(refusal: Refusal) -> &'static [u8] {
     match refusal {
         Refusal::BadCommand => b"C1 BadCommand: this is no command.\n",
         Refusal::NoSuchName =>
-            b"C2 NoSuchName: no variable of this name is in scope or of the file, or it has no such part; only variables of the file are watched.\n",
+            b"C2 NoSuchName: no variable in scope or of the file has this name and this part.\n",
         Refusal::NoHistory => b"C3 NoHistory: nothing is kept that could be taken back.\n",
         Refusal::Ended =>
-            b"C4 Ended: the program has ended; `reverse-step` or `reverse-continue` goes back into it.\n",
+            b"C4 Ended: the program has ended; `reverse-step` or `reverse-continue` goes back into it, and `run` goes on from there.\n",
         Refusal::Outermost =>
             b"C6 Outermost: this is the outermost frame, which no other called.\n",
         Refusal::NoLine => b"C7 NoLine: no line from there on has a step.\n",
         Refusal::OutOfRange =>
-            b"C8 OutOfRange: the index is past the end, the type has no such value, or the history limit is above 65536.\n",
+            b"C8 OutOfRange: the index is past the end.\n",
         Refusal::Constant => b"C9 Constant: constants and the indices of foreach are not set.\n",
         Refusal::NoSuchNumber =>
             b"C10 NoSuchNumber: no breakpoint or watch has this number; `info breakpoints` lists them.\n",

@@ -10,7 +10,7 @@ pub struct Source<'a> {
 }
 
 impl<'a> Source<'a> {
-    /// The line of a number, which counts from 1 on, without its line feed.
+    /// The line of a number, which counts from 1 on, without its line feed, and without a carriage return before that.
     pub fn line(self, number: u32) -> Option<&'a [u8]> {
         let mut rest = self.text;
         for _ in 1..number {
@@ -19,7 +19,8 @@ impl<'a> Source<'a> {
         if rest.is_empty() {
             return None;
         }
-        Some(front_line(rest))
+        let line = front_line(rest);
+        Some(line.strip_suffix(b"\r").unwrap_or(line))
     }
 
     /// How many lines there are. The last may lack its line feed.

@@ -1,6 +1,5 @@
 //! What can be done about a refusal.
 use crate::explaining::page_in;
-use crate::marking::put_masked;
 use crate::refusing::Texts;
 use crate::words_of_source::put_exported;
 use debug_inputs::InputFault;
@@ -35,7 +34,7 @@ fn put_entries<O: AnswerWriter + Drop>(
 ) {
     if let Some(name) = program.options.entry {
         page.put(b"no exported function is called ");
-        put_masked(name.as_bytes(), page);
+        page.put_masked(name.as_bytes());
         page.put(b"\n");
     }
     page.put(b"exported functions: ");
@@ -48,12 +47,12 @@ fn put_entries<O: AnswerWriter + Drop>(
 /// Writes how a parameter of the entry is given its values.
 fn put_missing<O: AnswerWriter + Drop>(name: &[u8], program: &Program<'_>, page: &mut Page<O>) {
     page.put(b"the entry function has a parameter ");
-    page.put(name);
+    page.put_masked(name);
     page.put(b": write a line `");
-    page.put(name);
+    page.put_masked(name);
     page.put(b" = VALUE`, of an array with all its values, into ");
     match program.input {
-        Some(path) => put_masked(path.as_bytes(), page),
+        Some(path) => page.put_masked(path.as_bytes()),
         None => page.put(b"a file, and name that by --input FILE"),
     }
     page.put(b"\n");

@@ -8,7 +8,6 @@ mod debugging;
 mod drawing;
 mod explaining;
 mod files;
-mod marking;
 mod overwriting;
 mod refusing;
 mod serving;

@@ -1,13 +1,12 @@
 //! Refusals, and what standard error is told of them.
 use crate::advice::advise;
-use crate::marking::{put_marked, put_masked};
 use crate::wrong_values::wrong_value;
 use clap::error::{Error, ErrorKind};
 use debug_inputs::InputFault;
 use debug_streams::StreamWriter;
 use desk_options::Program;
 use ispc_refusals::{Refusal, write_refusal};
-use prompt_texts::{Page, Source};
+use prompt_texts::{Page, Source, put_marked};
 use std::process::ExitCode;
 
 /// The source and the input of a run.
@@ -89,7 +88,7 @@ pub(crate) fn refuse_because(rt: &HostRuntime, why: &[u8], named: &[u8]) -> Exit
     let mut page = Page::new(StreamWriter::new(rt.stderr()));
     page.put(b"error: ");
     page.put(why);
-    put_masked(named, &mut page);
+    page.put_masked(named);
     page.put(b"\n");
     ExitCode::from(2)
 }
@@ -98,7 +97,7 @@ pub(crate) fn refuse_because(rt: &HostRuntime, why: &[u8], named: &[u8]) -> Exit
 pub(crate) fn refuse_file(rt: &HostRuntime, what: &[u8], path: &str, reason: &[u8]) -> ExitCode {
     let mut page = Page::new(StreamWriter::new(rt.stderr()));
     page.put(what);
-    put_masked(path.as_bytes(), &mut page);
+    page.put_masked(path.as_bytes());
     page.put(reason);
     page.put(b"\n");
     ExitCode::from(2)

@@ -1,6 +1,6 @@
-//! A part of a text, as a terminal may have it, with a mark under one byte.
+//! A line of a text with a mark under one byte.
+use crate::page::{Page, is_control};
 use debug_traits::AnswerWriter;
-use prompt_texts::Page;
 
 /// How much of a long line is shown, and how much of that stands before the mark.
 const SHOWN: usize = 60;
@@ -10,8 +10,8 @@ const BEFORE: usize = 30;
 /// The longest line that is shown whole.
 const WHOLE: usize = 68;
 
-/// Writes a line behind its number, or 60 bytes of a long one, and `^` under a byte of it.
-pub(crate) fn put_marked<O: AnswerWriter + Drop>(
+/// Writes a line behind its number, or 60 bytes of a long one, and `^` under a byte of it. Controls are masked.
+pub fn put_marked<O: AnswerWriter + Drop>(
     number: u32,
     line: &[u8],
     at: usize,
@@ -19,19 +19,16 @@ pub(crate) fn put_marked<O: AnswerWriter + Drop>(
 ) {
     let at = at.min(line.len());
     let (from, to) = window(line, at);
-    let front = front_width(number);
     page.put(b"-> ");
-    put_blanks(front, page);
-    page.put_number(i128::from(number));
+    page.put_line_number(number);
     page.put(b"  ");
     put_cut(from > 0, page);
-    put_masked(line.get(from..to).unwrap_or(&[]), page);
+    page.put_masked(line.get(from..to).unwrap_or(&[]));
     put_cut(to < line.len(), page);
     page.put(b"\n");
-    put_blanks(digits(number).saturating_add(front).saturating_add(5), page);
+    put_blanks(digits(number).max(5).saturating_add(5), page);
     put_blanks(if from > 0 { 3 } else { 0 }, page);
-    put_under(line.get(from..at).unwrap_or(&[]), page);
-    page.put(b"^\n");
+    put_caret(line.get(from..to).unwrap_or(&[]), at.saturating_sub(from), page);
 }
 
 /// The part of a line that is shown: it begins and ends with whole characters.
@@ -65,38 +62,18 @@ fn put_cut<O: AnswerWriter + Drop>(is_cut: bool, page: &mut Page<O>) {
     }
 }
 
-/// Writes a text with `?` for each byte by which a terminal would do something in place of showing it.
-pub(crate) fn put_masked<O: AnswerWriter + Drop>(text: &[u8], page: &mut Page<O>) {
+/// Writes `^` under a byte of a text, and ends the line. There is a blank for each character before it, and a tab stays one.
+pub(crate) fn put_caret<O: AnswerWriter + Drop>(text: &[u8], at: usize, page: &mut Page<O>) {
     let mut before = 0;
-    for byte in text {
-        if is_control(before, *byte) {
-            page.put(b"?");
-        } else {
-            page.put(&[*byte]);
+    for byte in text.iter().take(at) {
+        match *byte {
+            b'\t' => page.put(b"\t"),
+            byte if is_inner(byte) && !is_control(before, byte) => {}
+            _ => page.put(b" "),
         }
         before = *byte;
     }
-}
-
-/// Whether a byte ends a control character: one of ASCII but the tab, or one of those that Unicode spells behind `0xc2`.
-fn is_control(before: u8, byte: u8) -> bool {
-    match byte {
-        b'\t' => false,
-        0..=31 | 127 => true,
-        128..=159 => before == 0xc2,
-        _ => false,
-    }
-}
-
-/// Writes a blank for each character of a text. A tab stays one.
-fn put_under<O: AnswerWriter + Drop>(text: &[u8], page: &mut Page<O>) {
-    for byte in text {
-        match *byte {
-            b'\t' => page.put(b"\t"),
-            byte if is_inner(byte) => {}
-            _ => page.put(b" "),
-        }
-    }
+    page.put(b"^\n");
 }
 
 fn put_blanks<O: AnswerWriter + Drop>(count: usize, page: &mut Page<O>) {
@@ -105,13 +82,8 @@ fn put_blanks<O: AnswerWriter + Drop>(count: usize, page: &mut Page<O>) {
     }
 }
 
-/// How many blanks stand before a number, so that it ends at a width of five.
-fn front_width(number: u32) -> usize {
-    5usize.saturating_sub(digits(number))
-}
-
 /// How many decimal digits a number has.
-fn digits(number: u32) -> usize {
+pub(crate) fn digits(number: u32) -> usize {
     let powers = [
         10u32,
         100,
