@@ -1,0 +1,77 @@
+//! How many lines are shown before a terminal waits.
+ghost use Rattle.std.specs.Prelude.{◌≡◌, ◌<◌, ◌+◌, IfSome};
+ghost use Rattle.terminal_lines.specs.declared.pages.Way.TheVariants.{Waits};
+
+/// What a terminal shows where it waits.
+pub const MORE: &str = "--Type <RET> for more, q to quit, c to continue without paging--";
+
+/// What is done with the lines that are still to come of one command.
+#[derive(Clone, Copy, Debug, PartialEq, Eq, Drop)]
+enum Way {
+    Waits,
+    GoesOn,
+    Ends,
+}
+
+/// How many lines a page has, how many of them were shown since a terminal waited, and what is done with those to come.
+#[derive(Clone, Copy, Debug, PartialEq, Eq, Drop)]
+pub struct Pages {
+    /// 0 where no list waits, else 2 or more.
+    height: u32,
+    shown: u32,
+    way: Way,
+    ghost within: { way ≡ Waits → 0 < height → shown < height },
+}
+
+impl Pages {
+    /// Pages of so many lines, of which the last is that of the terminal's question; of 0, no list waits.
+    pub fn new(height: u32) -> Self
+    {
+        Pages {
+            height: if height == 1 { 2 } else { height },
+            shown: 0,
+            way: Way::Waits,
+        }
+    }
+
+    /// The pages of the next command.
+    pub fn begun(self) -> Self {
+        Pages::new(self.height)
+    }
+
+    /// Whether the lines that are still to come are shown.
+    pub fn has_more(self) -> bool {
+        self.way != Way::Ends
+    }
+
+    /// The pages behind one more line; none where the terminal waits before it.
+    pub fn behind_line(self) -> Option<Self>
+        ensures { IfSome result (λ after. after.way ≡ self.way) }
+    {
+        if self.way != Way::Waits || self.height == 0 {
+            return Some(self);
+        }
+        if self.shown + 1 >= self.height {
+            return None;
+        }
+        Some(Pages {
+            height: self.height,
+            shown: self.shown + 1,
+            way: self.way,
+        })
+    }
+
+    /// The pages behind an answer to the terminal's question: `q` ends the list, `c` shows the rest of it, and anything else a page.
+    pub fn answered(self, typed: &[u8]) -> Self {
+        let way = match typed.first() {
+            Some(b'q' | b'Q') => Way::Ends,
+            Some(b'c' | b'C') => Way::GoesOn,
+            _ => Way::Waits,
+        };
+        Pages {
+            height: self.height,
+            shown: 0,
+            way,
+        }
+    }
+}
