@@ -19,6 +19,7 @@ use Rattle.ispc_options.specs.Asked.{AreWidths, number_of, text_of, width_text}
 use Rattle.ispc_options.specs.declared.options.Options.{Options}
 use Rattle.desk_options.specs.declared.names.VerbName.{VerbName}
 use Rattle.desk_options.specs.declared.names.VerbName.TheVariants as name
+use Rattle.desk_options.specs.declared.verbs.Debugged.{Debugged}
 use Rattle.desk_options.specs.declared.verbs.Picture.{Picture}
 use Rattle.desk_options.specs.declared.verbs.Program.{Program}
 use Rattle.desk_options.specs.declared.verbs.Verb.{Verb}
@@ -38,6 +39,10 @@ pub record HasProgram (value : Text → Option Text) (program : Program) : Type 
   pub source : value (codes "source") ≡ Some program.source.now
   pub input : value (codes "input") ≡ text_of program.input
   pub run : HasRun value program.options
+
+pub record HasDebugged (value : Text → Option Text) (debugged : Debugged) : Type 0 where
+  pub program : HasProgram value debugged.program
+  pub color : value (codes "color") ≡ text_of debugged.color
 
 pub record HasPicture (value : Text → Option Text) (picture : Picture) : Type 0 where
   pub program : HasProgram value picture.program
@@ -61,7 +66,7 @@ raw_of found name = unwrap_or (option_map raw_values (matched_of found name)) []
 
 -- what values ask for, the first of each name and all of it
 abbrev pub IsAskedBy : VerbName → (Text → Option Text) → (Text → List Text) → Verb → Type 0
-IsAskedBy name.Debug value values (verb.Debug program) = HasProgram value program
+IsAskedBy name.Debug value values (verb.Debug debugged) = HasDebugged value debugged
 IsAskedBy name.Picture value values (verb.Picture picture) = HasPicture value picture
 IsAskedBy name.Adapter value values verb.Adapter = ⊤
 IsAskedBy name.Explain value values (verb.Explain explained) = texts explained.words.items ≡ values (codes "name")

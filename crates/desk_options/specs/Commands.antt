@@ -29,6 +29,10 @@ program_rules widths = wanted (codes "source")
     ∷ option_or (codes "steps") (up_to 10000000) (codes "1000000")
     ∷ []
 
+-- what only a debugger has
+abbrev pub debug_rules : List Rule
+debug_rules = option (codes "color") ∷ []
+
 -- what only a picture has
 abbrev pub picture_rules : List Rule
 picture_rules = option (codes "commands")
@@ -39,7 +43,7 @@ picture_rules = option (codes "commands")
     ∷ []
 
 abbrev pub rules_of : Bor (List (Bor Text)) → VerbName → List Rule
-rules_of widths Debug = program_rules widths
+rules_of widths Debug = program_rules widths ++ debug_rules
 rules_of widths Picture = program_rules widths ++ picture_rules
 rules_of widths Adapter = []
 rules_of widths Explain = several (codes "name") ∷ []

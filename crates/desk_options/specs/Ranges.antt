@@ -11,7 +11,7 @@ pub record IsPictureInRange (picture : PictureOptions) : Type 0 where
   pub most_most : picture.most ≤ 10000000
 
 abbrev pub IsInRange : Verb → Type 0
-IsInRange (Debug program) = AreInRange program.options
+IsInRange (Debug debugged) = AreInRange debugged.program.options
 IsInRange (Picture picture) = IsPictureInRange picture
 IsInRange Adapter = ⊤
 IsInRange (Explain explained) = ⊤

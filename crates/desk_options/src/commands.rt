@@ -3,7 +3,7 @@ ghost use Rattle.std.specs.Prelude.{◌≡◌, IfOk, [], false};
 ghost use Rattle.clap.specs.Words.{app_of, new_app, rule_of};
 ghost use Rattle.clap.specs.declared.builder.command.Command.TheViews.{out-Command};
 ghost use Rattle.ispc_options.specs.Asked.{AreWidths, flag, option, option_or, up_to, valued};
-ghost use Rattle.desk_options.specs.Commands.{all_verbs, command_of, picture_rules, program_rules};
+ghost use Rattle.desk_options.specs.Commands.{all_verbs, command_of, debug_rules, picture_rules, program_rules};
 ghost use Rattle.desk_options.specs.Commands.{several, verb_command, wanted, with_rules};
 
 use crate::names::VerbName;
@@ -69,7 +69,10 @@ pub(crate) fn verb_command<'a>(alloc: Global, verb: VerbName) -> Result<Command<
 fn debug_command<'a>(alloc: Global) -> Result<Command<'a>, AllocError>
     ensures { IfOk result (λ parser. (widths : _) × AreWidths widths × (app_of parser ≡ verb_command widths VerbName.Debug)) }
 {
-    with_program(alloc, named(alloc, "rinddecade debug", DEBUG_ABOUT))
+    with_color(
+        alloc,
+        with_program(alloc, named(alloc, "rinddecade debug", DEBUG_ABOUT))?,
+    )
 }
 
 fn picture_command<'a>(alloc: Global) -> Result<Command<'a>, AllocError>
@@ -122,6 +125,15 @@ fn with_program<'a>(alloc: Global, command: Command<'a>) -> Result<Command<'a>, 
         .arg(option_or(alloc, "steps", "N", up_to(MOST_STEPS), "1000000").help(
             "how many moves one command makes at most, up to 10000000",
         ))
+}
+
+/// A command with the option that only a debugger has.
+fn with_color<'a>(alloc: Global, command: Command<'a>) -> Result<Command<'a>, AllocError>
+    ensures { IfOk result (λ parser. app_of parser ≡ with_rules (app_of command.entry) debug_rules) }
+{
+    command.arg(option(alloc, "color", "WHEN").help(
+        "whether the text has colours: auto, always or never; auto, the default, is on a terminal without NO_COLOR",
+    ))
 }
 
 /// A command with the options that only a picture has.

@@ -8,4 +8,4 @@ mod values;
 mod verbs;
 
 pub use reading::read_verb;
-pub use verbs::{Explained, Picture, Program, Verb};
+pub use verbs::{Debugged, Explained, Picture, Program, Verb};

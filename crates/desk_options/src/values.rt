@@ -4,13 +4,13 @@ ghost use Rattle.clap.specs.Words.{first_value, found_of};
 ghost use Rattle.ispc_options.specs.Asked.{number_of};
 ghost use Rattle.ispc_options.specs.Passed.{HasNumber};
 ghost use Rattle.ispc_options.specs.Ranges.{AreInRange};
-ghost use Rattle.desk_options.specs.Asked.{HasPicture, HasProgram, IsAskedBy, raw_of};
+ghost use Rattle.desk_options.specs.Asked.{HasDebugged, HasPicture, HasProgram, IsAskedBy, raw_of};
 ghost use Rattle.desk_options.specs.Passed.{ArePassed, ArePicturePassed, HavePassed};
 ghost use Rattle.desk_options.specs.Ranges.{IsInRange, IsPictureInRange};
 
 use crate::commands::{MOST_HISTORY, MOST_STEPS};
 use crate::names::VerbName;
-use crate::verbs::{Explained, Picture, Program, Verb};
+use crate::verbs::{Debugged, Explained, Picture, Program, Verb};
 use clap::ArgMatches;
 use ispc_options::{Options, Width};
 use std::alloc::{AllocError, Global};
@@ -26,7 +26,7 @@ pub(crate) fn verb_of<'a>(
         → IsSomeAnd read (IsAskedBy verb (first_value (found_of matches.now)) (raw_of (found_of matches.now)))) }
 {
     Ok(match verb {
-        VerbName::Debug => program_of(matches).map(Verb::Debug),
+        VerbName::Debug => debugged_of(matches).map(Verb::Debug),
         VerbName::Picture => picture_of(matches).map(Verb::Picture),
         VerbName::Adapter => Some(Verb::Adapter),
         VerbName::Explain => Some(Verb::Explain(explained_of(alloc, matches)?)),
@@ -54,6 +54,16 @@ fn program_of<'a>(matches: &ArgMatches<'a>) -> Option<Program<'a>>
             entry: matches.get_str("entry"),
             lane_pure: false,
         },
+    })
+}
+
+fn debugged_of<'a>(matches: &ArgMatches<'a>) -> Option<Debugged<'a>>
+    ensures ranges { IfSome result (λ debugged. AreInRange debugged.program.options) }
+    ensures read { ArePassed (found_of matches.now) → IsSomeAnd result (HasDebugged (first_value (found_of matches.now))) }
+{
+    Some(Debugged {
+        program: program_of(matches)?,
+        color: matches.get_str("color"),
     })
 }
 

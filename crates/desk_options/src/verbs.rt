@@ -9,6 +9,13 @@ pub struct Program<'a> {
     pub options: Options<'a>,
 }
 
+/// A program that is debugged, and when its text has colours if the words say that.
+#[derive(Clone, Copy, Debug, PartialEq, Eq)]
+pub struct Debugged<'a> {
+    pub program: Program<'a>,
+    pub color: Option<&'a str>,
+}
+
 /// A picture of a program's run: the file of commands that come first, what is watched, how many steps are drawn at most, the file
 /// that is written, and whether it is written over whatever it holds.
 #[derive(Clone, Copy, Debug, PartialEq, Eq)]
@@ -30,7 +37,7 @@ pub struct Explained<'a> {
 /// What the program is to do.
 #[derive(Drop)]
 pub enum Verb<'a> {
-    Debug(Program<'a>),
+    Debug(Debugged<'a>),
     Picture(Picture<'a>),
     Adapter,
     Explain(Explained<'a>),

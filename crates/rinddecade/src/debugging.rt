@@ -5,75 +5,122 @@ ghost use Rattle.ispc_debugger.specs.Runs.{lanes_of};
 
 use crate::files::read_texts;
 use crate::refusing::{Texts, read_fault, refuse, refuse_program, write_fault};
+use crate::terminal::{Lines, Screen};
 use crate::typed_lines::{Typed, read_line};
 use debug_prompt::{Prompt, Turn};
 use debug_streams::StreamWriter;
 use debug_traits::AnswerWriter;
-use desk_options::Program;
+use desk_options::{Debugged, Program};
 use ispc_debugger::{ProgramSession, open_session};
 use ispc_options::Width;
 use ispc_refusals::Refusal;
 use prompt_texts::{Page, Source};
+use std::cell::Cell;
 use std::io;
 use std::io::{IsTerminal, LineWriter};
 use std::process::ExitCode;
+use terminal_lines::{Pages, height_set_by};
 
 /// What is shown for a line that has too many bytes.
 const TOO_LONG: &[u8] =
     b"C1 BadCommand: the line has more than 4096 bytes, so nothing is done for it.\n";
 
 /// Debugs a program by the lines of standard input. Its files are read first, the source before the input.
-pub(crate) fn debug(rt: &HostRuntime, program: &Program<'_>) -> ExitCode
-    requires { AreInRange program.now.options }
+pub(crate) fn debug(rt: &HostRuntime, debugged: &Debugged<'_>) -> ExitCode
+    requires { AreInRange debugged.now.program.options }
 {
+    let screen = match Screen::of(rt, debugged) {
+        Ok(screen) => screen,
+        Err(status) => return status,
+    };
+    let program = &debugged.program;
     let (source, input) = match read_texts(rt, program.source, program.input) {
         Ok(texts) => texts,
         Err(status) => return status,
     };
     let texts = Texts::new(program.source, source.as_slice(), input.as_slice());
     match program.options.width {
-        Width::Four => debug_wide::<4>(rt, texts, program),
-        Width::Eight => debug_wide::<8>(rt, texts, program),
-        Width::Sixteen => debug_wide::<16>(rt, texts, program),
+        Width::Four => debug_wide::<4>(rt, texts, program, screen),
+        Width::Eight => debug_wide::<8>(rt, texts, program, screen),
+        Width::Sixteen => debug_wide::<16>(rt, texts, program, screen),
     }
 }
 
-fn debug_wide<const W: usize>(rt: &HostRuntime, texts: Texts<'_>, program: &Program<'_>) -> ExitCode
+fn debug_wide<const W: usize>(
+    rt: &HostRuntime,
+    texts: Texts<'_>,
+    program: &Program<'_>,
+    screen: Screen,
+) -> ExitCode
     requires width { W ≡ lanes_of program.now.options.width }
     requires range { AreInRange program.now.options }
 {
     let (source, input) = (texts.source.text, texts.input.text);
     match open_session::<W>(rt.alloc(), source, input, &program.options) {
         Err(refusal) => refuse_program(rt, &refusal, program, texts),
-        Ok(mut session) => talk::<W>(rt, texts.source, program.options.steps, &mut session),
+        Ok(mut session) => {
+            let prompt = Prompt::new(program.options.steps);
+            talk::<W>(rt, texts.source, prompt, screen, &mut session)
+        }
     }
 }
 
-/// Talks on standard output: on a terminal at once, and with the progress of a long `continue`; else line by line.
+/// Talks on standard output: on a terminal line by line with the progress of a long `continue`, else by whole writes; and in colours
+/// where they are wanted.
 fn talk<const W: usize>(
     rt: &HostRuntime,
     source: Source<'_>,
-    most_steps: u32,
+    prompt: Prompt,
+    screen: Screen,
     session: &mut ProgramSession<W>,
 ) -> ExitCode {
-    let prompt = Prompt::new(most_steps);
-    if rt.stdout().is_terminal() {
-        let page = Page::on_terminal(StreamWriter::new(rt.stdout()));
-        return talk_on::<W, _>(rt, source, prompt, session, page);
+    let pages = Cell::new(Pages::new(screen.height));
+    let talk = Talk {
+        source,
+        pages: &pages,
+        usual: screen.height,
+    };
+    if screen.is_terminal {
+        let lines = Lines::new(rt, &pages, screen.has_colours);
+        let page = Page::on_terminal(StreamWriter::new(lines));
+        return talk_on::<W, _>(rt, talk, prompt, session, page);
+    }
+    if screen.has_colours {
+        let page = Page::new(StreamWriter::new(Lines::new(rt, &pages, true)));
+        return talk_on::<W, _>(rt, talk, prompt, session, page);
     }
     match LineWriter::new(rt.alloc(), rt.stdout()) {
         Err(_) => refuse(rt, &Refusal::Memory),
         Ok(lines) => {
             let page = Page::new(StreamWriter::new(lines));
-            talk_on::<W, _>(rt, source, prompt, session, page)
+            talk_on::<W, _>(rt, talk, prompt, session, page)
         }
+    }
+}
+
+/// What is shown, and how: the source, the pages of a terminal, and how many lines one of them has where nothing else is set.
+#[derive(Clone, Copy)]
+struct Talk<'a> {
+    source: Source<'a>,
+    pages: &'a Cell<Pages>,
+    usual: u32,
+}
+
+impl Talk<'_> {
+    /// Begins the pages of a line, which may set how many lines one has.
+    fn begin(self, line: &[u8]) {
+        let pages = match height_set_by(line, self.usual) {
+            Some(height) if self.usual > 0 => Pages::new(height),
+            _ => self.pages.get().begun(),
+        };
+        self.pages.set(pages);
     }
 }
 
 /// Does the lines of standard input, up to one that quits or the end.
 fn talk_on<const W: usize, O: AnswerWriter + Drop>(
     rt: &HostRuntime,
-    source: Source<'_>,
+    talk: Talk<'_>,
     prompt: Prompt,
     session: &mut ProgramSession<W>,
     page: Page<O>,
@@ -83,7 +130,7 @@ fn talk_on<const W: usize, O: AnswerWriter + Drop>(
     let mut line = Vec::new(rt.alloc());
     let mut reader = rt.reader();
     let is_asked = rt.stdin().is_terminal();
-    prompt.begin(source, session, &mut page);
+    prompt.begin(talk.source, session, &mut page);
     for _ in 0..u64::MAX {
         ask(rt, is_asked);
         match read_line(&mut reader, &mut line) {
@@ -99,7 +146,9 @@ fn talk_on<const W: usize, O: AnswerWriter + Drop>(
                 }
             }
             Ok(Typed::Line) => {
-                match prompt.do_line(without_feed(line.as_slice()), source, session, &mut page) {
+                let text = without_feed(line.as_slice());
+                talk.begin(text);
+                match prompt.do_line(text, talk.source, session, &mut page) {
                     Turn::Goes => {}
                     Turn::Quits => return ExitCode::SUCCESS,
                     Turn::Fails => return write_fault(rt),

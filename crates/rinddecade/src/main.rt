@@ -11,6 +11,7 @@ mod files;
 mod overwriting;
 mod refusing;
 mod serving;
+mod terminal;
 mod typed_lines;
 mod words_of_source;
 mod wrong_values;
@@ -62,7 +63,7 @@ fn do_verb(rt: &HostRuntime, verb: &Verb<'_>) -> ExitCode
     requires { IsInRange verb.now }
 {
     match verb {
-        Verb::Debug(program) => debug(rt, program),
+        Verb::Debug(debugged) => debug(rt, debugged),
         Verb::Picture(picture) => draw_picture(rt, picture),
         Verb::Adapter => adapt(rt),
         Verb::Explain(explained) => explain(rt, explained.words.as_slice()),

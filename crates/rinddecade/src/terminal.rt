@@ -1,0 +1,147 @@
+//! Standard output as people see it: lines in colours, and a long list that waits.
+use crate::refusing::refuse_because;
+use crate::typed_lines::{Typed, read_line};
+use desk_options::Debugged;
+use std::cell::Cell;
+use std::env;
+use std::io::{self, IsTerminal, Write};
+use std::process::ExitCode;
+use terminal_lines::{MORE, Pages, height_of, put_coloured};
+
+/// How many lines a terminal has where `LINES` does not tell.
+const LINES: u32 = 24;
+
+/// What standard output is: whether it has colours, whether it is a terminal, and how many lines one page has, 0 where no list waits.
+#[derive(Clone, Copy, Debug, PartialEq, Eq)]
+pub(crate) struct Screen {
+    pub(crate) has_colours: bool,
+    pub(crate) is_terminal: bool,
+    pub(crate) height: u32,
+}
+
+impl Screen {
+    /// What standard output is, by the words of the call and the environment.
+    pub(crate) fn of(rt: &HostRuntime, debugged: &Debugged<'_>) -> Result<Self, ExitCode> {
+        let is_terminal = rt.stdout().is_terminal();
+        let has_colours = match debugged.color {
+            Some("always") => true,
+            Some("never") => false,
+            None | Some("auto") => is_terminal && wants_colours(rt),
+            Some(other) => {
+                return Err(refuse_because(
+                    rt,
+                    b"--color takes auto, always or never, and not ",
+                    other.as_bytes(),
+                ));
+            }
+        };
+        let height = if is_terminal && rt.stdin().is_terminal() {
+            height(rt)
+        } else {
+            0
+        };
+        Ok(Screen {
+            has_colours,
+            is_terminal,
+            height,
+        })
+    }
+}
+
+/// Whether the environment has nothing against colours: no `NO_COLOR`, and a terminal that knows more than lines.
+fn wants_colours(rt: &HostRuntime) -> bool {
+    let is_refused = match env::var(rt, "NO_COLOR") {
+        Ok(text) => !text.is_empty(),
+        Err(_) => false,
+    };
+    match env::var(rt, "TERM") {
+        Ok(name) => !is_refused && !name.is_empty() && name.as_str() != "dumb",
+        Err(_) => false,
+    }
+}
+
+/// How many lines a page has.
+fn height(rt: &HostRuntime) -> u32 {
+    match env::var(rt, "LINES") {
+        Ok(text) => height_of(text.as_str().as_bytes()).unwrap_or(LINES),
+        Err(_) => LINES,
+    }
+}
+
+/// Standard output, line after line.
+#[derive(Drop)]
+pub(crate) struct Lines<'a> {
+    rt: &'a HostRuntime,
+    pages: &'a Cell<Pages>,
+    has_colours: bool,
+    line: Vec<u8>,
+}
+
+impl<'a> Lines<'a> {
+    pub(crate) fn new(rt: &'a HostRuntime, pages: &'a Cell<Pages>, has_colours: bool) -> Self {
+        Lines {
+            rt,
+            pages,
+            has_colours,
+            line: Vec::new(rt.alloc()),
+        }
+    }
+
+    /// Writes the line that is whole, where the list has not been ended; waits before it where the page is full.
+    fn show_line(&mut self) -> io::Result<()> {
+        let pages = match self.pages.get().behind_line() {
+            Some(after) => after,
+            None => {
+                let answered = self.wait()?;
+                answered.behind_line().unwrap_or(answered)
+            }
+        };
+        self.pages.set(pages);
+        if pages.has_more() {
+            self.put_line()?;
+        }
+        self.line.clear();
+        Ok(())
+    }
+
+    fn put_line(&mut self) -> io::Result<()> {
+        if !self.has_colours {
+            return self.rt.stdout().write_all(self.line.as_slice());
+        }
+        let mut coloured = Vec::new(self.rt.alloc());
+        put_coloured(self.line.as_slice(), &mut coloured)?;
+        self.rt.stdout().write_all(coloured.as_slice())
+    }
+
+    /// Asks whether the list goes on, and waits for a line. At the end of the input the list ends.
+    fn wait(&self) -> io::Result<Pages> {
+        self.rt.stdout().write_all(MORE.as_bytes())?;
+        let mut typed = Vec::new(self.rt.alloc());
+        let answer = match read_line(&mut self.rt.reader(), &mut typed)? {
+            Typed::End => b"q".as_slice(),
+            Typed::Line | Typed::TooLong => typed.as_slice(),
+        };
+        Ok(self.pages.get().answered(answer))
+    }
+}
+
+impl Write for Lines<'_> {
+    /// What begins with a carriage return goes out at once: it is written over. All else goes line by line.
+    fn write(&mut self, bytes: &[u8]) -> io::Result<usize> {
+        if bytes.first() == Some(&b'\r') {
+            self.rt.stdout().write_all(bytes)?;
+            return Ok(bytes.len());
+        }
+        for byte in bytes {
+            self.line.push(*byte)?;
+            if *byte == b'\n' {
+                self.show_line()?;
+            }
+        }
+        Ok(bytes.len())
+    }
+
+    fn flush(&mut self) -> io::Result<()> {
+        Ok(())
+    }
+}
