@@ -1,6 +1,6 @@
 # The work of the repository, from a clone with the toolchain's `rt` on the path. Each target says first what it lacks.
 
-# Where the programs are installed: in PREFIX/bin.
+# Where the programs are installed: in PREFIX/bin, with what belongs to them in PREFIX/share.
 PREFIX = /usr/local
 
 .PHONY: demo program install uninstall test extension test-editors prove gate build bench
@@ -21,13 +21,16 @@ program:
 	@tools/needs $@ rt python3
 	tools/quick_build
 
-# Puts both programs into PREFIX/bin: the proved ones where they are built of the files as they are, else the quick ones, and says which.
+# Puts both programs into PREFIX/bin: the proved ones where they are built of the files as they are, else the quick ones, and says which. Manual
+# pages, completions for bash, zsh and fish, and the editors' files go into PREFIX/share.
 install:
 	@tools/needs $@ rt python3
-	@tools/install "$(DESTDIR)$(PREFIX)/bin"
+	@tools/install "$(DESTDIR)$(PREFIX)"
 
+# Takes away what `make install` has put there.
 uninstall:
-	rm -f "$(DESTDIR)$(PREFIX)/bin/ispc_cli" "$(DESTDIR)$(PREFIX)/bin/rinddecade"
+	@tools/needs $@ rt python3
+	@tools/install --remove "$(DESTDIR)$(PREFIX)"
 
 # Every test and every stored run, without proofs.
 test:
@@ -62,6 +65,7 @@ gate:
 build:
 	@tools/needs $@ rt python3
 	@echo "Proving the programs and all below them takes an hour or more the first time, and minutes where little has changed."
+	@echo "'make program' builds them without their proofs in minutes."
 	cd crates/ispc_cli && rt run < stdin
 	cd crates/rinddecade && rt run -- debug data/first.ispc < stdin
 	@echo "The proved programs are crates/ispc_cli/out/ispc_cli and crates/rinddecade/out/rinddecade"
