@@ -1,1 +1,2 @@
+mod Masking
 mod Putting

@@ -1,8 +1,9 @@
 -- What is put on a page, and what is shown of a word.
-use Rattle.std.specs.Prelude.{◌≡◌, ◌==◌, ◌<=◌, ◌&&◌, ◌||◌, ℕ, Bool, false, not, List, [], ◌∷◌, ◌++◌, Option, codes, flat_map, if◌then◌else◌, map, zip}
+use Rattle.std.specs.Prelude.{◌≡◌, ◌==◌, ◌&&◌, ◌||◌, ℕ, Bool, false, List, [], ◌∷◌, ◌++◌, Option, codes, flat_map, if◌then◌else◌, map, zip}
 use Rattle.std.specs.Io.KnownBytes.{Appends}
 use Rattle.gang_types.specs.declared.types.IntType.{IntType}
 use Rattle.gang_types.specs.Lanes.{Lanes}
+use Rattle.gang_model.specs.Texts.Spellings.{is_between}
 use Rattle.gang_model.specs.Texts.Text.{Bytes, word_text}
 
 -- unless the writer has failed by then, it had not failed before, and this text and no other was written behind what was there
@@ -27,11 +28,11 @@ marks lanes = flat_map mark lanes
 
 -- a control character of one byte: those of ASCII but the tab
 abbrev pub is_small_control : ℕ → Bool
-is_small_control byte = ((byte <= 31) && not (byte == 9)) || (byte == 127)
+is_small_control byte = is_between 0 8 byte || is_between 10 31 byte || (byte == 127)
 
 -- the second byte of a control character that Unicode spells by two, of which the first is 194
 abbrev pub ends_large_control : (before byte : ℕ) → Bool
-ends_large_control before byte = (before == 194) && ((128 <= byte) && (byte <= 159))
+ends_large_control before byte = (before == 194) && is_between 128 159 byte
 
 -- a byte behind another one, by which a terminal would do something in place of showing it
 abbrev pub is_control : (before byte : ℕ) → Bool

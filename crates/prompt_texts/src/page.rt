@@ -88,9 +88,10 @@ impl<O: AnswerWriter + Drop> Page<O> {
     pub fn put_masked(&mut self, text: &[u8])
         ensures { Puts (masked text.now) self.old.has_failed self.new.has_failed (O.written self.old.writer) (O.written self.new.writer) }
     {
+        let mut before = 0;
         for at in 0..text.len() {
-            let before = if at == 0 { 0 } else { text[at - 1] };
             self.put(&[shown_byte(before, text[at])]);
+            before = text[at];
         }
     }
 
@@ -116,12 +117,9 @@ fn shown_byte(before: u8, byte: u8) -> u8
 pub(crate) fn is_control(before: u8, byte: u8) -> bool
     ensures { result ≡ spec.is_control before byte }
 {
-    match byte {
-        b'\t' => false,
-        0..=31 | 127 => true,
-        128..=159 => before == 0xc2,
-        _ => false,
-    }
+    let is_small = matches!(byte, 0..=8 | 10..=31 | 127);
+    let ends_large = before == 0xc2 && matches!(byte, 128..=159);
+    is_small || ends_large
 }
 
 /// How many moves a command has made, with a comma before each three digits but the first ones, behind a return to the line's start.
