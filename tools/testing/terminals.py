@@ -30,6 +30,7 @@ IN_COLOURS = b"""go at go.ispc:4:9, lanes \x1b[90m.\x1b[32m#\x1b[90m..\x1b[0m
 \x1b[36m->\x1b[0m     4          x = 2;
                   \x1b[36m^\x1b[0m
        5  }
+  x = \x1b[33m1\x1b[0m \x1b[33m1\x1b[0m \x1b[33m1\x1b[0m \x1b[33m1\x1b[0m
 go at go.ispc:5:1, lanes \x1b[32m####\x1b[0m
        3      if (programIndex == 1)
        4          x = 2;
