@@ -22,9 +22,10 @@ _rinddecade() {
                 --input) _rinddecade_files; return ;;
                 --entry|--history|--steps) return ;;
                 --width) COMPREPLY=($(compgen -W "4 8 16" -- "$word")); return ;;
+                --color) COMPREPLY=($(compgen -W "auto always never" -- "$word")); return ;;
             esac
             case "$word" in
-                -*) COMPREPLY=($(compgen -W "--input --entry --width --history --steps -h --help" -- "$word")) ;;
+                -*) COMPREPLY=($(compgen -W "--input --entry --width --history --steps --color -h --help" -- "$word")) ;;
                 *) _rinddecade_files ;;
             esac
             ;;

@@ -13,6 +13,7 @@ complete -c rinddecade -n '__fish_seen_subcommand_from debug' -l entry -x -d 'th
 complete -c rinddecade -n '__fish_seen_subcommand_from debug' -l width -x -a '4 8 16' -d 'how many lanes a gang has [default: 4]'
 complete -c rinddecade -n '__fish_seen_subcommand_from debug' -l history -x -d 'how many events can be taken back, from 1 to 65536 [default: 65536]'
 complete -c rinddecade -n '__fish_seen_subcommand_from debug' -l steps -x -d 'how many moves one command makes at most, up to 10000000 [default: 1000000]'
+complete -c rinddecade -n '__fish_seen_subcommand_from debug' -l color -x -a 'auto always never' -d 'when the text has colours, auto on a terminal without NO_COLOR [default: auto]'
 complete -c rinddecade -n '__fish_seen_subcommand_from debug' -s h -l help -d 'Print help'
 complete -c rinddecade -n '__fish_seen_subcommand_from picture' -F
 complete -c rinddecade -n '__fish_seen_subcommand_from picture' -l input -r -F -d 'the input: a line NAME = VALUES for each parameter of the entry function'

@@ -26,6 +26,7 @@ TYPED = {
     "rinddecade debug --hi": {"--history"},
     "rinddecade debug --width ": {"4", "8", "16"},
     "rinddecade debug --width = 1": {"16"},
+    "rinddecade debug --color a": {"auto", "always"},
     "rinddecade debug go.is": {"go.ispc"},
     "rinddecade debug ": {"go.ispc", "go.input", "sub"},
     "rinddecade debug --input go.in": {"go.input"},

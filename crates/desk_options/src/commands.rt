@@ -132,7 +132,7 @@ fn with_color<'a>(alloc: Global, command: Command<'a>) -> Result<Command<'a>, Al
     ensures { IfOk result (λ parser. app_of parser ≡ with_rules (app_of command.entry) debug_rules) }
 {
     command.arg(option(alloc, "color", "WHEN").help(
-        "whether the text has colours: auto, always or never; auto, the default, is on a terminal without NO_COLOR",
+        "when the text has colours, auto on a terminal without NO_COLOR [default: auto] [possible values: auto, always, never]",
     ))
 }
 
