@@ -22,6 +22,10 @@ MOST_COMMANDS = 1_048_576
 MOST_TYPED = 4_096
 TOO_LONG = b"C1 BadCommand: the line has more than 4096 bytes, so nothing is done for it.\n"
 
+# One breakpoint more than there is room for.
+STOPS = 64
+FULL = b"C11 TableFull: 64 breakpoints and watches are there; `delete N` makes room.\n"
+
 # A loop of 201 steps, and where its program begins.
 LOOP = b"export void go() {\n    uniform int n = 0;\n    while (n < 100)\n        n += 1;\n}\n"
 AT_START = b"go at loop.ispc:2:5, lanes ####\n"
@@ -157,7 +161,9 @@ def typed_lines():
     words = ["debug", "first.ispc"]
     stops = lambda lines: lambda text: [] if (text.count(TOO_LONG), text.count(b"C1 ")) == lines else [f"it answers {text[-300:]!r}"]
     long = b"x" * (MOST_TYPED + 1)
+    is_full = lambda text: [] if text.count(FULL) == 1 and text.endswith(FULL + b"    break 3\n    ^\n") else [f"it ends {text[-300:]!r}"]
     return [
+        Run("a breakpoint more than there is room for", b"break 2\n" * STOPS + b"break 3\n", words, is_full, b"", 0, FILES),
         Run("a line of the most bytes", b"x" * MOST_TYPED + b"\n", words, stops((0, 1)), b"", 0, FILES),
         Run("a line of one byte more", long + b"\nquit\n", words, stops((1, 1)), b"", 0, FILES),
         Run("a line of one byte more without its end", long, words, stops((1, 1)), b"", 0, FILES),
