@@ -5,7 +5,9 @@ import shutil
 
 PROMPT = "rinddecade-debug"
 PROMPT_TEXT = """#!/bin/sh
-# `rinddecade debug` with line editing: rlwrap keeps a history of lines and completes files and commands.
+# `rinddecade debug` with line editing: rlwrap keeps a history of lines and completes files and commands. Pages are as high as the terminal.
+LINES=${LINES:-$(tput lines 2> /dev/null || echo 24)}
+export LINES
 folder=$(dirname "$(readlink -f "$0")")
 if command -v rlwrap > /dev/null; then
     exec rlwrap -c -f "$folder/../share/rinddecade/rinddecade.words" "$folder/rinddecade" debug "$@"

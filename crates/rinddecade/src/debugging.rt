@@ -65,8 +65,7 @@ fn debug_wide<const W: usize>(
     }
 }
 
-/// Talks on standard output: on a terminal line by line with the progress of a long `continue`, else by whole writes; and in colours
-/// where they are wanted.
+/// Talks on standard output, line by line: on a terminal with the progress of a long `continue`, and in colours where they are wanted.
 fn talk<const W: usize>(
     rt: &HostRuntime,
     source: Source<'_>,
@@ -80,13 +79,13 @@ fn talk<const W: usize>(
         pages: &pages,
         usual: screen.height,
     };
-    if screen.is_terminal {
-        let lines = Lines::new(rt, &pages, screen.has_colours);
-        let page = Page::on_terminal(StreamWriter::new(lines));
-        return talk_on::<W, _>(rt, talk, prompt, session, page);
-    }
-    if screen.has_colours {
-        let page = Page::new(StreamWriter::new(Lines::new(rt, &pages, true)));
+    if screen.is_terminal || screen.has_colours {
+        let writer = StreamWriter::new(Lines::new(rt, &pages, screen.has_colours));
+        let page = if screen.is_terminal {
+            Page::on_terminal(writer)
+        } else {
+            Page::new(writer)
+        };
         return talk_on::<W, _>(rt, talk, prompt, session, page);
     }
     match LineWriter::new(rt.alloc(), rt.stdout()) {
