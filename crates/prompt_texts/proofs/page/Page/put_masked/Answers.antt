@@ -1,4 +1,4 @@
-use Rattle.std.proofs.Common.{◌≡◌, ◌∙◌, ◌∷◌, ◌≤◌, [], get_or, length, refl, ap, sym, subst, arith}
+use Rattle.std.proofs.Common.{suc, ◌+◌, ◌≡◌, ◌∙◌, ◌∷◌, ◌≤◌, [], get_or, length, ap, sym, subst, arith}
 use Rattle.std.proofs.lemmas.List.{take_all, take_more}
 use Rattle.prompt_texts.specs.Shown.{Puts, masked, shown_byte}
 use Rattle.prompt_texts.proofs.Masking.{length-masked, masked_at}
@@ -13,10 +13,11 @@ loop-at-preserved g c =
     let old = c.args.self.now in
     let middle = c.loop-at.self in
     let new = c.put.new.self in
+    let on : at + 1 ≡ suc at = omega arith in
     let byte = c.shown_byte.ensures ∙ ap (λ b. shown_byte b (get_or text at 0)) c.loop-at.invariant.0 ∙ sym (masked_at text at c.loop-at-test.true) in
     let one = subst (λ b. Puts (b ∷ []) middle.has_failed new.has_failed (written middle.writer) (written new.writer)) byte c.put.ensures in
     (
-      refl,
+      sym (ap (λ n. get_or (0 ∷ text) n 0) on),
       subst (λ t. Puts t old.has_failed new.has_failed (written old.writer) (written new.writer))
       (sym (take_more (masked text) at 0 (omega (arith, length-masked text, c.loop-at-test.true))))
       (puts_both _ _ _ _ _ _ _ _ c.loop-at.invariant.1 one),
