@@ -10,7 +10,7 @@ LINES=${LINES:-$(tput lines 2> /dev/null || echo 24)}
 export LINES
 folder=$(dirname "$(readlink -f "$0")")
 if command -v rlwrap > /dev/null; then
-    exec rlwrap -c -f "$folder/../share/rinddecade/rinddecade.words" "$folder/rinddecade" debug "$@"
+    exec rlwrap -c -b '[]=' -f "$folder/../share/rinddecade/rinddecade.words" "$folder/rinddecade" debug "$@"
 fi
 exec "$folder/rinddecade" debug "$@"
 """
