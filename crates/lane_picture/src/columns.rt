@@ -38,11 +38,14 @@ pub(crate) struct Value {
     pub(crate) is_of_lane: bool,
 }
 
-/// How the steps ended.
+/// How the steps of a run ended that were tried one after another.
 #[derive(Clone, Copy, Debug, PartialEq, Eq)]
-pub(crate) enum StepsEnd {
+pub enum StepsEnd {
+    /// The program has ended.
     Ended,
+    /// The next step faults.
     AtFault(Fault),
+    /// As many steps were tried as may be.
     StepLimit,
 }
 
@@ -196,7 +199,7 @@ pub(crate) fn see_steps<M: RecordedMachine>(
 }
 
 /// Tries the next step: how the steps ended, if it was not done.
-fn try_step<M: RecordedMachine>(session: &mut Session<M>) -> Option<StepsEnd>
+pub fn try_step<M: RecordedMachine>(session: &mut Session<M>) -> Option<StepsEnd>
     ensures { (s : Setting) (d : Debugger) → StandsFor M.stands session.old s d → Tries M.stands s d result session.new }
 {
     match session.do_command(Command::Step(1)) {
@@ -207,7 +210,7 @@ fn try_step<M: RecordedMachine>(session: &mut Session<M>) -> Option<StepsEnd>
 }
 
 /// How the steps ended where as many were tried as may be.
-fn end_after<M: RecordedMachine>(machine: &M) -> StepsEnd
+pub fn end_after<M: RecordedMachine>(machine: &M) -> StepsEnd
     ensures { (s : Setting) (d : Debugger) → M.stands machine.now s (bare d) → end_view result ≡ run_end s.program 0 (now s d) }
 {
     match machine.position() {

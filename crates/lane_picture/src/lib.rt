@@ -13,4 +13,5 @@ mod strip;
 mod tracks;
 mod words;
 
+pub use columns::{StepsEnd, end_after, try_step};
 pub use picture::{Form, PictureEnd, Subject, draw};
