@@ -1,0 +1,2 @@
+pub mod MomentsNoted
+pub mod Telling

@@ -1,0 +1,15 @@
+//! The page of a run: one HTML file with a record of each of its moments, and a viewer that walks through them.
+#![tactic(auto)]
+
+mod comparing;
+mod json;
+mod moments;
+mod noting;
+mod page;
+mod reading;
+mod record;
+mod variables;
+mod views;
+mod writing;
+
+pub use page::{PageEnd, Subject, write_page};

@@ -1,0 +1,122 @@
+//! The page of a run.
+ghost use Rattle.std.specs.Prelude.{◌≡◌, false, is_err, IfOk, OnErr};
+ghost use Rattle.gang_model.specs.Debugger.Debugger.{Debugger, Setting};
+ghost use Rattle.debug_session.specs.Sessions.{StandsFor};
+ghost use Rattle.lane_picture.specs.Tries.{HasBegun, end_view};
+ghost use Rattle.run_page.specs.Pages.{HasWritten, TellsEnd, has_failed};
+
+use crate::noting::note_run;
+use crate::record::Record;
+use crate::writing::write_record;
+use debug_session::Session;
+use debug_traits::{AnswerWriter, Fault, FramedMachine, WriteFault};
+use lane_picture::StepsEnd;
+use page_viewer::{FRONT_PARTS, REST_PARTS, front_part, rest_part};
+use std::alloc::{AllocError, Global};
+
+/// What a page is of.
+#[derive(Clone, Copy, Debug)]
+pub struct Subject<'a> {
+    /// The name of the source.
+    pub title: &'a [u8],
+    pub source: &'a [u8],
+    /// The number of the first moment.
+    pub first_number: u32,
+    /// The most steps that are done.
+    pub most_steps: u32,
+    /// The most elements of an array that are shown.
+    pub most_words: u32,
+}
+
+/// How the writing of a page ended.
+#[derive(Clone, Copy, Debug, PartialEq, Eq)]
+pub enum PageEnd {
+    /// The program has ended.
+    Ended,
+    /// The next step faults.
+    AtFault(Fault),
+    /// As many steps were done as may be.
+    StepLimit,
+    /// The writer failed.
+    WriteFault,
+}
+
+/// Does one step after another, up to the end of the program, a fault or the most steps, and then writes a page of them, in which
+/// each moment can be seen.
+///
+/// # Errors
+///
+/// Out of memory. Some of the steps may have been done then, and nothing is written.
+pub fn write_page<M: FramedMachine, O: AnswerWriter>(
+    alloc: Global,
+    session: &mut Session<M>,
+    subject: &Subject<'_>,
+    writer: &mut O,
+) -> Result<PageEnd, AllocError>
+    requires works { O.has_failed writer.old ≡ false }
+    ensures written { IfOk result (λ end. (s : Setting) (d : Debugger) → StandsFor M.stands session.old s d
+        → HasWritten M.stands s subject.now.most_steps d end session.new) }
+    ensures failed { IfOk result (λ end. O.has_failed writer.new ≡ has_failed end) }
+    ensures memory { OnErr result ((s : Setting) (d : Debugger) → StandsFor M.stands session.old s d
+        → HasBegun M.stands s subject.now.most_steps d session.new) }
+    ensures unwritten { OnErr result (writer.new ≡ writer.old) }
+{
+    let (record, end) = note_run(
+        alloc,
+        session,
+        subject.most_steps,
+        subject.most_words as usize,
+    )?;
+    match write_parts_of_page(&record, end, subject, writer) {
+        Ok(()) => Ok(told(end)),
+        Err(_) => Ok(PageEnd::WriteFault),
+    }
+}
+
+fn told(end: StepsEnd) -> PageEnd
+    ensures told { TellsEnd result (end_view end) }
+    ensures works { has_failed result ≡ false }
+{
+    match end {
+        StepsEnd::Ended => PageEnd::Ended,
+        StepsEnd::AtFault(fault) => PageEnd::AtFault(fault),
+        StepsEnd::StepLimit => PageEnd::StepLimit,
+    }
+}
+
+/// Writes the viewer, with the record in it.
+fn write_parts_of_page<O: AnswerWriter>(
+    record: &Record,
+    end: StepsEnd,
+    subject: &Subject<'_>,
+    writer: &mut O,
+) -> Result<(), WriteFault>
+    requires works { O.has_failed writer.old ≡ false }
+    ensures failed { O.has_failed writer.new ≡ is_err result }
+{
+    write_front(writer)?;
+    write_record(record, end, subject, writer)?;
+    write_rest(writer)
+}
+
+/// Writes what stands before the record.
+fn write_front<O: AnswerWriter>(writer: &mut O) -> Result<(), WriteFault>
+    requires works { O.has_failed writer.old ≡ false }
+    ensures failed { O.has_failed writer.new ≡ is_err result }
+{
+    for number in 0..FRONT_PARTS {
+        writer.write_all(front_part(number).unwrap_or(b""))?;
+    }
+    Ok(())
+}
+
+/// Writes what stands behind the record.
+fn write_rest<O: AnswerWriter>(writer: &mut O) -> Result<(), WriteFault>
+    requires works { O.has_failed writer.old ≡ false }
+    ensures failed { O.has_failed writer.new ≡ is_err result }
+{
+    for number in 0..REST_PARTS {
+        writer.write_all(rest_part(number).unwrap_or(b""))?;
+    }
+    Ok(())
+}
