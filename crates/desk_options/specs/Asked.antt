@@ -22,6 +22,7 @@ use Rattle.desk_options.specs.declared.names.VerbName.TheVariants as name
 use Rattle.desk_options.specs.declared.verbs.Debugged.{Debugged}
 use Rattle.desk_options.specs.declared.verbs.Picture.{Picture}
 use Rattle.desk_options.specs.declared.verbs.Program.{Program}
+use Rattle.desk_options.specs.declared.verbs.RunPage.{RunPage}
 use Rattle.desk_options.specs.declared.verbs.Verb.{Verb}
 use Rattle.desk_options.specs.declared.verbs.Verb.TheVariants as verb
 use Rattle.desk_options.specs.Commands.{all_verbs, verb_command}
@@ -52,6 +53,15 @@ pub record HasPicture (value : Text → Option Text) (picture : Picture) : Type 
   pub to : value (codes "to") ≡ text_of picture.to
   pub force : IsTrue picture.force ↔ (value (codes "force") ≡ Some (codes "true"))
 
+pub record HasPage (value : Text → Option Text) (page : RunPage) : Type 0 where
+  pub program : HasProgram value page.program
+  pub commands : value (codes "commands") ≡ text_of page.commands
+  pub from : option_map number_of (value (codes "from")) ≡ Some page.from
+  pub most : option_map number_of (value (codes "most")) ≡ Some page.most
+  pub elements : option_map number_of (value (codes "elements")) ≡ Some page.elements
+  pub to : value (codes "to") ≡ text_of page.to
+  pub force : IsTrue page.force ↔ (value (codes "force") ≡ Some (codes "true"))
+
 -- the first value that the words give to a name, or else its default
 abbrev pub value_of : App → List Text → Text → Option Text
 value_of app words name = first_of name (matches_of app words)
@@ -68,6 +78,7 @@ raw_of found name = unwrap_or (option_map raw_values (matched_of found name)) []
 abbrev pub IsAskedBy : VerbName → (Text → Option Text) → (Text → List Text) → Verb → Type 0
 IsAskedBy name.Debug value values (verb.Debug debugged) = HasDebugged value debugged
 IsAskedBy name.Picture value values (verb.Picture picture) = HasPicture value picture
+IsAskedBy name.Page value values (verb.Page page) = HasPage value page
 IsAskedBy name.Adapter value values verb.Adapter = ⊤
 IsAskedBy name.Explain value values (verb.Explain explained) = texts explained.words.items ≡ values (codes "name")
 IsAskedBy _ _ _ _ = ⊥

@@ -7,7 +7,7 @@ use Rattle.ispc_options.specs.Asked.{width_text}
 use Rattle.ispc_options.specs.Passed.{HasNumber}
 use Rattle.ispc_options.specs.declared.options.Width.{Width}
 use Rattle.desk_options.specs.declared.names.VerbName.{VerbName}
-use Rattle.desk_options.specs.declared.names.VerbName.TheVariants.{Debug, Picture, Adapter, Explain}
+use Rattle.desk_options.specs.declared.names.VerbName.TheVariants.{Debug, Picture, Page, Adapter, Explain}
 
 -- each value of a program passed the parser of its option, and the source is there
 pub record ArePassed (found : Found) : Type 0 where
@@ -24,9 +24,20 @@ pub record ArePicturePassed (found : Found) : Type 0 where
   pub force : IfSome (first_value found (codes "force"))
       (λ text. (text ≡ codes "true") ⊎ (text ≡ codes "false"))
 
+-- and so did each value that only a page has
+pub record ArePagePassed (found : Found) : Type 0 where
+  pub program : ArePassed found
+  pub from : HasNumber 10000000 found (codes "from")
+  pub most : HasNumber 1000000 found (codes "most")
+  pub elements : HasNumber 65536 found (codes "elements")
+  pub flag : one_text found (codes "force") ≡ first_value found (codes "force")
+  pub force : IfSome (first_value found (codes "force"))
+      (λ text. (text ≡ codes "true") ⊎ (text ≡ codes "false"))
+
 -- the values behind a verb's name passed
 abbrev pub HavePassed : VerbName → Found → Type 0
 HavePassed Debug found = ArePassed found
 HavePassed Picture found = ArePicturePassed found
+HavePassed Page found = ArePagePassed found
 HavePassed Adapter found = ⊤
 HavePassed Explain found = ⊤

@@ -3,7 +3,7 @@ ghost use Rattle.std.specs.Prelude.{◌≡◌, IfOk, [], false};
 ghost use Rattle.clap.specs.Words.{app_of, new_app, rule_of};
 ghost use Rattle.clap.specs.declared.builder.command.Command.TheViews.{out-Command};
 ghost use Rattle.ispc_options.specs.Asked.{AreWidths, flag, option, option_or, up_to, valued};
-ghost use Rattle.desk_options.specs.Commands.{all_verbs, command_of, debug_rules, picture_rules, program_rules};
+ghost use Rattle.desk_options.specs.Commands.{all_verbs, command_of, debug_rules, page_rules, picture_rules, program_rules};
 ghost use Rattle.desk_options.specs.Commands.{several, verb_command, wanted, with_rules};
 
 use crate::names::VerbName;
@@ -19,12 +19,20 @@ pub(crate) const MOST_HISTORY: u32 = 65_536;
 /// The most moves of one command, and the most steps of a picture.
 pub(crate) const MOST_STEPS: u32 = 10_000_000;
 
+/// The most steps of a page.
+pub(crate) const MOST_RECORDED: u32 = 1_000_000;
+
+/// The most elements of an array in a page.
+pub(crate) const MOST_ELEMENTS: u32 = 65_536;
+
 const VERSION: &str = "0.1.0";
 
 const DEBUG_ABOUT: &str =
     "Debugs a program, forwards and backwards, by lines that are typed or piped";
 
 const PICTURE_ABOUT: &str = "Draws the run of a program, a track for each lane";
+
+const PAGE_ABOUT: &str = "Writes the run of a program as one HTML page to walk through";
 
 const ADAPTER_ABOUT: &str = "Speaks the Debug Adapter Protocol on standard input and output";
 
@@ -42,6 +50,7 @@ pub(crate) fn all_verbs<'a>(alloc: Global) -> Result<Command<'a>, AllocError>
         .after_help("The options of a verb: rinddecade help VERB")
         .subcommand(listed(alloc, "debug", DEBUG_ABOUT))?
         .subcommand(listed(alloc, "picture", PICTURE_ABOUT))?
+        .subcommand(listed(alloc, "page", PAGE_ABOUT))?
         .subcommand(listed(alloc, "adapter", ADAPTER_ABOUT))?
         .subcommand(listed(alloc, "explain", EXPLAIN_ABOUT))
 }
@@ -61,6 +70,7 @@ pub(crate) fn verb_command<'a>(alloc: Global, verb: VerbName) -> Result<Command<
     match verb {
         VerbName::Debug => debug_command(alloc),
         VerbName::Picture => picture_command(alloc),
+        VerbName::Page => page_command(alloc),
         VerbName::Adapter => adapter_command(alloc),
         VerbName::Explain => explain_command(alloc),
     }
@@ -81,6 +91,15 @@ fn picture_command<'a>(alloc: Global) -> Result<Command<'a>, AllocError>
     with_picture(
         alloc,
         with_program(alloc, named(alloc, "rinddecade picture", PICTURE_ABOUT))?,
+    )
+}
+
+fn page_command<'a>(alloc: Global) -> Result<Command<'a>, AllocError>
+    ensures { IfOk result (λ parser. (widths : _) × AreWidths widths × (app_of parser ≡ verb_command widths VerbName.Page)) }
+{
+    with_page(
+        alloc,
+        with_program(alloc, named(alloc, "rinddecade page", PAGE_ABOUT))?,
     )
 }
 
@@ -155,6 +174,31 @@ fn with_picture<'a>(alloc: Global, command: Command<'a>) -> Result<Command<'a>, 
         ))?
         .arg(flag(alloc, "force").help(
             "writes over the file of --to, whatever it holds; else only over a picture",
+        ))
+}
+
+/// A command with the options that only a page has.
+fn with_page<'a>(alloc: Global, command: Command<'a>) -> Result<Command<'a>, AllocError>
+    ensures { IfOk result (λ parser. app_of parser ≡ with_rules (app_of command.entry) page_rules) }
+{
+    command
+        .arg(option(alloc, "commands", "FILE").help(
+            "command lines that are done first, as for ispc_cli",
+        ))?
+        .arg(option_or(alloc, "from", "N", up_to(MOST_STEPS), "1").help(
+            "the step that the page begins with",
+        ))?
+        .arg(option_or(alloc, "most", "N", up_to(MOST_RECORDED), "100000").help(
+            "how many steps the page has at most, up to 1000000; each takes some hundred bytes of memory and of the file",
+        ))?
+        .arg(option_or(alloc, "elements", "N", up_to(MOST_ELEMENTS), "1024").help(
+            "how many elements of an array are shown at most, up to 65536",
+        ))?
+        .arg(option(alloc, "to", "FILE").help(
+            "the file that is written; else the page goes to standard output",
+        ))?
+        .arg(flag(alloc, "force").help(
+            "writes over the file of --to, whatever it holds; else only over a page of a run",
         ))
 }
 

@@ -3,9 +3,10 @@
 
 mod commands;
 mod names;
+mod page_values;
 mod reading;
 mod values;
 mod verbs;
 
 pub use reading::read_verb;
-pub use verbs::{Debugged, Explained, Picture, Program, Verb};
+pub use verbs::{Debugged, Explained, Picture, Program, RunPage, Verb};

@@ -10,6 +10,7 @@ static HELP: [&str; 1] = ["--help"];
 pub(crate) enum VerbName {
     Debug,
     Picture,
+    Page,
     Adapter,
     Explain,
 }
@@ -22,6 +23,8 @@ pub(crate) fn named(word: &str) -> Option<VerbName>
         Some(VerbName::Debug)
     } else if word == "picture" {
         Some(VerbName::Picture)
+    } else if word == "page" {
+        Some(VerbName::Page)
     } else if word == "adapter" {
         Some(VerbName::Adapter)
     } else if word == "explain" {

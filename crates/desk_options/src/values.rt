@@ -10,6 +10,7 @@ ghost use Rattle.desk_options.specs.Ranges.{IsInRange, IsPictureInRange};
 
 use crate::commands::{MOST_HISTORY, MOST_STEPS};
 use crate::names::VerbName;
+use crate::page_values::page_of;
 use crate::verbs::{Debugged, Explained, Picture, Program, Verb};
 use clap::ArgMatches;
 use ispc_options::{Options, Width};
@@ -28,12 +29,13 @@ pub(crate) fn verb_of<'a>(
     Ok(match verb {
         VerbName::Debug => debugged_of(matches).map(Verb::Debug),
         VerbName::Picture => picture_of(matches).map(Verb::Picture),
+        VerbName::Page => page_of(matches).map(Verb::Page),
         VerbName::Adapter => Some(Verb::Adapter),
         VerbName::Explain => Some(Verb::Explain(explained_of(alloc, matches)?)),
     })
 }
 
-fn program_of<'a>(matches: &ArgMatches<'a>) -> Option<Program<'a>>
+pub(crate) fn program_of<'a>(matches: &ArgMatches<'a>) -> Option<Program<'a>>
     ensures ranges { IfSome result (λ program. AreInRange program.options) }
     ensures read { ArePassed (found_of matches.now) → IsSomeAnd result (HasProgram (first_value (found_of matches.now))) }
 {
@@ -93,7 +95,7 @@ fn explained_of<'a>(alloc: Global, matches: &ArgMatches<'a>) -> Result<Explained
     Ok(Explained { words })
 }
 
-fn number_within(matches: &ArgMatches<'_>, id: &str, most: u32) -> Option<u32>
+pub(crate) fn number_within(matches: &ArgMatches<'_>, id: &str, most: u32) -> Option<u32>
     ensures within { IfSome result (λ n. (1 ≤ n) × (n ≤ most)) }
     ensures read { HasNumber most (found_of matches.now) id.now → (is_some result ≡ true)
         × (option_map number_of (first_value (found_of matches.now) id.now) ≡ result) }

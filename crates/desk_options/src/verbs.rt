@@ -28,6 +28,19 @@ pub struct Picture<'a> {
     pub force: bool,
 }
 
+/// The page of a program's run: the file of commands that come first, the number of the step that the record begins with, how many
+/// steps it has at most and how many elements of an array, the file that is written, and whether it is written over whatever it holds.
+#[derive(Clone, Copy, Debug, PartialEq, Eq)]
+pub struct RunPage<'a> {
+    pub program: Program<'a>,
+    pub commands: Option<&'a str>,
+    pub from: u32,
+    pub most: u32,
+    pub elements: u32,
+    pub to: Option<&'a str>,
+    pub force: bool,
+}
+
 /// The words that name a refusal or a fault.
 #[derive(Drop)]
 pub struct Explained<'a> {
@@ -39,6 +52,7 @@ pub struct Explained<'a> {
 pub enum Verb<'a> {
     Debug(Debugged<'a>),
     Picture(Picture<'a>),
+    Page(RunPage<'a>),
     Adapter,
     Explain(Explained<'a>),
 }

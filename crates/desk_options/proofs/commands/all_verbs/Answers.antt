@@ -24,6 +24,7 @@ returns c =
     let start = ap app_of_fields c.after_help.ensures ∙ (ap app_of_fields c.about.ensures ∙ wanting) in
     let debug = with_verb _ _ _ _ (codes "debug") c.in_ok-subcommand.ensures start c.listed.ensures.app c.listed.ensures.local in
     let picture = with_verb _ _ _ _ (codes "picture") c.in_ok-subcommand-2.ensures debug c.listed-2.ensures.app c.listed-2.ensures.local in
-    let adapter = with_verb _ _ _ _ (codes "adapter") c.in_ok-subcommand-3.ensures picture c.listed-3.ensures.app c.listed-3.ensures.local in
-    IfOk-weaker c.subcommand-4.result _ _ (λ parser added. with_verb _ _ _ _ (codes "explain") added adapter c.listed-4.ensures.app c.listed-4.ensures.local)
-    c.subcommand-4.ensures
+    let page = with_verb _ _ _ _ (codes "page") c.in_ok-subcommand-3.ensures picture c.listed-3.ensures.app c.listed-3.ensures.local in
+    let adapter = with_verb _ _ _ _ (codes "adapter") c.in_ok-subcommand-4.ensures page c.listed-4.ensures.app c.listed-4.ensures.local in
+    IfOk-weaker c.subcommand-5.result _ _ (λ parser added. with_verb _ _ _ _ (codes "explain") added adapter c.listed-5.ensures.app c.listed-5.ensures.local)
+    c.subcommand-5.ensures
