@@ -4,7 +4,7 @@ ghost use Rattle.ispc_options.specs.Ranges.{AreInRange};
 ghost use Rattle.ispc_debugger.specs.Runs.{lanes_of};
 
 use crate::files::{read_file, read_texts, reason};
-use crate::overwriting::refuse_overwriting;
+use crate::overwriting::{Written, refuse_overwriting};
 use crate::refusing::{Texts, refuse, refuse_because, refuse_file, refuse_program, write_fault};
 use crate::words_of_source::may_have_name;
 use debug_commands::{Command, Target, read_command};
@@ -62,7 +62,14 @@ impl<'a> Plan<'a> {
 pub(crate) fn draw_picture(rt: &HostRuntime, picture: &Picture<'_>) -> ExitCode
     requires { AreInRange picture.now.program.options }
 {
-    if let Err(status) = refuse_overwriting(rt, picture) {
+    if let Err(status) = refuse_overwriting(
+        rt,
+        Written::Picture,
+        picture.to,
+        &picture.program,
+        picture.commands,
+        picture.force,
+    ) {
         return status;
     }
     let (source, input) = match read_texts(rt, picture.program.source, picture.program.input) {
@@ -78,7 +85,7 @@ pub(crate) fn draw_picture(rt: &HostRuntime, picture: &Picture<'_>) -> ExitCode
 }
 
 /// The command lines that a file has, none where no file is named; or the status where it cannot be read or has too many.
-fn read_commands(rt: &HostRuntime, path: Option<&str>) -> Result<Vec<u8>, ExitCode> {
+pub(crate) fn read_commands(rt: &HostRuntime, path: Option<&str>) -> Result<Vec<u8>, ExitCode> {
     let Some(path) = path else {
         return Ok(Vec::new(rt.alloc()));
     };
@@ -148,7 +155,7 @@ fn draw_wide<const W: usize>(rt: &HostRuntime, plan: &Plan<'_>, program: &Progra
 }
 
 /// Does command lines, up to one that quits.
-fn do_lines<M: RecordedMachine>(lines: &[u8], session: &mut Session<M>) {
+pub(crate) fn do_lines<M: RecordedMachine>(lines: &[u8], session: &mut Session<M>) {
     let mut begin = 0usize;
     for at in 0..lines.len().saturating_add(1) {
         if matches!(lines.get(at), None | Some(b'\n')) {

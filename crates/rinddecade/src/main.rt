@@ -9,6 +9,7 @@ mod drawing;
 mod explaining;
 mod files;
 mod overwriting;
+mod paging;
 mod refusing;
 mod serving;
 mod terminal;
@@ -21,6 +22,7 @@ use desk_options::{Verb, read_verb};
 use drawing::draw_picture;
 use explaining::explain;
 use ispc_refusals::Refusal;
+use paging::page_run;
 use refusing::{refuse, refuse_arguments, refuse_because};
 use serving::adapt;
 use std::alloc::AllocError;
@@ -65,6 +67,7 @@ fn do_verb(rt: &HostRuntime, verb: &Verb<'_>) -> ExitCode
     match verb {
         Verb::Debug(debugged) => debug(rt, debugged),
         Verb::Picture(picture) => draw_picture(rt, picture),
+        Verb::Page(page) => page_run(rt, page),
         Verb::Adapter => adapt(rt),
         Verb::Explain(explained) => explain(rt, explained.words.as_slice()),
     }

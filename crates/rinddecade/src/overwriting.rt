@@ -1,7 +1,7 @@
-//! Which files a picture is written over.
+//! Which files a picture or a page is written over.
 use crate::files::file_front;
 use crate::refusing::refuse_because;
-use desk_options::Picture;
+use desk_options::Program;
 use std::fs;
 use std::process::ExitCode;
 
@@ -13,51 +13,76 @@ const PAGE: &[u8] = b"<!DOCTYPE html>\n<html lang=\"en\">\n<head><meta charset=\
 /// And what stands near its front.
 const STYLE: &[u8] = b"<style>\ntext{font:13px monospace;white-space:pre}\n.number{";
 
+/// What a page of a run begins with.
+const RUN_PAGE: &[u8] =
+    b"<!DOCTYPE html>\n<html lang=\"en\">\n<head>\n<meta charset=\"utf-8\">\n<meta name=\"generator\" content=\"rinddecade page\">\n";
+
 /// How much of a file is looked at.
 const FRONT: usize = 16_384;
 
-/// Refuses to write a picture over one of the files that it is made from, and over any other file that is no picture, unless that
-/// is asked for.
-pub(crate) fn refuse_overwriting(rt: &HostRuntime, picture: &Picture<'_>) -> Result<(), ExitCode> {
-    let Some(path) = picture.to else {
-        return Ok(());
-    };
-    let read = [
-        Some(picture.program.source),
-        picture.program.input,
-        picture.commands,
-    ];
-    if read.iter().any(|other| *other == Some(path)) {
-        return Err(refuse_because(
-            rt,
-            b"the picture would be written over what it is made from: ",
-            path.as_bytes(),
-        ));
-    }
-    if picture.force || !holds_other(rt, path) {
-        return Ok(());
-    }
-    Err(refuse_because(
-        rt,
-        b"only --force writes over a file that holds something other than a picture: ",
-        path.as_bytes(),
-    ))
+/// What is written.
+#[derive(Clone, Copy, Debug, PartialEq, Eq)]
+pub(crate) enum Written {
+    Picture,
+    RunPage,
 }
 
-/// Whether there is a file of this path that holds something other than a picture.
-fn holds_other(rt: &HostRuntime, path: &str) -> bool {
+/// Refuses to write a picture or a page over one of the files that it is made from, and over any other file that is none, unless
+/// that is asked for.
+pub(crate) fn refuse_overwriting(
+    rt: &HostRuntime,
+    written: Written,
+    to: Option<&str>,
+    program: &Program<'_>,
+    commands: Option<&str>,
+    force: bool,
+) -> Result<(), ExitCode> {
+    let Some(path) = to else {
+        return Ok(());
+    };
+    let read = [Some(program.source), program.input, commands];
+    if read.iter().any(|other| *other == Some(path)) {
+        return Err(refuse_because(rt, over_source(written), path.as_bytes()));
+    }
+    if force || !holds_other(rt, written, path) {
+        return Ok(());
+    }
+    Err(refuse_because(rt, over_other(written), path.as_bytes()))
+}
+
+fn over_source(written: Written) -> &'static [u8] {
+    match written {
+        Written::Picture => b"the picture would be written over what it is made from: ",
+        Written::RunPage => b"the page would be written over what it is made from: ",
+    }
+}
+
+fn over_other(written: Written) -> &'static [u8] {
+    match written {
+        Written::Picture => {
+            b"only --force writes over a file that holds something other than a picture: "
+        }
+        Written::RunPage => {
+            b"only --force writes over a file that holds something other than a page of a run: "
+        }
+    }
+}
+
+/// Whether there is a file of this path that holds something other than what is written.
+fn holds_other(rt: &HostRuntime, written: Written, path: &str) -> bool {
     match fs::metadata(rt, path) {
-        Ok(metadata) => metadata.is_file() && metadata.len() > 0 && !is_picture(rt, path),
+        Ok(metadata) => metadata.is_file() && metadata.len() > 0 && !is_such(rt, written, path),
         Err(_) => false,
     }
 }
 
-fn is_picture(rt: &HostRuntime, path: &str) -> bool {
-    match file_front(rt, path, FRONT) {
-        Ok(front) => {
+fn is_such(rt: &HostRuntime, written: Written, path: &str) -> bool {
+    match (file_front(rt, path, FRONT), written) {
+        (Ok(front), Written::Picture) => {
             (front.starts_with(IMAGE) || front.starts_with(PAGE))
                 && front.windows(STYLE.len()).any(|part| part == STYLE)
         }
-        Err(_) => false,
+        (Ok(front), Written::RunPage) => front.starts_with(RUN_PAGE),
+        (Err(_), _) => false,
     }
 }
