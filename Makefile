@@ -3,7 +3,7 @@
 # Where the programs are installed: in PREFIX/bin, with what belongs to them in PREFIX/share.
 PREFIX = /usr/local
 
-.PHONY: demo program install uninstall test extension test-editors prove gate build bench
+.PHONY: demo program install uninstall test extension test-editors test-page prove gate build bench
 
 # Builds the program without its proofs, and shows the first example: its source, then each command with its answer; and where a picture is.
 demo:
@@ -50,6 +50,14 @@ test-editors:
 	apt-get update
 	apt-get install -y --no-install-recommends emacs-nox elpa-dap-mode neovim nodejs libkf5syntaxhighlighting-tools
 	tools/test_editors "$(CURDIR)/crates/rinddecade/out/quick"
+
+# Debian's chromium opens pages of runs of the quick build, which is built first.
+test-page:
+	@tools/needs $@ rt python3 apt-get
+	tools/quick_build rinddecade
+	apt-get update
+	apt-get install -y --no-install-recommends chromium
+	tools/test_pages crates/rinddecade/out/quick
 
 # Proves what is not proved yet.
 prove:

@@ -1,0 +1,230 @@
+"""Pages of runs: what `rinddecade page` writes of examples and kernels is, moment by moment, what tools/meaning works out.
+
+Compared are place, function, depth, lanes, open calls and the values of all variables of all frames and of the file, also at the end, and
+that of each change something changed. The viewer round the record is the one of crates/page_viewer, and nothing of a source ends the record.
+"""
+
+import json
+import re
+
+from meaning import running
+from meaning.debugging import Debugger
+from meaning.values import Fault
+
+from . import examples, meant, viewer
+from .tried import Run
+
+MOST_ELEMENTS = 1024
+WIDTHS = (4, 8, 16)
+
+# How many steps of a kernel are compared.
+MOST_OF_KERNEL = 600
+
+KERNELS = ("mandelbrot", "quicksort", "queens", "levenshtein")
+
+# A source whose text would end the record, or be read as HTML, were it not escaped; with bytes that are no text.
+HOSTILE = b"""uniform int64 big;
+export void go() { // </script><img src=x onerror=alert(1)><!-- <script> &lt; \xff\x00 "\\u003c
+    int x = programIndex;
+    big = 9007199254740993;
+    big = -big;
+    if (x > 1) x = x / (x - 3);
+}
+"""
+
+# Calls in calls, of a function with an array parameter that other calls give other parts of.
+CALLS = """uniform int a[12];
+uniform int8 total;
+void fill(uniform int n, uniform int part[]) {
+    part[0] = n;
+    if (n > 1) fill(n - 1, &part[2]);
+}
+int twice(int x) {
+    int y = x + x;
+    return y;
+}
+export void go() {
+    fill(4, &a[3]);
+    fill(2, a);
+    int t = twice(programIndex);
+    bool odd = t == 2;
+    int z = twice(t);
+    {
+        int z = 5;
+        z++;
+    }
+    total = a[3];
+    z = 7 / (programIndex - 2);
+}
+"""
+
+
+# ---- what is wanted
+
+def values_of(state, variable):
+    if variable.is_array:
+        array, first, length = state.view(variable)
+        words = state.memory[array][first : first + length]
+    else:
+        words = state.words(variable)
+    return [("false", "true")[it] if variable.type == "bool" else str(it) for it in words[:MOST_ELEMENTS]]
+
+
+def variables_at(debugger):
+    """The variables of the file and of each frame, in order: depth, name and values."""
+    state, found = debugger.state, []
+    bare = running.State(state.width, state.memory, state.frames[:1])
+    found += [(0, it.name, values_of(bare, it)) for it in debugger.program.globals]
+    for depth, frame in enumerate(state.frames, 1):
+        above = state.frames[depth] if depth < len(state.frames) else None
+        scope = above.call.scope if above else debugger.spot()[2]
+        own = running.State(state.width, state.memory, state.frames[:depth])
+        ordered = sorted(scope, key=lambda it: not it.is_parameter)
+        found += [(depth, it.name, values_of(own, it)) for it in ordered]
+    return found
+
+
+def moment_of(debugger):
+    """Place text, the open calls, the entry's first, and the variables."""
+    calls = [[*above.call.place, below.function.name] for below, above in zip(debugger.state.frames, debugger.state.frames[1:])]
+    return debugger.place_text(), calls, variables_at(debugger)
+
+
+def wanted_of(source, options, first, most):
+    """The moments of a run from a step on, and how it ends."""
+    debugger = Debugger(source, **options)
+    moments, steps = [], 0
+    while True:
+        if steps >= first - 1:
+            moments.append(moment_of(debugger))
+        if not debugger.state.frames:
+            return moments, ["ended"]
+        if len(moments) > most:
+            return moments, ["limit"]
+        try:
+            debugger.forward()
+        except Fault as fault:
+            return moments, ["fault", *fault.name.split(), fault.lane]
+        steps += 1
+
+
+# ---- what is there
+
+def record_of(page):
+    """The record of a page."""
+    return json.loads(re.search(r'<script type="application/json" id="record">(.*?)</script>', page, re.S)[1])
+
+
+def told_value(record, variable, value):
+    return ("false", "true")[int(value)] if record["variables"][variable][2] == "bool" else str(value)
+
+
+def moments_in(record):
+    """The moments that a record tells, each made from the one before; what is wrong with a change that changes nothing."""
+    values, calls, wrong = {}, [], []
+    for at, (line, column, function, depth, lanes, changes, *others) in enumerate(record["moments"]):
+        for variable, *row in changes:
+            if not row:
+                values.pop(variable, None) if variable in values else wrong.append(f"moment {at}: {variable} was not there")
+                continue
+            own = values.setdefault(variable, [])
+            for part, value in enumerate(row[1:], row[0]):
+                own += [None] * (part + 1 - len(own))
+                wrong += [f"moment {at}: part {part} of {variable} is as before"] if own[part] == value else []
+                own[part] = value
+        if others:
+            calls = calls[: others[0]] + others[1]
+        shown = "".join("1" if lanes >> lane & 1 else "0" for lane in range(record["width"]))
+        place = f"at {line}:{column} {record['functions'][function]} depth {depth} lanes {shown}" if line else "ended"
+        there = [(*record["variables"][it][:2], [told_value(record, it, word) for word in own]) for it, own in values.items()]
+        yield place, [[*call[:2], record["functions"][call[2]]] for call in calls], there, wrong
+
+
+def is_page_of(source, options, first=1, most=100_000):
+    """Whether a page has the record of a run as tools/meaning has it."""
+    wanted, end = wanted_of(source, options, first, most)
+
+    def judged(text):
+        page = text.decode(errors="replace")
+        why = [] if page.count("</script>") == 2 else ["something ends a script"]
+        record = record_of(page)
+        why += [] if record["end"] == end else [f"the end is {record['end']}, and {end} is wanted"]
+        came = list(moments_in(record))
+        why += [] if len(came) == len(wanted) else [f"{len(came)} moments, and {len(wanted)} are wanted"]
+        for at, (one, other) in enumerate(zip(came, wanted)):
+            why += differences(at, one, other)
+            if why:
+                return why
+        return why + (came[-1][3][:3] if came else [])
+
+    return judged
+
+
+def differences(at, came, wanted):
+    why = [f"moment {at}: {one}, and {other} is wanted" for one, other in zip(came[:2], wanted[:2]) if one != other]
+    mine, theirs = sorted(came[2], key=str), sorted(wanted[2], key=str)
+    return why + [f"moment {at}: {one}, and {other} is wanted" for one, other in zip(mine, theirs) if one != other] + (
+        [] if len(mine) == len(theirs) else [f"moment {at}: {len(mine)} variables, and {len(theirs)} are wanted"]
+    )
+
+
+def is_whole_page(root):
+    """Whether a page has the viewer as crates/page_viewer has it round its record."""
+    front, rest = viewer.front_and_rest(root)
+
+    def judged(text):
+        page = text.decode(errors="replace")
+        why = [] if page.startswith(front) else ["its front is another"]
+        return why + ([] if page.endswith(rest) else ["its end is another"]) + ([] if page.count("<img") == 0 else ["text of the source is HTML"])
+
+    return judged
+
+
+# ---- runs
+
+def run_of(name, source, words=(), options=None, data=None, first=1, most=100_000):
+    options = {"width": 4} | (options or {})
+    said = ["page", f"{name}.ispc", *words, "--width", str(options["width"])]
+    said += (["--from", str(first)] if first > 1 else []) + (["--most", str(most)] if most < 100_000 else [])
+    text = source if isinstance(source, bytes) else source.encode()
+    judged = is_page_of(text.decode(errors="replace"), options, first, most)
+    run = Run(f"page of {name}, {options['width']} lanes, from {first}", b"", said, judged, b"", data={f"{name}.ispc": text} | (data or {}))
+    run.wanted = (options, first, most)
+    return run
+
+
+def example_runs(root):
+    made = []
+    for name in examples.names(root):
+        words = examples.arguments(root, name)
+        if "--lane-pure" in words:
+            continue
+        given = examples.input_of(root, name)
+        input_words, data = examples.with_input(name, given)
+        options = {"rows": meant.rows_of(given.decode()) if given else {}}
+        options |= {"entry": words[words.index("--entry") + 1]} if "--entry" in words else {}
+        source = (root / f"examples/{name}.ispc").read_bytes()
+        for width in WIDTHS if not given else (4,):
+            made.append(run_of(name, source, [*words, *input_words], options | {"width": width}, data))
+    return made
+
+
+def kernel_runs(root):
+    made = []
+    for name in KERNELS:
+        folder = root / "examples/kernels"
+        given = (folder / f"{name}.input").read_bytes()
+        options = {"rows": meant.rows_of(given.decode())}
+        words = ["--input", f"{name}.input"]
+        source = (folder / f"{name}.ispc").read_bytes()
+        for first in (1, 500):
+            made.append(run_of(name, source, words, options, {f"{name}.input": given}, first, MOST_OF_KERNEL))
+    return made
+
+
+def runs(root):
+    hostile = Run("page of a hostile source", b"", ["page", "odd.ispc"], is_whole_page(root), b"", data={"odd.ispc": HOSTILE})
+    own = [run_of(name, text, options={"width": width}) for name, text in (("hostile", HOSTILE), ("calls", CALLS)) for width in WIDTHS]
+    cut = [run_of("calls", CALLS, first=first, most=most) for first, most in ((1, 1), (3, 5), (12, 100))]
+    late = Run("page from behind the end", b"", ["page", "calls.ispc", "--from", "50"], b"", None, 2, {"calls.ispc": CALLS.encode()})
+    return [*example_runs(root), *kernel_runs(root), *own, *cut, hostile, late]

@@ -1,0 +1,231 @@
+"""Pages of runs in a browser: what is shown at moments all over a run is what tools/meaning works out; each key and click does what `?` says.
+
+Nothing goes wrong and nothing is fetched; a move and a jump in a long run are quick.
+"""
+
+import json
+import pathlib
+import subprocess
+
+from . import examples, meant, run_pages
+from .tried import Result
+
+MOMENTS = 40
+MOST_MOVE, MOST_JUMP = 16, 50  # milliseconds
+
+# A run of some hundred thousand steps, whose lanes go through the states of a small machine.
+LONG = """uniform int seen[64];
+int state = 0;
+export void go() {
+    for (uniform int at = 0; at < 12000; at++) {
+        int c = (at * 7 + programIndex * 5) % 11;
+        switch (state) {
+            case 0:
+                if (c > 4) state = 1;
+                break;
+            case 1:
+                state = c % 3;
+                break;
+            default:
+                state = 0;
+        }
+        seen[at % 64] = at;
+    }
+}
+"""
+
+SHOWN = """(async () => {
+    if (location.hash !== "#%d") await new Promise(done => {
+        addEventListener("hashchange", done, { once: true });
+        location.hash = "#%d";
+    });
+    const rows = [...document.querySelectorAll("#values tr[data-name]")];
+    return JSON.stringify([$("place").textContent, $("calls").textContent, $("step").value, rows.map(row =>
+        [Number(row.dataset.depth), row.dataset.name, [...row.querySelectorAll("td[data-part]")].map(cell => cell.textContent)])]);
+})()"""
+
+
+def written(program, folder, name, source, words, data):
+    """The page that the program writes of a source."""
+    for file, text in ({f"{name}.ispc": source} | data).items():
+        (folder / file).write_bytes(text)
+    file = folder / f"{name}.html"
+    subprocess.run([program, "page", f"{name}.ispc", *words, "--to", file], cwd=folder, check=True)
+    return file
+
+
+def spread(last):
+    """Numbers of moments all over a run, its ends with them."""
+    return sorted({round(at * (last - 1) / (MOMENTS - 1)) + 1 for at in range(MOMENTS)})
+
+
+def merged(rows):
+    """The values of each variable, also where several rows have them."""
+    found = {}
+    for depth, name, values in rows:
+        found[(depth, name)] = found.get((depth, name), []) + values
+    return found
+
+
+def calls_text(calls):
+    return " ".join(f"< {name} {line}" for line, _, name in reversed(calls))
+
+
+def why_not_shown(browser, file, wanted):
+    """What a page shows at moments all over its run that is not as wanted."""
+    browser.open(file.as_uri())
+    why = []
+    for number in spread(len(wanted)):
+        place, calls, variables = wanted[number - 1]
+        shown = json.loads(browser.value(SHOWN % (number, number)))
+        own = {(depth, name): values for depth, name, values in variables}
+        for what, came, meant_value in [
+            ("place", shown[0], place),
+            ("calls", shown[1], calls_text(calls)),
+            ("step", shown[2], str(number)),
+            ("values", merged(shown[3]), own),
+        ]:
+            why += [] if came == meant_value else [f"step {number}, {what}: {came}, and {meant_value} is wanted"]
+    return [line[:400] for line in why] + browser.faults()
+
+
+# ---- keys and clicks
+
+def at(browser):
+    return browser.value("here.at")
+
+
+def keys(browser, file, wanted):
+    """What a key or a click does that it is not to do; `wanted` has the moments of a run of several calls."""
+    browser.open(file.as_uri() + "#1")
+    lines = [int(place.split(":")[0].split()[1]) if place != "ended" else 0 for place, _, _ in wanted]
+    depths = [int(place.split(" depth ")[1].split()[0]) if place != "ended" else 0 for place, _, _ in wanted]
+    last, why = len(wanted) - 1, []
+
+    def goes(key, start, end, text=None, shift=False):
+        browser.value(f"go({start})")
+        browser.key(key, text, shift)
+        why.extend([] if at(browser) == end else [f"{key} from {start} goes to {at(browser)}, and {end} is wanted"])
+
+    def first(start, holds, step=1):
+        found = range(start + step, last + 1 if step > 0 else -1, step)
+        return next((it for it in found if holds(it)), start)
+
+    middle = last // 2
+    goes("ArrowRight", middle, middle + 1)
+    goes("ArrowLeft", middle, middle - 1)
+    goes("Home", middle, 0)
+    goes("End", middle, last)
+    goes("PageDown", 0, min(last, 100))
+    goes("PageUp", last, max(0, last - 100))
+    goes("ArrowDown", 0, first(0, lambda it: lines[it] == lines[0]))
+    goes("ArrowDown", middle, first(middle, lambda it: lines[it] == lines[middle]) if lines[middle] in lines[middle + 1 :] else lines.index(lines[middle]))
+    goes("ArrowUp", middle, first(middle, lambda it: lines[it] == lines[middle], -1))
+    for start in (0, middle, depths.index(max(depths))):
+        goes("n", start, first(start, lambda it: depths[it] <= depths[start]), "n")
+        goes("p", start, first(start, lambda it: depths[it] <= depths[start], -1), "p")
+        goes("o", start, first(start, lambda it: depths[it] < depths[start]), "o")
+        goes("i", start, first(start, lambda it: depths[it] < depths[start], -1), "i")
+    return why + marks(browser) + texts(browser, lines) + clicks(browser, lines, wanted) + browser.faults()
+
+
+def marks(browser):
+    """Bookmarks, and the address that keeps them."""
+    for start in (3, 7):
+        browser.value(f"go({start})")
+        browser.key("m", "m")
+    browser.value("go(5)")
+    browser.key(".", ".")
+    after = at(browser)
+    browser.key(",", ",")
+    before = at(browser)
+    browser.value("new Promise(done => setTimeout(done, 400))")
+    kept = browser.value("location.hash")
+    wanted = (7, 3, "#4,marks=4,8")
+    return [] if (after, before, kept) == wanted else [f"bookmarks: {(after, before, kept)}, and {wanted} is wanted"]
+
+
+def texts(browser, lines):
+    """The field of the step, the search, the heat, the zoom and the list of keys."""
+    why = []
+    browser.value("go(0)")
+    browser.key("g", "g")
+    for digit in "6":
+        browser.key(digit, digit)
+    browser.key("Enter")
+    why += [] if at(browser) == 5 else [f"g 6 Enter goes to {at(browser)}"]
+    browser.value("go(0)")
+    browser.key("/", "/")
+    for letter in "twice":
+        browser.key(letter, letter)
+    browser.key("Enter")
+    found = browser.value("lines[moments[here.at][LINE] - 1]")
+    why += [] if "twice" in found else [f"the search goes to {found}"]
+    browser.key("Escape")
+    browser.key("h", "h")
+    why += [] if browser.value("$('source').classList.contains('heated')") else ["h shows no heat"]
+    browser.key("+", "+")
+    why += [] if browser.value("here.to - here.from < LAST") else ["+ does not zoom"]
+    browser.key("0", "0")
+    why += [] if browser.value("here.to - here.from") == len(lines) - 1 else ["0 does not show all"]
+    browser.key("?", "?")
+    why += [] if browser.value("$('keys').open") else ["? lists no keys"]
+    browser.value("$('keys').close()")
+    return why
+
+
+def clicks(browser, lines, wanted):
+    """A click on a line, on a value, and the keys for the changes of a value that is picked."""
+    why = []
+    line = lines[len(lines) // 2]
+    browser.value("go(0)")
+    x, y = browser.value(f"(() => {{ const it = rows[{line - 1}]; it.scrollIntoView(); const box = it.getBoundingClientRect(); return [box.x + 120, box.y + 8]; }})()")
+    browser.click(x, y)
+    why += [] if at(browser) == lines.index(line, 1) else [f"a click on line {line} goes to {at(browser)}"]
+    name = next(it for depth, it, values in wanted[-1][2] if depth == 0 and len(values) == 1)
+    values = [next(values for depth, it, values in moment[2] if depth == 0 and it == name) for moment in wanted]
+    changed = [at for at in range(1, len(values)) if values[at] != values[at - 1]]
+    browser.value("go(LAST)")
+    browser.value(f"document.querySelector('tr[data-depth=\"0\"][data-name=\"{name}\"] td').click()")
+    why += [] if at(browser) == changed[-1] - 1 else [f"a click on {name} goes to {at(browser)}, and {changed[-1] - 1} is wanted"]
+    browser.key("]", "]")
+    why += [] if at(browser) == changed[-1] else [f"] goes to {at(browser)}"]
+    return why
+
+
+# ---- time
+
+def slow(browser, file):
+    """What takes too long in a page of a long run, as the least of three tries."""
+    browser.open(file.as_uri())
+    browser.value("pick(0, 0)")
+    why = [] if browser.value("LAST") >= 50_000 else ["the run is too short"]
+    for name, text, most in [("a move", "go(here.at + 1)", MOST_MOVE), ("a move back", "go(here.at - 1)", MOST_MOVE), ("a jump", "go(LAST * .7 - here.at / 2)", MOST_JUMP)]:
+        browser.value("go(LAST / 2)")
+        took = browser.value(f"Math.min(...[1, 2, 3].map(() => {{ const start = performance.now(); {text}; document.body.offsetHeight; return performance.now() - start; }}))")
+        print(f"    {name} in {browser.value('LAST')} steps: {took:.1f} ms", flush=True)
+        why += [] if took < most else [f"{name} takes {took} ms, and {most} is the most"]
+    return why + browser.faults()
+
+
+def results(root, program, browser, folder):
+    """A result for each example and kernel, for the keys, for a hostile source, and for a long run."""
+    for run in run_pages.example_runs(root) + run_pages.kernel_runs(root):
+        name = run.arguments[1].removesuffix(".ispc")
+        data = {it: (text.read_bytes() if isinstance(text, pathlib.Path) else text) for it, text in run.data.items()}
+        file = written(program, folder, name, data[f"{name}.ispc"], run.arguments[2:], data)
+        if "--from" in run.arguments:
+            continue
+        wanted = run_pages.wanted_of(data[f"{name}.ispc"].decode(errors="replace"), *run.wanted)[0]
+        why = why_not_shown(browser, file, wanted)
+        yield Result(f"{run.name}, in a browser", not why, why)
+    file = written(program, folder, "hostile", run_pages.HOSTILE, [], {})
+    wanted = run_pages.wanted_of(run_pages.HOSTILE.decode(errors="replace"), {"width": 4}, 1, 100_000)[0]
+    why = why_not_shown(browser, file, wanted)
+    yield Result("page of a hostile source, in a browser", not why, why)
+    file = written(program, folder, "calls", run_pages.CALLS.encode(), [], {})
+    why = keys(browser, file, run_pages.wanted_of(run_pages.CALLS, {"width": 4}, 1, 100_000)[0])
+    yield Result("keys and clicks", not why, why)
+    file = written(program, folder, "long", LONG.encode(), ["--width", "16"], {})
+    why = slow(browser, file)
+    yield Result("a long run", not why, why)
