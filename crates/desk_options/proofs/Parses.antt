@@ -18,9 +18,9 @@ use Rattle.ispc_options.specs.Asked.{AreWidths, flag, option_or, width_text}
 use Rattle.ispc_options.specs.declared.options.Width.{Width}
 use Rattle.ispc_options.specs.declared.options.Width.TheVariants.{Four, Eight, Sixteen}
 use Rattle.desk_options.specs.Commands.{rules_of, verb_command, wanted}
-use Rattle.desk_options.specs.Passed.{ArePagePassed, ArePassed, ArePicturePassed, HavePassed}
+use Rattle.desk_options.specs.Passed.{ArePagePassed, ArePassed, ArePicturePassed, ArePortedPassed, HavePassed}
 use Rattle.desk_options.specs.declared.names.VerbName.{VerbName}
-use Rattle.desk_options.specs.declared.names.VerbName.TheVariants.{Debug, Picture, Page, Adapter, Explain}
+use Rattle.desk_options.specs.declared.names.VerbName.TheVariants.{Debug, Picture, Page, Adapter, Explain, Port}
 use Rattle.desk_options.proofs.PassedValues.{flag_passed, number_passed, required_given, value_passed}
 
 -- a text that is one of the widths
@@ -102,9 +102,20 @@ module _ (widths : Bor (List (Bor Text))) (are : AreWidths widths) (old : Comman
         force = which_flags _ force.1;
       }
 
+  ported_passed : app_of old ≡ verb_command widths Port → ArePortedPassed (found_of m)
+  ported_passed app =
+      let rules = rules_of widths Port in
+      let force = flag_passed _ rules refl refl refl old app m p 2 (flag (codes "force")) (omega arith) (λ d. refl) refl refl parser.Bool refl refl in
+      record {
+        source = required_given _ rules refl refl refl old app m p 0 (wanted (codes "source")) (omega arith) (λ d. refl) refl refl refl refl refl;
+        flag = force.0;
+        force = which_flags _ force.1;
+      }
+
   pub parse_passed : (verb : VerbName) → app_of old ≡ verb_command widths verb → HavePassed verb (found_of m)
   parse_passed Debug app = debug_passed app
   parse_passed Picture app = picture_passed app
   parse_passed Page app = page_passed app
   parse_passed Adapter app = tt
   parse_passed Explain app = tt
+  parse_passed Port app = ported_passed app

@@ -36,6 +36,14 @@ explained_line : faults (codes "explain" ∷ codes "3:5:" ∷ codes "S7" ∷ cod
 unfolding clap_on_literals
 explained_line = refl
 
+each_option_of_port : faults (codes "port" ∷ codes "a.ispc" ∷ codes "--to" ∷ codes "b.ispc" ∷ codes "--force" ∷ []) ≡ []
+unfolding clap_on_literals
+each_option_of_port = refl
+
+no_source_to_port : faults (codes "port" ∷ []) ≡ MissingRequiredArgument ∷ []
+unfolding clap_on_literals
+no_source_to_port = refl
+
 no_words : faults [] ≡ MissingSubcommand ∷ []
 unfolding clap_on_literals
 no_words = refl

@@ -23,7 +23,7 @@ use Rattle.desk_options.specs.Commands.{all_verbs, verb_command}
 use Rattle.desk_options.specs.Names.{named_words}
 use Rattle.desk_options.specs.Passed.{HavePassed}
 use Rattle.desk_options.specs.declared.names.VerbName.{VerbName}
-use Rattle.desk_options.specs.declared.names.VerbName.TheVariants.{Debug, Picture, Page, Adapter, Explain}
+use Rattle.desk_options.specs.declared.names.VerbName.TheVariants.{Debug, Picture, Page, Adapter, Explain, Port}
 use Rattle.desk_options.specs.declared.verbs.Verb.{Verb}
 use Rattle.desk_options.proofs.Building.{some_are, some_widths}
 use Rattle.desk_options.proofs.Parses.{parse_passed}
@@ -60,6 +60,7 @@ all_simple_and_free widths Picture = refl
 all_simple_and_free widths Page = refl
 all_simple_and_free widths Adapter = refl
 all_simple_and_free widths Explain = refl
+all_simple_and_free widths Port = refl
 
 each_simple : (widths : Bor (List (Bor Text))) (verb : VerbName) → is_simple (verb_command widths verb) ≡ true
 each_simple widths Debug = refl
@@ -67,6 +68,7 @@ each_simple widths Picture = refl
 each_simple widths Page = refl
 each_simple widths Adapter = refl
 each_simple widths Explain = refl
+each_simple widths Port = refl
 
 -- what a parse by a verb's command comes to
 pub parsed_as : (verb : VerbName) (words : List Text) (widths : Bor (List (Bor Text))) → AreWidths widths → (command : Command)

@@ -21,6 +21,7 @@ use Rattle.desk_options.specs.declared.names.VerbName.{VerbName}
 use Rattle.desk_options.specs.declared.names.VerbName.TheVariants as name
 use Rattle.desk_options.specs.declared.verbs.Debugged.{Debugged}
 use Rattle.desk_options.specs.declared.verbs.Picture.{Picture}
+use Rattle.desk_options.specs.declared.verbs.Ported.{Ported}
 use Rattle.desk_options.specs.declared.verbs.Program.{Program}
 use Rattle.desk_options.specs.declared.verbs.RunPage.{RunPage}
 use Rattle.desk_options.specs.declared.verbs.Verb.{Verb}
@@ -62,6 +63,11 @@ pub record HasPage (value : Text → Option Text) (page : RunPage) : Type 0 wher
   pub to : value (codes "to") ≡ text_of page.to
   pub force : IsTrue page.force ↔ (value (codes "force") ≡ Some (codes "true"))
 
+pub record HasPorted (value : Text → Option Text) (ported : Ported) : Type 0 where
+  pub source : value (codes "source") ≡ Some ported.source.now
+  pub to : value (codes "to") ≡ text_of ported.to
+  pub force : IsTrue ported.force ↔ (value (codes "force") ≡ Some (codes "true"))
+
 -- the first value that the words give to a name, or else its default
 abbrev pub value_of : App → List Text → Text → Option Text
 value_of app words name = first_of name (matches_of app words)
@@ -81,6 +87,7 @@ IsAskedBy name.Picture value values (verb.Picture picture) = HasPicture value pi
 IsAskedBy name.Page value values (verb.Page page) = HasPage value page
 IsAskedBy name.Adapter value values verb.Adapter = ⊤
 IsAskedBy name.Explain value values (verb.Explain explained) = texts explained.words.items ≡ values (codes "name")
+IsAskedBy name.Port value values (verb.Port ported) = HasPorted value ported
 IsAskedBy _ _ _ _ = ⊥
 
 -- what the words behind a verb's name ask for

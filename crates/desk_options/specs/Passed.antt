@@ -7,7 +7,7 @@ use Rattle.ispc_options.specs.Asked.{width_text}
 use Rattle.ispc_options.specs.Passed.{HasNumber}
 use Rattle.ispc_options.specs.declared.options.Width.{Width}
 use Rattle.desk_options.specs.declared.names.VerbName.{VerbName}
-use Rattle.desk_options.specs.declared.names.VerbName.TheVariants.{Debug, Picture, Page, Adapter, Explain}
+use Rattle.desk_options.specs.declared.names.VerbName.TheVariants.{Debug, Picture, Page, Adapter, Explain, Port}
 
 -- each value of a program passed the parser of its option, and the source is there
 pub record ArePassed (found : Found) : Type 0 where
@@ -34,6 +34,13 @@ pub record ArePagePassed (found : Found) : Type 0 where
   pub force : IfSome (first_value found (codes "force"))
       (λ text. (text ≡ codes "true") ⊎ (text ≡ codes "false"))
 
+-- the values of a source that is ported passed, and the source is there
+pub record ArePortedPassed (found : Found) : Type 0 where
+  pub source : (text : Text) × (first_value found (codes "source") ≡ Some text)
+  pub flag : one_text found (codes "force") ≡ first_value found (codes "force")
+  pub force : IfSome (first_value found (codes "force"))
+      (λ text. (text ≡ codes "true") ⊎ (text ≡ codes "false"))
+
 -- the values behind a verb's name passed
 abbrev pub HavePassed : VerbName → Found → Type 0
 HavePassed Debug found = ArePassed found
@@ -41,3 +48,4 @@ HavePassed Picture found = ArePicturePassed found
 HavePassed Page found = ArePagePassed found
 HavePassed Adapter found = ⊤
 HavePassed Explain found = ⊤
+HavePassed Port found = ArePortedPassed found

@@ -4,7 +4,7 @@ use Rattle.ispc_options.specs.Ranges.{AreInRange}
 use Rattle.desk_options.specs.declared.verbs.Picture.{Picture as PictureOptions}
 use Rattle.desk_options.specs.declared.verbs.RunPage.{RunPage}
 use Rattle.desk_options.specs.declared.verbs.Verb.{Verb}
-use Rattle.desk_options.specs.declared.verbs.Verb.TheVariants.{Debug, Picture, Page, Adapter, Explain}
+use Rattle.desk_options.specs.declared.verbs.Verb.TheVariants.{Debug, Picture, Page, Adapter, Explain, Port}
 
 pub record IsPictureInRange (picture : PictureOptions) : Type 0 where
   pub run : AreInRange picture.program.options
@@ -26,3 +26,4 @@ IsInRange (Picture picture) = IsPictureInRange picture
 IsInRange (Page page) = IsPageInRange page
 IsInRange Adapter = ⊤
 IsInRange (Explain explained) = ⊤
+IsInRange (Port ported) = ⊤

@@ -38,6 +38,9 @@ const ADAPTER_ABOUT: &str = "Speaks the Debug Adapter Protocol on standard input
 
 const EXPLAIN_ABOUT: &str = "Says what a refusal or a fault means, with an example and a cure";
 
+const PORT_ABOUT: &str =
+    "Rewrites a source for Intel's compiler as one of the language, as far as it can";
+
 /// The list of the verbs, which reads words that begin with none of them.
 pub(crate) fn all_verbs<'a>(alloc: Global) -> Result<Command<'a>, AllocError>
     ensures { IfOk result (λ parser. app_of parser ≡ all_verbs) }
@@ -52,7 +55,8 @@ pub(crate) fn all_verbs<'a>(alloc: Global) -> Result<Command<'a>, AllocError>
         .subcommand(listed(alloc, "picture", PICTURE_ABOUT))?
         .subcommand(listed(alloc, "page", PAGE_ABOUT))?
         .subcommand(listed(alloc, "adapter", ADAPTER_ABOUT))?
-        .subcommand(listed(alloc, "explain", EXPLAIN_ABOUT))
+        .subcommand(listed(alloc, "explain", EXPLAIN_ABOUT))?
+        .subcommand(listed(alloc, "port", PORT_ABOUT))
 }
 
 /// A verb of the list.
@@ -73,6 +77,7 @@ pub(crate) fn verb_command<'a>(alloc: Global, verb: VerbName) -> Result<Command<
         VerbName::Page => page_command(alloc),
         VerbName::Adapter => adapter_command(alloc),
         VerbName::Explain => explain_command(alloc),
+        VerbName::Port => port_command(alloc),
     }
 }
 
@@ -115,6 +120,17 @@ fn explain_command<'a>(alloc: Global) -> Result<Command<'a>, AllocError>
     named(alloc, "rinddecade explain", EXPLAIN_ABOUT).arg(several(alloc, "name", "NAME").help(
         "a number, as S7, or a name, as Rate; a whole line, as \"3:5: S7 Rate\", will do",
     ))
+}
+
+fn port_command<'a>(alloc: Global) -> Result<Command<'a>, AllocError>
+    ensures { IfOk result (λ parser. (widths : _) × AreWidths widths × (app_of parser ≡ verb_command widths VerbName.Port)) }
+{
+    named(alloc, "rinddecade port", PORT_ABOUT)
+        .arg(wanted(alloc, "source", "SOURCE").help("the source that is rewritten"))?
+        .arg(option(alloc, "to", "FILE").help(
+            "the file that is written; else the text goes to standard output",
+        ))?
+        .arg(flag(alloc, "force").help("writes over the file of --to, whatever it holds"))
 }
 
 /// A command that has no options yet. It is named as it is called.

@@ -9,4 +9,4 @@ mod values;
 mod verbs;
 
 pub use reading::read_verb;
-pub use verbs::{Debugged, Explained, Picture, Program, RunPage, Verb};
+pub use verbs::{Debugged, Explained, Picture, Ported, Program, RunPage, Verb};

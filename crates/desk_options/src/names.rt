@@ -13,6 +13,7 @@ pub(crate) enum VerbName {
     Page,
     Adapter,
     Explain,
+    Port,
 }
 
 /// The verb that a word names.
@@ -29,6 +30,8 @@ pub(crate) fn named(word: &str) -> Option<VerbName>
         Some(VerbName::Adapter)
     } else if word == "explain" {
         Some(VerbName::Explain)
+    } else if word == "port" {
+        Some(VerbName::Port)
     } else {
         None
     }

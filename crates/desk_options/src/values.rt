@@ -4,14 +4,14 @@ ghost use Rattle.clap.specs.Words.{first_value, found_of};
 ghost use Rattle.ispc_options.specs.Asked.{number_of};
 ghost use Rattle.ispc_options.specs.Passed.{HasNumber};
 ghost use Rattle.ispc_options.specs.Ranges.{AreInRange};
-ghost use Rattle.desk_options.specs.Asked.{HasDebugged, HasPicture, HasProgram, IsAskedBy, raw_of};
-ghost use Rattle.desk_options.specs.Passed.{ArePassed, ArePicturePassed, HavePassed};
+ghost use Rattle.desk_options.specs.Asked.{HasDebugged, HasPicture, HasPorted, HasProgram, IsAskedBy, raw_of};
+ghost use Rattle.desk_options.specs.Passed.{ArePassed, ArePicturePassed, ArePortedPassed, HavePassed};
 ghost use Rattle.desk_options.specs.Ranges.{IsInRange, IsPictureInRange};
 
 use crate::commands::{MOST_HISTORY, MOST_STEPS};
 use crate::names::VerbName;
 use crate::page_values::page_of;
-use crate::verbs::{Debugged, Explained, Picture, Program, Verb};
+use crate::verbs::{Debugged, Explained, Picture, Ported, Program, Verb};
 use clap::ArgMatches;
 use ispc_options::{Options, Width};
 use std::alloc::{AllocError, Global};
@@ -32,6 +32,7 @@ pub(crate) fn verb_of<'a>(
         VerbName::Page => page_of(matches).map(Verb::Page),
         VerbName::Adapter => Some(Verb::Adapter),
         VerbName::Explain => Some(Verb::Explain(explained_of(alloc, matches)?)),
+        VerbName::Port => ported_of(matches).map(Verb::Port),
     })
 }
 
@@ -82,6 +83,18 @@ fn picture_of<'a>(matches: &ArgMatches<'a>) -> Option<Picture<'a>>
         most,
         to: matches.get_str("to"),
         force: matches.get_flag("force"),
+    })
+}
+
+fn ported_of<'a>(matches: &ArgMatches<'a>) -> Option<Ported<'a>>
+    ensures { ArePortedPassed (found_of matches.now) → IsSomeAnd result (HasPorted (first_value (found_of matches.now))) }
+{
+    let to = matches.get_str("to");
+    let force = matches.get_flag("force");
+    Some(Ported {
+        source: matches.get_str("source")?,
+        to,
+        force,
     })
 }
 

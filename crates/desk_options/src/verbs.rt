@@ -41,6 +41,14 @@ pub struct RunPage<'a> {
     pub force: bool,
 }
 
+/// A source that is ported: its file, the file that is written, and whether it is written over whatever it holds.
+#[derive(Clone, Copy, Debug, PartialEq, Eq)]
+pub struct Ported<'a> {
+    pub source: &'a str,
+    pub to: Option<&'a str>,
+    pub force: bool,
+}
+
 /// The words that name a refusal or a fault.
 #[derive(Drop)]
 pub struct Explained<'a> {
@@ -55,4 +63,5 @@ pub enum Verb<'a> {
     Page(RunPage<'a>),
     Adapter,
     Explain(Explained<'a>),
+    Port(Ported<'a>),
 }

@@ -10,6 +10,7 @@ mod explaining;
 mod files;
 mod overwriting;
 mod paging;
+mod porting;
 mod refusing;
 mod serving;
 mod terminal;
@@ -23,6 +24,7 @@ use drawing::draw_picture;
 use explaining::explain;
 use ispc_refusals::Refusal;
 use paging::page_run;
+use porting::port_source;
 use refusing::{refuse, refuse_arguments, refuse_because};
 use serving::adapt;
 use std::alloc::AllocError;
@@ -70,5 +72,6 @@ fn do_verb(rt: &HostRuntime, verb: &Verb<'_>) -> ExitCode
         Verb::Page(page) => page_run(rt, page),
         Verb::Adapter => adapt(rt),
         Verb::Explain(explained) => explain(rt, explained.words.as_slice()),
+        Verb::Port(ported) => port_source(rt, ported),
     }
 }

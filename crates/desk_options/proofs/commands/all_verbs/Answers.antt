@@ -26,5 +26,6 @@ returns c =
     let picture = with_verb _ _ _ _ (codes "picture") c.in_ok-subcommand-2.ensures debug c.listed-2.ensures.app c.listed-2.ensures.local in
     let page = with_verb _ _ _ _ (codes "page") c.in_ok-subcommand-3.ensures picture c.listed-3.ensures.app c.listed-3.ensures.local in
     let adapter = with_verb _ _ _ _ (codes "adapter") c.in_ok-subcommand-4.ensures page c.listed-4.ensures.app c.listed-4.ensures.local in
-    IfOk-weaker c.subcommand-5.result _ _ (λ parser added. with_verb _ _ _ _ (codes "explain") added adapter c.listed-5.ensures.app c.listed-5.ensures.local)
-    c.subcommand-5.ensures
+    let explain = with_verb _ _ _ _ (codes "explain") c.in_ok-subcommand-5.ensures adapter c.listed-5.ensures.app c.listed-5.ensures.local in
+    IfOk-weaker c.subcommand-6.result _ _ (λ parser added. with_verb _ _ _ _ (codes "port") added explain c.listed-6.ensures.app c.listed-6.ensures.local)
+    c.subcommand-6.ensures
