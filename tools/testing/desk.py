@@ -51,7 +51,7 @@ def runs():
 
 def helps():
     told = {
-        ("--help",): (b"Usage: rinddecade <COMMAND>", b"debug", b"picture", b"adapter", b"explain", b"--version"),
+        ("--help",): (b"Usage: rinddecade <COMMAND>", b"debug", b"picture", b"adapter", b"explain", b"port", b"--version"),
         ("help",): (b"Usage: rinddecade <COMMAND>",),
         ("debug", "--help"): (b"Usage: rinddecade debug [OPTIONS] <SOURCE>", *OF_A_RUN),
         ("help", "debug"): (b"Usage: rinddecade debug [OPTIONS] <SOURCE>", *OF_A_RUN),
