@@ -77,7 +77,7 @@ abbrev pub all_verbs : App
 all_verbs = record {
   top = record (new_shape (codes "rinddecade")) { is_leaf = false; no_binary_name = true; has_version = true; subcommand_required = true };
   subs = new_shape (codes "debug") ∷ new_shape (codes "picture") ∷ new_shape (codes "page") ∷ new_shape (codes "adapter") ∷ new_shape (codes "explain")
-    ∷ new_shape (codes "port") ∷ [];
+      ∷ new_shape (codes "port") ∷ [];
 }
 
 -- a command with more rules, the last ones

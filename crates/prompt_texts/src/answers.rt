@@ -66,9 +66,7 @@ fn reason_text(answer: &Answer<'_>) -> &'static [u8] {
 /// Writes a breakpoint or a watch that ended a move.
 fn put_stop<O: AnswerWriter + Drop>(name: &[u8], number: u32, page: &mut Page<O>) -> usize {
     put_numbered(name, number, b":", page);
-    name.len()
-        .saturating_add(digits(number))
-        .saturating_add(1)
+    name.len().saturating_add(digits(number)).saturating_add(1)
 }
 
 fn put_numbered<O: AnswerWriter + Drop>(

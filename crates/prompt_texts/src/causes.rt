@@ -74,7 +74,11 @@ fn put_out_of_range<O: AnswerWriter + Drop>(named: Named<'_>, shown: Shown, page
             page.put(named.name);
             page.put(b" has ");
             page.put_number(shown.count as i128);
-            page.put(if shown.is_array { b" elements" } else { b" lanes" });
+            page.put(if shown.is_array {
+                b" elements"
+            } else {
+                b" lanes"
+            });
             page.put(b", and the first has the number 0.\n");
         }
         _ => {
@@ -135,7 +139,10 @@ fn index_in(text: &[u8]) -> Option<u128> {
 /// Whether a line sets how many events are kept.
 fn sets_history(line: &[u8]) -> bool {
     match next_word(Marks::OfCommands, line) {
-        Some((first, rest)) if first == b"set".as_slice() => match next_word(Marks::OfCommands, rest) {
+        Some((first, rest)) if first == b"set".as_slice() => match next_word(
+            Marks::OfCommands,
+            rest,
+        ) {
             Some((second, _)) => second == b"record".as_slice(),
             None => false,
         },

@@ -21,8 +21,8 @@ pub use frames::{
     show_arguments, show_bits, show_frame, show_frames, show_full_frames, show_locals, show_value,
 };
 pub use looks::{
-    list_lines, show_displayed, show_help, show_here, show_line, show_lists,
-    show_recording, show_source, show_text, show_type, show_variables, show_watches,
+    list_lines, show_displayed, show_help, show_here, show_line, show_lists, show_recording,
+    show_source, show_text, show_type, show_variables, show_watches,
 };
 pub use marked::put_marked;
 pub use page::Page;

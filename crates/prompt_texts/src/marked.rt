@@ -11,12 +11,7 @@ const BEFORE: usize = 30;
 const WHOLE: usize = 68;
 
 /// Writes a line behind its number, or 60 bytes of a long one, and `^` under a byte of it. Controls are masked.
-pub fn put_marked<O: AnswerWriter + Drop>(
-    number: u32,
-    line: &[u8],
-    at: usize,
-    page: &mut Page<O>,
-) {
+pub fn put_marked<O: AnswerWriter + Drop>(number: u32, line: &[u8], at: usize, page: &mut Page<O>) {
     let at = at.min(line.len());
     let (from, to) = window(line, at);
     page.put(b"-> ");
@@ -28,7 +23,11 @@ pub fn put_marked<O: AnswerWriter + Drop>(
     page.put(b"\n");
     put_blanks(digits(number).max(5).saturating_add(5), page);
     put_blanks(if from > 0 { 3 } else { 0 }, page);
-    put_caret(line.get(from..to).unwrap_or(&[]), at.saturating_sub(from), page);
+    put_caret(
+        line.get(from..to).unwrap_or(&[]),
+        at.saturating_sub(from),
+        page,
+    );
 }
 
 /// The part of a line that is shown: it begins and ends with whole characters.

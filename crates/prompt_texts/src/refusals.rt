@@ -1,6 +1,6 @@
 //! Refusals of commands, as sentences with the line and a mark.
-use crate::page::Page;
 use crate::marked::put_caret;
+use crate::page::Page;
 use debug_answers::Refusal;
 use debug_traits::AnswerWriter;
 use debug_words::{Marks, is_blank, next_word};
@@ -95,8 +95,7 @@ fn sentence(refusal: Refusal) -> &'static [u8] {
         Refusal::Outermost =>
             b"C6 Outermost: this is the outermost frame, which no other called.\n",
         Refusal::NoLine => b"C7 NoLine: no line from there on has a step.\n",
-        Refusal::OutOfRange =>
-            b"C8 OutOfRange: the index is past the end.\n",
+        Refusal::OutOfRange => b"C8 OutOfRange: the index is past the end.\n",
         Refusal::Constant => b"C9 Constant: constants and the indices of foreach are not set.\n",
         Refusal::NoSuchNumber =>
             b"C10 NoSuchNumber: no breakpoint or watch has this number; `info breakpoints` lists them.\n",

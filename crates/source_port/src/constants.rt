@@ -237,11 +237,7 @@ impl Draft {
     }
 
     /// Reads a token where an operand begins, and says whether the next has to begin one.
-    fn fold_operand(
-        &self,
-        at: usize,
-        folding: &mut Folding,
-    ) -> Result<Option<bool>, PortRefusal> {
+    fn fold_operand(&self, at: usize, folding: &mut Folding) -> Result<Option<bool>, PortRefusal> {
         if let Some(operator) = unary(self.text(at)) {
             folding.operators.push(operator)?;
             return Ok(Some(true));
@@ -280,11 +276,7 @@ impl Draft {
     }
 
     /// Reads a token behind an operand, and says whether the next has to begin one.
-    fn fold_operator(
-        &self,
-        at: usize,
-        folding: &mut Folding,
-    ) -> Result<Option<bool>, PortRefusal> {
+    fn fold_operator(&self, at: usize, folding: &mut Folding) -> Result<Option<bool>, PortRefusal> {
         if self.is(at, b")") {
             if folding.reduce_to(1)?.is_none() {
                 return Ok(None);
@@ -314,7 +306,10 @@ impl Draft {
             return Ok(tokens);
         }
         let value = self.constant(part)?;
-        let mut text = Vec::from_slice(self.alloc, format!(in self.alloc; "{value}")?.as_str().as_bytes())?;
+        let mut text = Vec::from_slice(
+            self.alloc,
+            format!(in self.alloc; "{value}")?.as_str().as_bytes(),
+        )?;
         text.extend_from_slice(b" /* ")?;
         for at in part.start..part.end {
             text.extend_from_slice(self.text(at))?;

@@ -6,11 +6,7 @@ const ASSIGNMENTS: [&[u8]; 11] = [
     b"=", b"+=", b"-=", b"*=", b"/=", b"%=", b"&=", b"|=", b"^=", b"<<=", b">>=",
 ];
 
-const PACKED: [&[u8]; 3] = [
-    b"packed_store_active",
-    b"packed_load_active",
-    b"assert",
-];
+const PACKED: [&[u8]; 3] = [b"packed_store_active", b"packed_load_active", b"assert"];
 
 /// The library's calls whose values lanes may have of their own.
 const LIBRARY: [&[u8]; 14] = [
@@ -132,7 +128,7 @@ impl Draft {
     /// Whether the first word of a part stands outside of it too, in the part in which what changes may be named once.
     pub(crate) fn is_named_outside(&self, part: Span) -> bool {
         let text = self.text(part.start);
-        (self.region.start..self.region.end)
-            .any(|at| (at < part.start || part.end <= at) && self.text(at) == text)
+        (self.region.start..self.region.end).any(|at| (at < part.start || part.end <= at)
+            && self.text(at) == text)
     }
 }

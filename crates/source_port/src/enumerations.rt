@@ -51,7 +51,14 @@ impl Draft {
             }
             let before = if last.is_none() { first } else { line };
             let to = self.find_text(from, b",").unwrap_or(close).min(close);
-            self.expand_constant(Span { start: from, end: to }, before, last)?;
+            self.expand_constant(
+                Span {
+                    start: from,
+                    end: to,
+                },
+                before,
+                last,
+            )?;
             last = Some(from);
             from = to.saturating_add(1);
         }

@@ -213,12 +213,7 @@ impl Draft {
 
     /// What stands between parentheses.
     #[cycle(expression)]
-    fn group(
-        &mut self,
-        open: usize,
-        close: usize,
-        depth: u32,
-    ) -> Result<Vec<Token>, PortRefusal> {
+    fn group(&mut self, open: usize, close: usize, depth: u32) -> Result<Vec<Token>, PortRefusal> {
         if depth == 0 {
             return Err(self.refuse(open, Reason::TooDeep));
         }

@@ -284,18 +284,17 @@ impl Draft {
     fn calls_exported(&self) -> bool {
         self.functions.iter().any(|function| {
             function.statements.start < function.statements.end
-                && (function.statements.start..function.statements.end)
-                    .any(|at| self.is_exported_call(at))
+                && (function.statements.start..function.statements.end).any(
+                    |at| self.is_exported_call(at),
+                )
         })
     }
 
     fn is_exported_call(&self, at: usize) -> bool {
         let text = self.text(at);
         self.is(at.saturating_add(1), b"(")
-            && self
-                .functions
-                .iter()
-                .any(|function| function.is_exported && self.pool.text(function.name) == text)
+            && self.functions.iter().any(|function| function.is_exported
+                && self.pool.text(function.name) == text)
     }
 
     /// Writes the function that fills the tables.

@@ -103,11 +103,18 @@ impl Draft {
         if length != right.end.saturating_sub(right.start) {
             return false;
         }
-        let left = self.bodies.as_slice().get(left.start..left.end).unwrap_or(&[]);
-        let right = self.bodies.as_slice().get(right.start..right.end).unwrap_or(&[]);
-        left.iter()
-            .zip(right)
-            .all(|(one, other)| self.pool.text(one.text) == self.pool.text(other.text))
+        let left = self
+            .bodies
+            .as_slice()
+            .get(left.start..left.end)
+            .unwrap_or(&[]);
+        let right = self
+            .bodies
+            .as_slice()
+            .get(right.start..right.end)
+            .unwrap_or(&[]);
+        left.iter().zip(right).all(|(one, other)| self.pool.text(one.text)
+            == self.pool.text(other.text))
     }
 
     /// Whether the function whose statements begin there may call itself.

@@ -131,7 +131,11 @@ impl Draft {
         tokens: &[Token],
     ) -> Result<(), PortRefusal> {
         for (number, token) in tokens.iter().enumerate() {
-            let before = if number == 0 { self.blank } else { token.before };
+            let before = if number == 0 {
+                self.blank
+            } else {
+                token.before
+            };
             written.push(Token { before, ..*token })?;
         }
         Ok(())
@@ -149,7 +153,11 @@ impl Draft {
     /// Puts a statement before the one that is read, in its line.
     pub(crate) fn put_before(&mut self, line: &[Token]) -> Result<(), PortRefusal> {
         for (number, token) in line.iter().enumerate() {
-            let before = if number == 0 { self.indent } else { token.before };
+            let before = if number == 0 {
+                self.indent
+            } else {
+                token.before
+            };
             self.before.push(Token { before, ..*token })?;
         }
         let at = line.first().map_or(0, |token| token.at);
@@ -197,11 +205,7 @@ impl Draft {
     }
 
     /// Puts a variable before the statement that has the truth of the first side.
-    pub(crate) fn put_truth(
-        &mut self,
-        part: Span,
-        value: &[Token],
-    ) -> Result<Token, PortRefusal> {
+    pub(crate) fn put_truth(&mut self, part: Span, value: &[Token]) -> Result<Token, PortRefusal> {
         let body = if self.is_uniform(part) {
             self.keep_words(&[b"uniform", b"bool"])?
         } else {

@@ -38,7 +38,11 @@ impl Draft {
         let before = std::mem::replace(&mut self.before, Vec::new(self.alloc));
         let behind = std::mem::replace(&mut self.behind, Vec::new(self.alloc));
         self.write(first, before.as_slice())?;
-        let start = if before.is_empty() { first } else { self.indent };
+        let start = if before.is_empty() {
+            first
+        } else {
+            self.indent
+        };
         self.write(start, line)?;
         self.written.extend_from_slice(behind.as_slice())?;
         let more = usize::from(!before.is_empty()).saturating_add(usize::from(!behind.is_empty()));
@@ -153,9 +157,7 @@ impl Draft {
 
     /// Whether `continue` stands in what is written from there on.
     pub(crate) fn has_continue(&self, from: usize) -> bool {
-        self.written
-            .iter()
-            .skip(from)
-            .any(|token| self.pool.text(token.text) == b"continue".as_slice())
+        self.written.iter().skip(from).any(|token| self.pool.text(token.text)
+            == b"continue".as_slice())
     }
 }

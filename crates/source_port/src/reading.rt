@@ -156,10 +156,29 @@ fn mark_piece(source: &[u8], at: usize, to: usize) -> Result<(Kind, usize), Port
         return Ok((Kind::Mark, at.saturating_add(2)));
     }
     match byte(source, at) {
-        b'(' | b')' | b'{' | b'}' | b'[' | b']' | b',' | b';' | b'?' | b':' | b'+' | b'-' | b'*'
-        | b'/' | b'%' | b'&' | b'|' | b'^' | b'~' | b'!' | b'<' | b'>' | b'=' => {
-            Ok((Kind::Mark, at.saturating_add(1)))
-        }
+        b'('
+        | b')'
+        | b'{'
+        | b'}'
+        | b'['
+        | b']'
+        | b','
+        | b';'
+        | b'?'
+        | b':'
+        | b'+'
+        | b'-'
+        | b'*'
+        | b'/'
+        | b'%'
+        | b'&'
+        | b'|'
+        | b'^'
+        | b'~'
+        | b'!'
+        | b'<'
+        | b'>'
+        | b'=' => { Ok((Kind::Mark, at.saturating_add(1))) }
         _ => Err(refusal_at(at, Reason::Byte)),
     }
 }

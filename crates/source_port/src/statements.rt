@@ -91,11 +91,7 @@ impl Draft {
     }
 
     /// A value, which may be a call as a whole.
-    pub(crate) fn value(
-        &mut self,
-        part: Span,
-        may_hold: bool,
-    ) -> Result<Vec<Token>, PortRefusal> {
+    pub(crate) fn value(&mut self, part: Span, may_hold: bool) -> Result<Vec<Token>, PortRefusal> {
         if may_hold && self.is_whole_call(part) {
             self.call(part.start, DEPTH)
         } else {
@@ -182,7 +178,13 @@ impl Draft {
         self.push_close(&mut line, test.as_slice())?;
         let then = self.mark(b") {", at)?;
         line.push(then)?;
-        let one = self.arm(head, Span { start: arms.start, end: colon })?;
+        let one = self.arm(
+            head,
+            Span {
+                start: arms.start,
+                end: colon,
+            },
+        )?;
         line.extend_from_slice(one.as_slice())?;
         let between = self.made(b"} else {", Kind::Mark, at)?;
         let before = self.indent;

@@ -103,7 +103,10 @@ impl Draft {
                 start,
                 end: part.end,
             };
-            start = self.find_one(rest, b",").unwrap_or(part.end).saturating_add(1);
+            start = self
+                .find_one(rest, b",")
+                .unwrap_or(part.end)
+                .saturating_add(1);
         }
         if count == 0 {
             return Err(self.refuse(at, Reason::Size));
@@ -258,7 +261,8 @@ impl Draft {
         let counter_text = std::str::from_utf8(text.as_slice()).unwrap_or("k");
         let elements = form.elements;
         let head = format!(in self.alloc;
-            "for (uniform int {counter_text} = {from}; {counter_text} < {elements}; {counter_text}++)")?;
+            "for (uniform int {counter_text} = {from}; {counter_text} < {elements}; {counter_text}++)"
+        )?;
         let head = self.made(head.as_str().as_bytes(), Kind::Word, name.at)?;
         let before = self.indent;
         lines.push(Token { before, ..head })?;

@@ -42,10 +42,7 @@ const FOREIGN: [(&[u8], &[u8]); 11] = [
 
 /// What a type of another name is called here.
 pub(crate) fn own_type(word: &[u8]) -> Option<&'static [u8]> {
-    FOREIGN
-        .iter()
-        .find(|row| row.0 == word)
-        .map(|row| row.1)
+    FOREIGN.iter().find(|row| row.0 == word).map(|row| row.1)
 }
 
 impl Draft {

@@ -63,8 +63,7 @@ no_escape_at (byte ∷ rest) (suc at) d free lt = no_escape_at rest at d (either
 pub byte_added : (at d : ℕ) (initial line front before after : List ℕ) → at < length line → Adds initial line front before
     → after ≡ before ++ slice_index_or line at d ∷ [] → Adds initial line (front ++ slice_index_or line at d ∷ []) after
 byte_added at d initial line front before after lt adds more =
-    let byte = slice_index_or line at d in
-    (
+    let byte = slice_index_or line at d in (
       adds.0 ++ byte ∷ [],
       more ∙ ap (λ t. t ++ byte ∷ []) adds.1 ∙ append_assoc initial adds.0 (byte ∷ []),
       λ free. with_byte byte front adds.0 (no_escape_at line at d free lt) (adds.2 free),

@@ -51,7 +51,11 @@ impl Shape {
             return Ink::Plain;
         }
         let (from, to, ink) = self.coloured(byte);
-        if from <= at && at < to { ink } else { Ink::Plain }
+        if from <= at && at < to {
+            ink
+        } else {
+            Ink::Plain
+        }
     }
 
     /// From which byte on up to which one a line of this shape has a colour, and which one a byte of these has.
@@ -68,7 +72,11 @@ impl Shape {
 
 /// What a lane's mark is written in.
 fn mark_ink(byte: u8) -> Ink {
-    if byte == b'#' { Ink::Active } else { Ink::Waiting }
+    if byte == b'#' {
+        Ink::Active
+    } else {
+        Ink::Waiting
+    }
 }
 
 /// Whether a line has nothing but a mark behind blanks.

@@ -25,8 +25,7 @@ pub struct Pages {
 
 impl Pages {
     /// Pages of so many lines, of which the last is that of the terminal's question; of 0, no list waits.
-    pub fn new(height: u32) -> Self
-    {
+    pub fn new(height: u32) -> Self {
         Pages {
             height: if height == 1 { 2 } else { height },
             shown: 0,

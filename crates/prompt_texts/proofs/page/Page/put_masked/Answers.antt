@@ -15,12 +15,11 @@ loop-at-preserved g c =
     let new = c.put.new.self in
     let on : at + 1 ≡ suc at = omega arith in
     let byte = c.shown_byte.ensures ∙ ap (λ b. shown_byte b (get_or text at 0)) c.loop-at.invariant.0 ∙ sym (masked_at text at c.loop-at-test.true) in
-    let one = subst (λ b. Puts (b ∷ []) middle.has_failed new.has_failed (written middle.writer) (written new.writer)) byte c.put.ensures in
-    (
+    let one = subst (λ b. Puts (b ∷ []) middle.has_failed new.has_failed (written middle.writer) (written new.writer)) byte c.put.ensures in (
       sym (ap (λ n. get_or (0 ∷ text) n 0) on),
       subst (λ t. Puts t old.has_failed new.has_failed (written old.writer) (written new.writer))
-      (sym (take_more (masked text) at 0 (omega (arith, length-masked text, c.loop-at-test.true))))
-      (puts_both _ _ _ _ _ _ _ _ c.loop-at.invariant.1 one),
+          (sym (take_more (masked text) at 0 (omega (arith, length-masked text, c.loop-at-test.true))))
+          (puts_both _ _ _ _ _ _ _ _ c.loop-at.invariant.1 one),
     )
 
 pub returns : goal.returns
