@@ -1,6 +1,7 @@
 -- The lanes for which a frame computes an expression, and the answer.
 use Rattle.std.specs.Prelude.{◌≡◌, ℕ, suc, nat_lt, List, [], ◌∷◌, length, take, Result, Ok, Err, if◌then◌else◌}
 use Rattle.gang_types.specs.Lanes.{Lanes}
+use Rattle.gang_types.specs.Masks.{IsGangWidth, lanes_of}
 use Rattle.gang_model.specs.Running.Lanes.{Fault as ModelFault}
 use Rattle.gang_model.specs.Running.State.{Frame, State}
 use Rattle.gang_model.specs.Debugger.Positions.{lanes_now}
@@ -18,7 +19,12 @@ called_lanes (frame ∷ frames) = frame.lanes
 abbrev pub lanes_at : (depth : ℕ) → State → Lanes
 lanes_at deep state = if nat_lt deep (length state.frames) then called_lanes (frames_at (suc deep) state.frames) else lanes_now state
 
--- the answer has the words of the value, or its fault
-abbrev pub IsValue : Result LaneWords Fault → Result (List ℕ) ModelFault → Type 0
-IsValue (Ok found) meant = meant ≡ Ok (take found.width found.words)
-IsValue (Err fault) meant = meant ≡ Err (fault_view fault)
+-- the words are those of a gang for these lanes
+pub record AreFor (lanes : Lanes) (found : LaneWords) : Type 0 where
+  pub gang : IsGangWidth found.width
+  pub lanes_are : lanes_of found.width found.lanes ≡ lanes
+
+-- the answer has the words of the value for these lanes, or its fault
+abbrev pub IsValue : Result LaneWords Fault → Lanes → Result (List ℕ) ModelFault → Type 0
+IsValue (Ok found) lanes meant = AreFor lanes found × (meant ≡ Ok (take found.width found.words))
+IsValue (Err fault) lanes meant = meant ≡ Err (fault_view fault)

@@ -6,24 +6,35 @@ ghost use Rattle.gang_types.specs.declared.types.Rate.{Rate};
 ghost use Rattle.gang_model.specs.Source.Parsed.{ParsedExpr};
 ghost use Rattle.gang_model.specs.Running.Value.{value};
 ghost use Rattle.gang_model.specs.Debugger.Debugger.{Debugger, Setting, now};
-ghost use Rattle.typed_tree.specs.Views.{expr_view};
+ghost use Rattle.typed_tree.specs.Views.{expr_view, program_view};
 ghost use Rattle.debug_traits.specs.Frames.{spot_at, state_at};
 ghost use Rattle.frame_expressions.specs.Lanes.{IsValue, lanes_at};
 ghost use Rattle.frame_expressions.specs.Meanings.{Means, entries_at};
 
 use debug_traits::{Fault, FramedMachine};
 use expression_instructions::Instruction;
+use gang_types::{Mask, Spot};
+use typed_tree::Program;
 
-/// The words of a value: one for each lane of the gang, which has so many, and 0 in the lanes that do not evaluate it.
+/// The words of a value: one for each lane of the gang, which has so many, with the lanes that evaluate it, and 0 in the others.
 #[derive(Clone, Copy, Debug, PartialEq, Eq)]
 pub struct LaneWords {
     pub words: [u64; 16],
     pub width: usize,
+    pub lanes: Mask,
 }
 
 /// A machine that computes expressions where its frames stand. A frame is named by its depth, as in [`FramedMachine`]. Nothing is
 /// changed or recorded, and no memory is taken.
 pub trait ExpressionMachine: FramedMachine {
+    /// The program that it runs.
+    fn program(&self) -> &Program
+        ensures { (s : Setting) (d : Debugger) → Self.stands self.now s d → s.program ≡ program_view result.now };
+
+    /// The step at which the frame at a depth stands, unless no frame is left or the depth is 0.
+    fn spot(&self, depth: usize) -> Option<Spot>
+        ensures { (s : Setting) (d : Debugger) → Self.stands self.now s d → result ≡ spot_at s.program depth (now s d) };
+
     /// The value of the expression that the code computes, where the frame at a depth stands, for the lanes that this frame shows.
     ///
     /// # Errors
@@ -32,5 +43,5 @@ pub trait ExpressionMachine: FramedMachine {
     fn evaluate(&self, depth: usize, code: &[Instruction]) -> Result<LaneWords, Fault>
         ensures { (s : Setting) (d : Debugger) (spot : Spot) (written : ParsedExpr) (type : IntType) (rate : Rate) → Self.stands self.now s d
             → spot_at s.program depth (now s d) ≡ Some spot → (means : Means written (entries_at s.program spot) type rate code.now)
-            → IsValue result (value (expr_view means.tree) (lanes_at depth (now s d)) (state_at depth (now s d))) };
+            → IsValue result (lanes_at depth (now s d)) (value (expr_view means.tree) (lanes_at depth (now s d)) (state_at depth (now s d))) };
 }

@@ -2,7 +2,11 @@ pub mod Agreeing
 pub mod Beginnings
 mod BegunAgain
 pub mod EntryArrays
+mod Evaluating
 pub mod Finding
+mod FrameLanes
+mod FrameNames
+mod FrameValues
 pub mod FrameViews
 pub mod HeadSizes
 pub mod Keeping

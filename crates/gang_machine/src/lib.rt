@@ -2,6 +2,7 @@
 #![tactic(auto)]
 
 mod again;
+mod expressions;
 mod frames;
 mod machine;
 mod mover;
