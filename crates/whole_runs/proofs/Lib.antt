@@ -1,0 +1,7 @@
+pub mod Counts
+pub mod DoneAgain
+pub mod NoWords
+pub mod Places
+pub mod SeenSame
+pub mod TakenBack
+pub mod WholeLaws

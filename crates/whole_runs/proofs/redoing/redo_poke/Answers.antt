@@ -1,0 +1,12 @@
+use Rattle.whole_runs.proofs.DoneAgain.{pokes_at}
+use Rattle.whole_runs.proofs.redoing.redo_poke.Goals as goal
+
+pub returns-clause-redone : goal.returns-clause-redone
+returns-clause-redone g c s d older there can =
+    pokes_at g.M.RecordedMachine.stands s d _ c.poke.new.self older c.args.note.now c.poke.result (λ e. g.met.M.PokesSurely.pokes_surely (c.poke.ensures.memory e)) can there c.poke.ensures.poke
+
+pub returns-clause-copies : goal.returns-clause-copies
+returns-clause-copies g c = (
+  λ words h. g.met.M.BeginsAgain.can_have_so _ _ words c.poke.ensures.run h,
+  λ words s d h. g.met.M.BeginsAgain.copies_so _ _ words s d c.poke.ensures.run h,
+)

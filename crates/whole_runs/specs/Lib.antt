@@ -1,0 +1,5 @@
+pub mod Copies
+pub mod Histories
+pub mod Notes
+pub mod NotesViews
+pub mod Runs

@@ -1,0 +1,15 @@
+//! A machine whose whole run can be taken back.
+#![tactic(auto)]
+
+mod copies;
+mod copies_over;
+mod framed;
+mod machine;
+mod notes;
+mod redoing;
+mod whole_run;
+
+pub use copies::{Copies, CopiedMoment, CopyPlan};
+pub use copies_over::CopiesOver;
+pub use notes::{NotedPoke, Notes};
+pub use whole_run::{WHOLE_RUN, WholeRun};
