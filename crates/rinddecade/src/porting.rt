@@ -1,12 +1,11 @@
 //! A source for Intel's compiler, rewritten as one of the language: to a file or to standard output.
 use crate::files::{read_file, reason};
-use crate::marking::{put_marked, put_masked};
 use crate::refusing::{Texts, refuse, refuse_because, refuse_file, write_fault};
 use debug_streams::StreamWriter;
 use desk_options::Ported;
 use ispc_refusals::Refusal;
 use ispc_script::MOST_BYTES;
-use prompt_texts::Page;
+use prompt_texts::{Page, put_marked};
 use source_port::{PortRefusal, Refused, place_of, port};
 use std::fs;
 use std::io::Write;
@@ -34,7 +33,7 @@ fn tell_refused(rt: &HostRuntime, texts: Texts<'_>, refused: Refused) {
     let source = texts.source;
     let place = place_of(source.text, refused.at.min(source.text.len()));
     let mut page = Page::new(StreamWriter::new(rt.stderr()));
-    put_masked(source.name, &mut page);
+    page.put_masked(source.name);
     page.put(b":");
     page.put_number(place.line as i128);
     page.put(b":");
