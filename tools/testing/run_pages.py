@@ -17,10 +17,12 @@ from .tried import Run
 MOST_ELEMENTS = 1024
 WIDTHS = (4, 8, 16)
 
+STORED = "state_machine"
+
 # How many steps of a kernel are compared.
 MOST_OF_KERNEL = 600
 
-KERNELS = ("mandelbrot", "quicksort", "queens", "levenshtein")
+KERNELS = ("mandelbrot", "quicksort", "queens", "levenshtein", "radix_sort")
 
 # A source whose text would end the record, or be read as HTML, were it not escaped; with bytes that are no text.
 HOSTILE = b"""uniform int64 big;
@@ -43,12 +45,17 @@ int twice(int x) {
     int y = x + x;
     return y;
 }
+int plus(int s) {
+    int sum = s + 7;
+    return sum;
+}
 export void go() {
     fill(4, &a[3]);
     fill(2, a);
     int t = twice(programIndex);
     bool odd = t == 2;
     int z = twice(t);
+    int w = plus(z);
     {
         int z = 5;
         z++;
@@ -182,6 +189,13 @@ def is_whole_page(root):
 
 # ---- runs
 
+def stored(root):
+    """The page of an example that README.md and docs/PAGE.md show."""
+    words = ["page", f"examples/{STORED}.ispc", "--input", f"examples/{STORED}.input"]
+    data = {it: root / it for it in (words[1], words[3])}
+    return Run(f"stored page of {STORED}", b"", words, (root / f"examples/{STORED}.html").read_bytes(), b"", data=data)
+
+
 def run_of(name, source, words=(), options=None, data=None, first=1, most=100_000):
     options = {"width": 4} | (options or {})
     said = ["page", f"{name}.ispc", *words, "--width", str(options["width"])]
@@ -217,7 +231,7 @@ def kernel_runs(root):
         options = {"rows": meant.rows_of(given.decode())}
         words = ["--input", f"{name}.input"]
         source = (folder / f"{name}.ispc").read_bytes()
-        for first in (1, 500):
+        for first in (1, 100):
             made.append(run_of(name, source, words, options, {f"{name}.input": given}, first, MOST_OF_KERNEL))
     return made
 
@@ -227,4 +241,4 @@ def runs(root):
     own = [run_of(name, text, options={"width": width}) for name, text in (("hostile", HOSTILE), ("calls", CALLS)) for width in WIDTHS]
     cut = [run_of("calls", CALLS, first=first, most=most) for first, most in ((1, 1), (3, 5), (12, 100))]
     late = Run("page from behind the end", b"", ["page", "calls.ispc", "--from", "50"], b"", None, 2, {"calls.ispc": CALLS.encode()})
-    return [*example_runs(root), *kernel_runs(root), *own, *cut, hostile, late]
+    return [stored(root), *example_runs(root), *kernel_runs(root), *own, *cut, hostile, late]

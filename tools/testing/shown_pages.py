@@ -213,9 +213,9 @@ def results(root, program, browser, folder):
     for run in run_pages.example_runs(root) + run_pages.kernel_runs(root):
         name = run.arguments[1].removesuffix(".ispc")
         data = {it: (text.read_bytes() if isinstance(text, pathlib.Path) else text) for it, text in run.data.items()}
-        file = written(program, folder, name, data[f"{name}.ispc"], run.arguments[2:], data)
         if "--from" in run.arguments:
             continue
+        file = written(program, folder, name, data[f"{name}.ispc"], run.arguments[2:], data)
         wanted = run_pages.wanted_of(data[f"{name}.ispc"].decode(errors="replace"), *run.wanted)[0]
         why = why_not_shown(browser, file, wanted)
         yield Result(f"{run.name}, in a browser", not why, why)

@@ -23,7 +23,7 @@ fn front_0() -> &'static [u8] {
 <meta name=\"generator\" content=\"rinddecade page\">
 <meta name=\"viewport\" content=\"width=device-width, initial-scale=1\">
 <meta http-equiv=\"Content-Security-Policy\"
- content=\"default-src 'none'; script-src 'sha256-eDJoMIcLvlwej0UpHonoF9DDrZXhuO4Fz+UxUoNk24o='; style-src 'sha256-jp8JAFu05GqX5HjVlJS33YVp0BkPdOMHWy9E6QMQYTQ='; base-uri 'none'; form-action 'none'\">
+ content=\"default-src 'none'; script-src 'sha256-24FznhDB/Bri9KmZK+jk8qX8NyX1DuFdNEhPjt35pck='; style-src 'sha256-jCod5upd30hZuPLjvQdF7IH6/PSUC95nivZkK/ksdTs='; base-uri 'none'; form-action 'none'\">
 <title>A run, step by step</title>
 <style>
 :root {
@@ -84,9 +84,9 @@ fn front_1() -> &'static [u8] {
 .lane-4 { --own: var(--lane-4) } .lane-5 { --own: var(--lane-5) } .lane-6 { --own: var(--lane-6) } .lane-7 { --own: var(--lane-7) }
 #values { overflow: auto; padding: .3em .9em }
 table { border-collapse: collapse; font-size: 12.5px; margin-bottom: .8em }
-caption { text-align: left; font: 12px system-ui, sans-serif; color: var(--faint) }
+caption { text-align: left; white-space: nowrap; font: 12px system-ui, sans-serif; color: var(--faint) }
 th, td { padding: 0 .5em; text-align: right; font-weight: normal; border-radius: 3px }
-tbody th { text-align: left; font-weight: 600 } tbody th small { font-weight: normal; color: var(--faint) }
+tbody th { text-align: left; font-weight: 600; white-space: nowrap } tbody th small { font-weight: normal; color: var(--faint) }
 thead th { border-bottom: 3px solid var(--own, transparent) }
 thead th.second { border-bottom-style: double }
 td { cursor: pointer } td:hover { outline: 1px solid var(--pick) }

@@ -373,6 +373,7 @@ function build_tables(there, values, moment) {
     cells.push([variable, new_rows(tables.get(key).tBodies[0], variable, values[variable].length)]);
   }
   $(\"values\").replaceChildren(...tables.values());
+  $(\"values\").scrollTop = 0;
 "
 }
 

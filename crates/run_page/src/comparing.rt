@@ -14,9 +14,10 @@ pub(crate) fn note_changes(
 ) -> Result<(), AllocError> {
     note_gone(before, now, changes)?;
     for (index, row) in now.rows.iter().enumerate() {
-        let old = before.words_of(row.variable, index).unwrap_or(&[]);
-        let new = now.words_at(row).unwrap_or(&[]);
-        note_words(row.variable, old, new, changes)?;
+        let variable = row.variable;
+        let old = before.words_of(variable, index);
+        let new = now.words_at(row);
+        note_words(variable, old, new, changes)?;
     }
     Ok(())
 }
@@ -36,11 +37,12 @@ fn note_gone(before: &View, now: &View, changes: &mut Vec<Change>) -> Result<(),
 /// Notes the words of a variable that are new.
 fn note_words(
     variable: usize,
-    old: &[u64],
-    new: &[u64],
+    old: Option<&[u64]>,
+    new: Option<&[u64]>,
     changes: &mut Vec<Change>,
 ) -> Result<(), AllocError> {
-    for (part, word) in new.iter().enumerate() {
+    let old = old.unwrap_or(&[]);
+    for (part, word) in new.unwrap_or(&[]).iter().enumerate() {
         if old.get(part) != Some(word) {
             changes.push(Change::Word {
                 variable,

@@ -66,28 +66,28 @@ fn note_moment<M: FramedMachine>(
     machine: &M,
     most_words: usize,
     told: &mut Told,
-    record: &mut Record,
+    noted: &mut Record,
 ) -> Result<(), AllocError>
-    ensures { IfOk result (λ _. NotesMoment M.stands machine.now record.old.moments.items record.new.moments.items) }
+    ensures { IfOk result (λ _. NotesMoment M.stands machine.now noted.old.moments.items noted.new.moments.items) }
 {
     let position = machine.position();
-    let stand = stand_of(position, &mut record.variables)?;
-    record.width = position.map_or(record.width, |position| position.width);
-    let calls = read_calls(alloc, machine, stand, &mut record.variables)?;
-    let view = read_view(alloc, machine, most_words, &mut record.variables)?;
+    let stand = stand_of(position, &mut noted.variables)?;
+    noted.width = position.map_or(noted.width, |position| position.width);
+    let calls = read_calls(alloc, machine, stand, &mut noted.variables)?;
+    let view = read_view(alloc, machine, most_words, &mut noted.variables)?;
     let kept_calls = common_front(told.calls.as_slice(), calls.as_slice());
-    let first_call = record.calls.len();
+    let first_call = noted.calls.len();
     let new_calls = calls.get(kept_calls..).unwrap_or(&[]);
-    record.calls.extend_from_slice(new_calls)?;
-    let first_change = record.changes.len();
-    note_changes(&told.view, &view, &mut record.changes)?;
-    record.moments.push(Moment {
+    noted.calls.extend_from_slice(new_calls)?;
+    let first_change = noted.changes.len();
+    note_changes(&told.view, &view, &mut noted.changes)?;
+    noted.moments.push(Moment {
         stand,
         kept_calls,
         first_call,
-        end_of_calls: record.calls.len(),
+        end_of_calls: noted.calls.len(),
         first_change,
-        end_of_changes: record.changes.len(),
+        end_of_changes: noted.changes.len(),
     })?;
     told.calls = calls;
     told.view = view;
@@ -135,9 +135,10 @@ fn read_calls<M: FramedMachine>(
 
 /// How many calls two lists have in common at their fronts.
 fn common_front(left: &[Call], right: &[Call]) -> usize {
-    let mut count = 0;
-    while count < left.len() && count < right.len() && left[count] == right[count] {
-        count += 1;
+    for (index, call) in left.iter().enumerate() {
+        if right.get(index) != Some(call) {
+            return index;
+        }
     }
-    count
+    left.len()
 }

@@ -1,4 +1,6 @@
 //! What is read of a machine at a moment.
+ghost use Rattle.std.specs.Prelude.{◌≡◌};
+
 use crate::variables::Variables;
 use crate::views::{Row, View};
 use debug_traits::{FramedMachine, NamedVariable, NextLocal};
@@ -106,11 +108,15 @@ fn read_row<M: FramedMachine>(
 }
 
 /// The place from which on the variables after this one are.
-fn place_after(local: NextLocal<'_>) -> usize {
+fn place_after(local: NextLocal<'_>) -> usize
+    ensures { result ≡ local.entry.next }
+{
     local.next
 }
 
 /// The variable, without the place behind it.
-fn variable_here(local: NextLocal<'_>) -> NamedVariable<'_> {
+fn variable_here(local: NextLocal<'_>) -> NamedVariable<'_>
+    ensures { result ≡ local.entry.variable }
+{
     local.variable
 }

@@ -45,19 +45,13 @@ impl Variables {
         named: NamedVariable<'_>,
         guess: usize,
     ) -> Result<usize, AllocError> {
-        if self
-            .variables
-            .get(guess)
-            .is_some_and(|it| is_same(it, depth, named.shown))
-        {
+        if self.is_same(guess, depth, named) {
             return Ok(guess);
         }
-        let found = self
-            .variables
-            .iter()
-            .position(|it| is_same(it, depth, named.shown));
-        if let Some(number) = found {
-            return Ok(number);
+        for number in 0..self.variables.len() {
+            if self.is_same(number, depth, named) {
+                return Ok(number);
+            }
         }
         let name = self.add_name(named.name)?;
         self.variables.push(Variable {
@@ -66,6 +60,16 @@ impl Variables {
             name,
         })?;
         Ok(self.variables.len().saturating_sub(1))
+    }
+
+    /// Whether a number is that of a variable of the frame at a depth. Two functions may have variables that differ by name alone.
+    fn is_same(&self, number: usize, depth: usize, named: NamedVariable<'_>) -> bool {
+        match self.variables.get(number) {
+            Some(it) => {
+                it.depth == depth && it.shown == named.shown && self.text(it.name) == named.name
+            }
+            None => false,
+        }
     }
 
     /// The number of a function, which is looked for at one place first.
@@ -125,9 +129,4 @@ impl Variables {
             end_of_bytes: self.bytes.len(),
         })
     }
-}
-
-/// Whether a variable is the one of a depth that is shown so.
-fn is_same(variable: &Variable, depth: usize, shown: Shown) -> bool {
-    variable.depth == depth && variable.shown == shown
 }
