@@ -1,8 +1,8 @@
-"""The program that people and editors sit at, where things fail: in a page, a picture, lines at the prompt and an editor's messages.
+"""The program that people and editors sit at, where things fail: in a page, a picture, a ported source, lines at the prompt and an editor's messages.
 
-Each allocation is refused in turn. A page and a picture are written whole or not at all. At the prompt the lines before are answered, and an
-editor is sent whole messages, a front of them or others behind a request that is refused. Each ends with `memory`, or goes on where a file is
-read in smaller pieces. And the devices fail after each byte.
+Each allocation is refused in turn. A page, a picture and a ported source are written whole or not at all. At the prompt the lines before are
+answered, and an editor is sent whole messages, a front of them or others behind a request that is refused. Each ends with `memory`, or goes on
+where a file is read in smaller pieces. And the devices fail after each byte.
 """
 
 import json
@@ -14,6 +14,11 @@ CRATE = "rinddecade"
 # So many allocations a run does without: where a file is read in smaller pieces, or a list asks first for more than it needs.
 PIECES = 5
 NAME = "lanes.ispc"
+PORTED = b"""#define N 2
+enum { A, B };
+int f(int x) { return x; }
+export void go() { int i = N, j = f(f(i)); uniform int a[B + 1] = { A }; i = j++ > 0 && f(i) > 1; }
+"""
 LINES = b"step\nprint x\nbreak 5\ncontinue\nreverse-step\nundo\ninfo locals\nbacktrace\nhelp step\n"
 GROWTH = b"set record full insn-number-max 6\n"
 GROWN = b"up to 6 steps and changes can be taken back\n"
@@ -92,6 +97,7 @@ def runs(root):
     return [
         (Run("a page", b"", ["explain", "C12"]), whole_or_nothing, [Case.writes]),
         (Run("a picture", b"", ["picture", NAME, "--watch", "x"], data=data), whole_or_nothing, [Case.writes]),
+        (Run("a ported source", b"", ["port", "go.ispc"], data={"go.ispc": PORTED}), whole_or_nothing, [Case.writes]),
         (Run("lines at the prompt", LINES + GROWTH, ["debug", NAME, "--history", "2"], data=data), front_of_answers, [*DEVICES_OF_RUNS]),
         (Run("an editor", framed(REQUESTS), ["adapter"], data=data), messages, [Case.writes, frames_read, Case.single_bytes]),
     ]

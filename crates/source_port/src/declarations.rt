@@ -50,11 +50,11 @@ impl Draft {
             let rest = Span { start, end };
             let stop = self.find_one(rest, b",").unwrap_or(end);
             self.declarator(first, spec, Span { start, end: stop })?;
-            first = self.indent;
             if stop >= end {
                 break;
             }
             start = stop.saturating_add(1);
+            first = self.further(start);
         }
         Ok(end.saturating_add(1))
     }
@@ -89,12 +89,11 @@ impl Draft {
                 let value = self.value(right, true)?;
                 line.extend_from_slice(value.as_slice())?;
             }
-            let at = self.place(part.start);
-            let end = self.mark(b";", at)?;
+            let end = self.ending(part.end)?;
             line.push(end)?;
             self.finish(first, line.as_slice())?;
         }
-        let value = self.constant_value(spec, sign, right);
+        let value = self.constant_value(spec, sign, right)?;
         let name = self.token(part.start).text;
         self.declare(Known {
             value,
@@ -145,22 +144,31 @@ impl Draft {
     }
 
     /// The value of a constant that is no narrower than 32 bits, if it is read.
-    pub(crate) fn constant_value(&self, spec: Spec, sign: usize, right: Span) -> Option<i64> {
+    pub(crate) fn constant_value(
+        &self,
+        spec: Spec,
+        sign: usize,
+        right: Span,
+    ) -> Result<Option<i64>, PortRefusal> {
         let narrow: [&[u8]; 5] = [b"int8", b"int16", b"uint8", b"uint16", b"bool"];
         let is_narrow = narrow.iter().any(|word| self.body_has(spec.body, word));
         if !spec.is_constant || is_narrow || !self.is(sign, b"=") || right.start >= right.end {
-            return None;
+            return Ok(None);
         }
-        let value = self.constant(right).ok()?;
+        let value = match self.constant(right) {
+            Ok(value) => value,
+            Err(PortRefusal::Memory) => return Err(PortRefusal::Memory),
+            Err(PortRefusal::Source(_)) => return Ok(None),
+        };
         let is_unsigned = self.body_has(spec.body, b"unsigned")
             || self.body_has(spec.body, b"uint")
             || self.body_has(spec.body, b"uint32")
             || self.body_has(spec.body, b"uint64");
-        if is_unsigned && value < 0 {
+        Ok(if is_unsigned && value < 0 {
             None
         } else {
             Some(value)
-        }
+        })
     }
 
     /// Declares a variable of the file for one that is static.

@@ -281,6 +281,9 @@ impl Draft {
         for _ in open..close {
             let rest = Span { start, end: close };
             let end = self.find_one(rest, b",").unwrap_or(close);
+            if self.is(start, b"&") && !self.is_held_call(at) {
+                return Err(self.refuse(start, Reason::Pointer));
+            }
             let argument = self.argument(Span { start, end }, depth - 1)?;
             written.extend_from_slice(argument.as_slice())?;
             if end >= close {

@@ -173,11 +173,11 @@ impl Draft {
             let rest = Span { start, end };
             let stop = self.find_one(rest, b",").unwrap_or(end);
             self.variable(before, spec, Span { start, end: stop })?;
-            before = self.indent;
             if stop >= end {
                 break;
             }
             start = stop.saturating_add(1);
+            before = self.further(start);
         }
         Ok(end.saturating_add(1))
     }
@@ -204,11 +204,10 @@ impl Draft {
             let value = self.folded(right)?;
             line.extend_from_slice(value.as_slice())?;
         }
-        let at = self.place(part.start);
-        let end = self.mark(b";", at)?;
+        let end = self.ending(part.end)?;
         line.push(end)?;
         self.write(first, line.as_slice())?;
-        let value = self.constant_value(spec, sign, right);
+        let value = self.constant_value(spec, sign, right)?;
         let name = self.token(part.start).text;
         self.declare(Known {
             value,
@@ -248,7 +247,7 @@ impl Draft {
             self.array_line(spec, name, form.elements, form.shape)?
         };
         self.write(first, line.as_slice())?;
-        let end = self.mark(b";", name.at)?;
+        let end = self.ending(part.end)?;
         self.written.push(end)?;
         self.declare(Known {
             shape: form.shape,

@@ -72,9 +72,9 @@ impl Draft {
     /// Whether a function of the source has this name.
     pub(crate) fn is_function(&self, at: usize) -> bool {
         let text = self.text(at);
-        self.functions
-            .iter()
-            .any(|function| self.pool.text(function.name) == text)
+        self.functions.iter().any(|function| {
+            function.statements != NONE && self.pool.text(function.name) == text
+        })
     }
 
     /// What the functions of this name give.

@@ -9,6 +9,7 @@ mod effects;
 mod enumerations;
 mod expressions;
 mod file;
+mod for_heads;
 mod functions;
 mod heads;
 mod lines;

@@ -33,6 +33,17 @@ impl Draft {
         }
     }
 
+    /// The blanks before a statement of the body that begins there.
+    pub(crate) fn inner_indent(&self, body: usize) -> Span {
+        let first = if self.is(body, b"{") {
+            body.saturating_add(1)
+        } else {
+            body
+        };
+        let found = self.line_start(self.token(first).before);
+        if found == self.blank { self.indent } else { found }
+    }
+
     /// Writes a statement behind what comes before it, and in front of what comes behind it.
     pub(crate) fn finish(&mut self, first: Span, line: &[Token]) -> Result<(), PortRefusal> {
         let before = std::mem::replace(&mut self.before, Vec::new(self.alloc));
@@ -75,6 +86,26 @@ impl Draft {
     pub(crate) fn leave_out(&mut self, at: usize) -> Result<(), PortRefusal> {
         let before = self.token(at).before;
         self.write_left(before)
+    }
+
+    /// A `;` in the place of the mark there.
+    pub(crate) fn ending(&mut self, at: usize) -> Result<Token, PortRefusal> {
+        let text = self.pool.add(b";")?;
+        Ok(Token {
+            text,
+            kind: Kind::Mark,
+            ..self.token(at)
+        })
+    }
+
+    /// The blanks before a further statement or name, which stands there: those of its line, or its own with their comments.
+    pub(crate) fn further(&self, at: usize) -> Span {
+        let before = self.token(at).before;
+        if self.has_comment(before) {
+            before
+        } else {
+            self.indent
+        }
     }
 
     /// Writes the comments before what is left out, if there are some.

@@ -2,7 +2,7 @@
 use crate::names::Known;
 use crate::porting::Draft;
 use crate::refusals::{PortRefusal, Reason};
-use crate::tokens::{Kind, NONE, Span, Token};
+use crate::tokens::{Kind, Span, Token};
 
 impl Draft {
     /// Reads the statement that begins there, and says where what is next stands.
@@ -126,8 +126,9 @@ impl Draft {
         }
         let first = self.begin(at);
         let inside = self.head_of(at)?;
-        let test = self.head_value(inside)?;
         let close = inside.end.saturating_add(1);
+        self.indent = self.inner_indent(close);
+        let test = self.head_value(inside)?;
         if self.before.is_empty() {
             let line = self.head_line(at, inside, test.as_slice())?;
             self.finish(first, line.as_slice())?;
@@ -156,6 +157,7 @@ impl Draft {
             return Err(self.refuse(next, Reason::Statement));
         }
         self.indent = indent;
+        self.indent = self.inner_indent(at.saturating_add(1));
         let inside = self.head_of(next)?;
         let test = self.head_value(inside)?;
         let end = inside.end.saturating_add(1);
@@ -190,57 +192,17 @@ impl Draft {
         if depth == 0 {
             return Err(self.refuse(at, Reason::TooDeep));
         }
-        let first = self.begin(at);
-        let indent = self.indent;
         let names = self.names.len();
-        let inside = self.head_of(at)?;
-        let (start, second) = self.read_start(inside)?;
-        let is_declared = start.is_outside && self.is_spec(inside.start);
-        if is_declared {
-            let open = self.made(b"{", Kind::Mark, 0)?;
-            self.write(first, &[open])?;
-            self.write(indent, start.line.as_slice())?;
-        } else if start.is_outside {
-            self.write(first, start.line.as_slice())?;
-            self.statements = self.statements.saturating_add(1);
+        let head = self.read_for_head(at)?;
+        let start = self.written.len();
+        let back = head.back.as_slice();
+        let next = self.read_body(head.body, head.front.as_slice(), back, depth - 1)?;
+        if !head.back.is_empty() && self.has_continue(start) {
+            return Err(self.refuse(head.step, Reason::StepAndContinue));
         }
-        self.indent = indent;
-        let before = if start.is_outside { indent } else { first };
-        let third = self.end_of(second)?;
-        let test = self.head_value(Span {
-            start: second,
-            end: third,
-        })?;
-        let front = if self.before.is_empty() {
-            Vec::new(self.alloc)
-        } else {
-            self.leaving(test.as_slice(), second)?
-        };
-        let step = self.read_step(third.saturating_add(1), inside.end)?;
-        let mut line = self.for_head(at, inside.start, &start)?;
-        if front.is_empty() {
-            line.extend_from_slice(test.as_slice())?;
-        }
-        line.push(self.token(third))?;
-        if !step.is_outside {
-            line.extend_from_slice(step.line.as_slice())?;
-        }
-        line.push(self.token(inside.end))?;
-        self.finish(before, line.as_slice())?;
-        let body = self.written.len();
-        let back = if step.is_outside {
-            step.line
-        } else {
-            Vec::new(self.alloc)
-        };
-        let close = inside.end.saturating_add(1);
-        let next = self.read_body(close, front.as_slice(), back.as_slice(), depth - 1)?;
-        if !back.is_empty() && self.has_continue(body) {
-            return Err(self.refuse(third.saturating_add(1), Reason::StepAndContinue));
-        }
-        if is_declared {
+        if head.is_enclosed {
             let close = self.made(b"}", Kind::Mark, 0)?;
-            self.write(indent, &[close])?;
+            self.write(head.indent, &[close])?;
         }
         self.names.truncate(names);
         Ok(next)
@@ -399,138 +361,5 @@ impl Draft {
             is_name = is_range && self.is(index, b",");
         }
         Ok(())
-    }
-}
-
-/// A part of the head of a `for` as it is written: in the head, or outside of it.
-#[derive(Drop)]
-pub(crate) struct Part {
-    pub(crate) line: Vec<Token>,
-    pub(crate) is_outside: bool,
-}
-
-impl Draft {
-    /// Reads the first part of a `for`, and says where the second begins. It stays in the head if it is one statement.
-    fn read_start(&mut self, inside: Span) -> Result<(Part, usize), PortRefusal> {
-        let (written, count) = (self.take_written()?, self.statements);
-        self.statements = 0;
-        let next = if self.is(inside.start, b";") {
-            self.copy(inside.start)?;
-            self.statements = 1;
-            inside.start.saturating_add(1)
-        } else if self.is_spec(inside.start) {
-            self.declaration(inside.start)?
-        } else if self.is_foreign_type(inside.start) {
-            return Err(self.refuse(inside.start, Reason::Type));
-        } else {
-            self.simple(inside.start)?
-        };
-        let line = std::mem::replace(&mut self.written, written);
-        let is_outside = self.statements != 1;
-        self.statements = count;
-        Ok((Part { line, is_outside }, next))
-    }
-
-    /// Reads the third part of a `for`.
-    fn read_step(&mut self, start: usize, end: usize) -> Result<Part, PortRefusal> {
-        let (written, count) = (self.take_written()?, self.statements);
-        self.statements = 0;
-        let indent = self.indent;
-        if start < end {
-            self.simple_parts(indent, Span { start, end })?;
-        }
-        let mut line = std::mem::replace(&mut self.written, written);
-        let is_outside = self.statements > 1;
-        self.statements = count;
-        if !is_outside {
-            let _ = line.pop();
-            let before = self.token(start).before;
-            if let Some(token) = line.get_mut(0) {
-                *token = Token { before, ..*token };
-            }
-        }
-        Ok(Part { line, is_outside })
-    }
-
-    /// What is written so far; what comes is written anew.
-    fn take_written(&mut self) -> Result<Vec<Token>, PortRefusal> {
-        Ok(std::mem::replace(&mut self.written, Vec::new(self.alloc)))
-    }
-
-    /// The front of a `for`, with its first part unless that is outside.
-    fn for_head(&self, at: usize, start: usize, part: &Part) -> Result<Vec<Token>, PortRefusal> {
-        let open = start.saturating_sub(1);
-        let mut line = self.list(&[self.token(at), self.token(open)])?;
-        if part.is_outside {
-            line.push(Token {
-                before: NONE,
-                ..self.token(self.end_of(start)?)
-            })?;
-        } else {
-            line.extend_from_slice(part.line.as_slice())?;
-        }
-        Ok(line)
-    }
-
-    /// The ranges of a `foreach`.
-    fn dimensions(&mut self, inside: Span) -> Result<Vec<Token>, PortRefusal> {
-        let mut line = Vec::new(self.alloc);
-        let mut start = inside.start;
-        for _ in inside.start..inside.end {
-            let rest = Span {
-                start,
-                end: inside.end,
-            };
-            let end = self.find_one(rest, b",").unwrap_or(inside.end);
-            self.dimension(Span { start, end }, &mut line)?;
-            if end >= inside.end {
-                break;
-            }
-            line.push(self.token(end))?;
-            start = end.saturating_add(1);
-        }
-        Ok(line)
-    }
-
-    fn dimension(&mut self, part: Span, line: &mut Vec<Token>) -> Result<(), PortRefusal> {
-        let sign = part.start.saturating_add(1);
-        let Some(dots) = self.find_one(part, b"...") else {
-            return Err(self.refuse(part.start, Reason::Statement));
-        };
-        if !self.is_word(part.start) || !self.is(sign, b"=") {
-            return Err(self.refuse(part.start, Reason::Statement));
-        }
-        line.push(self.token(part.start))?;
-        line.push(self.token(sign))?;
-        let low = self.head_value(Span {
-            start: sign.saturating_add(1),
-            end: dots,
-        })?;
-        line.extend_from_slice(low.as_slice())?;
-        line.push(self.token(dots))?;
-        let high = self.head_value(Span {
-            start: dots.saturating_add(1),
-            end: part.end,
-        })?;
-        line.extend_from_slice(high.as_slice())?;
-        Ok(())
-    }
-
-    /// The name of a loop over lanes, with the value that is unique.
-    fn lanes_of(&mut self, inside: Span) -> Result<Vec<Token>, PortRefusal> {
-        let word = inside.start.saturating_add(1);
-        if !self.is_word(inside.start) || (word < inside.end && !self.is(word, b"in")) {
-            return Err(self.refuse(inside.start, Reason::Statement));
-        }
-        let mut line = self.list(&[self.token(inside.start)])?;
-        if word < inside.end {
-            line.push(self.token(word))?;
-            let value = self.head_value(Span {
-                start: word.saturating_add(1),
-                end: inside.end,
-            })?;
-            line.extend_from_slice(value.as_slice())?;
-        }
-        Ok(line)
     }
 }

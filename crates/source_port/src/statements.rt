@@ -34,11 +34,11 @@ impl Draft {
             };
             let end = self.find_one(rest, b",").unwrap_or(part.end);
             self.simple_part(before, Span { start, end })?;
-            before = self.indent;
             if end >= part.end {
                 break;
             }
             start = end.saturating_add(1);
+            before = self.further(start);
         }
         Ok(())
     }
@@ -54,8 +54,7 @@ impl Draft {
             },
             None => self.change_or_call(part)?,
         };
-        let at = self.place(part.start);
-        let end = self.mark(b";", at)?;
+        let end = self.ending(part.end)?;
         line.push(end)?;
         self.finish(first, line.as_slice())
     }
