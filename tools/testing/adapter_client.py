@@ -11,8 +11,8 @@ import subprocess
 import sys
 import threading
 
-from .adapter_members import CAPABILITIES, EVENTS, MEMBERS, NUMBER, TEXT, THREAD, TRUTH, Wrong, need, need_body, need_members, need_stop, same
-from .adapter_frames import FRAME_CHECKS
+from .adapter_members import EVENTS, MEMBERS, NUMBER, TEXT, THREAD, TRUTH, Wrong, need, need_body, need_capabilities, need_members, need_stop, same
+from .adapter_frames import FRAME_CHECKS, written
 from .adapter_launches import LAUNCH_CHECKS
 from .tried import Result
 
@@ -22,8 +22,17 @@ SECONDS = 60
 
 class Client:
     def __init__(self, command):
-        self.process = subprocess.Popen(command, stdin=subprocess.PIPE, stdout=subprocess.PIPE, stderr=subprocess.PIPE)
+        self.command = command
+        self.start()
+
+    def start(self):
+        self.process = subprocess.Popen(self.command, stdin=subprocess.PIPE, stdout=subprocess.PIPE, stderr=subprocess.PIPE)
         self.sent, self.told, self.events = 0, 0, []
+
+    def again(self):
+        """Ends the adapter, and starts it anew."""
+        self.end()
+        self.start()
 
     # ---- frames
 
@@ -96,7 +105,7 @@ class Client:
         need(message["success"] and "message" not in message, f"{command} is refused: {message}")
         body = message.get("body", {})
         if command == "initialize":
-            need(sorted(body) == CAPABILITIES and all(body.values()), f"the capabilities are {body}")
+            need_capabilities(body)
             return body
         need_body(command, arguments, body)
         return body
@@ -124,6 +133,13 @@ class Client:
     def move(self, command):
         self.ask(command, threadId=1)
         return self.event("stopped")
+
+    def refused_move(self, command, text):
+        """A move that is refused with this text. The editor is told once more that the program stands still, and the stop is given."""
+        same(self.refused(command, threadId=1), text)
+        stop = self.event("stopped")
+        same(stop["text"], text)
+        return stop
 
     def breakpoints(self, *lines):
         body = self.ask("setBreakpoints", source={"path": self.source}, breakpoints=[{"line": it} for it in lines])
@@ -265,10 +281,57 @@ def faults(client, examples):
     """A fault is an exception, and a step before it can be taken back."""
     client.launch(examples / "divide.ispc", entry="go")
     client.begin()
+    same(client.refused("exceptionInfo", threadId=1), "the program stands at no fault")
     stop = client.move("continue")
     same((stop["reason"], stop["text"]), ("exception", "fault F1 DivideByZero lane 1: at 8:5 go depth 1 lanes 1111"))
+    told = client.ask("exceptionInfo", threadId=1)
+    same((told["exceptionId"], told["breakMode"], told["details"]["typeName"]), ("F1 DivideByZero", "always", "F1 DivideByZero"))
+    same(told["description"], "in lane 1\n\n" + page_of(client, "F1", "DivideByZero"))
+    same(client.move("stepIn")["reason"], "exception")
+    same(client.refused_move("stepOut", "C6 Outermost")["reason"], "exception")
+    same(client.ask("exceptionInfo", threadId=1), told)
     same(client.move("stepBack")["text"], "at 7:5 go depth 1 lanes 1111")
+    same(client.refused("exceptionInfo", threadId=1), "the program stands at no fault")
+    client.ask("evaluate", expression="continue", context="repl")
+    same(client.event("stopped")["reason"], "exception")
+    same(client.ask("exceptionInfo", threadId=1), told)
     client.end()
+
+
+def page_of(client, number, name):
+    """What the program says of a fault at the terminal, behind the fault's number and name."""
+    found = subprocess.run([*client.command[:-1], "explain", number], capture_output=True, check=True).stdout.decode()
+    head = f"{number} {name}\n\n"
+    need(found.startswith(head), f"the page of {number} is {found!r}")
+    return found[len(head):]
+
+
+def filters(client, examples):
+    """Faults are announced as one filter, and stop whether it is on or off; which they are, and in which lane, is told of each."""
+    announced = client.ask("initialize", adapterID="rinddecade")["exceptionBreakpointFilters"]
+    same([(it["filter"], it["default"]) for it in announced], [("faults", True)])
+    for number, name, lane, text in FAULTS:
+        with written(text) as path:
+            client.launch(path)
+            client.ask("setExceptionBreakpoints", filters=[it["filter"] for it in announced] if lane % 2 else [])
+            client.begin()
+            same(client.move("continue")["reason"], "exception")
+            told = client.ask("exceptionInfo", threadId=1)
+            same(told["exceptionId"], f"{number} {name}")
+            same(told["description"], f"in lane {lane}\n\n" + page_of(client, number, name))
+        client.again()
+    client.ask("initialize", adapterID="rinddecade")
+    client.end()
+
+
+# A program that comes to each of the faults, and the lane.
+FAULTS = [
+    ("F1", "DivideByZero", 2, "export void go() {\n    int x = 6 / (2 - programIndex);\n}\n"),
+    ("F2", "Index", 3, "uniform int a[3];\nexport void go() {\n    int x = a[programIndex];\n}\n"),
+    ("F3", "LaneIndex", 3, "export void go() {\n    int x = shuffle(programIndex, programIndex + 1);\n}\n"),
+    ("F4", "Assert", 1, "export void go() {\n    assert(programIndex != 1);\n}\n"),
+    ("F5", "CallDepth", 0, "void f() {\n    f();\n}\nexport void go() {\n    f();\n}\n"),
+]
 
 
 def the_end(client, examples):
@@ -283,7 +346,7 @@ def the_end(client, examples):
     client.ask("restart")
     same(client.event("stopped")["reason"], "entry")
     same(client.place(), [(2, 5, "go [11111111]")])
-    same(client.refused("stepBack", threadId=1), "C3 NoHistory")
+    same(client.refused_move("stepBack", "C3 NoHistory")["reason"], "entry")
     same(client.move("continue")["reason"], "breakpoint")
     client.end("terminate")
 
@@ -331,7 +394,7 @@ def wrong_requests(client, examples):
     client.end()
 
 
-CHECKS = [steps_and_back, watches, breaks, variables, frames, faults, the_end, wrong_requests, *FRAME_CHECKS, *LAUNCH_CHECKS]
+CHECKS = [steps_and_back, watches, breaks, variables, frames, faults, filters, the_end, wrong_requests, *FRAME_CHECKS, *LAUNCH_CHECKS]
 
 
 def check(root, command):
@@ -341,7 +404,7 @@ def check(root, command):
 
 def tried(it, root, command):
     client = Client(command)
-    late = threading.Timer(SECONDS, client.process.kill)
+    late = threading.Timer(SECONDS, lambda: client.process.kill())
     late.start()
     try:
         it(client, (root / "examples").resolve())

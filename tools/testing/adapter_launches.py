@@ -41,7 +41,7 @@ def history(client, examples):
     client.move("stepBack")
     client.move("stepBack")
     same(client.place(), places[1])
-    same(client.refused("stepBack", threadId=1), "C3 NoHistory")
+    same(client.refused_move("stepBack", "C3 NoHistory")["reason"], "step")
     client.end()
 
 
@@ -85,7 +85,7 @@ def first_statement(client, examples):
     stop = client.begin()
     same((stop["reason"], stop["hitBreakpointIds"]), ("breakpoint", [made[1]["id"]]))
     same(stop["text"], f"breakpoint {made[1]['id']}: at 2:5 go depth 1 lanes 1111")
-    same(client.refused("stepBack", threadId=1), "C3 NoHistory")
+    same(client.refused_move("stepBack", "C3 NoHistory")["hitBreakpointIds"], [made[1]["id"]])
     same(client.move("continue")["hitBreakpointIds"], [made[0]["id"]])
     client.end()
 

@@ -8,6 +8,7 @@ BODIES = {
     "launch": ({}, {}),
     "setBreakpoints": ({"breakpoints": LIST}, {}),
     "setExceptionBreakpoints": ({}, {}),
+    "exceptionInfo": ({"exceptionId": TEXT, "breakMode": TEXT}, {"description": TEXT, "details": MEMBERS}),
     "dataBreakpointInfo": ({"dataId": (TEXT, type(None)), "description": TEXT}, {"accessTypes": LIST, "canPersist": TRUTH}),
     "setDataBreakpoints": ({"breakpoints": LIST}, {}),
     "configurationDone": ({}, {}),
@@ -28,9 +29,11 @@ BODIES = {
     "terminate": ({}, {}),
 }
 CAPABILITIES = [
+    "exceptionBreakpointFilters",
     "supportsConfigurationDoneRequest",
     "supportsDataBreakpoints",
     "supportsEvaluateForHovers",
+    "supportsExceptionInfoRequest",
     "supportsRestartRequest",
     "supportsSetVariable",
     "supportsStepBack",
@@ -57,6 +60,7 @@ HITS = ["breakpoint", "data breakpoint"]
 REASONS = ["entry", "step", "exception", "pause", *HITS]
 HINTS = ["locals", "arguments"]
 ACCESSES = ["write"]
+BREAK_MODES = ["never", "always", "unhandled", "userUnhandled"]
 GREATEST = 2**31 - 1
 THREAD = 1
 
@@ -145,6 +149,21 @@ def need_target(body):
     need(body.get("accessTypes", ACCESSES) == ACCESSES, f"the accesses are {body}")
 
 
+def need_capabilities(body):
+    """Each is true, but the filters of exceptions, each of which has its members."""
+    need(sorted(body) == CAPABILITIES, f"the capabilities are {body}")
+    for name, value in body.items():
+        need(value is True or name == "exceptionBreakpointFilters", f"the capability {name} is {value}")
+    for item in body["exceptionBreakpointFilters"]:
+        need_members("a filter", item, {"filter": TEXT, "label": TEXT}, {"description": TEXT, "default": TRUTH})
+
+
+def need_exception(body):
+    """A fault always stops, and its type is its name."""
+    need(body["breakMode"] in BREAK_MODES, f"the mode is {body['breakMode']}")
+    need_members("the details of a fault", body.get("details", {}), {}, {"message": TEXT, "typeName": TEXT})
+
+
 # How many of what a request lists its reply lists.
 ASKED = {"setBreakpoints": "breakpoints", "setDataBreakpoints": "breakpoints"}
 
@@ -159,6 +178,8 @@ def need_body(command, arguments, body):
         need(len(body[ASKED[command]]) == len(arguments[ASKED[command]]), f"not each of {arguments} is answered: {body}")
     if command == "dataBreakpointInfo":
         need_target(body)
+    if command == "exceptionInfo":
+        need_exception(body)
     if command == "evaluate":
         need_reference("an answer", body["variablesReference"], 0)
     if command == "stackTrace":

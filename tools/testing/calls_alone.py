@@ -60,6 +60,7 @@ CALLS = {
     "adapter_messages::stop_body": 0,
     "adapter_messages::output_body": 0,
     "adapter_replies::reply_to": 0,
+    "adapter_replies::exception_reply": 0,
     "adapter_replies::answer_text": 0,
     "adapter_session::command_lines": 0,
     "adapter_session::answer_request": 0,

@@ -107,6 +107,7 @@ IsRequestNamed name.Initialize message request.Initialize = Unit {0}
 IsRequestNamed name.Launch message (request.Launch launch) = IsLaunch message launch
 IsRequestNamed name.SetBreakpoints message (request.SetBreakpoints source lines) = (text_at (codes "/arguments/source/path") message ≡ text_of source) × (lines.items ≡ each_asked line_in (breakpoints_of message))
 IsRequestNamed name.SetExceptionBreakpoints message request.SetExceptionBreakpoints = Unit {0}
+IsRequestNamed name.ExceptionInfo message request.ExceptionInfo = Unit {0}
 IsRequestNamed name.DataBreakpointInfo message (request.DataBreakpointInfo text) = text_at (codes "/arguments/name") message ≡ Some text.now
 IsRequestNamed name.SetDataBreakpoints message (request.SetDataBreakpoints targets) = map asked_text targets.items ≡ each_asked target_in (breakpoints_of message)
 IsRequestNamed name.ConfigurationDone message request.ConfigurationDone = Unit {0}

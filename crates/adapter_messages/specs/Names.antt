@@ -17,6 +17,7 @@ names =
     ∷ (codes "launch", name.Launch)
     ∷ (codes "setBreakpoints", name.SetBreakpoints)
     ∷ (codes "setExceptionBreakpoints", name.SetExceptionBreakpoints)
+    ∷ (codes "exceptionInfo", name.ExceptionInfo)
     ∷ (codes "dataBreakpointInfo", name.DataBreakpointInfo)
     ∷ (codes "setDataBreakpoints", name.SetDataBreakpoints)
     ∷ (codes "configurationDone", name.ConfigurationDone)

@@ -8,6 +8,7 @@ use Rattle.adapter_requests.specs.declared.reply.Breakpoint.{Breakpoint}
 use Rattle.adapter_requests.specs.declared.reply.Breakpoint.TheVariants.{Stands, Refused}
 use Rattle.adapter_requests.specs.declared.reply.BreakpointFault.{BreakpointFault}
 use Rattle.adapter_requests.specs.declared.reply.BreakpointFault.TheVariants as fault
+use Rattle.adapter_requests.specs.declared.reply.Exception.{Exception}
 use Rattle.adapter_requests.specs.declared.reply.Frame.{Frame}
 use Rattle.adapter_requests.specs.declared.reply.Reply.{Reply}
 use Rattle.adapter_requests.specs.declared.reply.Reply.TheVariants as reply
@@ -25,15 +26,25 @@ array_of shown xs = array (items_of (map shown xs))
 abbrev pub only : (name : Bytes) → Data → Data
 only name value = object (member name value no_members)
 
+-- the faults, which stop always
+abbrev pub exception_filter : Data
+exception_filter = object
+    (member (codes "default") (boolean true)
+    (member (codes "description") (string (codes "F1 to F5: each stops always, since no step goes past it"))
+    (member (codes "filter") (string (codes "faults"))
+    (member (codes "label") (string (codes "Faults")) no_members))))
+
 -- what the adapter can do
 abbrev pub capabilities : Data
 capabilities = object
+    (member (codes "exceptionBreakpointFilters") (array (item exception_filter no_items))
     (member (codes "supportsConfigurationDoneRequest") (boolean true)
     (member (codes "supportsDataBreakpoints") (boolean true)
     (member (codes "supportsEvaluateForHovers") (boolean true)
+    (member (codes "supportsExceptionInfoRequest") (boolean true)
     (member (codes "supportsRestartRequest") (boolean true)
     (member (codes "supportsSetVariable") (boolean true)
-    (member (codes "supportsStepBack") (boolean true) no_members))))))
+    (member (codes "supportsStepBack") (boolean true) no_members))))))))
 
 -- why a breakpoint or a watch is not there
 abbrev pub fault_text : BreakpointFault → Bytes
@@ -126,6 +137,14 @@ variable shown = object
 abbrev pub evaluated : (text : Bytes) → Data
 evaluated text = object (member (codes "result") (string text) (member (codes "variablesReference") (natural 0) no_members))
 
+-- a fault at which the program stands still: its number and name, its lane and what it means
+abbrev pub exception : Exception → Data
+exception shown = object
+    (member (codes "breakMode") (string (codes "always"))
+    (member (codes "description") (string (string_bytes shown.text))
+    (member (codes "details") (only (codes "typeName") (string (string_bytes shown.name)))
+    (member (codes "exceptionId") (string (string_bytes shown.name)) no_members))))
+
 -- what a reply tells of the program at a path
 abbrev pub body_of : (program : Bytes) → Reply → Data
 body_of program reply.Capabilities = capabilities
@@ -138,6 +157,7 @@ body_of program (reply.Scopes shown) = only (codes "scopes") (scopes shown)
 body_of program (reply.Variables shown) = only (codes "variables") (array_of variable shown.items)
 body_of program (reply.Set value) = only (codes "value") (string (string_bytes value))
 body_of program (reply.Evaluated text reason) = evaluated (string_bytes text)
+body_of program (reply.Exception shown) = exception shown
 body_of program (reply.Moved stop) = only (codes "allThreadsContinued") (boolean true)
 body_of program reply = object no_members
 

@@ -2,10 +2,10 @@
 ghost use Rattle.std.specs.Prelude.{◌≡◌, IfOk, codes};
 ghost use Rattle.serde_json.specs.Data.{no_members, object};
 ghost use Rattle.serde_json.specs.View.{view};
-ghost use Rattle.adapter_messages.specs.Replies.{array_of, body_of, breakpoint, capabilities, fault_text, file_name, file_scope, frames, known_scope, not_watchable, only, scopes, source, variable, watchable};
+ghost use Rattle.adapter_messages.specs.Replies.{array_of, body_of, breakpoint, capabilities, exception_filter, fault_text, file_name, file_scope, frames, known_scope, not_watchable, only, scopes, source, variable, watchable};
 ghost use Rattle.adapter_messages.specs.Replies as spec;
 
-use adapter_requests::{Breakpoint, BreakpointFault, Frame, Reply, Scopes, Variable};
+use adapter_requests::{Breakpoint, BreakpointFault, Exception, Frame, Reply, Scopes, Variable};
 use serde_json::{Map, Value, json, push};
 use std::alloc::{AllocError, Global};
 use std::path::Path;
@@ -27,6 +27,7 @@ pub(crate) fn body_of(alloc: Global, program: &str, reply: &Reply) -> Result<Val
         Reply::Evaluated { text, reason: _ } => {
             json!(in alloc; {"result": text.as_str(), "variablesReference": 0u64})
         }
+        Reply::Exception(exception) => exception_value(alloc, exception),
         Reply::Moved(_) => json!(in alloc; {"allThreadsContinued": true}),
         Reply::Done | Reply::Ended | Reply::Refused(_) | Reply::OutOfMemory => {
             Ok(nothing(alloc))
@@ -45,13 +46,41 @@ fn nothing(alloc: Global) -> Value
 fn capabilities(alloc: Global) -> Result<Value, AllocError>
     ensures { IfOk result (λ v. view v ≡ capabilities) }
 {
+    let filter = exception_filter(alloc)?;
     json!(in alloc; {
+        "exceptionBreakpointFilters": [filter],
         "supportsConfigurationDoneRequest": true,
         "supportsDataBreakpoints": true,
         "supportsEvaluateForHovers": true,
+        "supportsExceptionInfoRequest": true,
         "supportsRestartRequest": true,
         "supportsSetVariable": true,
         "supportsStepBack": true
+    })
+}
+
+/// The faults, which stop always.
+fn exception_filter(alloc: Global) -> Result<Value, AllocError>
+    ensures { IfOk result (λ v. view v ≡ exception_filter) }
+{
+    json!(in alloc; {
+        "default": true,
+        "description": "F1 to F5: each stops always, since no step goes past it",
+        "filter": "faults",
+        "label": "Faults"
+    })
+}
+
+/// A fault at which the program stands still.
+fn exception_value(alloc: Global, exception: &Exception) -> Result<Value, AllocError>
+    ensures { IfOk result (λ v. view v ≡ spec.exception exception.now) }
+{
+    let name = exception.name.as_str();
+    json!(in alloc; {
+        "breakMode": "always",
+        "description": exception.text.as_str(),
+        "details": {"typeName": name},
+        "exceptionId": name
     })
 }
 

@@ -11,6 +11,7 @@ pub(crate) enum Name {
     Launch,
     SetBreakpoints,
     SetExceptionBreakpoints,
+    ExceptionInfo,
     DataBreakpointInfo,
     SetDataBreakpoints,
     ConfigurationDone,
@@ -31,11 +32,12 @@ pub(crate) enum Name {
 }
 
 /// The requests that are known, by their commands.
-const NAMES: [(&str, Name); 22] = [
+const NAMES: [(&str, Name); 23] = [
     ("initialize", Name::Initialize),
     ("launch", Name::Launch),
     ("setBreakpoints", Name::SetBreakpoints),
     ("setExceptionBreakpoints", Name::SetExceptionBreakpoints),
+    ("exceptionInfo", Name::ExceptionInfo),
     ("dataBreakpointInfo", Name::DataBreakpointInfo),
     ("setDataBreakpoints", Name::SetDataBreakpoints),
     ("configurationDone", Name::ConfigurationDone),

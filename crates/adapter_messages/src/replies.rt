@@ -135,7 +135,7 @@ fn reason_text(reason: StopReason) -> &'static str
         StopReason::Step => "step",
         StopReason::Breakpoint(_) => "breakpoint",
         StopReason::DataBreakpoint(_) => "data breakpoint",
-        StopReason::Exception => "exception",
+        StopReason::Exception { .. } => "exception",
         StopReason::Pause => "pause",
     }
 }

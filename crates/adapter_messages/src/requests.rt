@@ -73,6 +73,7 @@ pub fn read_request<'a>(
         Name::Launch => read_launch(message),
         Name::SetBreakpoints => read_breakpoints(alloc, message),
         Name::SetExceptionBreakpoints => Ok(Request::SetExceptionBreakpoints),
+        Name::ExceptionInfo => Ok(Request::ExceptionInfo),
         Name::DataBreakpointInfo => read_information(message),
         Name::SetDataBreakpoints => read_watches(alloc, message),
         Name::ConfigurationDone => Ok(Request::ConfigurationDone),

@@ -1,4 +1,5 @@
 pub mod Breakpoints
+pub mod Exceptions
 pub mod Frames
 pub mod References
 pub mod Shown

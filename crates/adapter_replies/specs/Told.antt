@@ -17,6 +17,7 @@ use Rattle.adapter_requests.specs.declared.reply.Reply.{Reply}
 use Rattle.adapter_requests.specs.declared.reply.Reply.TheVariants as reply
 use Rattle.adapter_requests.specs.declared.request.Request.{Request}
 use Rattle.adapter_requests.specs.declared.request.Request.TheVariants as request
+use Rattle.adapter_replies.specs.Exceptions.{no_fault}
 use Rattle.adapter_replies.specs.Breakpoints.{IsWatchableTold, is_watchable, told_breakpoint, told_watch}
 use Rattle.adapter_replies.specs.Frames.{ToldFrame, all_frames, frame_view}
 use Rattle.adapter_replies.specs.References.{is_frame, place_of, within}
@@ -103,6 +104,7 @@ fixed_reply other = None
 -- why a request is refused that is of no use here, or not known
 abbrev pub refusal_text : Request → Option Bytes
 refusal_text (request.Launch launch) = Some (codes "the program is launched already")
+refusal_text request.ExceptionInfo = Some no_fault
 refusal_text request.Restart = Some (codes "the program is launched already")
 refusal_text (request.Unknown name) = Some (codes "no request " ++ name.now)
 refusal_text other = None

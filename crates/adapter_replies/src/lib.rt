@@ -2,6 +2,7 @@
 #![tactic(auto)]
 
 mod breakpoints;
+mod exceptions;
 mod frames;
 mod places;
 mod replies;
@@ -9,7 +10,8 @@ mod scopes;
 mod stops;
 mod texts;
 
+pub use exceptions::exception_reply;
 pub use places::{depth_of, is_set_there};
 pub use replies::reply_to;
-pub use stops::stop_of;
+pub use stops::{stop_behind, stop_of};
 pub use texts::answer_text;

@@ -13,6 +13,7 @@ ghost use Rattle.adapter_replies.specs.declared.places.Scope.TheVariants.{Argume
 ghost use Rattle.adapter_replies.specs.Told.{AreBreakpointsTold, AreScopesTold, AreVariablesTold, IsAnswered, IsEvaluated, IsLineTold, IsLookedUp, IsMoveTold, IsNameTold, IsSetTold, IsTextTold, IsToldOf, IsValueTold, MeansLast, fixed_reply, is_ended, refusal_text, shown_values, told_stop};
 
 use crate::breakpoints::{breakpoints, watchable, watches};
+use crate::exceptions::NO_FAULT;
 use crate::frames::frames;
 use crate::places::{Place, Scope, depth_of, is_frame, reference_of};
 use crate::scopes::variables;
@@ -87,6 +88,7 @@ pub fn reply_to<M: FramedMachine>(
         Request::SetExceptionBreakpoints | Request::ConfigurationDone | Request::Disconnect => {
             Ok(Reply::Done)
         }
+        Request::ExceptionInfo => refused(alloc, NO_FAULT),
         Request::Launch(_) | Request::Restart => refused(alloc, "the program is launched already"),
         Request::Unknown(name) => unknown(alloc, name),
     }

@@ -1,9 +1,11 @@
 //! Why a program stands still.
-ghost use Rattle.std.specs.Prelude.{◌≡◌};
-ghost use Rattle.adapter_replies.specs.Stopped.{reason_of};
+ghost use Rattle.std.specs.Prelude.{◌≡◌, option_map};
+ghost use Rattle.adapter_requests.specs.declared.reply.StopReason.TheVariants as reason;
+ghost use Rattle.adapter_replies.specs.Stopped.{anew, is_move, reason_of, stop_behind, stop_view};
 
-use adapter_requests::StopReason;
+use adapter_requests::{Reply, Request, StopReason};
 use debug_answers::Answer;
+use debug_traits::Fault;
 
 /// Why a program stands still, by the answer to a command, if the command moves.
 pub fn stop_of(answer: &Answer<'_>) -> Option<StopReason>
@@ -15,7 +17,7 @@ pub fn stop_of(answer: &Answer<'_>) -> Option<StopReason>
         }
         Answer::AtBreakpoint(number) => Some(StopReason::Breakpoint(*number)),
         Answer::AtWatch(number) => Some(StopReason::DataBreakpoint(*number)),
-        Answer::AtFault(_) => Some(StopReason::Exception),
+        Answer::AtFault(fault) => Some(at_fault(*fault)),
         Answer::StepLimit => Some(StopReason::Pause),
         Answer::Shows { .. }
         | Answer::BreaksAt { .. }
@@ -28,4 +30,57 @@ pub fn stop_of(answer: &Answer<'_>) -> Option<StopReason>
         | Answer::Silent
         | Answer::Refused(_) => None,
     }
+}
+
+/// The reason of a stop at a fault.
+fn at_fault(fault: Fault) -> StopReason
+    ensures { result ≡ reason.Exception fault.name fault.lane }
+{
+    StopReason::Exception {
+        name: fault.name,
+        lane: fault.lane,
+    }
+}
+
+/// The stop that an editor is told of behind the reply to a request: that to which a move led, or the last one anew where a move
+/// was refused, by the reason of that stop; with its text.
+pub fn stop_behind<'a>(
+    request: &Request<'_>,
+    reply: &'a Reply,
+    last: StopReason,
+) -> Option<(StopReason, &'a str)>
+    ensures { option_map stop_view result ≡ stop_behind (is_move request.now) last reply.now }
+{
+    match reply {
+        Reply::Moved(stop) => Some((stop.reason, stop.text.as_str())),
+        Reply::Evaluated {
+            text,
+            reason: Some(reason),
+        } => Some((*reason, text.as_str())),
+        Reply::Refused(text) => anew(is_move(request), last, text.as_str()),
+        Reply::OutOfMemory => anew(is_move(request), StopReason::Pause, "out of memory"),
+        _ => None,
+    }
+}
+
+/// A stop that is told anew behind a request that moves, and not behind another one.
+fn anew(is_move: bool, reason: StopReason, text: &str) -> Option<(StopReason, &str)>
+    ensures { option_map stop_view result ≡ anew is_move reason text.now }
+{
+    if is_move { Some((reason, text)) } else { None }
+}
+
+/// Whether a request moves the program.
+fn is_move(request: &Request<'_>) -> bool
+    ensures { result ≡ is_move request.now }
+{
+    matches!(
+        request,
+        Request::Next
+            | Request::StepIn
+            | Request::StepOut
+            | Request::Continue
+            | Request::StepBack
+            | Request::ReverseContinue
+    )
 }

@@ -4,5 +4,7 @@
 mod reply;
 mod request;
 
-pub use reply::{Breakpoint, BreakpointFault, Frame, Reply, Scopes, Stop, StopReason, Variable};
+pub use reply::{
+    Breakpoint, BreakpointFault, Exception, Frame, Reply, Scopes, Stop, StopReason, Variable,
+};
 pub use request::{Launch, Request};

@@ -1,4 +1,5 @@
 //! What is told.
+use gang_types::FaultName;
 
 /// Why a breakpoint or a watch that was asked for is not there.
 #[derive(Clone, Copy, Debug, PartialEq, Eq)]
@@ -66,8 +67,11 @@ pub enum StopReason {
     Breakpoint(u32),
     /// At the watch of this number.
     DataBreakpoint(u32),
-    /// The next step faults.
-    Exception,
+    /// The next step faults, in this lane.
+    Exception {
+        name: FaultName,
+        lane: usize,
+    },
     /// The most moves of one command were done.
     Pause,
 }
@@ -76,6 +80,15 @@ pub enum StopReason {
 #[derive(Drop)]
 pub struct Stop {
     pub reason: StopReason,
+    pub text: String,
+}
+
+/// A fault at which the program stands still.
+#[derive(Drop)]
+pub struct Exception {
+    /// The fault's number and name.
+    pub name: String,
+    /// The lane, and what the fault means.
     pub text: String,
 }
 
@@ -103,6 +116,8 @@ pub enum Reply {
     },
     /// A command that moved, and where it stopped.
     Moved(Stop),
+    /// The fault of the last stop.
+    Exception(Exception),
     /// The program had ended.
     Ended,
     /// Why the request is refused.

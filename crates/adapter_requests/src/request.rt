@@ -31,6 +31,8 @@ pub enum Request<'a> {
         lines: Vec<Result<u32, BreakpointFault>>,
     },
     SetExceptionBreakpoints,
+    /// Which fault the last stop was at.
+    ExceptionInfo,
     /// Whether a variable can be watched: one of the variables of this reference, or any where there is none.
     DataBreakpointInfo {
         name: &'a str,

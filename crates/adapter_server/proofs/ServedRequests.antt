@@ -82,6 +82,7 @@ module _ {M : Type 0} (stands : M → Setting → Debugger → Type 0) (program 
   alone (request.Launch launch) = tt
   alone (request.SetBreakpoints source lines) = tt
   alone request.SetExceptionBreakpoints = tt
+  alone request.ExceptionInfo = tt
   alone (request.DataBreakpointInfo name) = tt
   alone (request.SetDataBreakpoints targets) = tt
   alone request.ConfigurationDone = tt

@@ -1,5 +1,5 @@
 //! A connection to an editor: the messages that it sends, and what it is told.
-ghost use Rattle.std.specs.Prelude.{◌≡◌, MatchResult};
+ghost use Rattle.std.specs.Prelude.{◌≡◌, MatchResult, OnOk};
 ghost use Rattle.serde_json.specs.View.{view};
 
 use adapter_frames::{FrameFault, FrameReader, HeadFault, write_frame};
@@ -43,6 +43,8 @@ pub struct Connection<R, O> {
     next: u64,
     /// The number of the request to restart that is not answered yet.
     pub(crate) restart: u64,
+    /// Why the program stood still when the editor was last told so.
+    pub(crate) stopped: StopReason,
 }
 
 impl<R: Read, O: Write> Connection<R, O> {
@@ -58,6 +60,7 @@ impl<R: Read, O: Write> Connection<R, O> {
             writer,
             next: 1,
             restart: 0,
+            stopped: StopReason::Entry,
         }
     }
 
@@ -152,10 +155,13 @@ impl<R: Read, O: Write> Connection<R, O> {
 
     /// Tells where and why the program stands still.
     pub(crate) fn tell_stop(&mut self, reason: StopReason, text: &str) -> Result<(), Ended>
-        ensures { messages_of self.new ≡ messages_of self.old }
+        ensures stopped { OnOk result (self.new.stopped ≡ reason) }
+        ensures messages { messages_of self.new ≡ messages_of self.old }
     {
         let body = stop_body(self.alloc, reason, text)?;
-        self.tell_with("stopped", body)
+        self.tell_with("stopped", body)?;
+        self.stopped = reason;
+        Ok(())
     }
 
     /// Puts a text on the editor's console.

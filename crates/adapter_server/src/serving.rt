@@ -9,7 +9,7 @@ ghost use Rattle.adapter_server.specs.Serving.{Answers, Asks, Begins, Follows, H
 use crate::connection::{Connection, Ended};
 use crate::launching::LaunchMessage;
 use adapter_messages::{Head, read_head, read_request};
-use adapter_replies::answer_text;
+use adapter_replies::{answer_text, exception_reply, stop_behind};
 use adapter_requests::{Launch, Reply, Request, StopReason};
 use adapter_session::{answer_request, breakpoint_here, restore_stops};
 use debug_answers::Answer;
@@ -162,9 +162,14 @@ impl<R: Read, O: Write> Connection<R, O> {
             self.restart = head.number;
             return Ok(Turn::Restarts);
         }
+        if let Request::ExceptionInfo = request {
+            let reply = exception_reply(self.alloc, self.stopped)?;
+            self.reply(head, launch.program, &reply)?;
+            return Ok(Turn::Goes);
+        }
         let reply = ask(self.alloc, launch.program, session, request)?;
         self.reply(head, launch.program, &reply)?;
-        self.tell_of(&reply)?;
+        self.tell_of(request, &reply)?;
         match request {
             Request::ConfigurationDone => {
                 self.begin(launch, session)?;
@@ -175,18 +180,16 @@ impl<R: Read, O: Write> Connection<R, O> {
         }
     }
 
-    /// Tells of what a reply leads to: a stop, or the end.
-    fn tell_of(&mut self, reply: &Reply) -> Result<(), Ended>
+    /// Tells of what the reply to a request leads to: a stop, or the end.
+    fn tell_of(&mut self, request: &Request<'_>, reply: &Reply) -> Result<(), Ended>
         ensures { messages_of self.new ≡ messages_of self.old }
     {
-        match reply {
-            Reply::Moved(stop) => self.tell_stop(stop.reason, stop.text.as_str()),
-            Reply::Evaluated {
-                text,
-                reason: Some(reason),
-            } => self.tell_stop(*reason, text.as_str()),
-            Reply::Ended => self.tell("terminated"),
-            _ => Ok(()),
+        if let Reply::Ended = reply {
+            return self.tell("terminated");
+        }
+        match stop_behind(request, reply, self.stopped) {
+            Some((reason, text)) => self.tell_stop(reason, text),
+            None => Ok(()),
         }
     }
 
@@ -211,7 +214,7 @@ impl<R: Read, O: Write> Connection<R, O> {
             return self.tell_beginning(session, &answer, StopReason::Breakpoint(number));
         }
         let reply = ask(self.alloc, launch.program, session, &Request::Continue)?;
-        self.tell_of(&reply)
+        self.tell_of(&Request::Continue, &reply)
     }
 
     /// Tells that the program stands before its first step, and why.

@@ -65,6 +65,7 @@ pub fn command_lines(
         Request::Initialize
         | Request::Launch(_)
         | Request::SetExceptionBreakpoints
+        | Request::ExceptionInfo
         | Request::DataBreakpointInfo { .. }
         | Request::ConfigurationDone
         | Request::Threads

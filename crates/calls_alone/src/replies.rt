@@ -1,10 +1,11 @@
 //! What an editor's requests do, and what they are answered.
 use crate::ends::{Ended, end_of};
 use crate::runs::session;
-use adapter_replies::{answer_text, reply_to};
-use adapter_requests::{Reply, Request};
+use adapter_replies::{answer_text, exception_reply, reply_to};
+use adapter_requests::{Reply, Request, StopReason};
 use adapter_session::{answer_request, command_lines};
 use debug_answers::Answer;
+use gang_types::FaultName;
 use ispc_debugger::ProgramSession;
 use std::alloc::Global;
 
@@ -19,6 +20,7 @@ pub(crate) fn call(alloc: Global, name: &str) -> Option<Ended> {
         }
         "adapter_session::answer_request" => Some(step(alloc, &mut session(alloc)?)),
         "adapter_replies::reply_to" => Some(list_frames(alloc, &session(alloc)?)),
+        "adapter_replies::exception_reply" => Some(tell_fault(alloc)),
         "adapter_replies::answer_text" => Some(write_frames(alloc, &session(alloc)?)),
         _ => None,
     }
@@ -36,6 +38,15 @@ fn step(alloc: Global, session: &mut ProgramSession<4>) -> Ended {
 fn list_frames(alloc: Global, session: &ProgramSession<4>) -> Ended {
     let (machine, stops) = (session.machine(), session.stops());
     end_of(&reply_to(alloc, machine, stops, &Request::StackTrace, true, None))
+}
+
+/// Replies which fault the last stop was at.
+fn tell_fault(alloc: Global) -> Ended {
+    let stopped = StopReason::Exception {
+        name: FaultName::Index,
+        lane: 3,
+    };
+    end_of(&exception_reply(alloc, stopped))
 }
 
 /// Writes the answer that lists the frames.
