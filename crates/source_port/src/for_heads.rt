@@ -139,10 +139,7 @@ impl Draft {
 
     /// What is written so far; what comes is written anew.
     fn take_written(&mut self) -> Result<Vec<Token>, PortRefusal> {
-        Ok(std::mem::replace(
-            &mut self.written,
-            Vec::new(self.alloc),
-        ))
+        Ok(std::mem::replace(&mut self.written, Vec::new(self.alloc)))
     }
 
     /// The front of a `for`, with its first part unless that is outside.

@@ -41,7 +41,11 @@ impl Draft {
             body
         };
         let found = self.line_start(self.token(first).before);
-        if found == self.blank { self.indent } else { found }
+        if found == self.blank {
+            self.indent
+        } else {
+            found
+        }
     }
 
     /// Writes a statement behind what comes before it, and in front of what comes behind it.
