@@ -68,10 +68,7 @@ pub enum StopReason {
     /// At the watch of this number.
     DataBreakpoint(u32),
     /// The next step faults, in this lane.
-    Exception {
-        name: FaultName,
-        lane: usize,
-    },
+    Exception { name: FaultName, lane: usize },
     /// The most moves of one command were done.
     Pause,
 }
