@@ -124,6 +124,29 @@ def full(client, examples):
         client.end()
 
 
+def changed_texts(client, examples):
+    """A restart runs the text that the source has then; a text that is refused is told with its path, line and column."""
+    wrong = "export void go() {\n    int x = y;\n}\n"
+    with written(wrong) as path:
+        same(client.refused("launch", program=str(path)), f"{path}:2:13: S5 UnknownName")
+        path.write_text(ENTRIES)
+        client.launch(path)
+        client.begin()
+        same(client.place(), [(2, 5, "go [1111]")])
+        path.write_text("\n" + ENTRIES)
+        client.ask("restart")
+        client.event("stopped")
+        same(client.place(), [(3, 5, "go [1111]")])
+        client.move("next")
+        path.write_text(wrong)
+        same(client.refused("restart"), f"{path}:2:13: S5 UnknownName")
+        same(client.place(), [(4, 1, "go [1111]")])
+        path.unlink()
+        same(client.refused("restart"), "the program or its input cannot be read")
+        same(client.move("stepBack")["text"], "at 3:5 go depth 1 lanes 1111")
+        client.end()
+
+
 def ends_before_a_launch(client, examples):
     """A disconnect ends the adapter before a launch too, and each message before it is answered."""
     client.ask("initialize", adapterID="rinddecade")
@@ -133,5 +156,6 @@ def ends_before_a_launch(client, examples):
 
 
 LAUNCH_CHECKS = [
-    arguments, history, default_history, step_limit, given_input, first_statement, no_breakpoints, full, ends_before_a_launch,
+    arguments, history, default_history, step_limit, given_input, first_statement, no_breakpoints, full, changed_texts,
+    ends_before_a_launch,
 ]

@@ -64,21 +64,10 @@ fn serve_next<R: Read + Drop, O: Write + Drop>(
         )?;
         return Ok(Served::Restarts);
     };
-    let (source, input) = match texts_of(rt, &launch) {
-        Ok(texts) => texts,
-        Err(fault) => {
-            connection.refuse_launch(&message, why_unread(&fault))?;
-            return Ok(Served::Restarts);
-        }
-    };
-    let program = Program {
-        source: source.as_slice(),
-        input: input.as_slice(),
-    };
     match options.width {
-        Width::Four => serve_wide::<4, R, O>(rt, connection, &message, program, &options),
-        Width::Eight => serve_wide::<8, R, O>(rt, connection, &message, program, &options),
-        Width::Sixteen => serve_wide::<16, R, O>(rt, connection, &message, program, &options),
+        Width::Four => serve_wide::<4, R, O>(rt, connection, &message, &launch, &options),
+        Width::Eight => serve_wide::<8, R, O>(rt, connection, &message, &launch, &options),
+        Width::Sixteen => serve_wide::<16, R, O>(rt, connection, &message, &launch, &options),
     }
 }
 
@@ -99,13 +88,6 @@ fn why_unread(fault: &io::Error) -> &'static str {
     } else {
         "the program or its input cannot be read"
     }
-}
-
-/// The texts of a program that is launched.
-#[derive(Clone, Copy)]
-struct Program<'a> {
-    source: &'a [u8],
-    input: &'a [u8],
 }
 
 /// The options of a launch, if its numbers are in their ranges.
@@ -147,28 +129,29 @@ fn serve_wide<const W: usize, R: Read + Drop, O: Write + Drop>(
     rt: &HostRuntime,
     connection: &mut Connection<R, O>,
     message: &LaunchMessage,
-    program: Program<'_>,
+    launch: &Launch<'_>,
     options: &Options<'_>,
 ) -> Result<Served, Ended>
     requires width { W ≡ lanes_of options.now.width }
     requires range { AreInRange options.now }
 {
-    match open_session::<W>(rt.alloc(), program.source, program.input, options) {
-        Err(refusal) => {
-            let text = text_of(rt, &refusal)?;
+    match open_launch::<W>(rt, launch, options)? {
+        Opened::Refused(text) => {
             connection.refuse_launch(message, text.as_str())?;
             Ok(Served::Restarts)
         }
-        Ok(session) => serve_session::<W, R, O>(rt, connection, message, program, options, session),
+        Opened::Session(session) => {
+            serve_session::<W, R, O>(rt, connection, message, launch, options, session)
+        }
     }
 }
 
-/// Serves a session, and those that are opened anew for it, until the editor disconnects.
+/// Serves a session, and those that are opened anew for it by what its files are then, until the editor disconnects.
 fn serve_session<const W: usize, R: Read + Drop, O: Write + Drop>(
     rt: &HostRuntime,
     connection: &mut Connection<R, O>,
     message: &LaunchMessage,
-    program: Program<'_>,
+    launch: &Launch<'_>,
     options: &Options<'_>,
     session: ProgramSession<W>,
 ) -> Result<Served, Ended>
@@ -181,13 +164,12 @@ fn serve_session<const W: usize, R: Read + Drop, O: Write + Drop>(
         if served == Served::Disconnected {
             break;
         }
-        match open_session::<W>(rt.alloc(), program.source, program.input, options) {
-            Err(refusal) => {
-                let text = text_of(rt, &refusal)?;
+        match open_launch::<W>(rt, launch, options)? {
+            Opened::Refused(text) => {
                 connection.refuse_restart(text.as_str())?;
                 served = connection.go_on(message, &mut session)?;
             }
-            Ok(mut next) => {
+            Opened::Session(mut next) => {
                 served = connection.restart(message, &session, &mut next)?;
                 session = next;
             }
@@ -196,10 +178,44 @@ fn serve_session<const W: usize, R: Read + Drop, O: Write + Drop>(
     Ok(Served::Disconnected)
 }
 
-/// The line that tells a refusal, without its line feed.
-fn text_of(rt: &HostRuntime, refusal: &Refusal) -> Result<String, AllocError> {
+/// What opening a program came to.
+#[derive(Drop)]
+enum Opened<const W: usize> {
+    Session(ProgramSession<W>),
+    /// Why the program is refused.
+    Refused(String),
+}
+
+/// Opens the program of a launch at a width, by what its files are now.
+fn open_launch<const W: usize>(
+    rt: &HostRuntime,
+    launch: &Launch<'_>,
+    options: &Options<'_>,
+) -> Result<Opened<W>, AllocError>
+    requires width { W ≡ lanes_of options.now.width }
+    requires range { AreInRange options.now }
+{
+    let (source, input) = match texts_of(rt, launch) {
+        Ok(texts) => texts,
+        Err(fault) => {
+            let text = String::from_str(rt.alloc(), why_unread(&fault))?;
+            return Ok(Opened::Refused(text));
+        }
+    };
+    match open_session::<W>(rt.alloc(), source.as_slice(), input.as_slice(), options) {
+        Ok(session) => Ok(Opened::Session(session)),
+        Err(refusal) => Ok(Opened::Refused(text_of(rt, launch.program, &refusal)?)),
+    }
+}
+
+/// The line that tells a refusal, without its line feed; behind the path of the source, where it names a place there.
+fn text_of(rt: &HostRuntime, path: &str, refusal: &Refusal) -> Result<String, AllocError> {
     let mut bytes = Vec::new(rt.alloc());
     let _ = write_refusal(refusal, &mut StreamWriter::new(&mut bytes));
     let text = String::from_utf8_lossy(rt.alloc(), bytes.as_slice())?;
-    String::from_str(rt.alloc(), text.trim_end())
+    let line = text.trim_end();
+    match refusal {
+        Refusal::Source(_) => format!(in rt.alloc(); "{path}:{line}"),
+        _ => String::from_str(rt.alloc(), line),
+    }
 }
