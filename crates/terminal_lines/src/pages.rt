@@ -1,6 +1,6 @@
 //! How many lines are shown before a terminal waits.
-ghost use Rattle.std.specs.Prelude.{◌≡◌, ◌<◌, ◌+◌, IfSome};
-ghost use Rattle.terminal_lines.specs.declared.pages.Way.TheVariants.{Waits};
+ghost use Rattle.std.specs.Prelude.{◌≡◌, IfSome};
+ghost use Rattle.terminal_lines.specs.Pages.{IsWithin};
 
 /// What a terminal shows where it waits.
 pub const MORE: &str = "--Type <RET> for more, q to quit, c to continue without paging--";
@@ -20,7 +20,6 @@ pub struct Pages {
     height: u32,
     shown: u32,
     way: Way,
-    ghost within: { way ≡ Waits → 0 < height → shown < height },
 }
 
 impl Pages {
@@ -45,17 +44,19 @@ impl Pages {
 
     /// The pages behind one more line; none where the terminal waits before it.
     pub fn behind_line(self) -> Option<Self>
-        ensures { IfSome result (λ after. after.way ≡ self.way) }
+        ensures within { IfSome result IsWithin }
+        ensures way { IfSome result (λ after. after.way ≡ self.way) }
     {
         if self.way != Way::Waits || self.height == 0 {
             return Some(self);
         }
-        if self.shown + 1 >= self.height {
+        let shown = self.shown.saturating_add(1);
+        if shown >= self.height {
             return None;
         }
         Some(Pages {
             height: self.height,
-            shown: self.shown + 1,
+            shown,
             way: self.way,
         })
     }
