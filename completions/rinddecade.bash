@@ -12,11 +12,11 @@ _rinddecade() {
     [[ $word == "=" ]] && word=
     [[ $before == "=" ]] && before=${COMP_WORDS[COMP_CWORD-2]}
     if ((COMP_CWORD == 1)); then
-        COMPREPLY=($(compgen -W "debug picture adapter explain help -h --help -V --version" -- "$word"))
+        COMPREPLY=($(compgen -W "debug picture page adapter explain port help -h --help -V --version" -- "$word"))
         return
     fi
     case "${COMP_WORDS[1]}" in
-        help) ((COMP_CWORD == 2)) && COMPREPLY=($(compgen -W "debug picture adapter explain" -- "$word")) ;;
+        help) ((COMP_CWORD == 2)) && COMPREPLY=($(compgen -W "debug picture page adapter explain port" -- "$word")) ;;
         debug)
             case "$before" in
                 --input) _rinddecade_files; return ;;
@@ -40,6 +40,17 @@ _rinddecade() {
                 *) _rinddecade_files ;;
             esac
             ;;
+        page)
+            case "$before" in
+                --input|--commands|--to) _rinddecade_files; return ;;
+                --entry|--history|--steps|--from|--most|--elements) return ;;
+                --width) COMPREPLY=($(compgen -W "4 8 16" -- "$word")); return ;;
+            esac
+            case "$word" in
+                -*) COMPREPLY=($(compgen -W "--input --entry --width --history --steps --commands --from --most --elements --to --force -h --help" -- "$word")) ;;
+                *) _rinddecade_files ;;
+            esac
+            ;;
         adapter)
             case "$word" in
                 -*) COMPREPLY=($(compgen -W "-h --help" -- "$word")) ;;
@@ -49,6 +60,15 @@ _rinddecade() {
             case "$word" in
                 -*) COMPREPLY=($(compgen -W "-h --help" -- "$word")) ;;
                 *) COMPREPLY=($(compgen -W "S1 S2 S3 S4 S5 S6 S7 S8 S9 S10 S11 S12 S13 E1 E2 I1 I2 I3 I4 F1 F2 F3 F4 F5 C1 C2 C3 C4 C6 C7 C8 C9 C10 C11 C12" -- "$word")) ;;
+            esac
+            ;;
+        port)
+            case "$before" in
+                --to) _rinddecade_files; return ;;
+            esac
+            case "$word" in
+                -*) COMPREPLY=($(compgen -W "--to --force -h --help" -- "$word")) ;;
+                *) _rinddecade_files ;;
             esac
             ;;
     esac

@@ -6,12 +6,13 @@ FOLDER = "manuals"
 STATUSES = {
     "rinddecade": [
         ("0", "The run has ended, or the program was told to quit."),
+        ("1", "A source is not ported."),
         ("2", "The words are wrong, a file cannot be read or written, the program is refused, or memory is wanting."),
         ("3", "Standard input cannot be read."),
         ("4", "The output cannot be written."),
     ],
 }
-STATUSES["ispc_cli"] = STATUSES["rinddecade"]
+STATUSES["ispc_cli"] = [row for row in STATUSES["rinddecade"] if row[0] != "1"]
 EXAMPLES = {
     "rinddecade": ["rinddecade debug examples/histogram.ispc", "rinddecade picture examples/lanes.ispc --watch x --to lanes.svg", "rinddecade explain S7"],
     "ispc_cli": ["ispc_cli examples/first.ispc < examples/first.commands"],

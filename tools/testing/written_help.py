@@ -33,6 +33,8 @@ TYPED = {
     "rinddecade debug --entry ": set(),
     "rinddecade picture --f": {"--force"},
     "rinddecade picture --to g": {"go.ispc", "go.input"},
+    "rinddecade port go.is": {"go.ispc"},
+    "rinddecade page --el": {"--elements"},
     "rinddecade explain S1": {"S1", "S10", "S11", "S12", "S13"},
     "ispc_cli --la": {"--lane-pure"},
     "ispc_cli --width ": {"4", "8", "16"},
