@@ -191,8 +191,8 @@ def is_whole_page(root):
 
 def stored(root):
     """The page of an example that README.md and docs/PAGE.md show."""
-    words = ["page", f"examples/{STORED}.ispc", "--input", f"examples/{STORED}.input"]
-    data = {it: root / it for it in (words[1], words[3])}
+    words = ["page", f"{STORED}.ispc", "--input", f"{STORED}.input"]
+    data = {it: root / "examples" / it for it in (words[1], words[3])}
     return Run(f"stored page of {STORED}", b"", words, (root / f"examples/{STORED}.html").read_bytes(), b"", data=data)
 
 
@@ -237,7 +237,7 @@ def kernel_runs(root):
 
 
 def runs(root):
-    hostile = Run("page of a hostile source", b"", ["page", "odd.ispc"], is_whole_page(root), b"", data={"odd.ispc": HOSTILE})
+    hostile = Run("page of a hostile source", b"", ["page", "hostile.ispc"], is_whole_page(root), b"", data={"hostile.ispc": HOSTILE})
     own = [run_of(name, text, options={"width": width}) for name, text in (("hostile", HOSTILE), ("calls", CALLS)) for width in WIDTHS]
     cut = [run_of("calls", CALLS, first=first, most=most) for first, most in ((1, 1), (3, 5), (12, 100))]
     late = Run("page from behind the end", b"", ["page", "calls.ispc", "--from", "50"], b"", None, 2, {"calls.ispc": CALLS.encode()})
