@@ -83,7 +83,7 @@ returns-in_err-note_moment-clause-memory g c = on_err c.from_residual.result (λ
     record { taken = c.loop-count._count; few = omega arith; done = so.done })
 
 pub returns-in_err-note_moment-2-clause-memory : goal.returns-in_err-note_moment-2-clause-memory
-returns-in_err-note_moment-2-clause-memory g c = on_err c.from_residual-2.result (λ s d st.
+returns-in_err-note_moment-2-clause-memory g c = on_err c.from_residual-in_err-note_moment-2.result (λ s d st.
     let so = c.loop-count.invariant.so_far s d st in
     record { taken = c.loop-count._count; few = omega (arith, c.loop-count-test.false); done = so.done })
 
