@@ -1,4 +1,4 @@
-use Rattle.std.proofs.Common.{◌≡◌, ◌∷◌, ◌∙◌, [], true, false, Some, None, ap, sym, subst, suc, add-one, arith, length, length-append}
+use Rattle.std.proofs.Common.{◌≡◌, ◌∷◌, [], true, false, Some, None, ap, sym, subst, arith, length, length-append}
 use Rattle.gang_model.specs.Debugger.Debugger.{has_ended, now}
 use Rattle.debug_session.proofs.Ending.{ended_by}
 use Rattle.debug_session.specs.Sessions.{bare}
