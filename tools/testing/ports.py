@@ -21,6 +21,7 @@ NAME = "examples/ports"
 WIDTHS = kernels.WIDTHS
 SEED, DAMAGED, BYTES = 20, 300, 1 << 20
 SECONDS = 300
+SECTION = "By `rinddecade port`"
 
 # A function, and lines in it; where `go` ends, variables have these values at 4 lanes.
 FRAME = """uniform int a[8];
@@ -285,6 +286,16 @@ def files(port):
         return Result("port --to", not why, why)
 
 
+def shown_on_page(port, root):
+    """Whether the source that the page shows first is ported to what it shows next."""
+    page = (root / porting.PAGE).read_text(encoding="utf-8").partition(f"## {SECTION}\n")[2]
+    blocks = re.findall(r"^```\n(.*?)^```$", page, re.M | re.S)[:2]
+    with tempfile.TemporaryDirectory(prefix="port-") as folder:
+        output, errors, status = port.port(blocks[0].encode(), folder) if len(blocks) == 2 else (b"", b"", 2)
+        is_right = status == 0 and output.decode() == blocks[1]
+        return Result(f"{porting.PAGE}: {SECTION}", is_right, [f"status {status}", errors.decode(errors="replace"), *output.decode().splitlines()])
+
+
 def spellings(root):
     """The kernels of which there is a first spelling."""
     return [(it, root / NAME / f"{it.name}.ispc") for it in kernels.kernels(root) if (root / NAME / f"{it.name}.ispc").is_file()]
@@ -300,7 +311,7 @@ def results(root, program):
     tasks = [lambda it=it: spelled(port, *it) for it in spellings(root)] + [lambda it=it: same(port, it) for it in sources(root)]
     tasks += [lambda it=it: row(port, it) for it in rows] + [lambda it=it: gives(port, it) for it in GIVES]
     tasks += [lambda it=it: refused(port, it) for it in REFUSED] + [lambda it=it: hostile(port, it) for it in damaged(root)]
-    return side_by_side(lambda task: task(), tasks) + [files(port)]
+    return side_by_side(lambda task: task(), tasks) + [files(port), shown_on_page(port, root)]
 
 
 def check(root):
