@@ -4,11 +4,6 @@ use crate::refusals::{PortRefusal, Reason};
 use crate::tokens::{Kind, Span, Token};
 
 impl Draft {
-    /// Whether a declaration begins there.
-    pub(crate) fn is_declaration(&self, at: usize) -> bool {
-        self.is_spec(at)
-    }
-
     /// Whether a type that is not read stands there, before a name.
     pub(crate) fn is_foreign_type(&self, at: usize) -> bool {
         let next = at.saturating_add(1);
