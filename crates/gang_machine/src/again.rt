@@ -9,6 +9,7 @@ use debug_traits::BeginsAgain;
 use machine_words::MachineWords;
 use std::alloc::{AllocError, Global};
 use undo_log::{Timeline, all_words, put_back};
+use whole_runs::CopiesOver;
 
 impl<const W: usize, T: Timeline + Drop> BeginsAgain for Machine<W, T> {
     ghost use Rattle.gang_machine.specs.Again.{CanHave, Copies, can_have_so, copies_so};
@@ -39,4 +40,20 @@ fn put<T: Timeline + Drop>(words: &mut MachineWords<T>, copy: &[u64])
     ensures layout { words.new.layout ≡ words.old.layout }
 {
     put_back(&mut words.store.timeline, copy);
+}
+
+impl<const W: usize, T: Timeline + Drop> CopiesOver for Machine<W, T> {
+    fn copy_over(&self, words: &mut [u64]) {
+        copy_words(&self.words, words);
+    }
+}
+
+/// Copies all words over others, as many.
+fn copy_words<T: Timeline + Drop>(words: &MachineWords<T>, copy: &mut [u64])
+    requires { length copy.old ≡ length (T.history words.now.store.timeline).words }
+    ensures { copy.new ≡ (T.history words.now.store.timeline).words }
+{
+    for index in 0..copy.len() {
+        copy[index] = words.store.timeline.word(index);
+    }
 }
