@@ -3,6 +3,7 @@
 
 mod copies;
 mod copies_over;
+mod expressions;
 mod framed;
 mod machine;
 mod notes;

@@ -1,0 +1,34 @@
+//! Expressions in the frames of a run that can be taken back to its start.
+ghost use Rattle.std.specs.Prelude.{◌≡◌, Some};
+ghost use Rattle.gang_types.specs.declared.places.Spot.{Spot};
+ghost use Rattle.gang_types.specs.declared.types.IntType.{IntType};
+ghost use Rattle.gang_types.specs.declared.types.Rate.{Rate};
+ghost use Rattle.gang_model.specs.Source.Parsed.{ParsedExpr};
+ghost use Rattle.gang_model.specs.Running.Value.{value};
+ghost use Rattle.gang_model.specs.Debugger.Debugger.{Debugger, Setting, now};
+ghost use Rattle.typed_tree.specs.Views.{expr_view, program_view};
+ghost use Rattle.debug_traits.specs.Frames.{spot_at, state_at};
+ghost use Rattle.frame_expressions.specs.Lanes.{IsValue, lanes_at};
+ghost use Rattle.frame_expressions.specs.Meanings.{Means, entries_at};
+
+use crate::copies_over::CopiesOver;
+use crate::whole_run::WholeRun;
+use debug_traits::{Fault, PokesSurely};
+use expression_instructions::Instruction;
+use frame_expressions::{ExpressionMachine, LaneWords};
+use gang_types::Spot;
+use typed_tree::Program;
+
+impl<M: CopiesOver + PokesSurely + ExpressionMachine> ExpressionMachine for WholeRun<M> {
+    fn program(&self) -> &Program {
+        self.inner.program()
+    }
+
+    fn spot(&self, depth: usize) -> Option<Spot> {
+        self.inner.spot(depth)
+    }
+
+    fn evaluate(&self, depth: usize, code: &[Instruction]) -> Result<LaneWords, Fault> {
+        self.inner.evaluate(depth, code)
+    }
+}
