@@ -2,6 +2,7 @@
 #![tactic(auto)]
 
 mod doing;
+mod expressions;
 mod frames;
 mod holding;
 mod listing;

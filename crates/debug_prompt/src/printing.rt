@@ -10,6 +10,7 @@ ghost use Rattle.prompt_lines.specs.Words.{is_alone, setting_text};
 ghost use Rattle.debug_prompt.specs.Doing as spec;
 ghost use Rattle.debug_prompt.specs.Holding.{held};
 
+use crate::expressions::{print_expression, show_instead, value_instead};
 use crate::frames::{find_part, may_set, selected_depth};
 use crate::holding::Holding;
 use crate::readings::{delete_of, is_shown, print_of};
@@ -17,17 +18,18 @@ use crate::turning::{Scene, do_alone, show_displays};
 use debug_commands::{Command, Target, read_command};
 use debug_session::Session;
 use debug_traits::{AnswerWriter, FramedMachine, RecordedMachine};
+use frame_expressions::ExpressionMachine;
 use prompt_lines::{is_alone, setting_line};
 use prompt_texts::{
-    Page, show_bits, show_value, tell, tell_hexadecimal, tell_refused, tell_unknown,
+    Digits, Page, show_bits, show_value, tell, tell_hexadecimal, tell_refused, tell_unknown,
 };
 
 /// Why a local variable of an outer frame is not set.
 const SETS_TOP: &[u8] =
     b"Values of outer frames cannot be set, since what is set is of the top frame or of the file: `frame 0` first.\n";
 
-/// Prints a target, or sets it where the line goes on with `=` and a value.
-pub(crate) fn print<M: FramedMachine, O: AnswerWriter + Drop>(
+/// Prints a target or an expression, or sets a target where the line goes on with `=` and a value.
+pub(crate) fn print<M: ExpressionMachine, O: AnswerWriter + Drop>(
     text: &[u8],
     holding: &Holding,
     scene: Scene<'_>,
@@ -38,9 +40,62 @@ pub(crate) fn print<M: FramedMachine, O: AnswerWriter + Drop>(
         → HasDone M.stands s (spec.printed_or_set s d (held holding.now) (spec.print_of (command_of text.now)) (command_of (setting_text text.now))) d session.new }
 {
     if let Some(target) = print_of(text) {
-        let _ = print_target(target, holding, scene, session, page);
+        print_named(target, text, holding, scene, session, page);
     } else {
-        set_spelled(setting_line(text).as_slice(), holding, scene, session, page);
+        set_or_print(text, holding, scene, session, page);
+    }
+}
+
+/// Prints a target in the frame that is selected; where its name stands for no variable, what it is as an expression.
+fn print_named<M: ExpressionMachine, O: AnswerWriter + Drop>(
+    target: Target<'_>,
+    text: &[u8],
+    holding: &Holding,
+    scene: Scene<'_>,
+    session: &mut Session<M>,
+    page: &mut Page<O>,
+)
+    ensures { (s : Setting) (d : Debugger) → StandsFor M.stands session.old s d
+        → HasDone M.stands s (spec.in_top (held holding.now) (DoPrint (target_view target.entry) ∷ [])) d session.new }
+{
+    if let Some(value) = value_instead(target.name, text, holding, scene, session) {
+        print_silently(target, holding, session);
+        show_instead(&value, text, Digits::Decimal, page);
+    } else {
+        let _ = print_target(target, holding, scene, session, page);
+    }
+}
+
+/// Prints a target in the top frame, where that is selected, and tells nothing of it.
+fn print_silently<M: RecordedMachine>(
+    target: Target<'_>,
+    holding: &Holding,
+    session: &mut Session<M>,
+)
+    ensures { (s : Setting) (d : Debugger) → StandsFor M.stands session.old s d
+        → HasDone M.stands s (spec.in_top (held holding.now) (DoPrint (target_view target.entry) ∷ [])) d session.new }
+{
+    if holding.is_top() {
+        let _ = session.do_command(Command::Print(target));
+    }
+}
+
+/// Sets what a command line sets, or prints what it is as an expression.
+fn set_or_print<M: ExpressionMachine, O: AnswerWriter + Drop>(
+    text: &[u8],
+    holding: &Holding,
+    scene: Scene<'_>,
+    session: &mut Session<M>,
+    page: &mut Page<O>,
+)
+    ensures { (s : Setting) (d : Debugger) → StandsFor M.stands session.old s d
+        → HasDone M.stands s (spec.set_by s d (held holding.now) (command_of (setting_text text.now))) d session.new }
+{
+    match read_command(setting_line(text).as_slice()) {
+        Some(Command::Set { target, value }) => {
+            set_target(target, value, holding, scene, session, page);
+        }
+        _ => print_expression(text, Digits::Decimal, holding, scene, session, page),
     }
 }
 
@@ -103,8 +158,8 @@ fn print_at<M: FramedMachine, O: AnswerWriter + Drop>(
     }
 }
 
-/// Prints a target in hexadecimal digits.
-pub(crate) fn print_hexadecimal<M: FramedMachine, O: AnswerWriter + Drop>(
+/// Prints a target or an expression in hexadecimal digits.
+pub(crate) fn print_hexadecimal<M: ExpressionMachine, O: AnswerWriter + Drop>(
     text: &[u8],
     holding: &Holding,
     scene: Scene<'_>,
@@ -115,9 +170,29 @@ pub(crate) fn print_hexadecimal<M: FramedMachine, O: AnswerWriter + Drop>(
         → HasDone M.stands s (spec.in_top (held holding.now) (spec.printed (spec.print_of (command_of text.now)))) d session.new }
 {
     if let Some(target) = print_of(text) {
-        print_bits(target, holding, scene, session, page);
+        print_named_bits(target, text, holding, scene, session, page);
     } else {
-        tell_unknown(scene.line, page);
+        print_expression(text, Digits::Hexadecimal, holding, scene, session, page);
+    }
+}
+
+/// Prints a target in hexadecimal digits; where its name stands for no variable, what it is as an expression.
+fn print_named_bits<M: ExpressionMachine, O: AnswerWriter + Drop>(
+    target: Target<'_>,
+    text: &[u8],
+    holding: &Holding,
+    scene: Scene<'_>,
+    session: &mut Session<M>,
+    page: &mut Page<O>,
+)
+    ensures { (s : Setting) (d : Debugger) → StandsFor M.stands session.old s d
+        → HasDone M.stands s (spec.in_top (held holding.now) (DoPrint (target_view target.entry) ∷ [])) d session.new }
+{
+    if let Some(value) = value_instead(target.name, text, holding, scene, session) {
+        print_silently(target, holding, session);
+        show_instead(&value, text, Digits::Hexadecimal, page);
+    } else {
+        print_bits(target, holding, scene, session, page);
     }
 }
 

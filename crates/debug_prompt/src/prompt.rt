@@ -15,9 +15,11 @@ use crate::readings::command_repeats;
 use crate::turning::Scene;
 use debug_commands::{Command, read_command};
 use debug_session::Session;
-use debug_traits::{AnswerWriter, FramedMachine, RecordedMachine};
+use debug_traits::{AnswerWriter, RecordedMachine};
+use frame_expressions::ExpressionMachine;
 use prompt_lines::{Kind, Look, PromptLine, Text, read_line};
 use prompt_texts::{Page, Source, show_here};
+use std::alloc::Global;
 use std::mem::replace;
 
 /// What a line led to.
@@ -68,8 +70,9 @@ impl Prompt {
     /// Does a line, its line feed not included, by a list of the debugger's commands, and shows what they came to. A long
     /// `continue` shows on a terminal how many moves it has made. Where the writer has failed, the commands are done, and nothing
     /// is shown any more.
-    pub fn do_line<M: FramedMachine, O: AnswerWriter + Drop>(
+    pub fn do_line<M: ExpressionMachine, O: AnswerWriter + Drop>(
         &mut self,
+        alloc: Global,
         line: &[u8],
         source: Source<'_>,
         session: &mut Session<M>,
@@ -86,6 +89,7 @@ impl Prompt {
         let is_again = read.kind == Kind::Again;
         let meant = meant(read, &mut self.kept);
         let scene = Scene {
+            alloc,
             line: if is_again {
                 meant.text.as_slice()
             } else {
@@ -163,7 +167,7 @@ fn repeats(line: &PromptLine) -> bool
 }
 
 /// Does a command line, by its kind.
-fn do_meant<M: FramedMachine, O: AnswerWriter + Drop>(
+fn do_meant<M: ExpressionMachine, O: AnswerWriter + Drop>(
     line: &PromptLine,
     is_again: bool,
     holding: &mut Holding,

@@ -17,10 +17,13 @@ use debug_commands::Command;
 use debug_session::Session;
 use debug_traits::{AnswerWriter, RecordedMachine};
 use prompt_texts::{Before, Page, Source, tell, tell_move};
+use std::alloc::Global;
 
-/// The line that is done, as it was typed, the source that is shown, and the most moves of one forward command.
+/// The line that is done, as it was typed, the source that is shown, and the most moves of one forward command; and where memory for
+/// expressions comes from.
 #[derive(Clone, Copy)]
 pub(crate) struct Scene<'a> {
+    pub(crate) alloc: Global,
     pub(crate) line: &'a [u8],
     pub(crate) source: Source<'a>,
     pub(crate) most_steps: u32,

@@ -276,7 +276,7 @@ const SILENT: [&[u8]; 18] = [
 ];
 
 /// What may stand in the text behind a command that shows or stops, and why nothing is done for it.
-const PARTS: [Reason; 5] = [
+const PARTS: [Reason; 3] = [
     Reason(
         &[b"programIndex", b"programCount", b"taskIndex"],
         b"Lanes have no names here: values stand in the order of the lanes, lane 0 first, and `print T[K]` shows that of lane K.",
@@ -286,16 +286,20 @@ const PARTS: [Reason; 5] = [
         b"There are no conditions: `break N` and `watch T` stop each time; `print T` then shows a value.",
     ),
     Reason(
+        &[b"("],
+        b"No function is called from the prompt, and no expression is worked out: `break NAME` stops in a function, where `print T` shows its variables and `whatis T` their types.",
+    ),
+];
+
+/// Marks that GDB's expressions have, and why none here has them.
+const MARKS: [Reason; 2] = [
+    Reason(
         &[b"@"],
         b"`print T` shows all elements of an array, and `print T[K]` the element K.",
     ),
     Reason(
         &[b"$"],
         b"There are no registers, and values have no numbers: `print T` shows a variable.",
-    ),
-    Reason(
-        &[b"("],
-        b"No function is called from the prompt, and no expression is worked out: `break NAME` stops in a function, where `print T` shows its variables and `whatis T` their types.",
     ),
 ];
 
@@ -334,6 +338,14 @@ pub fn explanation(text: &[u8]) -> Option<&'static [u8]> {
     why_of_command(word).or(why_of_command(front(word)))
 }
 
+/// Why a text is no expression, where it has a mark that GDB's expressions have.
+pub fn why_no_value(text: &[u8]) -> Option<&'static [u8]> {
+    if begins_with_address(text) {
+        return Some(NO_ADDRESS);
+    }
+    why_of_marks(&MARKS, text)
+}
+
 /// Why no command has a word, where it is known.
 fn why_of_command(word: &[u8]) -> Option<&'static [u8]> {
     why_of(&COMMANDS, word).or(why_of(&FURTHER, word))
@@ -354,10 +366,12 @@ fn is_one_of(words: &[&[u8]], word: &[u8]) -> bool {
 
 /// Why nothing is done for what a text has.
 fn why_of_part(text: &[u8]) -> Option<&'static [u8]> {
-    if begins_with_address(text) {
-        return Some(NO_ADDRESS);
-    }
-    for Reason(parts, why) in &PARTS {
+    why_no_value(text).or(why_of_marks(&PARTS, text))
+}
+
+/// Why nothing is done for the first of these parts that a text has.
+fn why_of_marks(reasons: &[Reason], text: &[u8]) -> Option<&'static [u8]> {
+    for Reason(parts, why) in reasons {
         if parts.iter().any(|part| has_part(text, part)) {
             return Some(why);
         }

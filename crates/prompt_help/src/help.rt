@@ -74,7 +74,7 @@ const FIRST: [Topic; 16] = [
     Topic {
         names: &[b"print", b"p", b"inspect", b"output"],
         usage: b"print T",
-        text: b"shows a variable T, or one lane or element as T[K], in the frame that is selected. `print T = V` sets it first.",
+        text: b"shows a variable T, one lane or element as T[K], or the value of an expression, in the frame that is selected. `print T = V` sets it first.",
     },
     Topic {
         names: &[b"p/x", b"print/x", b"output/x"],

@@ -5,6 +5,6 @@ mod explanations;
 mod help;
 mod usages;
 
-pub use explanations::{explanation, is_setting};
+pub use explanations::{explanation, is_setting, why_no_value};
 pub use help::{Topic, topic_of, topics};
 pub use usages::usage_of;

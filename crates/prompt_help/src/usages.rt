@@ -54,11 +54,11 @@ const FIRST: [Reason; 16] = [
     ),
     Reason(
         &[b"print", b"p", b"inspect", b"output"],
-        b"A variable is shown, or a lane or an element by its number, as `print x` and `print x[2]`, and no other expression: show its variables one after another.",
+        b"A variable or an expression is shown, in the frame that is selected, as `print x`, `print x[2]` and `print x + 1`; `print x = 3` sets a variable.",
     ),
     Reason(
         &[b"p/x", b"print/x", b"output/x"],
-        b"A variable is shown, or a lane or an element by its number, as `p/x x` and `p/x x[2]`, and no other expression.",
+        b"A variable or an expression is shown in hexadecimal digits, as `p/x x`, `p/x x[2]` and `p/x x + 1`.",
     ),
     Reason(
         &[b"set"],

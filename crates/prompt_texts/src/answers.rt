@@ -91,7 +91,7 @@ fn put_fault<O: AnswerWriter + Drop>(fault: Fault, page: &mut Page<O>) -> usize 
 }
 
 /// A fault's number, its name and what it means.
-fn fault_text(name: FaultName) -> &'static [u8] {
+pub(crate) fn fault_text(name: FaultName) -> &'static [u8] {
     match name {
         FaultName::DivideByZero => b"F1 DivideByZero: a division by 0",
         FaultName::Index => b"F2 Index: an index outside the array",

@@ -4,6 +4,7 @@
 mod answers;
 mod causes;
 mod changes;
+mod expressions;
 mod frames;
 mod help;
 mod looks;
@@ -17,6 +18,7 @@ mod values;
 pub use answers::{tell, tell_hexadecimal, tell_move};
 pub use causes::tell_refused;
 pub use changes::Before;
+pub use expressions::{Digits, Spelled, show_expression, tell_no_value};
 pub use frames::{
     show_arguments, show_bits, show_frame, show_frames, show_full_frames, show_locals, show_value,
 };

@@ -52,7 +52,7 @@ pub fn tell_unknown<O: AnswerWriter + Drop>(line: &[u8], page: &mut Page<O>) {
 }
 
 /// Writes a line that was typed, and a mark under one of its bytes.
-fn put_typed<O: AnswerWriter + Drop>(line: &[u8], at: usize, page: &mut Page<O>) {
+pub(crate) fn put_typed<O: AnswerWriter + Drop>(line: &[u8], at: usize, page: &mut Page<O>) {
     page.put(b"    ");
     page.put_masked(line);
     page.put(b"\n    ");

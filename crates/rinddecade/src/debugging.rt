@@ -147,7 +147,7 @@ fn talk_on<const W: usize, O: AnswerWriter + Drop>(
             Ok(Typed::Line) => {
                 let text = without_feed(line.as_slice());
                 talk.begin(text);
-                match prompt.do_line(text, talk.source, session, &mut page) {
+                match prompt.do_line(rt.alloc(), text, talk.source, session, &mut page) {
                     Turn::Goes => {}
                     Turn::Quits => return ExitCode::SUCCESS,
                     Turn::Fails => return write_fault(rt),

@@ -1,0 +1,65 @@
+//! Expressions, in the frame that is selected.
+use crate::frames::selected_depth;
+use crate::holding::Holding;
+use crate::turning::Scene;
+use debug_session::Session;
+use debug_traits::{AnswerWriter, FramedMachine};
+use frame_expressions::ExpressionMachine;
+use frame_values::{ExpressionValue, value_of_expression};
+use prompt_lines::{HELD, is_alone};
+use prompt_texts::{Digits, Page, Spelled, show_expression, tell_no_value, tell_unknown};
+
+/// How many bytes the word has that a command line begins with.
+const WORD: usize = 5;
+
+/// The expression of a command line that begins with `print`.
+fn expression_text(text: &[u8]) -> &[u8] {
+    text.get(WORD..).unwrap_or(&[])
+}
+
+/// The value that a name has as an expression, where it stands for no variable.
+pub(crate) fn value_instead<M: ExpressionMachine>(
+    name: &[u8],
+    text: &[u8],
+    holding: &Holding,
+    scene: Scene<'_>,
+    session: &Session<M>,
+) -> Option<ExpressionValue> {
+    let depth = selected_depth(holding, session);
+    let machine = session.machine();
+    if machine.find_at(depth, name).is_some() {
+        return None;
+    }
+    value_of_expression(scene.alloc, expression_text(text), depth, machine).ok()
+}
+
+/// Shows the value of the expression of a command line.
+pub(crate) fn show_instead<O: AnswerWriter + Drop>(
+    value: &ExpressionValue,
+    text: &[u8],
+    digits: Digits,
+    page: &mut Page<O>,
+) {
+    show_expression(expression_text(text), digits, value, page);
+}
+
+/// Shows the value of the expression of a command line in the frame that is selected, or tells why it has none.
+pub(crate) fn print_expression<M: ExpressionMachine, O: AnswerWriter + Drop>(
+    text: &[u8],
+    digits: Digits,
+    holding: &Holding,
+    scene: Scene<'_>,
+    session: &Session<M>,
+    page: &mut Page<O>,
+) {
+    if is_alone(text) || text.len() >= HELD {
+        tell_unknown(scene.line, page);
+        return;
+    }
+    let written = expression_text(text);
+    let depth = selected_depth(holding, session);
+    match value_of_expression(scene.alloc, written, depth, session.machine()) {
+        Ok(value) => show_expression(written, digits, &value, page),
+        Err(why) => tell_no_value(&why, Spelled { line: scene.line, text: written }, page),
+    }
+}
