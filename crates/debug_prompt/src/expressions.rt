@@ -60,6 +60,13 @@ pub(crate) fn print_expression<M: ExpressionMachine, O: AnswerWriter + Drop>(
     let depth = selected_depth(holding, session);
     match value_of_expression(scene.alloc, written, depth, session.machine()) {
         Ok(value) => show_expression(written, digits, &value, page),
-        Err(why) => tell_no_value(&why, Spelled { line: scene.line, text: written }, page),
+        Err(why) => tell_no_value(
+            &why,
+            Spelled {
+                line: scene.line,
+                text: written,
+            },
+            page,
+        ),
     }
 }

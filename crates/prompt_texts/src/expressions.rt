@@ -127,7 +127,13 @@ fn tell_refusal<O: AnswerWriter + Drop>(
             tell_unread(*refusal, spelled, page);
         }
         ExpressionRefusal::NoValue(refusal) => {
-            put_refusal(name_of(refusal.number), refusal.place, why_of(refusal.number), spelled, page);
+            put_refusal(
+                name_of(refusal.number),
+                refusal.place,
+                why_of(refusal.number),
+                spelled,
+                page,
+            );
         }
         ExpressionRefusal::CallsFunction(place) => {
             put_refusal(
@@ -151,7 +157,13 @@ fn tell_unread<O: AnswerWriter + Drop>(
         page.put(why);
         page.put(b"\n");
     } else {
-        put_refusal(name_of(refusal.number), refusal.place, why_of(refusal.number), spelled, page);
+        put_refusal(
+            name_of(refusal.number),
+            refusal.place,
+            why_of(refusal.number),
+            spelled,
+            page,
+        );
     }
 }
 
@@ -207,10 +219,13 @@ fn why_of(number: RefusalNumber) -> &'static [u8] {
         RefusalNumber::S2 => b"this is no number, or too large a one.\n",
         RefusalNumber::S3 => b"an expression does not go on so.\n",
         RefusalNumber::S4 => b"an expression has at most 64 nestings.\n",
-        RefusalNumber::S5 => b"no variable of this name is in scope in this frame or of the file.\n",
+        RefusalNumber::S5 =>
+            b"no variable of this name is in scope in this frame or of the file.\n",
         RefusalNumber::S7 => b"a varying value stands where a uniform one is wanted.\n",
-        RefusalNumber::S8 => b"the type does not fit: an array has no value without an index, and a bool is no number.\n",
-        RefusalNumber::S9 => b"no function of the library with this name takes these values and gives one; `whatis T` tells a type.\n",
+        RefusalNumber::S8 =>
+            b"the type does not fit: an array has no value without an index, and a bool is no number.\n",
+        RefusalNumber::S9 =>
+            b"no function of the library with this name takes these values and gives one; `whatis T` tells a type.\n",
         _ => b"the expression is too long.\n",
     }
 }

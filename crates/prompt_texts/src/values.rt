@@ -131,7 +131,11 @@ pub(crate) fn put_bits<M: RecordedMachine, O: AnswerWriter + Drop>(
 }
 
 /// Writes ` 0x` and the bits of a word, as many as its type has, without zeros in front.
-pub(crate) fn put_digits<O: AnswerWriter + Drop>(value_type: IntType, word: u64, page: &mut Page<O>) {
+pub(crate) fn put_digits<O: AnswerWriter + Drop>(
+    value_type: IntType,
+    word: u64,
+    page: &mut Page<O>,
+) {
     page.put(b" 0x");
     let mut is_begun = false;
     for place in 0..16u32 {

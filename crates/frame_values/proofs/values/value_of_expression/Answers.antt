@@ -17,6 +17,8 @@ returns-in-Ok-clause-none g c s d stands =
     (subst (λ p. IsPlaced c.args.text.now p c.in-Some.spot c.in-Ok.placed) (sym (c.program.ensures s d stands)) c.in-Ok.ensures.placed)
 
 pub returns-in-Err-clause-none : goal.returns-in-Err-clause-none
-returns-in-Err-clause-none g c s d stands =
-    (c.in-Some.spot, sym (c.spot.ensures s d stands) ∙ c.in-Some.is,
-    subst (λ p. IsRefused c.args.text.now p c.in-Some.spot c.in-Err.refusal) (sym (c.program.ensures s d stands)) c.in-Err.ensures.refused)
+returns-in-Err-clause-none g c s d stands = (
+  c.in-Some.spot,
+  sym (c.spot.ensures s d stands) ∙ c.in-Some.is,
+  subst (λ p. IsRefused c.args.text.now p c.in-Some.spot c.in-Err.refusal) (sym (c.program.ensures s d stands)) c.in-Err.ensures.refused,
+)
