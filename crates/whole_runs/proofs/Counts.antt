@@ -27,9 +27,9 @@ noted_over older [] = refl
 noted_over older (note ∷ notes) =
     let event = poke_of note in
     noted_over (event ∷ steps_on note.steps older) notes
-        ∙ ap (λ events. noted [] notes ++ event ∷ events) (sym (steps_over note.steps [] older))
-        ∙ sym (append_assoc (noted [] notes) (event ∷ steps_on note.steps []) older)
-        ∙ ap (λ events. events ++ older) (sym (noted_over (event ∷ steps_on note.steps []) notes))
+    ∙ ap (λ events. noted [] notes ++ event ∷ events) (sym (steps_over note.steps [] older))
+    ∙ sym (append_assoc (noted [] notes) (event ∷ steps_on note.steps []) older)
+    ∙ ap (λ events. events ++ older) (sym (noted_over (event ∷ steps_on note.steps []) notes))
 
 pub all_over : (n : ℕ) (older : List Event) (notes : List NotedPoke) → steps_on n (noted older notes) ≡ events_of notes n ++ older
 all_over n older notes = ap (steps_on n) (noted_over older notes) ∙ sym (steps_over n (noted [] notes) older)
@@ -73,7 +73,7 @@ left_events pokes passed steps = events_of (take (length pokes - passed) pokes) 
 
 pub next_left : (pokes : List NotedPoke) (passed steps : ℕ) (any : NotedPoke) → passed < length pokes
     → left_events pokes passed steps
-        ≡ steps_on steps (poke_of (get_or pokes (length pokes - 1 - passed) any) ∷ left_events pokes (passed + 1) (get_or pokes (length pokes - 1 - passed) any).steps)
+    ≡ steps_on steps (poke_of (get_or pokes (length pokes - 1 - passed) any) ∷ left_events pokes (passed + 1) (get_or pokes (length pokes - 1 - passed) any).steps)
 next_left pokes passed steps any inside =
     let i = length pokes - 1 - passed in
     let here : i < length pokes = omega arith in
@@ -81,8 +81,8 @@ next_left pokes passed steps any inside =
     let rest : i ≡ length pokes - (passed + 1) = omega arith in
     let note = get_or pokes i any in
     ap (λ n. events_of (take n pokes) steps) one ∙ ap (λ notes. events_of notes steps) (take_more pokes i any here)
-        ∙ ap (steps_on steps) (noted_last [] (take i pokes) note)
-        ∙ ap (λ n. steps_on steps (poke_of note ∷ steps_on note.steps (noted [] (take n pokes)))) rest
+    ∙ ap (steps_on steps) (noted_last [] (take i pokes) note)
+    ∙ ap (λ n. steps_on steps (poke_of note ∷ steps_on note.steps (noted [] (take n pokes)))) rest
 
 -- so many of the last pokes and the steps after them are passed, and so many events are left of those that can be taken back
 pub record HavePassed (pokes : List NotedPoke) (all kept passed left steps : ℕ) : Type 0 where

@@ -21,13 +21,13 @@ use Rattle.whole_runs.proofs.TakenBack.{noted_last}
 take_both : {X : Type 0} (m n : ℕ) (xs : List X) → take m (take n xs) ≡ take (min n m) xs
 take_both m n xs = elim (cases_lt n m) [
   | inl less ↦
-    let long = length-take n xs in
-    let within : length (take n xs) ≤ m = omega (arith, long, less) in
-    let same : n ≡ min n m = omega (arith, less) in
-    take_all m (take n xs) within ∙ ap (λ k. take k xs) same
+      let long = length-take n xs in
+      let within : length (take n xs) ≤ m = omega (arith, long, less) in
+      let same : n ≡ min n m = omega (arith, less) in
+      take_all m (take n xs) within ∙ ap (λ k. take k xs) same
   | inr more ↦
-    let same : m ≡ min n m = omega (arith, more) in
-    take-take m n xs more ∙ ap (λ k. take k xs) same
+      let same : m ≡ min n m = omega (arith, more) in
+      take-take m n xs more ∙ ap (λ k. take k xs) same
 ]
 
 -- ---- an event is recorded
@@ -96,9 +96,9 @@ pub steps_shown : (d : Debugger) (older : List Event) (n : Noted) → d.events �
 steps_shown d older n events kept less =
     ap (λ events. length (filter is_step events))
     (sym (take-append-le n.kept (events_of n.pokes n.steps) older less)
-        ∙ ap (take n.kept) (sym (all_over n.steps older n.pokes))
-        ∙ ap (take n.kept) (sym events)
-        ∙ ap (λ n. take n d.events) (sym kept))
+    ∙ ap (take n.kept) (sym (all_over n.steps older n.pokes))
+    ∙ ap (take n.kept) (sym events)
+    ∙ ap (λ n. take n d.events) (sym kept))
 
 -- ---- only steps
 
@@ -122,5 +122,5 @@ pub same_history : (a b : Noted) → a.kept ≡ b.kept → a.limit ≡ b.limit �
     → history_at a.kept a.limit (events_of a.pokes a.steps) ≡ history_at b.kept b.limit (events_of b.pokes b.steps)
 same_history a b kept limit less within =
     ap (λ k. history_at k a.limit (events_of a.pokes a.steps)) kept
-        ∙ ap (λ l. history_at b.kept l (events_of a.pokes a.steps)) limit
-        ∙ ap (λ events. record { words = []; past = kinds events; limit = b.limit; room = 0 }) (front b.kept a.steps b.steps (noted [] a.pokes) (noted [] b.pokes) less within)
+    ∙ ap (λ l. history_at b.kept l (events_of a.pokes a.steps)) limit
+    ∙ ap (λ events. record { words = []; past = kinds events; limit = b.limit; room = 0 }) (front b.kept a.steps b.steps (noted [] a.pokes) (noted [] b.pokes) less within)

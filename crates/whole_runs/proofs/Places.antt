@@ -65,10 +65,10 @@ first_same [] n m some = absurd (none some)
 first_same (note ∷ notes) n m some = refl
 
 pub is_inside : (notes : List NotedPoke) (n p k : ℕ) → IsWithin notes n p k → p ≤ length notes
-is_inside notes n p k within = elim within [ | inl before ↦ omega (arith, before) | inr (last, done) ↦ omega (arith, last) ]
+is_inside notes n p k within = elim within [ inl before ↦ omega (arith, before) | inr (last, done) ↦ omega (arith, last) ]
 
 pub within_more : (notes : List NotedPoke) (n p k : ℕ) → IsWithin notes n p k → IsWithin notes (suc n) p k
-within_more notes n p k within = elim within [ | inl before ↦ inl before | inr (last, done) ↦ let more : k ≤ suc n = omega (arith, done) in inr (last, more) ]
+within_more notes n p k within = elim within [ inl before ↦ inl before | inr (last, done) ↦ let more : k ≤ suc n = omega (arith, done) in inr (last, more) ]
 
 pub within_push : (notes : List NotedPoke) (note : NotedPoke) (n p k : ℕ) → IsWithin notes n p k → IsWithin (notes ++ note ∷ []) 0 p k
 within_push notes note n p k within =
@@ -79,12 +79,12 @@ within_push notes note n p k within =
 first_fewer : (notes : List NotedPoke) (n p k : ℕ) → IsWithin notes n p k → k ≤ steps_first (drop p notes) (suc n) → k ≤ steps_first (drop p notes) n
 first_fewer notes n p k within less = elim within [
   | inl before ↦
-    let many = length-drop p notes in
-    let some : 0 < length (drop p notes) = omega (arith, many, before) in
-    subst (λ m. k ≤ m) (first_same (drop p notes) (suc n) n some) less
+      let many = length-drop p notes in
+      let some : 0 < length (drop p notes) = omega (arith, many, before) in
+      subst (λ m. k ≤ m) (first_same (drop p notes) (suc n) n some) less
   | inr (last, done) ↦
-    let past : length notes ≤ p = omega (arith, last) in
-    subst (λ notes. k ≤ steps_first notes n) (sym (drop_all p notes past)) done
+      let past : length notes ≤ p = omega (arith, last) in
+      subst (λ notes. k ≤ steps_first notes n) (sym (drop_all p notes past)) done
 ]
 
 -- ---- copies

@@ -29,9 +29,9 @@ use Rattle.whole_runs.proofs.TakenBack.{Left, are_more, noted_last, shown_same}
 pub same_noted : (a b : Noted) → a.pokes ≡ b.pokes → a.steps ≡ b.steps → a.kept ≡ b.kept → a.limit ≡ b.limit → a ≡ b
 same_noted a b pokes steps kept limit =
     ap (λ x. record a { pokes = x }) pokes
-        ∙ ap (λ x. record { pokes = b.pokes; steps = x; kept = a.kept; limit = a.limit }) steps
-        ∙ ap (λ x. record { pokes = b.pokes; steps = b.steps; kept = x; limit = a.limit }) kept
-        ∙ ap (λ x. record { pokes = b.pokes; steps = b.steps; kept = b.kept; limit = x }) limit
+    ∙ ap (λ x. record { pokes = b.pokes; steps = x; kept = a.kept; limit = a.limit }) steps
+    ∙ ap (λ x. record { pokes = b.pokes; steps = b.steps; kept = x; limit = a.limit }) kept
+    ∙ ap (λ x. record { pokes = b.pokes; steps = b.steps; kept = b.kept; limit = x }) limit
 
 -- ---- the machine's own past
 

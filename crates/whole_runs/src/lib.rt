@@ -10,7 +10,7 @@ mod notes;
 mod redoing;
 mod whole_run;
 
-pub use copies::{Copies, CopiedMoment, CopyPlan};
+pub use copies::{CopiedMoment, Copies, CopyPlan};
 pub use copies_over::CopiesOver;
 pub use notes::{NotedPoke, Notes};
 pub use whole_run::{WHOLE_RUN, WholeRun};

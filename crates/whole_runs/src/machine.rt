@@ -13,7 +13,9 @@ ghost use Rattle.whole_runs.specs.Histories.{history_of};
 use crate::copies_over::CopiesOver;
 use crate::redoing::take_last_back;
 use crate::whole_run::WholeRun;
-use debug_traits::{NamedVariable, NextLocal, PokesSurely, Position, RecordedMachine, Shown, StepEnd};
+use debug_traits::{
+    NamedVariable, NextLocal, PokesSurely, Position, RecordedMachine, Shown, StepEnd,
+};
 use std::alloc::AllocError;
 use undo_log::{NoHistory, Undone};
 
@@ -45,12 +47,7 @@ impl<M: CopiesOver + PokesSurely> RecordedMachine for WholeRun<M> {
         self.moves.count_one();
         let event = self.notes.forget_last()?;
         self.is_stale = true;
-        take_last_back(
-            &mut self.inner,
-            &self.notes,
-            &self.start,
-            &mut self.copies,
-        );
+        take_last_back(&mut self.inner, &self.notes, &self.start, &mut self.copies);
         Ok(event)
     }
 

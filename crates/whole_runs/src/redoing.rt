@@ -55,7 +55,12 @@ pub(crate) fn redo_pokes<M: BeginsAgain + PokesSurely>(machine: &mut M, notes: &
 
 /// Does the rest again: these pokes, each after its steps, and the steps after them, where so many of the steps before the first of them
 /// are done.
-pub(crate) fn redo_rest<M: BeginsAgain + PokesSurely>(machine: &mut M, pokes: &[NotedPoke], steps: u64, done: u64)
+pub(crate) fn redo_rest<M: BeginsAgain + PokesSurely>(
+    machine: &mut M,
+    pokes: &[NotedPoke],
+    steps: u64,
+    done: u64,
+)
     ensures redone { (s : Setting) (d : Debugger) (older : List Event) → done ≤ steps_first pokes.now steps → StandsAt M.stands machine.old s d (steps_on done older)
         → AreNoted s older pokes.now → HaveGone s steps (noted older pokes.now) → StandsAt M.stands machine.new s d (steps_on steps (noted older pokes.now)) }
     ensures copies { KeepsCopies M.can_have M.copies machine.old machine.new }

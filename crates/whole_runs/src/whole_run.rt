@@ -201,7 +201,12 @@ impl<M: CopiesOver + PokesSurely> WholeRun<M> {
     /// # Errors
     ///
     /// Out of memory for the note, and then nothing changes.
-    pub(crate) fn set_noted(&mut self, shown: Shown, at: Option<u32>, word: u64) -> Result<(), AllocError>
+    pub(crate) fn set_noted(
+        &mut self,
+        shown: Shown,
+        at: Option<u32>,
+        word: u64,
+    ) -> Result<(), AllocError>
         requires { self.old.is_stale ≡ false }
         ensures poke { (s : Setting) (d : Debugger) (v : Variable) → StandsWhole M.stands M.copies self.old s d → IsShown s d v shown → IsPart at shown
             → PokesOrNot (StandsWhole M.stands M.copies) s d v shown at word result self.new }
