@@ -38,6 +38,8 @@ CALLS = {
     "machine_steps::entry_lengths": 0,
     "gang_machine::PreparedProgram::new": 0,
     "gang_machine::open": 0,
+    "whole_runs::WholeRun::begin": 0,
+    "whole_runs::WholeRun::begin_by": 0,
     "undo_log::DeltaRing::new": 0,
     "undo_log::DeltaRing::set_limit": 0,
     "undo_log::SnapshotRing::new": 0,
@@ -51,6 +53,9 @@ CALLS = {
     "ispc_debugger::run": 0,
     "debug_session::Session::do_command": 0,
     "lane_picture::draw": 3,
+    "run_page::write_page": 0,
+    "frame_values::value_of_expression": 0,
+    "source_port::port": 0,
     "adapter_frames::FrameReader::next_message": 0,
     "adapter_frames::write_frame": 0,
     "adapter_messages::read_request": 0,
@@ -66,7 +71,9 @@ CALLS = {
     "adapter_session::answer_request": 0,
 }
 # These keep the allocator, and take no memory.
-NONE_TAKEN = {"adapter_frames::FrameReader::new", "adapter_server::Connection::new"}
+NONE_TAKEN = {"adapter_frames::FrameReader::new", "adapter_server::Connection::new", "whole_runs::Notes::none", "whole_runs::Copies::none"}
+# This shows on its page that memory was wanting: hostile.py refuses it each of its allocations.
+ON_A_PAGE = {"debug_prompt::Prompt::do_line"}
 # These are made by `tokens` and `check`.
 INNER = {"ispc_lexer::first_step", "type_check::typed_program"}
 # The parts of a layer, whose calls are made by those of the crate with the plain name; and the crates of tests.
@@ -88,7 +95,7 @@ def public_calls(crate):
 def check(listed):
     """One result: each public call that is given an allocator is made alone, but for the parts of a layer."""
     wanted = {name for crate in listed if not PARTS.fullmatch(crate.name) for name in public_calls(crate)}
-    why = [f"{it} is not made alone" for it in sorted(wanted - CALLS.keys() - NONE_TAKEN - INNER)]
+    why = [f"{it} is not made alone" for it in sorted(wanted - CALLS.keys() - NONE_TAKEN - ON_A_PAGE - INNER)]
     return Result("each public call that is given an allocator", not why, why)
 
 

@@ -4,9 +4,11 @@ use adapter_messages::RequestFault;
 use clap::error::{Error, ErrorKind};
 use debug_answers::{Answer, Refusal as AnswerRefusal};
 use debug_inputs::InputFault;
+use frame_values::NoValue;
 use ispc_refusals::Refusal;
 use placed_expressions::ExpressionRefusal;
 use source_answers::SourceFault;
+use source_port::PortRefusal;
 use std::alloc::AllocError;
 use std::io;
 
@@ -68,6 +70,18 @@ impl CallFault for SourceFault {
 impl CallFault for ExpressionRefusal {
     fn is_memory(&self) -> bool {
         matches!(self, ExpressionRefusal::Memory)
+    }
+}
+
+impl CallFault for NoValue {
+    fn is_memory(&self) -> bool {
+        matches!(self, NoValue::Refused(ExpressionRefusal::Memory))
+    }
+}
+
+impl CallFault for PortRefusal {
+    fn is_memory(&self) -> bool {
+        matches!(self, PortRefusal::Memory)
     }
 }
 

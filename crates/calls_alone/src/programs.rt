@@ -12,7 +12,7 @@ use crate::samples::{FIRST, INPUT, compiled};
 use codegen::compile;
 use debug_inputs::read_inputs;
 use foreach_lowering::lower_rounds;
-use gang_machine::{PreparedProgram, open};
+use gang_machine::{Machine, PreparedProgram, open};
 use gang_memory::Layout;
 use gang_types::{BinaryOp, IntType, Spot};
 use input_rows::InputRow;
@@ -21,9 +21,10 @@ use machine_names::step_lines;
 use machine_steps::entry_lengths;
 use mask_lowering::lower;
 use placed_expressions::place_expression;
-use std::alloc::Global;
+use std::alloc::{AllocError, Global};
 use typed_tree::{Expr, Program};
 use undo_log::DeltaRing;
+use whole_runs::{CopyPlan, WholeRun};
 
 /// Makes the call of a name, if there is memory for what it is called on.
 pub(crate) fn call(alloc: Global, name: &str) -> Option<Ended> {
@@ -42,6 +43,8 @@ pub(crate) fn call(alloc: Global, name: &str) -> Option<Ended> {
         "machine_steps::entry_lengths" => measure(alloc, &compiled(alloc)?),
         "gang_machine::PreparedProgram::new" => prepare(alloc, compiled(alloc)?),
         "gang_machine::open" => open_machine(alloc, compiled(alloc)?, INPUT),
+        "whole_runs::WholeRun::begin" => begin_whole(alloc, None),
+        "whole_runs::WholeRun::begin_by" => begin_whole(alloc, Some(CopyPlan::new(3, 8))),
         _ => None,
     }
 }
@@ -106,14 +109,38 @@ fn prepare(alloc: Global, made: Compiled) -> Option<Ended>
 fn open_machine(alloc: Global, made: Compiled, input: &[u8]) -> Option<Ended>
     requires { (text : List ℕ) × (asked : Option Name) × Compiles text asked (Some made) }
 {
+    Some(end_of(&machine(alloc, made, input)?))
+}
+
+/// Begins a run that can be taken back to its start, with copies as a plan says.
+fn begin_whole(alloc: Global, plan: Option<CopyPlan>) -> Option<Ended> {
+    let machine = machine(alloc, compiled(alloc)?, INPUT)?.ok()?;
+    Some(match plan {
+        None => end_of(&WholeRun::begin(alloc, machine)),
+        Some(plan) => end_of(&WholeRun::begin_by(alloc, machine, plan)),
+    })
+}
+
+/// A machine of the program of a source, with the rows of an input, if there is memory for what it is made of.
+fn machine(
+    alloc: Global,
+    made: Compiled,
+    input: &[u8],
+) -> Option<Result<Machine<4, DeltaRing>, AllocError>>
+    requires { (text : List ℕ) × (asked : Option Name) × Compiles text asked (Some made) }
+{
     match read_inputs(alloc, input, &made.program, made.entry) {
-        Ok(rows) => open_with_rows(alloc, made, &rows),
+        Ok(rows) => machine_with_rows(alloc, made, &rows),
         Err(_) => None,
     }
 }
 
-/// Opens a machine of a program that may begin with these rows.
-fn open_with_rows(alloc: Global, made: Compiled, rows: &[InputRow]) -> Option<Ended>
+/// A machine of a program that may begin with these rows, if there is memory for what it is made of.
+fn machine_with_rows(
+    alloc: Global,
+    made: Compiled,
+    rows: &[InputRow],
+) -> Option<Result<Machine<4, DeltaRing>, AllocError>>
     requires runnable { IsRunnable made.program }
     requires begins { (f : Function) × (given : List Row) × MayBegin made.program made.entry.0 f given rows.now }
 {
@@ -124,6 +151,5 @@ fn open_with_rows(alloc: Global, made: Compiled, rows: &[InputRow]) -> Option<En
     let Ok(record) = DeltaRing::new(alloc, words, 2, cells) else {
         return None;
     };
-    let machine = open::<4, DeltaRing>(alloc, prepared, made.entry, rows, record);
-    Some(end_of(&machine))
+    Some(open::<4, DeltaRing>(alloc, prepared, made.entry, rows, record))
 }

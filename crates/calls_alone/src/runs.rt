@@ -3,10 +3,13 @@ use crate::ends::{Ended, end_of, end_of_command};
 use crate::samples::{INPUT, OPTIONS, SOURCE};
 use debug_commands::Command;
 use desk_options::read_verb;
+use frame_values::value_of_expression;
 use ispc_debugger::{ProgramSession, open_session, run};
 use ispc_options::{read_options, wrong_arguments};
 use lane_picture::{Form, Subject, draw};
 use lane_report::report;
+use run_page::write_page;
+use source_port::port;
 use std::alloc::Global;
 use tests_devices::{PieceReader, PieceWriter};
 
@@ -27,6 +30,9 @@ pub(crate) fn call(alloc: Global, name: &str) -> Option<Ended> {
         "ispc_debugger::run" => Some(run_whole(alloc)),
         "debug_session::Session::do_command" => Some(grow(&mut session(alloc)?)),
         "lane_picture::draw" => Some(draw_picture(alloc, &mut session(alloc)?)),
+        "run_page::write_page" => Some(write_run(alloc, &mut session(alloc)?)),
+        "frame_values::value_of_expression" => Some(evaluate(alloc, &session(alloc)?)),
+        "source_port::port" => Some(end_of(&port(alloc, SOURCE))),
         _ => None,
     }
 }
@@ -65,4 +71,22 @@ fn draw_picture(alloc: Global, session: &mut ProgramSession<4>) -> Ended {
     };
     let mut writer = PieceWriter::new(512, 512);
     end_of(&draw(alloc, session, &subject, &mut writer))
+}
+
+/// Writes the page of the run.
+fn write_run(alloc: Global, session: &mut ProgramSession<4>) -> Ended {
+    let subject = run_page::Subject {
+        title: b"it.ispc",
+        source: SOURCE,
+        first_number: 1,
+        most_steps: 100,
+        most_words: 100,
+    };
+    let mut writer = PieceWriter::new(512, 512);
+    end_of(&write_page(alloc, session, &subject, &mut writer))
+}
+
+/// The value of an expression where the program stands.
+fn evaluate(alloc: Global, session: &ProgramSession<4>) -> Ended {
+    end_of(&value_of_expression(alloc, b"n + t[1]", 1, session.machine()))
 }
