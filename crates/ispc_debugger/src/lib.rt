@@ -3,6 +3,7 @@
 
 mod opening;
 mod running;
+mod whole;
 
 pub use ispc_options::{Options, Paths, Width, read_options};
 pub use ispc_refusals::{Refusal, write_refusal};
@@ -10,3 +11,4 @@ pub use ispc_script::split_script;
 pub use opening::{ProgramSession, open_session};
 pub use running::run;
 pub use transcript::Ending;
+pub use whole::{WholeSession, open_whole_session};

@@ -54,6 +54,28 @@ pub fn open_session<const W: usize>(
     // Where they are refused they have none, unless memory ran out.
     ensures none { IfErr result (λ refusal. (refusal ≡ Refusal.Memory) ⊎ AreNotAccepted source.now (asked_of options.now) input.now) }
 {
+    let machine = open_machine::<W>(alloc, source, input, options)?;
+    Ok(Session::open(machine, options.steps))
+}
+
+/// The machine of such a session.
+pub(crate) fn open_machine<const W: usize>(
+    alloc: Global,
+    source: &[u8],
+    input: &[u8],
+    options: &Options<'_>,
+) -> Result<Machine<W, DeltaRing>, Refusal>
+    requires width { W ≡ lanes_of options.now.width }
+    requires range { AreInRange options.now }
+    ensures opened { IfOk result (λ machine. (program : ModelProgram) × (entry : ℕ) × (rows : List Row)
+        × AreAcceptedAs source.now (asked_of options.now) input.now program entry rows
+        × Stands machine (setting program entry rows (options_view options.now)) (fresh options.now.history)) }
+    // The source and the input have no other program, entry and rows.
+    ensures one { AreAcceptedOnce source.now (asked_of options.now) input.now }
+    ensures refused { IfErr result (IsRight source.now (asked_of options.now) input.now) }
+    // Where they are refused they have none, unless memory ran out.
+    ensures none { IfErr result (λ refusal. (refusal ≡ Refusal.Memory) ⊎ AreNotAccepted source.now (asked_of options.now) input.now) }
+{
     match compile_source(alloc, source, asked_entry(options)) {
         Err(SourceFault::Refused(refusal)) => Err(Refusal::Source(refusal)),
         Err(SourceFault::Memory) => Err(Refusal::Memory),
@@ -69,18 +91,18 @@ fn asked_entry<'a>(options: &Options<'a>) -> Option<&'a [u8]>
     options.entry.map(|name| name.as_bytes())
 }
 
-/// The session of a compiled source at a width, with an input.
+/// The machine of a compiled source at a width, with an input.
 fn open_compiled<const W: usize>(
     alloc: Global,
     compiled: Compiled,
     input: &[u8],
     options: &Options<'_>,
-) -> Result<ProgramSession<W>, Refusal>
+) -> Result<Machine<W, DeltaRing>, Refusal>
     requires width { W ≡ lanes_of options.now.width }
     requires compiled { (text : List ℕ) × (asked : Option Name) × Compiles text asked (Some compiled) }
     requires range { AreInRange options.now }
-    ensures opened { IfOk result (λ session. (rows : List Row) × (rows_of (program_view compiled.program) compiled.entry.0 input.now ≡ Ok rows)
-        × StandsFor Stands session (setting (program_view compiled.program) compiled.entry.0 rows (options_view options.now)) (fresh options.now.history)) }
+    ensures opened { IfOk result (λ machine. (rows : List Row) × (rows_of (program_view compiled.program) compiled.entry.0 input.now ≡ Ok rows)
+        × Stands machine (setting (program_view compiled.program) compiled.entry.0 rows (options_view options.now)) (fresh options.now.history)) }
     ensures refused { IfErr result (IsRightForInput (rows_of (program_view compiled.program) compiled.entry.0 input.now)) }
 {
     let rows = match read_inputs(alloc, input, &compiled.program, compiled.entry) {
@@ -89,7 +111,7 @@ fn open_compiled<const W: usize>(
     };
     match begun::<W>(alloc, compiled, &rows, options) {
         Err(_) => Err(Refusal::Memory),
-        Ok(session) => Ok(session),
+        Ok(machine) => Ok(machine),
     }
 }
 
@@ -103,18 +125,18 @@ fn refused_input(fault: InputFault) -> Refusal
     }
 }
 
-/// The debugger of a program at a width, before its first step.
+/// The machine of a program at a width, before its first step.
 fn begun<const W: usize>(
     alloc: Global,
     compiled: Compiled,
     rows: &[InputRow],
     options: &Options<'_>,
-) -> Result<ProgramSession<W>, AllocError>
+) -> Result<Machine<W, DeltaRing>, AllocError>
     requires width { IsGangWidth W }
     requires runnable { IsRunnable compiled.program }
     requires begins { (f : Function) × (given : List Row) × MayBegin compiled.program compiled.entry.0 f given rows.now }
     requires range { AreInRange options.now }
-    ensures { (f : Function) (given : List Row) → MayBegin compiled.program compiled.entry.0 f given rows.now → IfOk result (λ session. StandsFor Stands session
+    ensures { (f : Function) (given : List Row) → MayBegin compiled.program compiled.entry.0 f given rows.now → IfOk result (λ machine. Stands machine
         (setting (program_view compiled.program) compiled.entry.0 given (record { width = W; history = options.now.history; steps = options.now.steps }))
         (fresh options.now.history)) }
 {
@@ -126,5 +148,5 @@ fn begun<const W: usize>(
         prepared.cells::<W>(),
     )?;
     let machine = open::<W, DeltaRing>(alloc, prepared, compiled.entry, rows, timeline)?;
-    Ok(Session::open(machine, options.steps))
+    Ok(machine)
 }

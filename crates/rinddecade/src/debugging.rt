@@ -11,7 +11,7 @@ use debug_prompt::{Prompt, Turn};
 use debug_streams::StreamWriter;
 use debug_traits::AnswerWriter;
 use desk_options::{Debugged, Program};
-use ispc_debugger::{ProgramSession, open_session};
+use ispc_debugger::{WholeSession, open_whole_session};
 use ispc_options::Width;
 use ispc_refusals::Refusal;
 use prompt_texts::{Page, Source};
@@ -56,7 +56,7 @@ fn debug_wide<const W: usize>(
     requires range { AreInRange program.now.options }
 {
     let (source, input) = (texts.source.text, texts.input.text);
-    match open_session::<W>(rt.alloc(), source, input, &program.options) {
+    match open_whole_session::<W>(rt.alloc(), source, input, &program.options) {
         Err(refusal) => refuse_program(rt, &refusal, program, texts),
         Ok(mut session) => {
             let prompt = Prompt::new(program.options.steps);
@@ -71,7 +71,7 @@ fn talk<const W: usize>(
     source: Source<'_>,
     prompt: Prompt,
     screen: Screen,
-    session: &mut ProgramSession<W>,
+    session: &mut WholeSession<W>,
 ) -> ExitCode {
     let pages = Cell::new(Pages::new(screen.height));
     let talk = Talk {
@@ -121,7 +121,7 @@ fn talk_on<const W: usize, O: AnswerWriter + Drop>(
     rt: &HostRuntime,
     talk: Talk<'_>,
     prompt: Prompt,
-    session: &mut ProgramSession<W>,
+    session: &mut WholeSession<W>,
     page: Page<O>,
 ) -> ExitCode {
     let mut prompt = prompt;

@@ -9,7 +9,7 @@ use adapter_requests::Launch;
 use adapter_server::{Connection, Ended, LaunchMessage, Served};
 use debug_inputs::MOST_BYTES as MOST_INPUT;
 use debug_streams::StreamWriter;
-use ispc_debugger::{ProgramSession, open_session};
+use ispc_debugger::{WholeSession, open_whole_session};
 use ispc_options::{Options, Width};
 use ispc_refusals::{Refusal, write_refusal};
 use ispc_script::MOST_BYTES;
@@ -153,7 +153,7 @@ fn serve_session<const W: usize, R: Read + Drop, O: Write + Drop>(
     message: &LaunchMessage,
     launch: &Launch<'_>,
     options: &Options<'_>,
-    session: ProgramSession<W>,
+    session: WholeSession<W>,
 ) -> Result<Served, Ended>
     requires width { W ≡ lanes_of options.now.width }
     requires range { AreInRange options.now }
@@ -181,7 +181,7 @@ fn serve_session<const W: usize, R: Read + Drop, O: Write + Drop>(
 /// What opening a program came to.
 #[derive(Drop)]
 enum Opened<const W: usize> {
-    Session(ProgramSession<W>),
+    Session(WholeSession<W>),
     /// Why the program is refused.
     Refused(String),
 }
@@ -202,7 +202,7 @@ fn open_launch<const W: usize>(
             return Ok(Opened::Refused(text));
         }
     };
-    match open_session::<W>(rt.alloc(), source.as_slice(), input.as_slice(), options) {
+    match open_whole_session::<W>(rt.alloc(), source.as_slice(), input.as_slice(), options) {
         Ok(session) => Ok(Opened::Session(session)),
         Err(refusal) => Ok(Opened::Refused(text_of(rt, launch.program, &refusal)?)),
     }

@@ -3,7 +3,6 @@ use Rattle.gang_model.specs.Debugger.Debugger.{fresh}
 use Rattle.gang_model.specs.Texts.InputText.{rows_of}
 use Rattle.gang_model.specs.Texts.Transcript.{setting}
 use Rattle.typed_tree.specs.Views.{program_view}
-use Rattle.debug_session.specs.Sessions.{StandsFor}
 use Rattle.gang_machine.specs.Standings.{Stands}
 use Rattle.input_rows.specs.Rows.{AreRows}
 use Rattle.ispc_debugger.specs.Runs.{IsRightForInput}
@@ -16,7 +15,7 @@ returns-in-Err-clause-refused g c =
     let answer = rows_of (program_view c.args.compiled.program) c.args.compiled.entry.0 c.args.input.now in
     subst (IsRightForInput answer) (sym c.refused_input.ensures) (told_right answer c.in-Err.fault c.in-Err.ensures)
 
--- the session may begin with the rows that are read
+-- the machine may begin with the rows that are read
 pub begun-requires : goal.begun-requires
 begun-requires g c =
     let (source, asked, is) = c.requires.compiled in
@@ -33,7 +32,7 @@ returns-clause-opened g c =
     let (f, may) = may_begin source asked c.args.compiled is c.args.input.now given c.deref.result.now read (subst (AreRows given) (sym c.deref.ensures.value) are) in (
       given,
       read,
-      subst (λ width. StandsFor Stands c.in-Ok-begun.session (setting (program_view c.args.compiled.program) c.args.compiled.entry.0 given (record { width = width; history = options.history; steps = options.steps })) (fresh options.history))
+      subst (λ width. Stands c.in-Ok-begun.machine (setting (program_view c.args.compiled.program) c.args.compiled.entry.0 given (record { width = width; history = options.history; steps = options.steps })) (fresh options.history))
           c.requires.width
           (c.in-Ok-begun.ensures f given may),
     )

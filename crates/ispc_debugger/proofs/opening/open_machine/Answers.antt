@@ -6,7 +6,7 @@ use Rattle.gang_model.specs.Source.Sources.{HasNoEntry, IsRightRefusal}
 use Rattle.ispc_compiler.proofs.OneProgram.{no_entry, no_program}
 use Rattle.ispc_debugger.specs.Runs.{IsRight, asked_of}
 use Rattle.ispc_debugger.proofs.Accepted.{not_accepted, once}
-use Rattle.ispc_debugger.proofs.opening.open_session.Goals as goal
+use Rattle.ispc_debugger.proofs.opening.open_machine.Goals as goal
 
 pub returns-in-Err-Refused-clause-one : goal.returns-in-Err-Refused-clause-one
 returns-in-Err-Refused-clause-one g c = once c.args.source.now (asked_of c.args.options.now) c.args.input.now
