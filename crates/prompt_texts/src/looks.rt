@@ -147,7 +147,9 @@ fn show_whole_recording<M: RecordedMachine, O: AnswerWriter + Drop>(
     page.put_number(steps as i128);
     page.put(b" steps and ");
     page.put_number(machine.kept().saturating_sub(steps) as i128);
-    page.put(b" changes were made, and all can be taken back (`set record full insn-number-max N` limits that)\n");
+    page.put(
+        b" changes were made, and all can be taken back (`set record full insn-number-max N` limits that)\n",
+    );
 }
 
 /// Writes a line for each watch.
