@@ -56,6 +56,7 @@ def helps():
         ("debug", "--help"): (b"Usage: rinddecade debug [OPTIONS] <SOURCE>", *OF_A_RUN),
         ("help", "debug"): (b"Usage: rinddecade debug [OPTIONS] <SOURCE>", *OF_A_RUN),
         ("picture", "--help"): (b"Usage: rinddecade picture [OPTIONS] <SOURCE>", *OF_A_RUN, *OF_A_PICTURE),
+        ("port", "--help"): (b"Usage: rinddecade port [OPTIONS] <SOURCE>", b"--to", b"--force"),
         ("picture", "first.ispc", "-h"): (b"Usage: rinddecade picture [OPTIONS] <SOURCE>",),
         ("adapter", "--help"): (b"Usage: rinddecade adapter",),
         ("explain", "--help"): (b"Usage: rinddecade explain <NAME>...",),
