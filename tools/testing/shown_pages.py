@@ -35,6 +35,7 @@ export void go() {
 """
 
 SHOWN = """(async () => {
+    clearTimeout(address_timer); // Else the page may write its own address over this one.
     if (location.hash !== "#%d") await new Promise(done => {
         addEventListener("hashchange", done, { once: true });
         location.hash = "#%d";
