@@ -155,7 +155,7 @@ fn with_program<'a>(alloc: Global, command: Command<'a>) -> Result<Command<'a>, 
         ))?
         .arg(option_or(alloc, "width", "W", widths(), "4").help("how many lanes a gang has"))?
         .arg(option_or(alloc, "history", "N", up_to(MOST_HISTORY), "65536").help(
-            "how many events can be taken back, from 1 to 65536",
+            "how many events can be taken back, from 1 to 65536, which debug takes as all",
         ))?
         .arg(option_or(alloc, "steps", "N", up_to(MOST_STEPS), "1000000").help(
             "how many moves one command makes at most, up to 10000000",
