@@ -66,7 +66,7 @@ fn limited<const W: usize>(
     history: u32,
 ) -> Result<WholeRun<Machine<W, DeltaRing>>, Refusal>
     requires { (1 ≤ history) × (history ≤ 65536) }
-    ensures stands { IfOk result (λ limited. (s : Setting) → StandsWhole Stands Copies run s (fresh (2 ^ 62)) → StandsWhole Stands Copies limited s (fresh (whole_history history))) }
+    ensures stands { IfOk result (λ limited. (s : Setting) → StandsWhole Stands Copies run.entry s (fresh (2 ^ 62)) → StandsWhole Stands Copies limited s (fresh (whole_history history))) }
     ensures refused { IfErr result (λ refusal. refusal ≡ Refusal.Memory) }
 {
     if history == NO_LIMIT {
