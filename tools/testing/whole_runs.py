@@ -1,0 +1,94 @@
+"""Runs longer than the machine's own record, at the prompt: going back shows at each place what was shown there going forward.
+
+The places are some ten thousand steps apart, so that going back begins again at copies and does the events from there on, pokes among them.
+"""
+
+import pathlib
+import random
+import re
+import subprocess
+import tempfile
+
+from .calls import go_on, side_by_side
+from .tried import SECONDS, Result
+
+NAME = "rinddecade, whole runs"
+SEEDS = range(12)
+# Eight steps a turn: a sum in all lanes, a call, an array, and a place where lanes part.
+SOURCE = b"""uniform int turns;
+uniform int kept[5];
+int sum;
+int mixed(int x) {
+    return (x ^ sum) & 1023;
+}
+export void go() {
+    for (uniform int i = 0; i < 60000; i += 1) {
+        turns = i;
+        sum += programIndex + i;
+        if (programIndex < (i & 3)) { sum -= kept[i & 3]; }
+        int y = mixed(i);
+        kept[i & 3] = reduce_add(y);
+    }
+    turns = turns / (kept[4] - kept[4]);
+}
+"""
+SHOWN = ("turns", "sum", "kept")
+LOOK = "look"
+PLACE = re.compile(rb"^(?:.*: )?(\w+) at \S+?:(\d+):(\d+),(?: depth \d+,)? lanes ([#.]+)$", re.M)
+
+
+def plan(seed):
+    """Moves of some ten thousand steps, with a value that is set before some of them."""
+    draws = random.Random(seed)
+    steps = [draws.choice((1, 17, 4_001, 9_973, 30_011, 65_536, 70_001)) for _ in range(draws.randrange(4, 7))]
+    pokes = [draws.choice((None, "sum = 7", "sum[2] = -40", "kept[1] = 99", "turns = 3")) for _ in steps]
+    return list(zip(steps, pokes))
+
+
+def script(moves):
+    """Lines that go forward by the moves, look, and go back over them and look again: the looks come in opposite order."""
+    look = [f"echo {LOOK}", *(f"print {it}" for it in SHOWN)]
+    forward = [line for steps, poke in moves for line in (*look, *([f"set var {poke}"] if poke else []), f"step {steps}")]
+    back = [line for steps, poke in reversed(moves) for line in (f"reverse-step {steps}", *(["undo"] if poke else []), *look)]
+    return [*forward, *look, *look, *back]
+
+
+def told(program, lines, folder, width):
+    pathlib.Path(folder, "long.ispc").write_bytes(SOURCE)
+    words = [program, "debug", "long.ispc", "--width", str(width)]
+    return subprocess.run(words, input="\n".join(lines).encode() + b"\n", capture_output=True, cwd=folder, timeout=float(SECONDS)).stdout
+
+
+def looks(text):
+    """What was printed behind each mark of a look."""
+    lines = text.splitlines()
+    return [tuple(lines[at + 1 : at + 1 + len(SHOWN)]) for at, line in enumerate(lines) if line == LOOK.encode()]
+
+
+def there_and_back(program, seed):
+    moves, width = plan(seed), (4, 8, 16)[seed % 3]
+    with tempfile.TemporaryDirectory(prefix="whole-") as folder:
+        go_on()
+        given = looks(told(program, script(moves), folder, width))
+    half = len(moves) + 1
+    why = [] if len(given) == 2 * half and len({*given}) > len(moves) // 2 else [f"{len(given)} looks, and {2 * half} are wanted, most of them different"]
+    why += [f"look {at}: {one} and {other}" for at, (one, other) in enumerate(zip(given[:half], reversed(given[half:]))) if one != other]
+    return Result(f"whole run {seed} at {width} lanes: each look back is the look before", not why, why)
+
+
+def to_the_start(program):
+    """From the fault at the end back to the statement that set the value, to the first step, and forward to the fault again."""
+    lines = ["continue", "watch kept[4]", "reverse-continue", "info record", "delete", "continue"]
+    with tempfile.TemporaryDirectory(prefix="whole-") as folder:
+        text = told(program, lines, folder, 4)
+    places = [(name.decode(), int(line), int(column)) for name, line, column, _ in PLACE.findall(text)]
+    wanted = [("go", 8, 10), ("go", 15, 5), ("go", 8, 10), ("go", 15, 5)]
+    why = [] if places == wanted else [f"places {places}, and {wanted} are wanted"]
+    if b"0 steps and 0 changes were made" not in text:
+        why.append("info record does not say that it is the start")
+    return Result("from a fault to the first step and back to it", not why, why)
+
+
+def results(root, program):
+    """A result for each plan, and one from the end of a run to its start."""
+    return [*side_by_side(lambda seed: there_and_back(program, seed), SEEDS), to_the_start(program)]
