@@ -348,7 +348,13 @@ def the_end(client, examples):
     same(client.place(), [(2, 5, "go [11111111]")])
     same(client.refused_move("stepBack", "C3 NoHistory")["reason"], "entry")
     same(client.move("continue")["reason"], "breakpoint")
-    client.end("terminate")
+    client.ask("terminate")
+    client.event("terminated")
+    client.ask("restart")
+    same(client.event("stopped")["reason"], "entry")
+    client.ask("terminate")
+    client.event("terminated")
+    client.end()
 
 
 # Requests that lack an argument or have one of a wrong type, each with the first such argument.

@@ -37,6 +37,7 @@ CAPABILITIES = [
     "supportsRestartRequest",
     "supportsSetVariable",
     "supportsStepBack",
+    "supportsTerminateRequest",
 ]
 EVENTS = {
     "initialized": ({}, {}),

@@ -128,6 +128,7 @@ IsRequestNamed name.Continue message request.Continue = Unit {0}
 IsRequestNamed name.StepBack message request.StepBack = Unit {0}
 IsRequestNamed name.ReverseContinue message request.ReverseContinue = Unit {0}
 IsRequestNamed name.Restart message request.Restart = Unit {0}
+IsRequestNamed name.Terminate message request.Terminate = Unit {0}
 IsRequestNamed name.Disconnect message request.Disconnect = Unit {0}
 IsRequestNamed name message request = ⊥
 

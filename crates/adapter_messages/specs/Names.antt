@@ -34,8 +34,8 @@ names =
     ∷ (codes "stepBack", name.StepBack)
     ∷ (codes "reverseContinue", name.ReverseContinue)
     ∷ (codes "restart", name.Restart)
+    ∷ (codes "terminate", name.Terminate)
     ∷ (codes "disconnect", name.Disconnect)
-    ∷ (codes "terminate", name.Disconnect)
     ∷ []
 
 -- the first request of a command in a list

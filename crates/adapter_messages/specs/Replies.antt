@@ -44,7 +44,8 @@ capabilities = object
     (member (codes "supportsExceptionInfoRequest") (boolean true)
     (member (codes "supportsRestartRequest") (boolean true)
     (member (codes "supportsSetVariable") (boolean true)
-    (member (codes "supportsStepBack") (boolean true) no_members))))))))
+    (member (codes "supportsStepBack") (boolean true)
+    (member (codes "supportsTerminateRequest") (boolean true) no_members)))))))))
 
 -- why a breakpoint or a watch is not there
 abbrev pub fault_text : BreakpointFault → Bytes

@@ -55,7 +55,8 @@ fn capabilities(alloc: Global) -> Result<Value, AllocError>
         "supportsExceptionInfoRequest": true,
         "supportsRestartRequest": true,
         "supportsSetVariable": true,
-        "supportsStepBack": true
+        "supportsStepBack": true,
+        "supportsTerminateRequest": true
     })
 }
 

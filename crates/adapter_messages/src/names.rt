@@ -28,6 +28,7 @@ pub(crate) enum Name {
     StepBack,
     ReverseContinue,
     Restart,
+    Terminate,
     Disconnect,
 }
 
@@ -54,8 +55,8 @@ const NAMES: [(&str, Name); 23] = [
     ("stepBack", Name::StepBack),
     ("reverseContinue", Name::ReverseContinue),
     ("restart", Name::Restart),
+    ("terminate", Name::Terminate),
     ("disconnect", Name::Disconnect),
-    ("terminate", Name::Disconnect),
 ];
 
 /// The request of a command, if it is known.

@@ -90,6 +90,7 @@ pub fn read_request<'a>(
         Name::StepBack => Ok(Request::StepBack),
         Name::ReverseContinue => Ok(Request::ReverseContinue),
         Name::Restart => Ok(Request::Restart),
+        Name::Terminate => Ok(Request::Terminate),
         Name::Disconnect => Ok(Request::Disconnect),
     }
 }

@@ -98,6 +98,7 @@ fixed_reply request.Initialize = Some reply.Capabilities
 fixed_reply request.Threads = Some reply.Threads
 fixed_reply request.SetExceptionBreakpoints = Some reply.Done
 fixed_reply request.ConfigurationDone = Some reply.Done
+fixed_reply request.Terminate = Some reply.Done
 fixed_reply request.Disconnect = Some reply.Done
 fixed_reply other = None
 

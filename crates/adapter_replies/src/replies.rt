@@ -85,9 +85,10 @@ pub fn reply_to<M: FramedMachine>(
         Request::Scopes { frame } => scopes(alloc, machine, *frame),
         Request::Threads => Ok(Reply::Threads),
         Request::Initialize => Ok(Reply::Capabilities),
-        Request::SetExceptionBreakpoints | Request::ConfigurationDone | Request::Disconnect => {
-            Ok(Reply::Done)
-        }
+        Request::SetExceptionBreakpoints
+        | Request::ConfigurationDone
+        | Request::Terminate
+        | Request::Disconnect => Ok(Reply::Done),
         Request::ExceptionInfo => refused(alloc, NO_FAULT),
         Request::Launch(_) | Request::Restart => refused(alloc, "the program is launched already"),
         Request::Unknown(name) => unknown(alloc, name),

@@ -71,6 +71,8 @@ pub enum Request<'a> {
     StepBack,
     ReverseContinue,
     Restart,
+    /// The program is to end; the editor is told that it has.
+    Terminate,
     Disconnect,
     /// A request of another name.
     Unknown(&'a str),

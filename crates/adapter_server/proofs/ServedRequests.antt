@@ -99,6 +99,7 @@ module _ {M : Type 0} (stands : M → Setting → Debugger → Type 0) (program 
   alone request.StepBack = tt
   alone request.ReverseContinue = tt
   alone request.Restart = tt
+  alone request.Terminate = tt
   alone request.Disconnect = tt
   alone (request.Unknown name) = tt
 

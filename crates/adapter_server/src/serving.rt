@@ -175,6 +175,10 @@ impl<R: Read, O: Write> Connection<R, O> {
                 self.begin(launch, session)?;
                 Ok(Turn::Goes)
             }
+            Request::Terminate => {
+                self.tell("terminated")?;
+                Ok(Turn::Goes)
+            }
             Request::Disconnect => Ok(Turn::Disconnects),
             _ => Ok(Turn::Goes),
         }

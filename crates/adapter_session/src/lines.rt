@@ -73,6 +73,7 @@ pub fn command_lines(
         | Request::Scopes { .. }
         | Request::Variables { .. }
         | Request::Restart
+        | Request::Terminate
         | Request::Disconnect
         | Request::Unknown(_) => Ok(Vec::new(alloc)),
     }
