@@ -237,6 +237,23 @@ def breaks(client, examples):
     client.end()
 
 
+def locations(client, examples):
+    """The lines on which a breakpoint can stand are those of the steps and closing braces, of the program's source alone."""
+    with written(SPREAD) as path:
+        client.launch(path)
+        client.begin()
+        for first, last, lines in [(1, 7, [3, 5, 6]), (1, 3, [3]), (4, 4, []), (5, None, [5]), (5, 4, []), (6, 2**31, [6]), (7, 7, [])]:
+            end = {} if last is None else {"endLine": last}
+            told = client.ask("breakpointLocations", source={"path": client.source}, line=first, **end)["breakpoints"]
+            same([it["line"] for it in told], lines)
+        same(client.ask("breakpointLocations", source={"path": "/another.ispc"}, line=1, endLine=7)["breakpoints"], [])
+        client.end()
+
+
+# Steps on lines 3 and 5, and a closing brace on line 6.
+SPREAD = "uniform int a = 1;\nexport void go() {\n    int x = a;\n\n    x += 1;\n}\n\n"
+
+
 def variables(client, examples):
     """Locals, lanes and a variable that is set."""
     client.launch(examples / "first.ispc")
@@ -368,6 +385,7 @@ INCOMPLETE = [
     ("setVariable", {"variablesReference": 1}, "name"),
     ("setVariable", {"variablesReference": 1, "name": "x"}, "value"),
     ("setVariable", {"variablesReference": 1, "name": "x", "value": 7}, "value"),
+    ("breakpointLocations", {"endLine": 3}, "line"),
     ("evaluate", {}, "expression"),
     ("evaluate", {"expression": ["x"]}, "expression"),
 ]
@@ -400,7 +418,7 @@ def wrong_requests(client, examples):
     client.end()
 
 
-CHECKS = [steps_and_back, watches, breaks, variables, frames, faults, filters, the_end, wrong_requests, *FRAME_CHECKS, *LAUNCH_CHECKS]
+CHECKS = [steps_and_back, watches, breaks, locations, variables, frames, faults, filters, the_end, wrong_requests, *FRAME_CHECKS, *LAUNCH_CHECKS]
 
 
 def check(root, command):

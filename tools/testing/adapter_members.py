@@ -7,6 +7,7 @@ BODIES = {
     "initialize": ({}, {}),
     "launch": ({}, {}),
     "setBreakpoints": ({"breakpoints": LIST}, {}),
+    "breakpointLocations": ({"breakpoints": LIST}, {}),
     "setExceptionBreakpoints": ({}, {}),
     "exceptionInfo": ({"exceptionId": TEXT, "breakMode": TEXT}, {"description": TEXT, "details": MEMBERS}),
     "dataBreakpointInfo": ({"dataId": (TEXT, type(None)), "description": TEXT}, {"accessTypes": LIST, "canPersist": TRUTH}),
@@ -30,6 +31,7 @@ BODIES = {
 }
 CAPABILITIES = [
     "exceptionBreakpointFilters",
+    "supportsBreakpointLocationsRequest",
     "supportsConfigurationDoneRequest",
     "supportsDataBreakpoints",
     "supportsEvaluateForHovers",
@@ -172,6 +174,10 @@ ASKED = {"setBreakpoints": "breakpoints", "setDataBreakpoints": "breakpoints"}
 def need_body(command, arguments, body):
     """What the reply to a request tells has the members of its command, and what the protocol says of their values."""
     need_members(f"the body of {command}", body, *BODIES[command])
+    if command == "breakpointLocations":
+        for item in body["breakpoints"]:
+            need_members("a location", item, {"line": NUMBER}, {})
+        return
     for name, items in body.items():
         if name in ITEMS:
             need_items(name, items)

@@ -66,6 +66,10 @@ is_right read given = is_some read || is_absent given
 abbrev pub as_line : ℕ → Option ℕ
 as_line n = if nat_lt n (2 ^ 32) then Some n else None
 
+-- a line at a place of a message
+abbrev pub line_at : (path : Bytes) → Data → Option ℕ
+line_at path message = option_and_then as_line (number_at path message)
+
 -- the line of a breakpoint
 abbrev pub line_in : Data → Option ℕ
 line_in d = option_and_then as_line (option_and_then as_u64 (option_and_then as_number (get (codes "line") d)))
@@ -106,6 +110,8 @@ abbrev pub IsRequestNamed : Name → Data → Request → Type 0
 IsRequestNamed name.Initialize message request.Initialize = Unit {0}
 IsRequestNamed name.Launch message (request.Launch launch) = IsLaunch message launch
 IsRequestNamed name.SetBreakpoints message (request.SetBreakpoints source lines) = (text_at (codes "/arguments/source/path") message ≡ text_of source) × (lines.items ≡ each_asked line_in (breakpoints_of message))
+IsRequestNamed name.BreakpointLocations message (request.BreakpointLocations source first last) =
+    (text_at (codes "/arguments/source/path") message ≡ text_of source) × (line_at (codes "/arguments/line") message ≡ Some first) × (line_at (codes "/arguments/endLine") message ≡ last)
 IsRequestNamed name.SetExceptionBreakpoints message request.SetExceptionBreakpoints = Unit {0}
 IsRequestNamed name.ExceptionInfo message request.ExceptionInfo = Unit {0}
 IsRequestNamed name.DataBreakpointInfo message (request.DataBreakpointInfo text) = text_at (codes "/arguments/name") message ≡ Some text.now

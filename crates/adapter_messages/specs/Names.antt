@@ -16,6 +16,7 @@ names =
     (codes "initialize", name.Initialize)
     ∷ (codes "launch", name.Launch)
     ∷ (codes "setBreakpoints", name.SetBreakpoints)
+    ∷ (codes "breakpointLocations", name.BreakpointLocations)
     ∷ (codes "setExceptionBreakpoints", name.SetExceptionBreakpoints)
     ∷ (codes "exceptionInfo", name.ExceptionInfo)
     ∷ (codes "dataBreakpointInfo", name.DataBreakpointInfo)

@@ -38,6 +38,7 @@ exception_filter = object
 abbrev pub capabilities : Data
 capabilities = object
     (member (codes "exceptionBreakpointFilters") (array (item exception_filter no_items))
+    (member (codes "supportsBreakpointLocationsRequest") (boolean true)
     (member (codes "supportsConfigurationDoneRequest") (boolean true)
     (member (codes "supportsDataBreakpoints") (boolean true)
     (member (codes "supportsEvaluateForHovers") (boolean true)
@@ -45,7 +46,7 @@ capabilities = object
     (member (codes "supportsRestartRequest") (boolean true)
     (member (codes "supportsSetVariable") (boolean true)
     (member (codes "supportsStepBack") (boolean true)
-    (member (codes "supportsTerminateRequest") (boolean true) no_members)))))))))
+    (member (codes "supportsTerminateRequest") (boolean true) no_members))))))))))
 
 -- why a breakpoint or a watch is not there
 abbrev pub fault_text : BreakpointFault → Bytes
@@ -61,6 +62,10 @@ abbrev pub breakpoint : Breakpoint → Data
 breakpoint (Stands number (Some line)) = object (member (codes "id") (natural number) (member (codes "line") (natural line) (member (codes "verified") (boolean true) no_members)))
 breakpoint (Stands number None) = object (member (codes "id") (natural number) (member (codes "verified") (boolean true) no_members))
 breakpoint (Refused why) = object (member (codes "message") (string (fault_text why)) (member (codes "verified") (boolean false) no_members))
+
+-- a line on which a breakpoint can stand
+abbrev pub location : ℕ → Data
+location line = only (codes "line") (natural line)
 
 -- a target that can be watched: where it is written
 abbrev pub watchable : (target : Bytes) → Data
@@ -150,6 +155,7 @@ exception shown = object
 abbrev pub body_of : (program : Bytes) → Reply → Data
 body_of program reply.Capabilities = capabilities
 body_of program (reply.Breakpoints asked) = only (codes "breakpoints") (array_of breakpoint asked.items)
+body_of program (reply.Locations lines) = only (codes "breakpoints") (array_of location lines.items)
 body_of program (reply.Watchable target) = watchable (string_bytes target)
 body_of program reply.NotWatchable = not_watchable
 body_of program reply.Threads = only (codes "threads") (array (item gang no_items))

@@ -2,7 +2,7 @@
 ghost use Rattle.std.specs.Prelude.{◌≡◌, Err, IfOk, if◌then◌else◌, map, option_map};
 ghost use Rattle.serde_json.specs.View.{items_view, view};
 ghost use Rattle.adapter_requests.specs.declared.reply.BreakpointFault.TheVariants.{Conditional};
-ghost use Rattle.adapter_messages.specs.Arguments.{asked, asked_text, breakpoints_of, each_asked, flag_at, is_absent, is_conditional, line_in, number_at, placed, target_in, text_at};
+ghost use Rattle.adapter_messages.specs.Arguments.{asked, asked_text, breakpoints_of, each_asked, flag_at, is_absent, is_conditional, line_at, line_in, number_at, placed, target_in, text_at};
 
 use adapter_requests::BreakpointFault;
 use serde_json::Value;
@@ -20,6 +20,13 @@ pub(crate) fn number_at(message: &Value, path: &str) -> Option<u64>
     ensures { result ≡ number_at path.now (view message.now) }
 {
     message.pointer(path).and_then(Value::as_u64)
+}
+
+/// The line at a place of a message, if there is one.
+pub(crate) fn line_at(message: &Value, path: &str) -> Option<u32>
+    ensures { result ≡ line_at path.now (view message.now) }
+{
+    number_at(message, path).and_then(|line| u32::try_from(line).ok())
 }
 
 /// The truth value at a place of a message, if there is one.

@@ -2,7 +2,7 @@
 ghost use Rattle.std.specs.Prelude.{◌≡◌, IfOk, codes};
 ghost use Rattle.serde_json.specs.Data.{no_members, object};
 ghost use Rattle.serde_json.specs.View.{view};
-ghost use Rattle.adapter_messages.specs.Replies.{array_of, body_of, breakpoint, capabilities, exception_filter, fault_text, file_name, file_scope, frames, known_scope, not_watchable, only, scopes, source, variable, watchable};
+ghost use Rattle.adapter_messages.specs.Replies.{array_of, body_of, breakpoint, capabilities, exception_filter, fault_text, file_name, file_scope, frames, known_scope, location, not_watchable, only, scopes, source, variable, watchable};
 ghost use Rattle.adapter_messages.specs.Replies as spec;
 
 use adapter_requests::{Breakpoint, BreakpointFault, Exception, Frame, Reply, Scopes, Variable};
@@ -17,6 +17,7 @@ pub(crate) fn body_of(alloc: Global, program: &str, reply: &Reply) -> Result<Val
     match reply {
         Reply::Capabilities => capabilities(alloc),
         Reply::Breakpoints(made) => breakpoints(alloc, made),
+        Reply::Locations(lines) => locations(alloc, lines),
         Reply::Watchable(target) => watchable(alloc, target.as_str()),
         Reply::NotWatchable => not_watchable(alloc),
         Reply::Threads => json!(in alloc; {"threads": [{"id": 1u64, "name": "gang"}]}),
@@ -49,6 +50,7 @@ fn capabilities(alloc: Global) -> Result<Value, AllocError>
     let filter = exception_filter(alloc)?;
     json!(in alloc; {
         "exceptionBreakpointFilters": [filter],
+        "supportsBreakpointLocationsRequest": true,
         "supportsConfigurationDoneRequest": true,
         "supportsDataBreakpoints": true,
         "supportsEvaluateForHovers": true,
@@ -113,6 +115,25 @@ fn breakpoint_value(alloc: Global, breakpoint: &Breakpoint) -> Result<Value, All
             json!(in alloc; {"message": fault_text(fault), "verified": false})
         }
     }
+}
+
+/// The lines on which a breakpoint can stand.
+fn locations(alloc: Global, lines: &[u32]) -> Result<Value, AllocError>
+    ensures { IfOk result (λ v. view v ≡ only (codes "breakpoints") (array_of location lines.now)) }
+{
+    let mut list = Vec::new(alloc);
+    for line in lines {
+        let shown = location_value(alloc, *line)?;
+        push(&mut list, shown)?;
+    }
+    json!(in alloc; {"breakpoints": Value::Array(list)})
+}
+
+/// A line on which a breakpoint can stand.
+fn location_value(alloc: Global, line: u32) -> Result<Value, AllocError>
+    ensures { IfOk result (λ v. view v ≡ location line) }
+{
+    json!(in alloc; {"line": line})
 }
 
 /// Why a breakpoint or a watch is not there.

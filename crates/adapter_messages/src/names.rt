@@ -10,6 +10,7 @@ pub(crate) enum Name {
     Initialize,
     Launch,
     SetBreakpoints,
+    BreakpointLocations,
     SetExceptionBreakpoints,
     ExceptionInfo,
     DataBreakpointInfo,
@@ -33,10 +34,11 @@ pub(crate) enum Name {
 }
 
 /// The requests that are known, by their commands.
-const NAMES: [(&str, Name); 23] = [
+const NAMES: [(&str, Name); 24] = [
     ("initialize", Name::Initialize),
     ("launch", Name::Launch),
     ("setBreakpoints", Name::SetBreakpoints),
+    ("breakpointLocations", Name::BreakpointLocations),
     ("setExceptionBreakpoints", Name::SetExceptionBreakpoints),
     ("exceptionInfo", Name::ExceptionInfo),
     ("dataBreakpointInfo", Name::DataBreakpointInfo),

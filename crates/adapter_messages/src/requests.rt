@@ -6,7 +6,7 @@ ghost use Rattle.adapter_messages.specs.Arguments.{IsRequest, IsRequestNamed, fl
 ghost use Rattle.adapter_messages.specs.Faults.{IsRefused, IsRefusedNamed, NamesArgument, first_missing, launch_options, missing, needs};
 ghost use Rattle.adapter_messages.specs.declared.requests.RequestFault.TheVariants.{Memory};
 
-use crate::arguments::{flag_at, is_absent, lines_of, number_at, targets_of, text_at};
+use crate::arguments::{flag_at, is_absent, line_at, lines_of, number_at, targets_of, text_at};
 use crate::names::{Name, named};
 use adapter_requests::{Launch, Request};
 use debug_words::is_same;
@@ -72,6 +72,7 @@ pub fn read_request<'a>(
         Name::Initialize => Ok(Request::Initialize),
         Name::Launch => read_launch(message),
         Name::SetBreakpoints => read_breakpoints(alloc, message),
+        Name::BreakpointLocations => read_locations(message),
         Name::SetExceptionBreakpoints => Ok(Request::SetExceptionBreakpoints),
         Name::ExceptionInfo => Ok(Request::ExceptionInfo),
         Name::DataBreakpointInfo => read_information(message),
@@ -176,6 +177,22 @@ fn read_breakpoints(alloc: Global, message: &Value) -> Result<Request<'_>, Reque
         source: text_at(message, "/arguments/source/path"),
         lines,
     })
+}
+
+/// The lines on which a breakpoint can stand.
+fn read_locations(message: &Value) -> Result<Request<'_>, RequestFault>
+    ensures accepted { IfOk result (λ request. IsRequestNamed Name.BreakpointLocations (view message.now) request) }
+    ensures complete { OnOk result (first_missing (needs Name.BreakpointLocations (view message.now)) ≡ None) }
+    ensures refused { IfErr result (IsRefusedNamed Name.BreakpointLocations (view message.now)) }
+{
+    match line_at(message, "/arguments/line") {
+        Some(first) => Ok(Request::BreakpointLocations {
+            source: text_at(message, "/arguments/source/path"),
+            first,
+            last: line_at(message, "/arguments/endLine"),
+        }),
+        None => Err(RequestFault::Argument("line")),
+    }
 }
 
 /// Whether a variable can be watched.

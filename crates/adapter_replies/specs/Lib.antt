@@ -1,6 +1,7 @@
 pub mod Breakpoints
 pub mod Exceptions
 pub mod Frames
+pub mod Locations
 pub mod References
 pub mod Shown
 pub mod Stopped

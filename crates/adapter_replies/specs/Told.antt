@@ -20,6 +20,7 @@ use Rattle.adapter_requests.specs.declared.request.Request.TheVariants as reques
 use Rattle.adapter_replies.specs.Exceptions.{no_fault}
 use Rattle.adapter_replies.specs.Breakpoints.{IsWatchableTold, is_watchable, told_breakpoint, told_watch}
 use Rattle.adapter_replies.specs.Frames.{ToldFrame, all_frames, frame_view}
+use Rattle.adapter_replies.specs.Locations.{told_places}
 use Rattle.adapter_replies.specs.References.{is_frame, place_of, within}
 use Rattle.adapter_replies.specs.declared.places.Place.{Place}
 use Rattle.adapter_replies.specs.declared.places.Place.TheVariants as place
@@ -117,10 +118,16 @@ abbrev pub told_breakpoints : Reply → Option (List Breakpoint)
 told_breakpoints (reply.Breakpoints made) = Some made.items
 told_breakpoints other = None
 
--- what a request for breakpoints or watches is told, each of them in order
+-- the lines of a reply
+abbrev pub told_locations : Reply → Option (List ℕ)
+told_locations (reply.Locations lines) = Some lines.items
+told_locations other = None
+
+-- what a request for breakpoints or watches is told, each of them in order; and one for the lines on which there can be some
 abbrev pub AreBreakpointsTold : Setting → Debugger → (is_program : Bool) → List (ℕ × model.Stop) → Request → Reply → Type 0
 AreBreakpointsTold s d is_program stops (request.SetBreakpoints source lines) told = told_breakpoints told ≡ Some (map (told_breakpoint s is_program stops) lines.items)
 AreBreakpointsTold s d is_program stops (request.SetDataBreakpoints targets) told = told_breakpoints told ≡ Some (map (told_watch s d stops) targets.items)
+AreBreakpointsTold s d is_program stops (request.BreakpointLocations source first last) told = told_locations told ≡ Some (told_places s is_program first last)
 AreBreakpointsTold s d is_program stops other told = Unit {0}
 
 -- ---- by the last answer

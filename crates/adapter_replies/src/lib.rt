@@ -4,6 +4,7 @@
 mod breakpoints;
 mod exceptions;
 mod frames;
+mod locations;
 mod places;
 mod replies;
 mod scopes;

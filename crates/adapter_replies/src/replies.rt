@@ -15,6 +15,7 @@ ghost use Rattle.adapter_replies.specs.Told.{AreBreakpointsTold, AreScopesTold, 
 use crate::breakpoints::{breakpoints, watchable, watches};
 use crate::exceptions::NO_FAULT;
 use crate::frames::frames;
+use crate::locations::locations;
 use crate::places::{Place, Scope, depth_of, is_frame, reference_of};
 use crate::scopes::variables;
 use crate::stops::stop_of;
@@ -60,6 +61,14 @@ pub fn reply_to<M: FramedMachine>(
         Request::SetBreakpoints { source: _, lines } => {
             let made = breakpoints(alloc, machine, stops, lines, is_program)?;
             Ok(Reply::Breakpoints(made))
+        }
+        Request::BreakpointLocations {
+            source: _,
+            first,
+            last,
+        } => {
+            let lines = locations(alloc, machine, is_program, *first, *last)?;
+            Ok(Reply::Locations(lines))
         }
         Request::SetDataBreakpoints { targets } => {
             Ok(Reply::Breakpoints(watches(alloc, machine, stops, targets)?))

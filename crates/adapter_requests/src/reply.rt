@@ -96,6 +96,8 @@ pub enum Reply {
     Done,
     Capabilities,
     Breakpoints(Vec<Breakpoint>),
+    /// The lines on which a breakpoint can stand.
+    Locations(Vec<u32>),
     /// The target that can be watched.
     Watchable(String),
     /// The variable cannot be watched.

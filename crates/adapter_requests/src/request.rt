@@ -30,6 +30,12 @@ pub enum Request<'a> {
         source: Option<&'a str>,
         lines: Vec<Result<u32, BreakpointFault>>,
     },
+    /// The lines of a source, from the first to the last, on which a breakpoint can stand; the first alone where there is no last.
+    BreakpointLocations {
+        source: Option<&'a str>,
+        first: u32,
+        last: Option<u32>,
+    },
     SetExceptionBreakpoints,
     /// Which fault the last stop was at.
     ExceptionInfo,

@@ -81,6 +81,7 @@ module _ {M : Type 0} (stands : M → Setting → Debugger → Type 0) (program 
   alone request.Initialize = tt
   alone (request.Launch launch) = tt
   alone (request.SetBreakpoints source lines) = tt
+  alone (request.BreakpointLocations source first last) = tt
   alone request.SetExceptionBreakpoints = tt
   alone request.ExceptionInfo = tt
   alone (request.DataBreakpointInfo name) = tt

@@ -17,6 +17,7 @@ use Rattle.adapter_session.specs.Requested.{is_program, lines_of}
 -- whether a request is of breakpoints in the program's source
 abbrev pub is_source_of : (program : Bytes) → Request → Bool
 is_source_of program (request.SetBreakpoints source lines) = is_program program source
+is_source_of program (request.BreakpointLocations source first last) = is_program program source
 is_source_of program other = false
 
 -- what a request is told where a debugger stands after its commands, by the last answer and what it means; what a machine shows is said of the debugger

@@ -64,7 +64,12 @@ fn is_source_of(program: &str, request: &Request<'_>) -> bool
     ensures { result ≡ is_source_of program.now request.now }
 {
     match request {
-        Request::SetBreakpoints { source, lines: _ } => is_program(program, *source),
+        Request::SetBreakpoints { source, lines: _ }
+        | Request::BreakpointLocations {
+            source,
+            first: _,
+            last: _,
+        } => is_program(program, *source),
         _ => false,
     }
 }

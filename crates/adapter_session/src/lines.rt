@@ -64,6 +64,7 @@ pub fn command_lines(
         } => evaluated(alloc, expression, *is_console, is_elsewhere(depth, *frame)),
         Request::Initialize
         | Request::Launch(_)
+        | Request::BreakpointLocations { .. }
         | Request::SetExceptionBreakpoints
         | Request::ExceptionInfo
         | Request::DataBreakpointInfo { .. }
