@@ -1,4 +1,4 @@
-use Rattle.std.proofs.Common.{◌∷◌, [], ◌++◌, ◌+◌, ◌∙◌, sym, ap, refl}
+use Rattle.std.proofs.Common.{◌∷◌, [], ◌++◌, ◌+◌, ◌∙◌, sym, ap, zero-add}
 use Rattle.std.specs.Prelude.{cond}
 use Rattle.std.proofs.lemmas.List.FromFn.{filter_of_map_range_with_len_more}
 use Rattle.adapter_replies.specs.Locations.{has_place}
@@ -11,4 +11,4 @@ loop-index-preserved g c s d st =
     let line = first + index in
     c.in_ok-push_place.ensures s d st
     ∙ ap (λ old. old ++ cond (has_place s.program line) (line ∷ []) []) (c.loop-index.invariant s d st)
-    ∙ sym (filter_of_map_range_with_len_more (has_place s.program) (λ n. first + n) 0 index index refl)
+    ∙ sym (filter_of_map_range_with_len_more (has_place s.program) (λ n. first + n) 0 index index (zero-add index))
