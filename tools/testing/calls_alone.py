@@ -50,6 +50,7 @@ CALLS = {
     "desk_options::read_verb": 0,
     "lane_report::report": 0,
     "ispc_debugger::open_session": 0,
+    "ispc_debugger::open_whole_session": 0,
     "ispc_debugger::run": 0,
     "debug_session::Session::do_command": 0,
     "lane_picture::draw": 3,

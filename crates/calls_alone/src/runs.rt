@@ -4,7 +4,7 @@ use crate::samples::{INPUT, OPTIONS, SOURCE};
 use debug_commands::Command;
 use desk_options::read_verb;
 use frame_values::value_of_expression;
-use ispc_debugger::{ProgramSession, open_session, run};
+use ispc_debugger::{ProgramSession, open_session, open_whole_session, run};
 use ispc_options::{read_options, wrong_arguments};
 use lane_picture::{Form, Subject, draw};
 use lane_report::report;
@@ -26,6 +26,9 @@ pub(crate) fn call(alloc: Global, name: &str) -> Option<Ended> {
         "lane_report::report" => Some(report_lanes(alloc)),
         "ispc_debugger::open_session" => {
             Some(end_of(&open_session::<4>(alloc, SOURCE, INPUT, &OPTIONS)))
+        }
+        "ispc_debugger::open_whole_session" => {
+            Some(end_of(&open_whole_session::<4>(alloc, SOURCE, INPUT, &OPTIONS)))
         }
         "ispc_debugger::run" => Some(run_whole(alloc)),
         "debug_session::Session::do_command" => Some(grow(&mut session(alloc)?)),

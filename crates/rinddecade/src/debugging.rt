@@ -74,11 +74,7 @@ fn talk<const W: usize>(
     session: &mut WholeSession<W>,
 ) -> ExitCode {
     let pages = Cell::new(Pages::new(screen.height));
-    let talk = Talk {
-        source,
-        pages: &pages,
-        usual: screen.height,
-    };
+    let shown = ShownSource::new(source, &pages, screen.height);
     if screen.is_terminal || screen.has_colours {
         let writer = StreamWriter::new(Lines::new(rt, &pages, screen.has_colours));
         let page = if screen.is_terminal {
@@ -86,26 +82,34 @@ fn talk<const W: usize>(
         } else {
             Page::new(writer)
         };
-        return talk_on::<W, _>(rt, talk, prompt, session, page);
+        return talk_on::<W, _>(rt, shown, prompt, session, page);
     }
     match LineWriter::new(rt.alloc(), rt.stdout()) {
         Err(_) => refuse(rt, &Refusal::Memory),
         Ok(lines) => {
             let page = Page::new(StreamWriter::new(lines));
-            talk_on::<W, _>(rt, talk, prompt, session, page)
+            talk_on::<W, _>(rt, shown, prompt, session, page)
         }
     }
 }
 
-/// What is shown, and how: the source, the pages of a terminal, and how many lines one of them has where nothing else is set.
+/// The source, the pages of a terminal, and how many lines one of them has where nothing else is set.
 #[derive(Clone, Copy)]
-struct Talk<'a> {
+struct ShownSource<'a> {
     source: Source<'a>,
     pages: &'a Cell<Pages>,
     usual: u32,
 }
 
-impl Talk<'_> {
+impl<'a> ShownSource<'a> {
+    fn new(source: Source<'a>, pages: &'a Cell<Pages>, usual: u32) -> Self {
+        ShownSource {
+            source,
+            pages,
+            usual,
+        }
+    }
+
     /// Begins the pages of a line, which may set how many lines one has.
     fn begin(self, line: &[u8]) {
         let pages = match height_set_by(line, self.usual) {
@@ -119,7 +123,7 @@ impl Talk<'_> {
 /// Does the lines of standard input, up to one that quits or the end.
 fn talk_on<const W: usize, O: AnswerWriter + Drop>(
     rt: &HostRuntime,
-    talk: Talk<'_>,
+    shown: ShownSource<'_>,
     prompt: Prompt,
     session: &mut WholeSession<W>,
     page: Page<O>,
@@ -129,7 +133,7 @@ fn talk_on<const W: usize, O: AnswerWriter + Drop>(
     let mut line = Vec::new(rt.alloc());
     let mut reader = rt.reader();
     let is_asked = rt.stdin().is_terminal();
-    prompt.begin(talk.source, session, &mut page);
+    prompt.begin(shown.source, session, &mut page);
     for _ in 0..u64::MAX {
         ask(rt, is_asked);
         match read_line(&mut reader, &mut line) {
@@ -146,8 +150,8 @@ fn talk_on<const W: usize, O: AnswerWriter + Drop>(
             }
             Ok(Typed::Line) => {
                 let text = without_feed(line.as_slice());
-                talk.begin(text);
-                match prompt.do_line(rt.alloc(), text, talk.source, session, &mut page) {
+                shown.begin(text);
+                match prompt.do_line(rt.alloc(), text, shown.source, session, &mut page) {
                     Turn::Goes => {}
                     Turn::Quits => return ExitCode::SUCCESS,
                     Turn::Fails => return write_fault(rt),
