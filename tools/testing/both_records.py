@@ -15,6 +15,8 @@ from .tried import Result
 
 NAME = "over snapshots"
 FILE = "crates/ispc_debugger/src/opening.rt"
+# This names the record, and makes none.
+NAMING = "crates/ispc_debugger/src/whole.rt"
 MADE = re.compile(r"DeltaRing::new\(\s*(alloc,\s*prepared\.words\(\),\s*options\.history as usize),\s*prepared\.cells::<W>\(\),\s*\)")
 
 
@@ -33,6 +35,8 @@ def laid(folder, root, listed):
         shutil.copytree(crate.folder / "src", folder / "crates" / crate.name / "src")
     shutil.copy(root / "crates.txt", folder)
     (folder / FILE).write_text(changed, encoding="utf-8")
+    naming = (root / NAMING).read_text(encoding="utf-8")
+    (folder / NAMING).write_text(naming.replace("DeltaRing", "SnapshotRing"), encoding="utf-8")
     return folder / "crates" / program.CRATE
 
 
