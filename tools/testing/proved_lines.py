@@ -54,7 +54,7 @@ BODIES = {LOWER: ("if a < b { a } else { b }", "a"), UPPER: ("smaller(a, 7)", "s
 LANDS = """\
 import runpy, sys
 tools, sys.dont_write_bytecode = sys.argv[1], True
-sys.path.insert(0, tools)
+sys.path.insert(0, f"{tools}/judging")
 import proved, selftest
 proved.DRAWN, selftest.passes = int(sys.argv[2]), lambda *_: True
 sys.argv[1:] = sys.argv[3:]
@@ -63,7 +63,7 @@ runpy.run_path(f"{tools}/prove", run_name="__main__")
 FORGES = """\
 import os, runpy, sys
 tools, sys.dont_write_bytecode = sys.argv[1], True
-sys.path.insert(0, tools)
+sys.path.insert(0, f"{tools}/judging")
 import proved
 proved.write(os.getcwd(), runpy.run_path(f"{tools}/prove")["Landing"](os.getcwd()).lines)
 """
