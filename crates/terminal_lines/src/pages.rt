@@ -1,5 +1,6 @@
 //! How many lines are shown before a terminal waits.
 ghost use Rattle.std.specs.Prelude.{◌≡◌, IfSome};
+ghost use Rattle.terminal_lines.specs.Pages as spec;
 ghost use Rattle.terminal_lines.specs.Pages.{IsWithin};
 
 /// What a terminal shows where it waits.
@@ -24,7 +25,9 @@ pub struct Pages {
 
 impl Pages {
     /// Pages of so many lines, of which the last is that of the terminal's question; of 0, no list waits.
-    pub fn new(height: u32) -> Self {
+    pub fn new(height: u32) -> Self
+        ensures { result ≡ spec.new_pages height }
+    {
         Pages {
             height: if height == 1 { 2 } else { height },
             shown: 0,
@@ -33,19 +36,23 @@ impl Pages {
     }
 
     /// The pages of the next command.
-    pub fn begun(self) -> Self {
+    pub fn begun(self) -> Self
+        ensures { result ≡ spec.new_pages self.height }
+    {
         Pages::new(self.height)
     }
 
     /// Whether the lines that are still to come are shown.
-    pub fn has_more(self) -> bool {
+    pub fn has_more(self) -> bool
+        ensures { result ≡ spec.goes_on self.way }
+    {
         self.way != Way::Ends
     }
 
     /// The pages behind one more line; none where the terminal waits before it.
     pub fn behind_line(self) -> Option<Self>
+        ensures behind { result ≡ spec.behind self }
         ensures within { IfSome result IsWithin }
-        ensures way { IfSome result (λ after. after.way ≡ self.way) }
     {
         if self.way != Way::Waits || self.height == 0 {
             return Some(self);
@@ -62,7 +69,11 @@ impl Pages {
     }
 
     /// The pages behind an answer to the terminal's question: `q` ends the list, `c` shows the rest of it, and anything else a page.
-    pub fn answered(self, typed: &[u8]) -> Self {
+    pub fn answered(self, typed: &[u8]) -> Self
+        ensures height { result.height ≡ self.height }
+        ensures shown { result.shown ≡ 0 }
+        ensures way { result.way ≡ spec.chosen typed.now }
+    {
         let way = match typed.first() {
             Some(b'q' | b'Q') => Way::Ends,
             Some(b'c' | b'C') => Way::GoesOn,

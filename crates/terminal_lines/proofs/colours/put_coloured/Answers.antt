@@ -1,6 +1,5 @@
-use Rattle.std.proofs.Common.{◌≡◌, ◌≤◌, ◌⊎◌, ◌++◌, length, sym, subst}
+use Rattle.std.proofs.Common.{sym, subst}
 use Rattle.std.proofs.lemmas.List.{take_all, take_more}
-use Rattle.terminal_lines.specs.Colours.{code}
 use Rattle.terminal_lines.specs.declared.inks.Ink.TheVariants.{Plain}
 use Rattle.terminal_lines.proofs.WithoutCodes.{Adds, all_added, byte_added, code_added, none_added, on_ok}
 use Rattle.terminal_lines.proofs.colours.put_coloured.Goals as goal
