@@ -12,11 +12,11 @@ _rinddecade() {
     [[ $word == "=" ]] && word=
     [[ $before == "=" ]] && before=${COMP_WORDS[COMP_CWORD-2]}
     if ((COMP_CWORD == 1)); then
-        COMPREPLY=($(compgen -W "debug picture page adapter explain port help -h --help -V --version" -- "$word"))
+        COMPREPLY=($(compgen -W "debug picture page profile adapter explain port help -h --help -V --version" -- "$word"))
         return
     fi
     case "${COMP_WORDS[1]}" in
-        help) ((COMP_CWORD == 2)) && COMPREPLY=($(compgen -W "debug picture page adapter explain port" -- "$word")) ;;
+        help) ((COMP_CWORD == 2)) && COMPREPLY=($(compgen -W "debug picture page profile adapter explain port" -- "$word")) ;;
         debug)
             case "$before" in
                 --input) _rinddecade_files; return ;;
@@ -48,6 +48,18 @@ _rinddecade() {
             esac
             case "$word" in
                 -*) COMPREPLY=($(compgen -W "--input --entry --width --history --steps --commands --from --most --elements --to --force -h --help" -- "$word")) ;;
+                *) _rinddecade_files ;;
+            esac
+            ;;
+        profile)
+            case "$before" in
+                --input|--to) _rinddecade_files; return ;;
+                --entry|--history|--steps|--most|--top) return ;;
+                --width) COMPREPLY=($(compgen -W "4 8 16" -- "$word")); return ;;
+                --by) COMPREPLY=($(compgen -W "line function" -- "$word")); return ;;
+            esac
+            case "$word" in
+                -*) COMPREPLY=($(compgen -W "--input --entry --width --history --steps --most --top --by --annotate --json --compare --to --force -h --help" -- "$word")) ;;
                 *) _rinddecade_files ;;
             esac
             ;;

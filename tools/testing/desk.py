@@ -51,11 +51,12 @@ def runs():
 
 def helps():
     told = {
-        ("--help",): (b"Usage: rinddecade <COMMAND>", b"debug", b"picture", b"adapter", b"explain", b"port", b"--version"),
+        ("--help",): (b"Usage: rinddecade <COMMAND>", b"debug", b"picture", b"profile", b"adapter", b"explain", b"port", b"--version"),
         ("help",): (b"Usage: rinddecade <COMMAND>",),
         ("debug", "--help"): (b"Usage: rinddecade debug [OPTIONS] <SOURCE>", *OF_A_RUN),
         ("help", "debug"): (b"Usage: rinddecade debug [OPTIONS] <SOURCE>", *OF_A_RUN),
         ("picture", "--help"): (b"Usage: rinddecade picture [OPTIONS] <SOURCE>", *OF_A_RUN, *OF_A_PICTURE),
+        ("profile", "--help"): (b"Usage: rinddecade profile [OPTIONS] <SOURCE>", *OF_A_RUN, b"--most <N>", b"--top <N>", b"--by <WHAT>", b"--annotate", b"--json", b"--compare"),
         ("port", "--help"): (b"Usage: rinddecade port [OPTIONS] <SOURCE>", b"--to", b"--force"),
         ("picture", "first.ispc", "-h"): (b"Usage: rinddecade picture [OPTIONS] <SOURCE>",),
         ("adapter", "--help"): (b"Usage: rinddecade adapter",),

@@ -1,6 +1,6 @@
-"""The program that people and editors sit at, where things fail: in a page, a picture, a ported source, lines at the prompt and an editor's messages.
+"""The program that people and editors sit at, where things fail: in a page, a picture, a profile, a ported source, lines at the prompt and an editor's messages.
 
-Each allocation is refused in turn. A page, a picture and a ported source are written whole or not at all. At the prompt the lines before are
+Each allocation is refused in turn. A page, a picture, a profile and a ported source are written whole or not at all. At the prompt the lines before are
 answered, and an editor is sent whole messages, a front of them or others behind a request that is refused. Each ends with `memory`, or goes on
 where a file is read in smaller pieces. And the devices fail after each byte.
 """
@@ -97,6 +97,8 @@ def runs(root):
     return [
         (Run("a page", b"", ["explain", "C12"]), whole_or_nothing, [Case.writes]),
         (Run("a picture", b"", ["picture", NAME, "--watch", "x"], data=data), whole_or_nothing, [Case.writes]),
+        (Run("a profile", b"", ["profile", NAME, "--by", "function"], data=data), whole_or_nothing, [Case.writes]),
+        (Run("a profile of all widths", b"", ["profile", NAME, "--compare"], data=data), whole_or_nothing, [Case.writes]),
         (Run("a ported source", b"", ["port", "go.ispc"], data={"go.ispc": PORTED}), whole_or_nothing, [Case.writes]),
         (Run("lines at the prompt", LINES + GROWTH, ["debug", NAME, "--history", "2"], data=data), front_of_answers, [*DEVICES_OF_RUNS]),
         (Run("an editor", framed(REQUESTS), ["adapter"], data=data), messages, [Case.writes, frames_read, Case.single_bytes]),

@@ -18,9 +18,9 @@ use Rattle.ispc_options.specs.Asked.{AreWidths, flag, option_or, width_text}
 use Rattle.ispc_options.specs.declared.options.Width.{Width}
 use Rattle.ispc_options.specs.declared.options.Width.TheVariants.{Four, Eight, Sixteen}
 use Rattle.desk_options.specs.Commands.{rules_of, verb_command, wanted}
-use Rattle.desk_options.specs.Passed.{ArePagePassed, ArePassed, ArePicturePassed, ArePortedPassed, HavePassed}
+use Rattle.desk_options.specs.Passed.{ArePagePassed, ArePassed, ArePicturePassed, ArePortedPassed, AreProfilePassed, HavePassed, IsFlagPassed}
 use Rattle.desk_options.specs.declared.names.VerbName.{VerbName}
-use Rattle.desk_options.specs.declared.names.VerbName.TheVariants.{Debug, Picture, Page, Adapter, Explain, Port}
+use Rattle.desk_options.specs.declared.names.VerbName.TheVariants.{Debug, Picture, Page, Profile, Adapter, Explain, Port}
 use Rattle.desk_options.proofs.PassedValues.{flag_passed, number_passed, required_given, value_passed}
 
 -- a text that is one of the widths
@@ -102,6 +102,31 @@ module _ (widths : Bor (List (Bor Text))) (are : AreWidths widths) (old : Comman
         force = which_flags _ force.1;
       }
 
+  profile_passed : app_of old ≡ verb_command widths Profile → AreProfilePassed (found_of m)
+  profile_passed app =
+      let rules = rules_of widths Profile in
+      let width = value_passed _ rules refl refl refl old app m p 3 (option_or (codes "width") (parser.Names widths) (codes "4")) (omega arith) (λ d. refl) refl refl (parser.Names widths) refl refl refl (omega arith) in
+      let w = which_width width.0
+      (sym (ap (list_any (λ n. bytes_eq n width.0)) are) ∙ (sym (list_any-map (λ n. bytes_eq n width.0) (λ (s : Bor Text). s.now) widths.now) ∙ width.3)) in
+      let annotate = flag_passed _ rules refl refl refl old app m p 9 (flag (codes "annotate")) (omega arith) (λ d. refl) refl refl parser.Bool refl refl in
+      let json = flag_passed _ rules refl refl refl old app m p 10 (flag (codes "json")) (omega arith) (λ d. refl) refl refl parser.Bool refl refl in
+      let compare = flag_passed _ rules refl refl refl old app m p 11 (flag (codes "compare")) (omega arith) (λ d. refl) refl refl parser.Bool refl refl in
+      let force = flag_passed _ rules refl refl refl old app m p 13 (flag (codes "force")) (omega arith) (λ d. refl) refl refl parser.Bool refl refl in
+      record {
+        program = record {
+          source = required_given _ rules refl refl refl old app m p 0 (wanted (codes "source")) (omega arith) (λ d. refl) refl refl refl refl refl;
+          width = (w.0, width.1 ∙ ap Some w.1);
+          history = number_passed _ rules refl refl refl old app m p 4 (codes "history") 65536 (codes "65536") (omega arith) (λ d. refl) refl refl;
+          steps = number_passed _ rules refl refl refl old app m p 5 (codes "steps") 10000000 (codes "1000000") (omega arith) (λ d. refl) refl refl;
+        };
+        most = number_passed _ rules refl refl refl old app m p 6 (codes "most") 10000000 (codes "10000000") (omega arith) (λ d. refl) refl refl;
+        top = number_passed _ rules refl refl refl old app m p 7 (codes "top") 65536 (codes "20") (omega arith) (λ d. refl) refl refl;
+        annotate = record { flag = annotate.0; given = which_flags _ annotate.1 };
+        json = record { flag = json.0; given = which_flags _ json.1 };
+        compare = record { flag = compare.0; given = which_flags _ compare.1 };
+        force = record { flag = force.0; given = which_flags _ force.1 };
+      }
+
   ported_passed : app_of old ≡ verb_command widths Port → ArePortedPassed (found_of m)
   ported_passed app =
       let rules = rules_of widths Port in
@@ -116,6 +141,7 @@ module _ (widths : Bor (List (Bor Text))) (are : AreWidths widths) (old : Comman
   parse_passed Debug app = debug_passed app
   parse_passed Picture app = picture_passed app
   parse_passed Page app = page_passed app
+  parse_passed Profile app = profile_passed app
   parse_passed Adapter app = tt
   parse_passed Explain app = tt
   parse_passed Port app = ported_passed app

@@ -28,6 +28,16 @@ each_option_of_page : faults
 unfolding clap_on_literals
 each_option_of_page = refl
 
+each_option_of_profile : faults
+    (codes "profile" ∷ codes "--most=5" ∷ codes "--top" ∷ codes "3" ∷ codes "--by" ∷ codes "function" ∷ codes "--annotate" ∷ codes "--json" ∷ codes "--compare" ∷ codes "--to"
+    ∷ codes "a.txt" ∷ codes "--force" ∷ codes "a.ispc" ∷ []) ≡ []
+unfolding clap_on_literals
+each_option_of_profile = refl
+
+no_rows_of_a_profile : faults (codes "profile" ∷ codes "a.ispc" ∷ codes "--top" ∷ codes "0" ∷ []) ≡ ValueValidation ∷ []
+unfolding clap_on_literals
+no_rows_of_a_profile = refl
+
 adapter : faults (codes "adapter" ∷ []) ≡ []
 unfolding clap_on_literals
 adapter = refl

@@ -23,7 +23,7 @@ use Rattle.desk_options.specs.Commands.{all_verbs, verb_command}
 use Rattle.desk_options.specs.Names.{named_words}
 use Rattle.desk_options.specs.Passed.{HavePassed}
 use Rattle.desk_options.specs.declared.names.VerbName.{VerbName}
-use Rattle.desk_options.specs.declared.names.VerbName.TheVariants.{Debug, Picture, Page, Adapter, Explain, Port}
+use Rattle.desk_options.specs.declared.names.VerbName.TheVariants.{Debug, Picture, Page, Profile, Adapter, Explain, Port}
 use Rattle.desk_options.specs.declared.verbs.Verb.{Verb}
 use Rattle.desk_options.proofs.Building.{some_are, some_widths}
 use Rattle.desk_options.proofs.Parses.{parse_passed}
@@ -58,6 +58,7 @@ all_simple_and_free : (widths : Bor (List (Bor Text))) (verb : VerbName) → is_
 all_simple_and_free widths Debug = refl
 all_simple_and_free widths Picture = refl
 all_simple_and_free widths Page = refl
+all_simple_and_free widths Profile = refl
 all_simple_and_free widths Adapter = refl
 all_simple_and_free widths Explain = refl
 all_simple_and_free widths Port = refl
@@ -66,6 +67,7 @@ each_simple : (widths : Bor (List (Bor Text))) (verb : VerbName) → is_simple (
 each_simple widths Debug = refl
 each_simple widths Picture = refl
 each_simple widths Page = refl
+each_simple widths Profile = refl
 each_simple widths Adapter = refl
 each_simple widths Explain = refl
 each_simple widths Port = refl

@@ -22,6 +22,7 @@ use Rattle.desk_options.specs.declared.names.VerbName.TheVariants as name
 use Rattle.desk_options.specs.declared.verbs.Debugged.{Debugged}
 use Rattle.desk_options.specs.declared.verbs.Picture.{Picture}
 use Rattle.desk_options.specs.declared.verbs.Ported.{Ported}
+use Rattle.desk_options.specs.declared.verbs.Profile.{Profile}
 use Rattle.desk_options.specs.declared.verbs.Program.{Program}
 use Rattle.desk_options.specs.declared.verbs.RunPage.{RunPage}
 use Rattle.desk_options.specs.declared.verbs.Verb.{Verb}
@@ -63,6 +64,17 @@ pub record HasPage (value : Text → Option Text) (page : RunPage) : Type 0 wher
   pub to : value (codes "to") ≡ text_of page.to
   pub force : IsTrue page.force ↔ (value (codes "force") ≡ Some (codes "true"))
 
+pub record HasProfile (value : Text → Option Text) (profile : Profile) : Type 0 where
+  pub program : HasProgram value profile.program
+  pub most : option_map number_of (value (codes "most")) ≡ Some profile.most
+  pub top : option_map number_of (value (codes "top")) ≡ Some profile.top
+  pub by : value (codes "by") ≡ text_of profile.by
+  pub annotate : IsTrue profile.annotate ↔ (value (codes "annotate") ≡ Some (codes "true"))
+  pub json : IsTrue profile.json ↔ (value (codes "json") ≡ Some (codes "true"))
+  pub compare : IsTrue profile.compare ↔ (value (codes "compare") ≡ Some (codes "true"))
+  pub to : value (codes "to") ≡ text_of profile.to
+  pub force : IsTrue profile.force ↔ (value (codes "force") ≡ Some (codes "true"))
+
 pub record HasPorted (value : Text → Option Text) (ported : Ported) : Type 0 where
   pub source : value (codes "source") ≡ Some ported.source.now
   pub to : value (codes "to") ≡ text_of ported.to
@@ -85,6 +97,7 @@ abbrev pub IsAskedBy : VerbName → (Text → Option Text) → (Text → List Te
 IsAskedBy name.Debug value values (verb.Debug debugged) = HasDebugged value debugged
 IsAskedBy name.Picture value values (verb.Picture picture) = HasPicture value picture
 IsAskedBy name.Page value values (verb.Page page) = HasPage value page
+IsAskedBy name.Profile value values (verb.Profile profile) = HasProfile value profile
 IsAskedBy name.Adapter value values verb.Adapter = ⊤
 IsAskedBy name.Explain value values (verb.Explain explained) = texts explained.words.items ≡ values (codes "name")
 IsAskedBy name.Port value values (verb.Port ported) = HasPorted value ported

@@ -8,7 +8,7 @@ use Rattle.clap.specs.declared.builder.action.ArgAction.TheVariants.{Set}
 use Rattle.clap.specs.declared.builder.value_parser.ValueParser.TheVariants as parser
 use Rattle.ispc_options.specs.Asked.{flag, option, option_or, up_to, valued}
 use Rattle.desk_options.specs.declared.names.VerbName.{VerbName}
-use Rattle.desk_options.specs.declared.names.VerbName.TheVariants.{Debug, Picture, Page, Adapter, Explain, Port}
+use Rattle.desk_options.specs.declared.names.VerbName.TheVariants.{Debug, Picture, Page, Profile, Adapter, Explain, Port}
 use Rattle.desk_options.specs.Names.{name_of}
 
 -- a word that stands for itself and has to be there
@@ -52,6 +52,18 @@ page_rules = option (codes "commands")
     ∷ flag (codes "force")
     ∷ []
 
+-- what only a profile has
+abbrev pub profile_rules : List Rule
+profile_rules = option_or (codes "most") (up_to 10000000) (codes "10000000")
+    ∷ option_or (codes "top") (up_to 65536) (codes "20")
+    ∷ option (codes "by")
+    ∷ flag (codes "annotate")
+    ∷ flag (codes "json")
+    ∷ flag (codes "compare")
+    ∷ option (codes "to")
+    ∷ flag (codes "force")
+    ∷ []
+
 -- a source, and what is written
 abbrev pub port_rules : List Rule
 port_rules = wanted (codes "source") ∷ option (codes "to") ∷ flag (codes "force") ∷ []
@@ -60,6 +72,7 @@ abbrev pub rules_of : Bor (List (Bor Text)) → VerbName → List Rule
 rules_of widths Debug = program_rules widths ++ debug_rules
 rules_of widths Picture = program_rules widths ++ picture_rules
 rules_of widths Page = program_rules widths ++ page_rules
+rules_of widths Profile = program_rules widths ++ profile_rules
 rules_of widths Adapter = []
 rules_of widths Explain = several (codes "name") ∷ []
 rules_of widths Port = port_rules
@@ -76,7 +89,7 @@ verb_command widths verb = command_of (codes "rinddecade " ++ name_of verb) (rul
 abbrev pub all_verbs : App
 all_verbs = record {
   top = record (new_shape (codes "rinddecade")) { is_leaf = false; no_binary_name = true; has_version = true; subcommand_required = true };
-  subs = new_shape (codes "debug") ∷ new_shape (codes "picture") ∷ new_shape (codes "page") ∷ new_shape (codes "adapter") ∷ new_shape (codes "explain")
+  subs = new_shape (codes "debug") ∷ new_shape (codes "picture") ∷ new_shape (codes "page") ∷ new_shape (codes "profile") ∷ new_shape (codes "adapter") ∷ new_shape (codes "explain")
       ∷ new_shape (codes "port") ∷ [];
 }
 

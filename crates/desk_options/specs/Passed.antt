@@ -7,7 +7,7 @@ use Rattle.ispc_options.specs.Asked.{width_text}
 use Rattle.ispc_options.specs.Passed.{HasNumber}
 use Rattle.ispc_options.specs.declared.options.Width.{Width}
 use Rattle.desk_options.specs.declared.names.VerbName.{VerbName}
-use Rattle.desk_options.specs.declared.names.VerbName.TheVariants.{Debug, Picture, Page, Adapter, Explain, Port}
+use Rattle.desk_options.specs.declared.names.VerbName.TheVariants.{Debug, Picture, Page, Profile, Adapter, Explain, Port}
 
 -- each value of a program passed the parser of its option, and the source is there
 pub record ArePassed (found : Found) : Type 0 where
@@ -34,6 +34,21 @@ pub record ArePagePassed (found : Found) : Type 0 where
   pub force : IfSome (first_value found (codes "force"))
       (λ text. (text ≡ codes "true") ⊎ (text ≡ codes "false"))
 
+-- a flag passed its parser
+pub record IsFlagPassed (found : Found) (name : Text) : Type 0 where
+  pub flag : one_text found name ≡ first_value found name
+  pub given : IfSome (first_value found name) (λ text. (text ≡ codes "true") ⊎ (text ≡ codes "false"))
+
+-- and so did each value that only a profile has
+pub record AreProfilePassed (found : Found) : Type 0 where
+  pub program : ArePassed found
+  pub most : HasNumber 10000000 found (codes "most")
+  pub top : HasNumber 65536 found (codes "top")
+  pub annotate : IsFlagPassed found (codes "annotate")
+  pub json : IsFlagPassed found (codes "json")
+  pub compare : IsFlagPassed found (codes "compare")
+  pub force : IsFlagPassed found (codes "force")
+
 -- the values of a source that is ported passed, and the source is there
 pub record ArePortedPassed (found : Found) : Type 0 where
   pub source : (text : Text) × (first_value found (codes "source") ≡ Some text)
@@ -46,6 +61,7 @@ abbrev pub HavePassed : VerbName → Found → Type 0
 HavePassed Debug found = ArePassed found
 HavePassed Picture found = ArePicturePassed found
 HavePassed Page found = ArePagePassed found
+HavePassed Profile found = AreProfilePassed found
 HavePassed Adapter found = ⊤
 HavePassed Explain found = ⊤
 HavePassed Port found = ArePortedPassed found

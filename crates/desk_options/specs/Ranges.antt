@@ -2,9 +2,10 @@
 use Rattle.std.specs.Prelude.{◌≤◌, ⊤}
 use Rattle.ispc_options.specs.Ranges.{AreInRange}
 use Rattle.desk_options.specs.declared.verbs.Picture.{Picture as PictureOptions}
+use Rattle.desk_options.specs.declared.verbs.Profile.{Profile as ProfileOptions}
 use Rattle.desk_options.specs.declared.verbs.RunPage.{RunPage}
 use Rattle.desk_options.specs.declared.verbs.Verb.{Verb}
-use Rattle.desk_options.specs.declared.verbs.Verb.TheVariants.{Debug, Picture, Page, Adapter, Explain, Port}
+use Rattle.desk_options.specs.declared.verbs.Verb.TheVariants.{Debug, Picture, Page, Profile, Adapter, Explain, Port}
 
 pub record IsPictureInRange (picture : PictureOptions) : Type 0 where
   pub run : AreInRange picture.program.options
@@ -20,10 +21,18 @@ pub record IsPageInRange (page : RunPage) : Type 0 where
   pub least_elements : 1 ≤ page.elements
   pub most_elements : page.elements ≤ 65536
 
+pub record IsProfileInRange (profile : ProfileOptions) : Type 0 where
+  pub run : AreInRange profile.program.options
+  pub least_most : 1 ≤ profile.most
+  pub most_most : profile.most ≤ 10000000
+  pub least_top : 1 ≤ profile.top
+  pub most_top : profile.top ≤ 65536
+
 abbrev pub IsInRange : Verb → Type 0
 IsInRange (Debug debugged) = AreInRange debugged.program.options
 IsInRange (Picture picture) = IsPictureInRange picture
 IsInRange (Page page) = IsPageInRange page
+IsInRange (Profile profile) = IsProfileInRange profile
 IsInRange Adapter = ⊤
 IsInRange (Explain explained) = ⊤
 IsInRange (Port ported) = ⊤

@@ -3,7 +3,7 @@ ghost use Rattle.std.specs.Prelude.{◌≡◌, IfOk, [], false};
 ghost use Rattle.clap.specs.Words.{app_of, new_app, rule_of};
 ghost use Rattle.clap.specs.declared.builder.command.Command.TheViews.{out-Command};
 ghost use Rattle.ispc_options.specs.Asked.{AreWidths, flag, option, option_or, up_to, valued};
-ghost use Rattle.desk_options.specs.Commands.{all_verbs, command_of, debug_rules, page_rules, picture_rules, program_rules};
+ghost use Rattle.desk_options.specs.Commands.{all_verbs, command_of, debug_rules, page_rules, picture_rules, profile_rules, program_rules};
 ghost use Rattle.desk_options.specs.Commands.{several, verb_command, wanted, with_rules};
 
 use crate::names::VerbName;
@@ -25,6 +25,9 @@ pub(crate) const MOST_RECORDED: u32 = 1_000_000;
 /// The most elements of an array in a page.
 pub(crate) const MOST_ELEMENTS: u32 = 65_536;
 
+/// The most rows of a profile's table.
+pub(crate) const MOST_ROWS: u32 = 65_536;
+
 const VERSION: &str = "0.1.0";
 
 const DEBUG_ABOUT: &str =
@@ -33,6 +36,9 @@ const DEBUG_ABOUT: &str =
 const PICTURE_ABOUT: &str = "Draws the run of a program, a track for each lane";
 
 const PAGE_ABOUT: &str = "Writes the run of a program as one HTML page to walk through";
+
+const PROFILE_ABOUT: &str =
+    "Tells where lanes are idle: the steps and the lanes of each line or function";
 
 const ADAPTER_ABOUT: &str = "Speaks the Debug Adapter Protocol on standard input and output";
 
@@ -54,6 +60,7 @@ pub(crate) fn all_verbs<'a>(alloc: Global) -> Result<Command<'a>, AllocError>
         .subcommand(listed(alloc, "debug", DEBUG_ABOUT))?
         .subcommand(listed(alloc, "picture", PICTURE_ABOUT))?
         .subcommand(listed(alloc, "page", PAGE_ABOUT))?
+        .subcommand(listed(alloc, "profile", PROFILE_ABOUT))?
         .subcommand(listed(alloc, "adapter", ADAPTER_ABOUT))?
         .subcommand(listed(alloc, "explain", EXPLAIN_ABOUT))?
         .subcommand(listed(alloc, "port", PORT_ABOUT))
@@ -75,6 +82,7 @@ pub(crate) fn verb_command<'a>(alloc: Global, verb: VerbName) -> Result<Command<
         VerbName::Debug => debug_command(alloc),
         VerbName::Picture => picture_command(alloc),
         VerbName::Page => page_command(alloc),
+        VerbName::Profile => profile_command(alloc),
         VerbName::Adapter => adapter_command(alloc),
         VerbName::Explain => explain_command(alloc),
         VerbName::Port => port_command(alloc),
@@ -105,6 +113,15 @@ fn page_command<'a>(alloc: Global) -> Result<Command<'a>, AllocError>
     with_page(
         alloc,
         with_program(alloc, named(alloc, "rinddecade page", PAGE_ABOUT))?,
+    )
+}
+
+fn profile_command<'a>(alloc: Global) -> Result<Command<'a>, AllocError>
+    ensures { IfOk result (λ parser. (widths : _) × AreWidths widths × (app_of parser ≡ verb_command widths VerbName.Profile)) }
+{
+    with_profile(
+        alloc,
+        with_program(alloc, named(alloc, "rinddecade profile", PROFILE_ABOUT))?,
     )
 }
 
@@ -216,6 +233,33 @@ fn with_page<'a>(alloc: Global, command: Command<'a>) -> Result<Command<'a>, All
         .arg(flag(alloc, "force").help(
             "writes over the file of --to, whatever it holds; else only over a page of a run",
         ))
+}
+
+/// A command with the options that only a profile has.
+fn with_profile<'a>(alloc: Global, command: Command<'a>) -> Result<Command<'a>, AllocError>
+    ensures { IfOk result (λ parser. app_of parser ≡ with_rules (app_of command.entry) profile_rules) }
+{
+    command
+        .arg(option_or(alloc, "most", "N", up_to(MOST_STEPS), "10000000").help(
+            "how many steps are done at most",
+        ))?
+        .arg(option_or(alloc, "top", "N", up_to(MOST_ROWS), "20").help(
+            "how many rows the table has at most, up to 65536",
+        ))?
+        .arg(option(alloc, "by", "WHAT").help(
+            "what the rows of the table are [default: line] [possible values: line, function]",
+        ))?
+        .arg(flag(alloc, "annotate").help(
+            "shows the source in place of the table, with the counts of each line before it",
+        ))?
+        .arg(flag(alloc, "json").help("writes all counts as JSON in place of the table"))?
+        .arg(flag(alloc, "compare").help(
+            "runs gangs of 4, 8 and 16 lanes, and shows each line's shares side by side",
+        ))?
+        .arg(option(alloc, "to", "FILE").help(
+            "the file that is written; else the text goes to standard output",
+        ))?
+        .arg(flag(alloc, "force").help("writes over the file of --to, whatever it holds"))
 }
 
 /// An argument whose value has a name in the help.

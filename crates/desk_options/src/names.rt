@@ -11,6 +11,7 @@ pub(crate) enum VerbName {
     Debug,
     Picture,
     Page,
+    Profile,
     Adapter,
     Explain,
     Port,
@@ -26,6 +27,8 @@ pub(crate) fn named(word: &str) -> Option<VerbName>
         Some(VerbName::Picture)
     } else if word == "page" {
         Some(VerbName::Page)
+    } else if word == "profile" {
+        Some(VerbName::Profile)
     } else if word == "adapter" {
         Some(VerbName::Adapter)
     } else if word == "explain" {

@@ -11,6 +11,7 @@ ghost use Rattle.desk_options.specs.Ranges.{IsInRange, IsPictureInRange};
 use crate::commands::{MOST_HISTORY, MOST_STEPS};
 use crate::names::VerbName;
 use crate::page_values::page_of;
+use crate::profile_values::profile_of;
 use crate::verbs::{Debugged, Explained, Picture, Ported, Program, Verb};
 use clap::ArgMatches;
 use ispc_options::{Options, Width};
@@ -30,6 +31,7 @@ pub(crate) fn verb_of<'a>(
         VerbName::Debug => debugged_of(matches).map(Verb::Debug),
         VerbName::Picture => picture_of(matches).map(Verb::Picture),
         VerbName::Page => page_of(matches).map(Verb::Page),
+        VerbName::Profile => profile_of(matches).map(Verb::Profile),
         VerbName::Adapter => Some(Verb::Adapter),
         VerbName::Explain => Some(Verb::Explain(explained_of(alloc, matches)?)),
         VerbName::Port => ported_of(matches).map(Verb::Port),

@@ -41,6 +41,22 @@ pub struct RunPage<'a> {
     pub force: bool,
 }
 
+/// The profile of a program's run: how many steps are done at most, how many rows a table has at most, what its rows are if the words
+/// say that, whether the source is shown with its counts, or JSON, or the shares by gangs of all widths, the file that is written, and
+/// whether it is written over whatever it holds.
+#[derive(Clone, Copy, Debug, PartialEq, Eq)]
+pub struct Profile<'a> {
+    pub program: Program<'a>,
+    pub most: u32,
+    pub top: u32,
+    pub by: Option<&'a str>,
+    pub annotate: bool,
+    pub json: bool,
+    pub compare: bool,
+    pub to: Option<&'a str>,
+    pub force: bool,
+}
+
 /// A source that is ported: its file, the file that is written, and whether it is written over whatever it holds.
 #[derive(Clone, Copy, Debug, PartialEq, Eq)]
 pub struct Ported<'a> {
@@ -61,6 +77,7 @@ pub enum Verb<'a> {
     Debug(Debugged<'a>),
     Picture(Picture<'a>),
     Page(RunPage<'a>),
+    Profile(Profile<'a>),
     Adapter,
     Explain(Explained<'a>),
     Port(Ported<'a>),

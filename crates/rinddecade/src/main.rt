@@ -11,6 +11,7 @@ mod files;
 mod overwriting;
 mod paging;
 mod porting;
+mod profiling;
 mod refusing;
 mod serving;
 mod terminal;
@@ -25,6 +26,7 @@ use explaining::explain;
 use ispc_refusals::Refusal;
 use paging::page_run;
 use porting::port_source;
+use profiling::profile_run;
 use refusing::{refuse, refuse_arguments, refuse_because};
 use serving::adapt;
 use std::alloc::AllocError;
@@ -70,6 +72,7 @@ fn do_verb(rt: &HostRuntime, verb: &Verb<'_>) -> ExitCode
         Verb::Debug(debugged) => debug(rt, debugged),
         Verb::Picture(picture) => draw_picture(rt, picture),
         Verb::Page(page) => page_run(rt, page),
+        Verb::Profile(profile) => profile_run(rt, profile),
         Verb::Adapter => adapt(rt),
         Verb::Explain(explained) => explain(rt, explained.words.as_slice()),
         Verb::Port(ported) => port_source(rt, ported),

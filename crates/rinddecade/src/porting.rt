@@ -80,7 +80,7 @@ fn write_text(rt: &HostRuntime, ported: &Ported<'_>, text: &[u8]) -> ExitCode {
 }
 
 /// Whether there is a file of this path that is not empty.
-fn holds_something(rt: &HostRuntime, path: &str) -> bool {
+pub(crate) fn holds_something(rt: &HostRuntime, path: &str) -> bool {
     match fs::metadata(rt, path) {
         Ok(metadata) => metadata.is_file() && metadata.len() > 0,
         Err(_) => false,

@@ -25,7 +25,8 @@ returns c =
     let debug = with_verb _ _ _ _ (codes "debug") c.in_ok-subcommand.ensures start c.listed.ensures.app c.listed.ensures.local in
     let picture = with_verb _ _ _ _ (codes "picture") c.in_ok-subcommand-2.ensures debug c.listed-2.ensures.app c.listed-2.ensures.local in
     let page = with_verb _ _ _ _ (codes "page") c.in_ok-subcommand-3.ensures picture c.listed-3.ensures.app c.listed-3.ensures.local in
-    let adapter = with_verb _ _ _ _ (codes "adapter") c.in_ok-subcommand-4.ensures page c.listed-4.ensures.app c.listed-4.ensures.local in
-    let explain = with_verb _ _ _ _ (codes "explain") c.in_ok-subcommand-5.ensures adapter c.listed-5.ensures.app c.listed-5.ensures.local in
-    IfOk-weaker c.subcommand-6.result _ _ (λ parser added. with_verb _ _ _ _ (codes "port") added explain c.listed-6.ensures.app c.listed-6.ensures.local)
-    c.subcommand-6.ensures
+    let profile = with_verb _ _ _ _ (codes "profile") c.in_ok-subcommand-4.ensures page c.listed-4.ensures.app c.listed-4.ensures.local in
+    let adapter = with_verb _ _ _ _ (codes "adapter") c.in_ok-subcommand-5.ensures profile c.listed-5.ensures.app c.listed-5.ensures.local in
+    let explain = with_verb _ _ _ _ (codes "explain") c.in_ok-subcommand-6.ensures adapter c.listed-6.ensures.app c.listed-6.ensures.local in
+    IfOk-weaker c.subcommand-7.result _ _ (λ parser added. with_verb _ _ _ _ (codes "port") added explain c.listed-7.ensures.app c.listed-7.ensures.local)
+    c.subcommand-7.ensures

@@ -1,0 +1,71 @@
+-- What is counted of some steps, worked out.
+use Rattle.std.specs.Prelude.{◌≡◌, refl, ℕ, true, false, List, [], ◌∷◌, codes}
+use Rattle.gang_types.specs.Lanes.{Lanes}
+use Rattle.lane_counts.specs.Steps.{Stand, at_line, each, lane_steps, partings, short_steps, steps}
+
+abbrev go : List ℕ
+go = codes "go"
+
+abbrev f : List ℕ
+f = codes "f"
+
+abbrev at : ℕ → List (List ℕ) → Lanes → Stand
+at line functions lanes = record { line = line; functions = functions; lanes = lanes }
+
+abbrev all : Lanes
+all = true ∷ true ∷ true ∷ true ∷ []
+
+abbrev first_two : Lanes
+first_two = true ∷ true ∷ false ∷ false ∷ []
+
+abbrev last_two : Lanes
+last_two = false ∷ false ∷ true ∷ true ∷ []
+
+abbrev last_one : Lanes
+last_one = false ∷ false ∷ false ∷ true ∷ []
+
+-- a test parts the lanes; the two parts of an `if` do not, and nor do the lanes that meet again
+abbrev branches : List Stand
+branches = at 3 (go ∷ []) all ∷ at 4 (go ∷ []) first_two ∷ at 6 (go ∷ []) last_two ∷ at 7 (go ∷ []) all ∷ []
+
+steps_of_a_line : steps (at_line 4) branches ≡ 1
+steps_of_a_line = refl
+
+all_steps : steps each branches ≡ 4
+all_steps = refl
+
+all_lane_steps : lane_steps each branches ≡ 12
+all_lane_steps = refl
+
+short_ones : short_steps each branches ≡ 2
+short_ones = refl
+
+a_test_parts : partings (at_line 3) branches ≡ 1
+a_test_parts = refl
+
+branches_do_not : partings each branches ≡ 1
+branches_do_not = refl
+
+-- fewer lanes, but others
+abbrev fewer : List Stand
+fewer = at 4 (go ∷ []) first_two ∷ at 6 (go ∷ []) last_one ∷ []
+
+others_do_not_part : partings each fewer ≡ 0
+others_do_not_part = refl
+
+-- what a call does is none of the caller's: the lanes part at the call, whose next step fewer do, and in the callee at its own line
+abbrev call : List Stand
+call = at 8 (go ∷ []) all ∷ at 2 (f ∷ go ∷ []) all ∷ at 2 (f ∷ go ∷ []) last_two ∷ at 9 (go ∷ []) first_two ∷ []
+
+the_call_parts : partings (at_line 8) call ≡ 1
+the_call_parts = refl
+
+its_own_line_parts : partings (at_line 2) call ≡ 1
+its_own_line_parts = refl
+
+-- the last step of a frame that is left parts nothing
+abbrev left : List Stand
+left = at 2 (f ∷ go ∷ []) all ∷ at 9 (go ∷ []) first_two ∷ []
+
+leaving_parts_nothing : partings each left ≡ 0
+leaving_parts_nothing = refl

@@ -1,0 +1,71 @@
+use Rattle.std.proofs.Common.{◌≡◌, ◌∙◌, ap, sym, arith, ◌+◌, ◌*◌, ◌≤◌, true, Bool, ◌∷◌, length, Some, refl}
+use Rattle.std.specs.Prelude.{◌==◌, ◌&&◌, nat_lt}
+use Rattle.lane_counts.specs.declared.counts.Counts.{Counts}
+use Rattle.lane_counts.specs.declared.frames.LastStep.{LastStep}
+use Rattle.lane_counts.specs.Counted.{counts_at, hits}
+use Rattle.lane_counts.specs.Pending.{has_function, pending, width_of}
+use Rattle.lane_counts.specs.Naming.{name_at}
+use Rattle.lane_counts.specs.Steps.{active, at_line, each, in_function, is_first, next_in_frame, one_if, parts}
+use Rattle.lane_counts.proofs.Named.{numbered, some_same}
+use Rattle.lane_counts.proofs.Noting.{few_noted, hit_some, hits_few, lanes_length, one_few, with_noted}
+use Rattle.lane_counts.proofs.tally.Tally.note.Goals as goal
+
+pub returns-clause-lines : goal.returns-clause-lines
+returns-clause-lines c line stand later at =
+    let mine : LastStep → Bool = λ last. last.line == line in
+    let put = c.in_ok-before.ensures mine stand later at.deep in
+    let parted = c.parted_from-parted.ensures mine stand later c.args.at.depth at.deep at.lanes in
+    let next = ap (λ lanes. one_if ((c.args.at.line == line) && parts lanes (next_in_frame c.args.at.depth later))) at.lanes in
+    let deep = ap (λ n. one_if ((c.args.at.line == line) && parts stand.lanes (next_in_frame n later))) at.deep in
+    with_noted (at_line line) _ _ (c.args.at.line == line) c.count-lanes.result c.width-width.result (hits c.line_of.result line)
+    (pending mine 0 c.args.self.now.frames.lasts.items (stand ∷ later)) (pending mine 0 c.put.new.self.lasts.items later) stand later
+    (c.in_ok-add.ensures line) (ap (λ n. n == line) at.line) (ap active at.lanes ∙ sym c.count-lanes.ensures.value)
+    (ap length at.lanes ∙ lanes_length (width_of c.args.at.gang) c.args.at.lanes ∙ sym c.width-width.ensures.value)
+    (omega (arith, put, parted, next, deep, c.line_of.ensures line))
+
+pub returns-clause-own : goal.returns-clause-own
+returns-clause-own c final number name extends distinct is stand later at =
+    let given = c.in_ok-function.function in
+    let first = c.args.at.function.now in
+    let mine : LastStep → Bool = λ last. last.function == number in
+    let put = c.in_ok-before.ensures mine stand later at.deep in
+    let parted = c.parted_from-parted.ensures mine stand later c.args.at.depth at.deep at.lanes in
+    let next = ap (λ lanes. one_if ((given == number) && parts lanes (next_in_frame c.args.at.depth later))) at.lanes in
+    let deep = ap (λ n. one_if ((given == number) && parts stand.lanes (next_in_frame n later))) at.deep in
+    let has = extends given first c.in_ok-function.ensures.named in
+    let back : first ≡ name → given ≡ number = λ e. distinct given number name (has ∙ ap Some e) is in
+    let same : given ≡ number → first ≡ name = λ e. some_same first name (sym has ∙ ap (name_at final) e ∙ is) in
+    with_noted (in_function name) _ _ (given == number) c.count-lanes.result c.width-width.result (hits c.function_of.result number)
+    (pending mine 0 c.args.self.now.frames.lasts.items (stand ∷ later)) (pending mine 0 c.put.new.self.lasts.items later) stand later
+    (c.in_ok-add-2.ensures number) (ap (is_first name) at.function.1 ∙ numbered given number first name same back) (ap active at.lanes ∙ sym c.count-lanes.ensures.value)
+    (ap length at.lanes ∙ lanes_length (width_of c.args.at.gang) c.args.at.lanes ∙ sym c.width-width.ensures.value)
+    (omega (arith, put, parted, next, deep, c.function_of.ensures number))
+
+pub returns-clause-all : goal.returns-clause-all
+returns-clause-all c stand later at =
+    let mine : LastStep → Bool = λ last. true in
+    let put = c.in_ok-before.ensures mine stand later at.deep in
+    let parted = c.parted_from-parted.ensures mine stand later c.args.at.depth at.deep at.lanes in
+    let next = ap (λ lanes. one_if (parts lanes (next_in_frame c.args.at.depth later))) at.lanes in
+    let deep = ap (λ n. one_if (parts stand.lanes (next_in_frame n later))) at.deep in
+    with_noted each _ _ true c.count-lanes.result c.width-width.result (one_if c.is_some.result)
+    (pending mine 0 c.args.self.now.frames.lasts.items (stand ∷ later)) (pending mine 0 c.put.new.self.lasts.items later) stand later
+    c.noted-self.ensures refl (ap active at.lanes ∙ sym c.count-lanes.ensures.value)
+    (ap length at.lanes ∙ lanes_length (width_of c.args.at.gang) c.args.at.lanes ∙ sym c.width-width.ensures.value)
+    (omega (arith, put, parted, next, deep, ap one_if c.is_some.ensures, hit_some c.parted_from-parted.result))
+
+pub returns-clause-sound : goal.returns-clause-sound
+returns-clause-sound c =
+    let old = 16 * c.args.self.now.all.steps in
+    let new = 16 * c.noted-self.result.steps in
+    let more : old + 16 ≤ new = omega (arith, ap (λ (x : Counts). x.steps) c.noted-self.ensures) in
+    record {
+      all = few_noted c.args.self.now.all c.noted-self.result old new true c.count-lanes.result c.width-width.result _ c.noted-self.ensures c.count-lanes.ensures.within (one_few c.is_some.result) more c.requires.sound.all;
+      lines = λ k. few_noted (counts_at c.args.self.now.lines.rows.items k) (counts_at c.add.new.self.rows.items k) old new (c.args.at.line == k) c.count-lanes.result c.width-width.result _
+          (c.in_ok-add.ensures k) c.count-lanes.ensures.within (hits_few c.line_of.result k) more (c.requires.sound.lines k);
+      own = λ k. few_noted (counts_at c.args.self.now.own.rows.items k) (counts_at c.add-2.new.self.rows.items k) old new (c.in_ok-function.function == k) c.count-lanes.result c.width-width.result _
+          (c.in_ok-add-2.ensures k) c.count-lanes.ensures.within (hits_few c.function_of.result k) more (c.requires.sound.own k);
+      names = c.in_ok-function.ensures.distinct;
+      whole = λ k. few_noted (counts_at c.args.self.now.whole.rows.items k) (counts_at c.add_each.new.self.rows.items k) old new (nat_lt k c.count.result && has_function k c.put.new.self.lasts.items) c.count-lanes.result
+          c.width-width.result 0 (c.in_ok-add_each.ensures k) c.count-lanes.ensures.within (omega arith) more (c.requires.sound.whole k);
+    }

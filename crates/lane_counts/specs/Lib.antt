@@ -1,0 +1,5 @@
+pub mod Steps
+pub mod Counted
+pub mod Pending
+pub mod Naming
+pub mod Tallies

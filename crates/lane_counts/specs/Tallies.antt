@@ -1,0 +1,52 @@
+-- What a tally has counted, and what it comes to with the steps to come.
+use Rattle.std.specs.Prelude.{◌≡◌, ℕ, Bool, true, ◌+◌, ◌*◌, ◌==◌, List, ◌∷◌}
+use Rattle.gang_types.specs.Masks.{lanes_of}
+use Rattle.lane_counts.specs.declared.counts.Counts.{Counts}
+use Rattle.lane_counts.specs.declared.tally.StepAt.{StepAt}
+use Rattle.lane_counts.specs.declared.tally.Tally.{Tally}
+use Rattle.lane_counts.specs.Steps.{Stand, at_line, depth, each, in_function, lane_steps, partings, short_steps, steps}
+use Rattle.lane_counts.specs.Counted.{AreFew, IsFew, counts_at}
+use Rattle.lane_counts.specs.Naming.{AreDistinct}
+use Rattle.lane_counts.specs.Pending.{pending, width_of}
+
+-- what is counted of the steps that are chosen
+abbrev pub counts_of : (Stand → Bool) → List Stand → Counts
+counts_of chosen stands =
+    record { steps = steps chosen stands; lane_steps = lane_steps chosen stands; short_steps = short_steps chosen stands; partings = partings chosen stands }
+
+-- counts with those of later steps that are chosen, and with partings that these decide
+abbrev pub with_later : Counts → (decided : ℕ) → (Stand → Bool) → List Stand → Counts
+with_later c decided chosen later = record {
+  steps = c.steps + steps chosen later;
+  lane_steps = c.lane_steps + lane_steps chosen later;
+  short_steps = c.short_steps + short_steps chosen later;
+  partings = c.partings + decided + partings chosen later;
+}
+
+-- what a tally has of a line, with later steps
+abbrev pub line_with : Tally → (line : ℕ) → List Stand → Counts
+line_with tally line later = with_later (counts_at tally.lines.rows.items line) (pending (λ last. last.line == line) 0 tally.frames.lasts.items later) (at_line line) later
+
+-- what it has of the own steps of the function of a number, which has this name, with later steps
+abbrev pub own_with : Tally → (number : ℕ) → (name : List ℕ) → List Stand → Counts
+own_with tally number name later =
+    with_later (counts_at tally.own.rows.items number) (pending (λ last. last.function == number) 0 tally.frames.lasts.items later) (in_function name) later
+
+-- what it has of all steps, with later ones
+abbrev pub all_with : Tally → List Stand → Counts
+all_with tally later = with_later tally.all (pending (λ last. true) 0 tally.frames.lasts.items later) each later
+
+-- a step stands where it is told
+pub record IsAt (at : StepAt) (stand : Stand) : Type 0 where
+  pub line : stand.line ≡ at.line
+  pub function : (below : List (List ℕ)) × (stand.functions ≡ at.function.now ∷ below)
+  pub deep : depth stand ≡ at.depth
+  pub lanes : stand.lanes ≡ lanes_of (width_of at.gang) at.lanes
+
+-- no count is more than 16 times the number of all steps, and no two functions have one name
+pub record IsSound (tally : Tally) : Type 0 where
+  pub all : IsFew (16 * tally.all.steps) tally.all
+  pub lines : AreFew (16 * tally.all.steps) tally.lines.rows.items
+  pub own : AreFew (16 * tally.all.steps) tally.own.rows.items
+  pub names : AreDistinct tally.names
+  pub whole : AreFew (16 * tally.all.steps) tally.whole.rows.items

@@ -1,0 +1,112 @@
+//! The last step of each frame, whose lanes may part by the next one.
+ghost use Rattle.std.specs.Prelude.{◌≡◌, ℕ, ◌&&◌, ◌+◌, Bool, List, ◌∷◌, Some, IfOk, [], nat_lt};
+ghost use Rattle.gang_types.specs.Lanes.{and};
+ghost use Rattle.gang_types.specs.Masks.{lanes_of};
+ghost use Rattle.lane_counts.specs.Pending.{has_function, is_of, last_at, last_lanes, parting_of, pending, width_of};
+ghost use Rattle.lane_counts.specs.Steps.{Stand, active, depth as depth_of};
+
+use crate::gang::Gang;
+use gang_types::Mask;
+use std::alloc::{AllocError, Global};
+
+/// The last step of a frame: its line, the number of the frame's function, and the lanes of the gang that did it.
+#[derive(Clone, Copy, Debug)]
+pub(crate) struct LastStep {
+    pub(crate) line: usize,
+    pub(crate) function: usize,
+    pub(crate) gang: Gang,
+    pub(crate) lanes: Mask,
+}
+
+impl LastStep {
+    /// Whether some of the lanes, and not all of them, are in another set.
+    pub(crate) fn parts(self, gang: Gang, next: Mask) -> bool
+        ensures { let both = active (and (last_lanes self) (lanes_of (width_of gang) next)) in result ≡ (nat_lt 0 both && nat_lt both (active (last_lanes self))) }
+    {
+        let all = self.gang.count(self.lanes);
+        let both = self.both(gang, next);
+        0 < both && both < all
+    }
+
+    /// How many of the lanes are in another set.
+    fn both(self, gang: Gang, next: Mask) -> usize
+        ensures { result ≡ active (and (last_lanes self) (lanes_of (width_of gang) next)) }
+    {
+        let both = self.lanes.and(next);
+        if self.gang.width() <= gang.width() {
+            self.gang.count(both)
+        } else {
+            gang.count(both)
+        }
+    }
+}
+
+fn is_of(function: usize, last: Option<LastStep>) -> bool
+    ensures { result ≡ is_of function last }
+{
+    match last {
+        Some(last) => last.function == function,
+        None => false,
+    }
+}
+
+/// The last step of each frame, at its depth.
+#[derive(Drop)]
+pub(crate) struct Frames {
+    lasts: Vec<Option<LastStep>>,
+}
+
+impl Frames {
+    pub(crate) fn new(alloc: Global) -> Self
+        ensures { result.lasts.items ≡ [] }
+    {
+        Frames {
+            lasts: Vec::new(alloc),
+        }
+    }
+
+    /// Whether the last step of some frame is one of a function.
+    pub(crate) fn has(&self, function: usize) -> bool
+        ensures { result ≡ has_function function self.now.lasts.items }
+    {
+        for last in &self.lasts {
+            if is_of(function, *last) {
+                return true;
+            }
+        }
+        false
+    }
+
+    /// The last step of the frame at a depth.
+    fn last(&self, depth: usize) -> Option<LastStep>
+        ensures { result ≡ last_at self.now.lasts.items depth }
+    {
+        match self.lasts.get(depth) {
+            Some(last) => *last,
+            None => None,
+        }
+    }
+
+    /// Puts a step in the place of the last one of the frame at a depth, which is given back. Frames above it have been left.
+    ///
+    /// # Errors
+    ///
+    /// Out of memory.
+    pub(crate) fn put(
+        &mut self,
+        depth: usize,
+        step: LastStep,
+    ) -> Result<Option<LastStep>, AllocError>
+        ensures { IfOk result (λ before. (mine : LastStep → Bool) (stand : Stand) (later : List Stand) → depth_of stand ≡ depth
+            → pending mine 0 self.old.lasts.items (stand ∷ later) + parting_of mine depth (Some step) later
+            ≡ pending mine 0 self.new.lasts.items later + parting_of mine depth before (stand ∷ later)) }
+    {
+        let before = self.last(depth);
+        self.lasts.truncate(depth);
+        while self.lasts.len() < depth {
+            self.lasts.push(None)?;
+        }
+        self.lasts.push(Some(step))?;
+        Ok(before)
+    }
+}

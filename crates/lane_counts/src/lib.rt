@@ -1,0 +1,14 @@
+//! Counts of the steps of a run: how many there are at each line, and by how many lanes.
+#![tactic(auto)]
+
+mod counts;
+mod frames;
+mod gang;
+mod names;
+mod table;
+mod tally;
+
+pub use counts::Counts;
+pub use gang::Gang;
+pub use names::Names;
+pub use tally::{StepAt, Tally};

@@ -1,0 +1,158 @@
+//! The counts of a run, step by step.
+ghost use Rattle.std.specs.Prelude.{◌≡◌, ℕ, ◌+◌, ◌<◌, ◌^◌, ◌==◌, Bool, List, ◌∷◌, Some, IfOk, []};
+ghost use Rattle.gang_types.specs.Masks.{lanes_of};
+ghost use Rattle.lane_counts.specs.Counted.{hits, none};
+ghost use Rattle.lane_counts.specs.Naming.{AreDistinct, Extends, name_at};
+ghost use Rattle.lane_counts.specs.declared.names.Names.{Names};
+ghost use Rattle.lane_counts.specs.Pending.{hit, parting_of, width_of};
+ghost use Rattle.lane_counts.specs.Steps.{Stand, depth as depth_of};
+ghost use Rattle.lane_counts.specs.Tallies.{IsAt, IsSound, all_with, line_with, own_with};
+
+use crate::counts::Counts;
+use crate::frames::{Frames, LastStep};
+use crate::gang::Gang;
+use crate::names::Names;
+use crate::table::Table;
+use gang_types::Mask;
+use std::alloc::{AllocError, Global};
+
+/// Where a step stands: its line, the name of its function, how many frames there are, and the lanes of the gang that do it.
+#[derive(Clone, Copy)]
+pub struct StepAt<'a> {
+    pub line: usize,
+    pub function: &'a [u8],
+    pub depth: usize,
+    pub gang: Gang,
+    pub lanes: Mask,
+}
+
+/// What is counted of the steps of a run: of all, of each line, and of each function, its own steps and those done while a frame of it
+/// stands.
+#[derive(Drop)]
+pub struct Tally {
+    all: Counts,
+    lines: Table,
+    own: Table,
+    whole: Table,
+    names: Names,
+    frames: Frames,
+}
+
+impl Tally {
+    pub fn new(alloc: Global) -> Self
+        ensures sound { IsSound result }
+        ensures none { result.all ≡ none }
+        ensures lines { result.lines.rows.items ≡ [] }
+        ensures own { result.own.rows.items ≡ [] }
+        ensures frames { result.frames.lasts.items ≡ [] }
+    {
+        Tally {
+            all: Counts::none(),
+            lines: Table::new(alloc),
+            own: Table::new(alloc),
+            whole: Table::new(alloc),
+            names: Names::new(alloc),
+            frames: Frames::new(alloc),
+        }
+    }
+
+    /// What is counted of all steps.
+    pub fn all(&self) -> Counts
+        ensures { result ≡ self.now.all }
+    {
+        self.all
+    }
+
+    /// What is counted of each line, by its number.
+    pub fn lines(&self) -> &[Counts]
+        ensures { result.now ≡ self.now.lines.rows.items }
+    {
+        self.lines.rows()
+    }
+
+    /// The functions that were met.
+    pub fn names(&self) -> &Names
+        ensures { result.now ≡ self.now.names }
+    {
+        &self.names
+    }
+
+    /// What is counted of the own steps of each function, by its number.
+    pub fn own(&self) -> &[Counts]
+        ensures { result.now ≡ self.now.own.rows.items }
+    {
+        self.own.rows()
+    }
+
+    /// What is counted of the steps while a frame of a function stands, by its number. Partings are not counted.
+    pub fn whole(&self) -> &[Counts]
+        ensures { result.now ≡ self.now.whole.rows.items }
+    {
+        self.whole.rows()
+    }
+
+    /// Counts a step before it is done.
+    ///
+    /// # Errors
+    ///
+    /// Out of memory.
+    pub fn note(&mut self, alloc: Global, at: StepAt<'_>) -> Result<(), AllocError>
+        requires sound { IsSound self.old }
+        requires few { self.old.all.steps < 2 ^ 32 }
+        ensures lines { IfOk result (λ _. (line : ℕ) (stand : Stand) (later : List Stand) → IsAt at.entry stand
+            → line_with self.old line (stand ∷ later) ≡ line_with self.new line later) }
+        ensures own { IfOk result (λ _. (final : Names) (number : ℕ) (name : List ℕ) → Extends self.new.names final → AreDistinct final → name_at final number ≡ Some name
+            → (stand : Stand) (later : List Stand) → IsAt at.entry stand → own_with self.old number name (stand ∷ later) ≡ own_with self.new number name later) }
+        ensures kept { IfOk result (λ _. Extends self.old.names self.new.names) }
+        ensures all { IfOk result (λ _. (stand : Stand) (later : List Stand) → IsAt at.entry stand
+            → all_with self.old (stand ∷ later) ≡ all_with self.new later) }
+        ensures sound { IfOk result (λ _. IsSound self.new) }
+        ensures steps { IfOk result (λ _. self.new.all.steps ≡ self.old.all.steps + 1) }
+    {
+        let function = self.names.number_of(alloc, at.function)?;
+        let (lanes, width) = (at.gang.count(at.lanes), at.gang.width());
+        let step = LastStep {
+            line: at.line,
+            function,
+            gang: at.gang,
+            lanes: at.lanes,
+        };
+        let before = self.frames.put(at.depth, step)?;
+        let parted = parted_from(before, at.gang, at.lanes);
+        self.lines.add(at.line, line_of(parted), lanes, width)?;
+        self.own.add(function, function_of(parted), lanes, width)?;
+        self.whole
+            .add_each(self.names.count(), &self.frames, lanes, width)?;
+        self.all = self.all.noted(parted.is_some(), lanes, width);
+        Ok(())
+    }
+}
+
+/// The last step of a frame, if its lanes part.
+fn parted_from(before: Option<LastStep>, gang: Gang, next: Mask) -> Option<LastStep>
+    ensures { (mine : LastStep → Bool) (stand : Stand) (later : List Stand) (deep : ℕ) → depth_of stand ≡ deep → stand.lanes ≡ lanes_of (width_of gang) next
+        → parting_of mine deep before (stand ∷ later) ≡ hit mine result }
+{
+    match before {
+        Some(last) if last.parts(gang, next) => before,
+        _ => None,
+    }
+}
+
+fn line_of(last: Option<LastStep>) -> Option<usize>
+    ensures { (k : ℕ) → hits result k ≡ hit (λ last. last.line == k) last }
+{
+    match last {
+        Some(last) => Some(last.line),
+        None => None,
+    }
+}
+
+fn function_of(last: Option<LastStep>) -> Option<usize>
+    ensures { (k : ℕ) → hits result k ≡ hit (λ last. last.function == k) last }
+{
+    match last {
+        Some(last) => Some(last.function),
+        None => None,
+    }
+}

@@ -1,0 +1,55 @@
+-- The steps that are left of a run.
+use Rattle.std.proofs.Common.{◌≡◌, refl, sym, ap, ◌∙◌, subst, ℕ, zero, suc, ◌+◌, ◌-◌, ◌<◌, ◌≤◌, true, List, [], ◌∷◌, map, Some, arith}
+use Rattle.gang_model.specs.Types.Tree.{Program}
+use Rattle.gang_model.specs.Running.State.{State}
+use Rattle.gang_model.specs.Running.Step.{Goes, step}
+use Rattle.gang_model.specs.Debugger.Events.{gone}
+use Rattle.gang_model.specs.Debugger.Debugger.{Debugger, Setting, has_ended, now}
+use Rattle.lane_picture.specs.declared.columns.StepsEnd.{StepsEnd}
+use Rattle.lane_picture.specs.declared.columns.StepsEnd.TheVariants as end
+use Rattle.lane_picture.specs.Seen.{state_after}
+use Rattle.lane_picture.specs.Tries.{CameTo}
+use Rattle.lane_picture.proofs.SeenColumns.{after_more}
+use Rattle.lane_picture.proofs.Trying.{ended_over}
+use Rattle.lane_counts.specs.Steps.{Stand}
+use Rattle.lane_profile.specs.Stands.{stand_of, stands_of, states_tried, tried_at}
+
+module _ (p : Program) (most : ℕ) (first : State) where
+  -- where the steps stand that are left after so many
+  abbrev pub stands_left : (taken : ℕ) → List Stand
+  stands_left taken = stands_of p (most - taken) (state_after p taken first)
+
+  pub all_left : stands_left 0 ≡ stands_of p most first
+  all_left = let all : most - 0 ≡ most = omega arith in ap (λ n. stands_of p n first) all
+
+  pub none_left : (taken : ℕ) → most ≤ taken → stands_left taken ≡ []
+  none_left taken h = let none : most - taken ≡ 0 = omega (arith, h) in ap (λ n. stands_of p n (state_after p taken first)) none
+
+  over_left : (n : ℕ) (state : State) → has_ended state ≡ true → stands_of p n state ≡ []
+  over_left zero state ended = refl
+  over_left (suc n) state ended = ap (λ st. map (stand_of p) (tried_at st state (states_tried p n))) (ended_over p state ended)
+
+  pub ended_left : (taken : ℕ) (here : State) → here ≡ state_after p taken first → has_ended here ≡ true → stands_left taken ≡ []
+  ended_left taken here stood ended = over_left (most - taken) (state_after p taken first) (subst (λ st. has_ended st ≡ true) stood ended)
+
+  module _ (taken : ℕ) (below : taken < most) where
+    next_of : most - taken ≡ suc (most - (taken + 1))
+    next_of = omega (arith, below)
+
+    -- a step that is done, with those behind it
+    pub step_left : (here next : State) → here ≡ state_after p taken first → step p here ≡ Goes next → stands_left taken ≡ stand_of p here ∷ stands_left (taken + 1)
+    step_left here next stood goes =
+        let at = state_after p taken first in
+        let does : step p at ≡ Goes next = ap (step p) (sym stood) ∙ goes in
+        let after : next ≡ state_after p (taken + 1) first = sym (ap (λ st. gone st at) does) ∙ sym (after_more p taken first) in
+        ap (λ n. stands_of p n at) next_of ∙ ap (λ st. map (stand_of p) (tried_at st at (states_tried p (most - (taken + 1))))) does
+        ∙ ap (λ st. stand_of p at ∷ stands_of p (most - (taken + 1)) st) after ∙ ap (λ st. stand_of p st ∷ stands_left (taken + 1)) (sym stood)
+
+    -- a step that was the last one
+    pub last_left : (s : Setting) (d e : Debugger) (how : StepsEnd) → s.program ≡ p → now s d ≡ state_after p taken first → CameTo s d e (Some how) → stands_left taken ≡ stand_of p (now s d) ∷ []
+    last_left s d e end.Ended is stood came = absurd came
+    last_left s d e (end.AtFault fault) is stood came =
+        let at = state_after p taken first in
+        let fails = ap (step p) (sym stood) ∙ ap (λ q. step q (now s d)) (sym is) ∙ came in
+        ap (λ n. stands_of p n at) next_of ∙ ap (λ st. map (stand_of p) (tried_at st at (states_tried p (most - (taken + 1))))) fails ∙ ap (λ st. stand_of p st ∷ []) (sym stood)
+    last_left s d e end.StepLimit is stood came = absurd came

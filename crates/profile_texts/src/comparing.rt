@@ -1,0 +1,107 @@
+//! Runs of one program by gangs of different widths, side by side.
+ghost use Rattle.std.specs.Prelude.{◌≡◌, false, is_err, IfOk, OnErr};
+
+use crate::lines::{front_of, line_at, lines_of};
+use crate::parts::Part::{Right, Share, Shown, Text};
+use crate::parts::write_parts;
+use crate::shares::share;
+use debug_traits::{AnswerWriter, WriteFault};
+use lane_counts::{Counts, Tally};
+use std::alloc::{AllocError, Global};
+
+/// The most bytes of a line of the source.
+const MOST_SHOWN: usize = 40;
+
+/// The counts of the same run by gangs of 4, 8 and 16 lanes.
+#[derive(Clone, Copy)]
+pub struct Compared<'a> {
+    pub four: &'a Tally,
+    pub eight: &'a Tally,
+    pub sixteen: &'a Tally,
+}
+
+/// Writes for each line the steps and the share of the lanes at each width, in the order of the source.
+///
+/// # Errors
+///
+/// Out of memory, and then nothing is written.
+pub fn write_comparison<O: AnswerWriter>(
+    alloc: Global,
+    compared: Compared<'_>,
+    source: &[u8],
+    writer: &mut O,
+) -> Result<Result<(), WriteFault>, AllocError>
+    requires works { O.has_failed writer.old ≡ false }
+    ensures failed { IfOk result (λ written. O.has_failed writer.new ≡ is_err written) }
+    ensures unwritten { OnErr result (writer.new ≡ writer.old) }
+{
+    let lines = lines_of(alloc, source)?;
+    Ok(write_rows(&lines, compared, writer))
+}
+
+fn write_rows<O: AnswerWriter>(
+    lines: &[&[u8]],
+    compared: Compared<'_>,
+    writer: &mut O,
+) -> Result<(), WriteFault>
+    requires works { O.has_failed writer.old ≡ false }
+    ensures failed { O.has_failed writer.new ≡ is_err result }
+{
+    writer.write_all(
+        b"          4 lanes           8 lanes          16 lanes\n line     steps  share     steps  share     steps  share  source\n",
+    )?;
+    for number in 0..lines.len().saturating_add(1) {
+        let counts = [
+            counts_at(compared.four, number),
+            counts_at(compared.eight, number),
+            counts_at(compared.sixteen, number),
+        ];
+        if counts.iter().any(|counts| counts.steps > 0) {
+            write_parts(writer, &[Right(number as u64, 5)])?;
+            write_widths(counts, writer)?;
+            let text = front_of(line_at(lines, number), MOST_SHOWN);
+            write_parts(writer, &[Text(b"  "), Shown(text), Text(b"\n")])?;
+        }
+    }
+    writer.write_all(b"  all")?;
+    let all = [
+        compared.four.all(),
+        compared.eight.all(),
+        compared.sixteen.all(),
+    ];
+    write_widths(all, writer)?;
+    writer.write_all(b"\n")
+}
+
+fn counts_at(tally: &Tally, line: usize) -> Counts {
+    match tally.lines().get(line) {
+        Some(counts) => *counts,
+        None => Counts::none(),
+    }
+}
+
+/// Writes the steps and the share at each width.
+fn write_widths<O: AnswerWriter>(counts: [Counts; 3], writer: &mut O) -> Result<(), WriteFault>
+    requires works { O.has_failed writer.old ≡ false }
+    ensures failed { O.has_failed writer.new ≡ is_err result }
+{
+    let [four, eight, sixteen] = counts;
+    write_column(four, 4, writer)?;
+    write_column(eight, 8, writer)?;
+    write_column(sixteen, 16, writer)
+}
+
+fn write_column<O: AnswerWriter>(
+    counts: Counts,
+    width: usize,
+    writer: &mut O,
+) -> Result<(), WriteFault>
+    requires works { O.has_failed writer.old ≡ false }
+    ensures failed { O.has_failed writer.new ≡ is_err result }
+{
+    if counts.steps == 0 {
+        return writer.write_all(b"         -      -");
+    }
+    let parts = [Right(counts.steps, 10), Share(share(counts, width))];
+    write_parts(writer, &parts)
+}

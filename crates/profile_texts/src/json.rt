@@ -1,0 +1,164 @@
+//! Counts as JSON.
+ghost use Rattle.std.specs.Prelude.{◌≡◌, false, is_err};
+
+use crate::parts::Part::{Number, Percents, Text};
+use crate::parts::write_parts;
+use crate::profile::Subject;
+use crate::shares::{lost, share};
+use crate::tables::fault_words;
+use debug_traits::{AnswerWriter, WriteFault};
+use lane_counts::{Counts, Tally};
+use lane_picture::StepsEnd;
+use std::str;
+
+/// Writes the counts of all steps, of each line and of each function.
+pub(crate) fn write_json<O: AnswerWriter>(
+    tally: &Tally,
+    end: StepsEnd,
+    subject: &Subject<'_>,
+    writer: &mut O,
+) -> Result<(), WriteFault>
+    requires works { O.has_failed writer.old ≡ false }
+    ensures failed { O.has_failed writer.new ≡ is_err result }
+{
+    writer.write_all(b"{\"source\":")?;
+    write_string(subject.title, writer)?;
+    write_parts(
+        writer,
+        &[Text(b",\"width\":"), Number(subject.width as u64)],
+    )?;
+    write_end(end, writer)?;
+    writer.write_all(b",\"all\":{")?;
+    write_counts(tally.all(), subject.width, writer)?;
+    writer.write_all(b"},\n\"lines\":[")?;
+    write_lines(tally, subject.width, writer)?;
+    writer.write_all(b"],\n\"functions\":[")?;
+    write_functions(tally, subject.width, writer)?;
+    writer.write_all(b"]}\n")
+}
+
+fn write_end<O: AnswerWriter>(end: StepsEnd, writer: &mut O) -> Result<(), WriteFault>
+    requires works { O.has_failed writer.old ≡ false }
+    ensures failed { O.has_failed writer.new ≡ is_err result }
+{
+    match end {
+        StepsEnd::Ended => writer.write_all(b",\"end\":\"ended\""),
+        StepsEnd::StepLimit => writer.write_all(b",\"end\":\"limit\""),
+        StepsEnd::AtFault(fault) => {
+            let parts = [
+                Text(b",\"end\":\"fault\",\"fault\":\""),
+                Text(fault_words(fault.name)),
+                Text(b"\",\"lane\":"),
+                Number(fault.lane as u64),
+            ];
+            write_parts(writer, &parts)
+        }
+    }
+}
+
+fn write_lines<O: AnswerWriter>(
+    tally: &Tally,
+    width: usize,
+    writer: &mut O,
+) -> Result<(), WriteFault>
+    requires works { O.has_failed writer.old ≡ false }
+    ensures failed { O.has_failed writer.new ≡ is_err result }
+{
+    let mut is_first = true;
+    for (number, counts) in tally.lines().iter().enumerate() {
+        if counts.steps > 0 {
+            write_comma(is_first, writer)?;
+            let parts = [Text(b"{\"line\":"), Number(number as u64), Text(b",")];
+            write_parts(writer, &parts)?;
+            write_counts(*counts, width, writer)?;
+            writer.write_all(b"}")?;
+            is_first = false;
+        }
+    }
+    Ok(())
+}
+
+fn write_functions<O: AnswerWriter>(
+    tally: &Tally,
+    width: usize,
+    writer: &mut O,
+) -> Result<(), WriteFault>
+    requires works { O.has_failed writer.old ≡ false }
+    ensures failed { O.has_failed writer.new ≡ is_err result }
+{
+    for (number, counts) in tally.own().iter().enumerate() {
+        write_comma(number == 0, writer)?;
+        writer.write_all(b"{\"name\":")?;
+        write_string(tally.names().name(number), writer)?;
+        writer.write_all(b",")?;
+        write_counts(*counts, width, writer)?;
+        let whole = match tally.whole().get(number) {
+            Some(whole) => *whole,
+            None => *counts,
+        };
+        let parts = [
+            Text(b",\"steps_with_calls\":"),
+            Number(whole.steps),
+            Text(b",\"lane_steps_with_calls\":"),
+            Number(whole.lane_steps),
+            Text(b",\"share_with_calls\":"),
+            Percents(share(whole, width)),
+            Text(b"}"),
+        ];
+        write_parts(writer, &parts)?;
+    }
+    Ok(())
+}
+
+/// Writes what stands before an element: nothing before the first one.
+fn write_comma<O: AnswerWriter>(is_first: bool, writer: &mut O) -> Result<(), WriteFault>
+    requires works { O.has_failed writer.old ≡ false }
+    ensures failed { O.has_failed writer.new ≡ is_err result }
+{
+    writer.write_all(if is_first { b"\n" } else { b",\n" })
+}
+
+/// Writes the members of counts.
+fn write_counts<O: AnswerWriter>(
+    counts: Counts,
+    width: usize,
+    writer: &mut O,
+) -> Result<(), WriteFault>
+    requires works { O.has_failed writer.old ≡ false }
+    ensures failed { O.has_failed writer.new ≡ is_err result }
+{
+    let parts = [
+        Text(b"\"steps\":"),
+        Number(counts.steps),
+        Text(b",\"lane_steps\":"),
+        Number(counts.lane_steps),
+        Text(b",\"share\":"),
+        Percents(share(counts, width)),
+        Text(b",\"short_steps\":"),
+        Number(counts.short_steps),
+        Text(b",\"partings\":"),
+        Number(counts.partings),
+        Text(b",\"lost\":"),
+        Number(lost(counts, width)),
+    ];
+    write_parts(writer, &parts)
+}
+
+/// Writes bytes as a string. Where they are not UTF-8, each byte outside ASCII is `?`, and so is a control anywhere.
+fn write_string<O: AnswerWriter>(bytes: &[u8], writer: &mut O) -> Result<(), WriteFault>
+    requires works { O.has_failed writer.old ≡ false }
+    ensures failed { O.has_failed writer.new ≡ is_err result }
+{
+    let is_text = str::from_utf8(bytes).is_ok();
+    writer.write_all(b"\"")?;
+    for byte in bytes {
+        match *byte {
+            b'"' => writer.write_all(b"\\\"")?,
+            b'\\' => writer.write_all(b"\\\\")?,
+            0..=31 | 127 => writer.write_all(b"?")?,
+            128..=255 if !is_text => writer.write_all(b"?")?,
+            other => writer.write_all(&[other])?,
+        }
+    }
+    writer.write_all(b"\"")
+}

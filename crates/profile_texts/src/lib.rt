@@ -1,0 +1,15 @@
+//! What the counts of a run tell: a table of the lines or the functions, the source with its counts, and JSON.
+#![tactic(auto)]
+
+mod annotated;
+mod comparing;
+mod json;
+mod lines;
+mod parts;
+mod profile;
+mod rows;
+mod shares;
+mod tables;
+
+pub use comparing::{Compared, write_comparison};
+pub use profile::{Form, Subject, write_profile};

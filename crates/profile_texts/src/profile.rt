@@ -1,0 +1,63 @@
+//! What is told of the counts of a run.
+ghost use Rattle.std.specs.Prelude.{◌≡◌, false, is_err, IfOk, OnErr};
+
+use crate::annotated::write_annotated;
+use crate::json::write_json;
+use crate::lines::lines_of;
+use crate::rows::dearest_first;
+use crate::tables::{write_functions, write_lines};
+use debug_traits::{AnswerWriter, WriteFault};
+use lane_counts::Tally;
+use lane_picture::StepsEnd;
+use std::alloc::{AllocError, Global};
+
+/// What is told of a run.
+#[derive(Clone, Copy, Debug, PartialEq, Eq)]
+pub enum Form {
+    /// A table of lines.
+    Lines,
+    /// A table of functions.
+    Functions,
+    /// The source, with the counts of each line before it.
+    Annotated,
+    /// JSON.
+    Json,
+}
+
+/// What is profiled: the source with its name, how many lanes a gang has, and how many rows a table has at most.
+#[derive(Clone, Copy, Debug)]
+pub struct Subject<'a> {
+    pub title: &'a [u8],
+    pub source: &'a [u8],
+    pub width: usize,
+    pub most_rows: usize,
+}
+
+/// Writes what the counts of a run tell, and how the run ended.
+///
+/// # Errors
+///
+/// Out of memory, and then nothing is written. What was written of it is told inside.
+pub fn write_profile<O: AnswerWriter>(
+    alloc: Global,
+    form: Form,
+    tally: &Tally,
+    end: StepsEnd,
+    subject: &Subject<'_>,
+    writer: &mut O,
+) -> Result<Result<(), WriteFault>, AllocError>
+    requires works { O.has_failed writer.old ≡ false }
+    ensures failed { IfOk result (λ written. O.has_failed writer.new ≡ is_err written) }
+    ensures unwritten { OnErr result (writer.new ≡ writer.old) }
+{
+    let lines = lines_of(alloc, subject.source)?;
+    let by_line = dearest_first(alloc, tally.lines(), subject.width)?;
+    let by_function = dearest_first(alloc, tally.own(), subject.width)?;
+    let written = match form {
+        Form::Lines => write_lines(&by_line, &lines, tally, end, subject, writer),
+        Form::Functions => write_functions(&by_function, tally, end, subject, writer),
+        Form::Annotated => write_annotated(&lines, tally, end, subject, writer),
+        Form::Json => write_json(tally, end, subject, writer),
+    };
+    Ok(written)
+}

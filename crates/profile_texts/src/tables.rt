@@ -1,0 +1,168 @@
+//! Tables of lines and of functions.
+ghost use Rattle.std.specs.Prelude.{◌≡◌, false, is_err};
+
+use crate::lines::{front_of, line_at};
+use crate::parts::Part::{Left, Number, Right, Share, Shown, Text};
+use crate::parts::write_parts;
+use crate::profile::Subject;
+use crate::rows::Row;
+use crate::shares::{lost, share};
+use debug_traits::{AnswerWriter, Fault, WriteFault};
+use gang_types::FaultName;
+use lane_counts::{Counts, Tally};
+use lane_picture::StepsEnd;
+
+/// The most bytes of a line of the source in a table.
+const MOST_SHOWN: usize = 48;
+
+/// The most bytes of the name of a function in a table, where it has room.
+const NAME_ROOM: usize = 16;
+
+/// Writes a table of lines.
+pub(crate) fn write_lines<O: AnswerWriter>(
+    rows: &[Row],
+    lines: &[&[u8]],
+    tally: &Tally,
+    end: StepsEnd,
+    subject: &Subject<'_>,
+    writer: &mut O,
+) -> Result<(), WriteFault>
+    requires works { O.has_failed writer.old ≡ false }
+    ensures failed { O.has_failed writer.new ≡ is_err result }
+{
+    writer.write_all(b" line     steps lane-steps  share      short  parted       lost  source\n")?;
+    for (index, row) in rows.iter().enumerate() {
+        if index < subject.most_rows {
+            write_parts(writer, &[Right(row.number as u64, 5)])?;
+            write_counts(row.counts, subject.width, writer)?;
+            let text = front_of(line_at(lines, row.number), MOST_SHOWN);
+            write_parts(writer, &[Text(b"  "), Shown(text), Text(b"\n")])?;
+        }
+    }
+    writer.write_all(b"  all")?;
+    write_counts(tally.all(), subject.width, writer)?;
+    writer.write_all(b"\n")?;
+    write_end(tally, end, writer)
+}
+
+/// Writes the columns of some counts.
+pub(crate) fn write_counts<O: AnswerWriter>(
+    counts: Counts,
+    width: usize,
+    writer: &mut O,
+) -> Result<(), WriteFault>
+    requires works { O.has_failed writer.old ≡ false }
+    ensures failed { O.has_failed writer.new ≡ is_err result }
+{
+    let parts = [
+        Right(counts.steps, 10),
+        Right(counts.lane_steps, 11),
+        Share(share(counts, width)),
+        Right(counts.short_steps, 11),
+        Right(counts.partings, 8),
+        Right(lost(counts, width), 11),
+    ];
+    write_parts(writer, &parts)
+}
+
+/// Writes a table of functions.
+pub(crate) fn write_functions<O: AnswerWriter>(
+    rows: &[Row],
+    tally: &Tally,
+    end: StepsEnd,
+    subject: &Subject<'_>,
+    writer: &mut O,
+) -> Result<(), WriteFault>
+    requires works { O.has_failed writer.old ≡ false }
+    ensures failed { O.has_failed writer.new ≡ is_err result }
+{
+    writer.write_all(
+        b"function             steps lane-steps  share      short  parted       lost   in all  share\n",
+    )?;
+    for (index, row) in rows.iter().enumerate() {
+        if index < subject.most_rows {
+            let whole = match tally.whole().get(row.number) {
+                Some(whole) => *whole,
+                None => row.counts,
+            };
+            write_parts(writer, &[Left(tally.names().name(row.number), NAME_ROOM)])?;
+            write_counts(row.counts, subject.width, writer)?;
+            write_whole(whole, subject.width, writer)?;
+        }
+    }
+    write_parts(writer, &[Left(b"all", NAME_ROOM)])?;
+    write_counts(tally.all(), subject.width, writer)?;
+    write_whole(tally.all(), subject.width, writer)?;
+    write_end(tally, end, writer)
+}
+
+/// Writes the columns of what a function takes with what it calls.
+fn write_whole<O: AnswerWriter>(
+    counts: Counts,
+    width: usize,
+    writer: &mut O,
+) -> Result<(), WriteFault>
+    requires works { O.has_failed writer.old ≡ false }
+    ensures failed { O.has_failed writer.new ≡ is_err result }
+{
+    let parts = [
+        Right(counts.steps, 9),
+        Share(share(counts, width)),
+        Text(b"\n"),
+    ];
+    write_parts(writer, &parts)
+}
+
+/// Writes how a run ended.
+pub(crate) fn write_end<O: AnswerWriter>(
+    tally: &Tally,
+    end: StepsEnd,
+    writer: &mut O,
+) -> Result<(), WriteFault>
+    requires works { O.has_failed writer.old ≡ false }
+    ensures failed { O.has_failed writer.new ≡ is_err result }
+{
+    let steps = Number(tally.all().steps);
+    match end {
+        StepsEnd::Ended => {
+            let parts = [Text(b"the program ended after "), steps, Text(b" steps\n")];
+            write_parts(writer, &parts)
+        }
+        StepsEnd::AtFault(fault) => write_fault(fault, tally, writer),
+        StepsEnd::StepLimit => {
+            let parts = [Text(b"the run was left after "), steps, Text(b" steps\n")];
+            write_parts(writer, &parts)
+        }
+    }
+}
+
+fn write_fault<O: AnswerWriter>(
+    fault: Fault,
+    tally: &Tally,
+    writer: &mut O,
+) -> Result<(), WriteFault>
+    requires works { O.has_failed writer.old ≡ false }
+    ensures failed { O.has_failed writer.new ≡ is_err result }
+{
+    let parts = [
+        Text(b"step "),
+        Number(tally.all().steps),
+        Text(b" faults: "),
+        Text(fault_words(fault.name)),
+        Text(b" in lane "),
+        Number(fault.lane as u64),
+        Text(b"\n"),
+    ];
+    write_parts(writer, &parts)
+}
+
+/// A fault's number and name.
+pub(crate) fn fault_words(name: FaultName) -> &'static [u8] {
+    match name {
+        FaultName::DivideByZero => b"F1 DivideByZero",
+        FaultName::Index => b"F2 Index",
+        FaultName::LaneIndex => b"F3 LaneIndex",
+        FaultName::Assert => b"F4 Assert",
+        FaultName::CallDepth => b"F5 CallDepth",
+    }
+}
