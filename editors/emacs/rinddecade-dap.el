@@ -40,16 +40,29 @@
   "Whether SESSION runs a gang."
   (equal (plist-get (dap--debug-session-launch-args session) :type) "rinddecade"))
 
+(defun rinddecade--explain-fault (text session)
+  "Shows TEXT of a fault of SESSION, and behind it what the fault means."
+  (dap--send-message (dap--make-request "exceptionInfo" (list :threadId 1))
+                     (dap--resp-handler
+                      (lambda (response)
+                        (let ((body (gethash "body" response)))
+                          (message "%s\n\n%s %s" text (gethash "exceptionId" body) (gethash "description" body)))))
+                     session))
+
 (defun rinddecade--show-stop (take session event)
   "Has TAKE take EVENT of SESSION, and shows where a gang has stopped.
-A fault is told by its text: dap-mode would ask for more."
+Of a fault it shows what it means: dap-mode would ask in words of its own."
   (if (not (and (rinddecade--is-gang session) (equal (gethash "event" event) "stopped")))
       (funcall take session event)
-    (let ((body (gethash "body" event)))
-      (when (equal (gethash "reason" body) "exception")
+    (let* ((body (gethash "body" event))
+           (text (gethash "text" body))
+           (is-fault (equal (gethash "reason" body) "exception")))
+      (when is-fault
         (puthash "reason" "fault" body))
       (funcall take session event)
-      (message "%s" (gethash "text" body)))))
+      (if is-fault
+          (rinddecade--explain-fault text session)
+        (message "%s" text)))))
 
 (defun rinddecade--step (step command session)
   "Has STEP do COMMAND of SESSION. A gang that refuses it stands where it stood.
@@ -104,7 +117,7 @@ Where there is none, it goes to the beginning of the history."
 
 (defun rinddecade-line (line session)
   "Shows what SESSION answers to LINE.
-It is a command of the debugger, as `watch total', or a name."
+It is a command of the debugger, as `watch total', or an expression."
   (interactive (list (read-string "Line: " nil 'rinddecade-line-history) (dap--cur-active-session-or-die)))
   (dap--send-message (dap--make-request "evaluate" (list :expression line :context "repl"))
                      (dap--resp-handler (lambda (response) (message "%s" (gethash "result" (gethash "body" response)))))

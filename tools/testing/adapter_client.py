@@ -14,6 +14,7 @@ import threading
 from .adapter_members import EVENTS, MEMBERS, NUMBER, TEXT, THREAD, TRUTH, Wrong, need, need_body, need_capabilities, need_members, need_stop, same
 from .adapter_frames import FRAME_CHECKS, written
 from .adapter_launches import LAUNCH_CHECKS
+from .adapter_values import VALUE_CHECKS
 from .tried import Result
 
 # How long a check may take.
@@ -194,8 +195,8 @@ def steps_and_back(client, examples):
     same(client.ask("evaluate", expression="x[2]")["result"], "6")
     same(client.ask("evaluate", expression="print x", context="repl")["result"], "x = 0 3 6 9")
     same(client.ask("evaluate", expression="x", context="repl")["result"], "x = 0 3 6 9")
-    same(client.refused("evaluate", expression="y", context="hover"), "C2 NoSuchName")
-    same(client.refused("evaluate", expression="x + 1", context="hover"), "C1 BadCommand")
+    same(client.refused("evaluate", expression="y", context="hover"), "S5 UnknownName, column 1: no variable of this name is in scope in this frame or of the file")
+    same(client.ask("evaluate", expression="x + 1", context="hover")["result"], "1 4 7 10")
     client.end()
 
 
@@ -418,7 +419,7 @@ def wrong_requests(client, examples):
     client.end()
 
 
-CHECKS = [steps_and_back, watches, breaks, locations, variables, frames, faults, filters, the_end, wrong_requests, *FRAME_CHECKS, *LAUNCH_CHECKS]
+CHECKS = [steps_and_back, watches, breaks, locations, variables, frames, faults, filters, the_end, wrong_requests, *FRAME_CHECKS, *LAUNCH_CHECKS, *VALUE_CHECKS]
 
 
 def check(root, command):

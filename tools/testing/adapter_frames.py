@@ -26,7 +26,7 @@ export void go() {
     x = f(programIndex % 2);
 }
 """
-ONLY_NAMES = "only the name of a variable is looked up in an outer frame"
+NO_NAME = "S5 UnknownName, column 1: no variable of this name is in scope in this frame or of the file"
 NO_FRAME = "no frame has this number now"
 NOT_SET = "only a variable of the top frame or of the file can be set"
 NO_REFERENCE = "nothing has this reference now"
@@ -89,9 +89,9 @@ def outer_frames(client, examples):
     with written(RECURSION) as source:
         at_depth_3(client, source, 4)
         same(client.value("x", 1), "0 3 6 9")
-        same(client.refused("evaluate", expression="x", frameId=3), "C2 NoSuchName")
-        same(client.refused("evaluate", expression="k", frameId=1), ONLY_NAMES)
-        same(client.refused("evaluate", expression="k + 1", frameId=2), ONLY_NAMES)
+        same(client.refused("evaluate", expression="x", frameId=3), NO_NAME)
+        same(client.refused("evaluate", expression="k", frameId=1), NO_NAME)
+        same(client.value("k + 1", 2), "1 2 1 2")
         same(client.value("total", 2), "7")
         same(client.ask("evaluate", expression="print k", context="repl", frameId=2)["result"], "k = 1 2 1 2")
         same(client.ask("evaluate", expression="k", context="repl", frameId=2)["result"], "0 1 0 1")

@@ -55,7 +55,7 @@ ITEMS = {
     "threads": ({"id": NUMBER, "name": TEXT}, {}),
     "stackFrames": ({"id": NUMBER, "name": TEXT, "line": NUMBER, "column": NUMBER, "source": MEMBERS}, {}),
     "scopes": ({"name": TEXT, "variablesReference": NUMBER, "expensive": TRUTH}, {"presentationHint": TEXT}),
-    "variables": ({"name": TEXT, "value": TEXT, "variablesReference": NUMBER}, {"type": TEXT, "evaluateName": TEXT}),
+    "variables": ({"name": TEXT, "value": TEXT, "variablesReference": NUMBER}, {"type": TEXT, "evaluateName": TEXT, "indexedVariables": NUMBER}),
 }
 
 # The words of the protocol, of which the adapter uses these, and the greatest reference that it has room for.
@@ -66,6 +66,8 @@ ACCESSES = ["write"]
 BREAK_MODES = ["never", "always", "unhandled", "userUnhandled"]
 GREATEST = 2**31 - 1
 THREAD = 1
+# What stands behind the name and the value of a lane that is not active.
+WAITS = " (waits)"
 
 
 class Wrong(Exception):
@@ -118,7 +120,15 @@ def need_scope(item):
 
 def need_variable(item):
     need_reference("a variable", item["variablesReference"], 0)
-    need(item.get("evaluateName", item["name"]) == item["name"], f"the variable {item}")
+    is_marked = item["name"].endswith(WAITS)
+    need(is_marked == item["value"].endswith(WAITS), f"the marks of the variable {item}")
+    name = item["name"][: -len(WAITS)] if is_marked else item["name"]
+    is_range = ".." in name
+    need(("evaluateName" in item) != is_range and item.get("evaluateName", name) == name, f"the variable {item}")
+    is_array = item["type"].endswith("]")
+    need(("indexedVariables" in item) == is_array, f"the number of the elements of {item}")
+    need(not is_array or item["value"] == f"{item['indexedVariables']} elements", f"the elements of {item}")
+    need(not is_range or item["variablesReference"] > 0, f"the range {item} has no elements")
 
 
 # What holds of each item, beside the types of its members.

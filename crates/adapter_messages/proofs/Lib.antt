@@ -1,3 +1,4 @@
 mod Lists
+mod Marks
 mod Needs
 mod WorkedRows

@@ -9,8 +9,11 @@ use Rattle.adapter_requests.specs.declared.reply.BreakpointFault.TheVariants as 
 use Rattle.adapter_requests.specs.declared.reply.StopReason.TheVariants as reason
 use Rattle.adapter_messages.specs.Faults.{missing}
 use Rattle.adapter_messages.specs.Messages.{natural}
-use Rattle.adapter_messages.specs.Arguments.{asked, line_in}
-use Rattle.adapter_messages.specs.Replies.{breakpoint, file_name, only, stop_body}
+use Rattle.adapter_requests.specs.declared.reply.VariableKind.TheVariants as kind
+use Rattle.adapter_requests.specs.declared.request.Context.TheVariants.{Hover, Watch}
+use Rattle.adapter_requests.specs.declared.request.Filter.TheVariants as filter
+use Rattle.adapter_messages.specs.Arguments.{asked, context_in, filter_in, line_in, unmarked}
+use Rattle.adapter_messages.specs.Replies.{breakpoint, file_name, only, stop_body, variable_of}
 
 -- a path with folders, one without, and one without a last part
 behind_folders : file_name (codes "examples/first.ispc") ≡ codes "first.ispc"
@@ -71,3 +74,39 @@ no_line = refl
 -- a request that is not known needs nothing
 another_request : missing (codes "gotoTargets") (object no_members) ≡ None
 another_request = refl
+
+-- a start that is a text, and one that is `null`
+a_text_for_a_start : missing (codes "variables") (given (object (member (codes "start") (string (codes "1")) (member (codes "variablesReference") (natural 1) no_members)))) ≡ Some (codes "start")
+unfolding serde_json_on_literals
+a_text_for_a_start = refl
+
+no_start : missing (codes "variables") (given (object (member (codes "start") null (member (codes "variablesReference") (natural 1) no_members)))) ≡ None
+unfolding serde_json_on_literals
+no_start = refl
+
+-- words of contexts and filters, and another one
+under_the_mouse : context_in (Some (codes "hover")) ≡ Hover
+under_the_mouse = refl
+
+another_context : context_in (Some (codes "clipboard")) ≡ Watch
+another_context = refl
+
+elements_alone : filter_in (Some (codes "indexed")) ≡ filter.Indexed
+elements_alone = refl
+
+-- one mark is left out, at the end
+a_marked_name : unmarked (codes "x[2] (waits)") ≡ codes "x[2]"
+a_marked_name = refl
+
+a_plain_name : unmarked (codes "x[2]") ≡ codes "x[2]"
+a_plain_name = refl
+
+-- no expression shows a range, and that of a lane that waits has no mark
+a_range : get (codes "evaluateName") (variable_of kind.Range (codes "a[0..999]") (codes "1000 elements") (codes "int8") 7) ≡ None
+a_range = refl
+
+a_waiting_lane : get (codes "name") (variable_of kind.Waits (codes "x[2]") (codes "5") (codes "int8") 0) ≡ Some (string (codes "x[2] (waits)"))
+a_waiting_lane = refl
+
+its_expression : get (codes "evaluateName") (variable_of kind.Waits (codes "x[2]") (codes "5") (codes "int8") 0) ≡ Some (string (codes "x[2]"))
+its_expression = refl

@@ -1,5 +1,6 @@
 -- What a request says.
-use Rattle.std.specs.Prelude.{◌≡◌, ℕ, ◌^◌, ◌||◌, Bool, true, false, not, List, [], ◌∷◌, map, Option, Some, None, Result, Ok, Err, codes, if◌then◌else◌, is_some, nat_lt, option_and_then, option_map, unwrap_or}
+use Rattle.std.specs.Prelude.{◌≡◌, ℕ, ◌^◌, ◌-◌, ◌||◌, Bool, true, not, List, [], ◌∷◌, map, Option, Some, None, Result, Ok, Err, codes, if◌then◌else◌, is_some, length, nat_eq, nat_lt, option_and_then, option_map, take, unwrap_or}
+use Rattle.std.specs.List.{ends_with}
 use Rattle.std.specs.Borrow.{Bor}
 use Rattle.serde_json.specs.Data.{Data, Items, item, no_items}
 use Rattle.serde_json.specs.Find.{as_array, as_bool, as_null, as_number, as_str, as_u64, get, pointer}
@@ -7,7 +8,12 @@ use Rattle.gang_model.specs.Source.Names.{same_text}
 use Rattle.gang_model.specs.Texts.Text.{Bytes}
 use Rattle.adapter_requests.specs.declared.reply.BreakpointFault.{BreakpointFault}
 use Rattle.adapter_requests.specs.declared.reply.BreakpointFault.TheVariants as fault
+use Rattle.adapter_requests.specs.declared.request.Context.{Context}
+use Rattle.adapter_requests.specs.declared.request.Context.TheVariants.{Console, Hover, Watch}
+use Rattle.adapter_requests.specs.declared.request.Filter.{Filter}
+use Rattle.adapter_requests.specs.declared.request.Filter.TheVariants as filter
 use Rattle.adapter_requests.specs.declared.request.Launch.{Launch}
+use Rattle.adapter_requests.specs.declared.request.Page.{Page}
 use Rattle.adapter_requests.specs.declared.request.Request.{Request}
 use Rattle.adapter_requests.specs.declared.request.Request.TheVariants as request
 use Rattle.adapter_messages.specs.declared.names.Name.{Name}
@@ -48,10 +54,35 @@ pub record IsLaunch (message : Data) (launch : Launch) : Type 0 where
   pub steps : number_at (codes "/arguments/steps") message ≡ launch.steps
   pub stops_on_entry : unwrap_or (flag_at (codes "/arguments/stopOnEntry") message) true ≡ launch.stops_on_entry
 
--- whether an expression stands in the console
-abbrev pub in_console : Option Bytes → Bool
-in_console None = false
-in_console (Some context) = same_text context (codes "repl")
+-- where an expression stands, by the word for it
+abbrev pub context_in : Option Bytes → Context
+context_in None = Watch
+context_in (Some word) = if same_text word (codes "repl") then Console else (if same_text word (codes "hover") then Hover else Watch)
+
+-- which kind of children is asked for, by the word for it
+abbrev pub filter_in : Option Bytes → Filter
+filter_in None = filter.All
+filter_in (Some word) = if same_text word (codes "named") then filter.Named else (if same_text word (codes "indexed") then filter.Indexed else filter.All)
+
+-- which of the children are asked for
+abbrev pub page_in : Data → Page
+page_in message = record {
+  start = number_at (codes "/arguments/start") message;
+  count = number_at (codes "/arguments/count") message;
+  filter = filter_in (text_at (codes "/arguments/filter") message);
+}
+
+-- what is behind the name and the value of a lane that is not active
+abbrev pub mark : Bytes
+mark = codes " (waits)"
+
+-- a name or a value without the mark
+abbrev pub unmarked : Bytes → Bytes
+unmarked text = if ends_with nat_eq text mark then take (length text - length mark) text else text
+
+-- a name or a value at a place of a message, without the mark
+abbrev pub unmarked_at : (path : Bytes) → Data → Option Bytes
+unmarked_at path message = option_map unmarked (text_at path message)
 
 -- a value is not there, or is `null`
 abbrev pub is_absent : Option Data → Bool
@@ -114,19 +145,19 @@ IsRequestNamed name.BreakpointLocations message (request.BreakpointLocations sou
     (text_at (codes "/arguments/source/path") message ≡ text_of source) × (line_at (codes "/arguments/line") message ≡ Some first) × (line_at (codes "/arguments/endLine") message ≡ last)
 IsRequestNamed name.SetExceptionBreakpoints message request.SetExceptionBreakpoints = Unit {0}
 IsRequestNamed name.ExceptionInfo message request.ExceptionInfo = Unit {0}
-IsRequestNamed name.DataBreakpointInfo message (request.DataBreakpointInfo text) = text_at (codes "/arguments/name") message ≡ Some text.now
+IsRequestNamed name.DataBreakpointInfo message (request.DataBreakpointInfo text) = unmarked_at (codes "/arguments/name") message ≡ Some text.now
 IsRequestNamed name.SetDataBreakpoints message (request.SetDataBreakpoints targets) = map asked_text targets.items ≡ each_asked target_in (breakpoints_of message)
 IsRequestNamed name.ConfigurationDone message request.ConfigurationDone = Unit {0}
 IsRequestNamed name.Threads message request.Threads = Unit {0}
 IsRequestNamed name.StackTrace message request.StackTrace = Unit {0}
 IsRequestNamed name.Scopes message (request.Scopes frame) = number_at (codes "/arguments/frameId") message ≡ Some frame
-IsRequestNamed name.Variables message (request.Variables reference) = number_at (codes "/arguments/variablesReference") message ≡ Some reference
+IsRequestNamed name.Variables message (request.Variables reference page) = (number_at (codes "/arguments/variablesReference") message ≡ Some reference) × (page ≡ page_in message)
 IsRequestNamed name.SetVariable message (request.SetVariable reference text value) =
-    (number_at (codes "/arguments/variablesReference") message ≡ Some reference) × (text_at (codes "/arguments/name") message ≡ Some text.now)
-    × (text_at (codes "/arguments/value") message ≡ Some value.now)
-IsRequestNamed name.Evaluate message (request.Evaluate expression frame is_console) =
+    (number_at (codes "/arguments/variablesReference") message ≡ Some reference) × (unmarked_at (codes "/arguments/name") message ≡ Some text.now)
+    × (unmarked_at (codes "/arguments/value") message ≡ Some value.now)
+IsRequestNamed name.Evaluate message (request.Evaluate expression frame context) =
     (text_at (codes "/arguments/expression") message ≡ Some expression.now) × (number_at (codes "/arguments/frameId") message ≡ frame)
-    × (is_console ≡ in_console (text_at (codes "/arguments/context") message))
+    × (context ≡ context_in (text_at (codes "/arguments/context") message))
 IsRequestNamed name.Next message request.Next = Unit {0}
 IsRequestNamed name.StepIn message request.StepIn = Unit {0}
 IsRequestNamed name.StepOut message request.StepOut = Unit {0}

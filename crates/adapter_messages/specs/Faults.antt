@@ -21,13 +21,21 @@ launch_options message =
     ∷ (codes "stopOnEntry", is_right (flag_at (codes "/arguments/stopOnEntry") message) (pointer (codes "/arguments/stopOnEntry") message))
     ∷ []
 
+-- the arguments of a page, which may be left out too
+abbrev pub page_options : Data → List (Bytes × Bool)
+page_options message =
+    (codes "start", is_right (number_at (codes "/arguments/start") message) (pointer (codes "/arguments/start") message))
+    ∷ (codes "count", is_right (number_at (codes "/arguments/count") message) (pointer (codes "/arguments/count") message))
+    ∷ (codes "filter", is_right (text_at (codes "/arguments/filter") message) (pointer (codes "/arguments/filter") message))
+    ∷ []
+
 -- the arguments that a request of a name needs, in their order, and whether a message has each of the right type
 abbrev pub needs : Name → Data → List (Bytes × Bool)
 needs name.Launch message = (codes "program", is_some (text_at (codes "/arguments/program") message)) ∷ launch_options message
 needs name.BreakpointLocations message = (codes "line", is_some (line_at (codes "/arguments/line") message)) ∷ []
 needs name.DataBreakpointInfo message = (codes "name", is_some (text_at (codes "/arguments/name") message)) ∷ []
 needs name.Scopes message = (codes "frameId", is_some (number_at (codes "/arguments/frameId") message)) ∷ []
-needs name.Variables message = (codes "variablesReference", is_some (number_at (codes "/arguments/variablesReference") message)) ∷ []
+needs name.Variables message = (codes "variablesReference", is_some (number_at (codes "/arguments/variablesReference") message)) ∷ page_options message
 needs name.SetVariable message = (codes "variablesReference", is_some (number_at (codes "/arguments/variablesReference") message)) ∷ (codes "name", is_some (text_at (codes "/arguments/name") message)) ∷ (codes "value", is_some (text_at (codes "/arguments/value") message)) ∷ []
 needs name.Evaluate message = (codes "expression", is_some (text_at (codes "/arguments/expression") message)) ∷ []
 needs name message = []

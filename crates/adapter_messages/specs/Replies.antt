@@ -1,5 +1,5 @@
 -- What a request is told: the body of each reply, and of the events of a stop and of an output. Members stand in the order of their keys.
-use Rattle.std.specs.Prelude.{ℕ, true, false, List, map, Option, Some, None, codes, length, string_bytes, unwrap_or}
+use Rattle.std.specs.Prelude.{ℕ, true, false, List, ◌++◌, map, Option, Some, None, codes, length, string_bytes, unwrap_or}
 use Rattle.std.specs.Path.{path_file_name}
 use Rattle.serde_json.specs.Data.{Data, Members, array, boolean, item, member, no_items, no_members, null, object, string}
 use Rattle.serde_json.specs.View.{items_of}
@@ -16,6 +16,9 @@ use Rattle.adapter_requests.specs.declared.reply.Scopes.{Scopes}
 use Rattle.adapter_requests.specs.declared.reply.StopReason.{StopReason}
 use Rattle.adapter_requests.specs.declared.reply.StopReason.TheVariants as reason
 use Rattle.adapter_requests.specs.declared.reply.Variable.{Variable}
+use Rattle.adapter_requests.specs.declared.reply.VariableKind.{VariableKind}
+use Rattle.adapter_requests.specs.declared.reply.VariableKind.TheVariants as kind
+use Rattle.adapter_messages.specs.Arguments.{mark}
 use Rattle.adapter_messages.specs.Messages.{failure, natural, reason_text, response}
 
 -- an array of what is shown for each of a list
@@ -130,14 +133,26 @@ scopes shown = array
     (item (known_scope (codes "Arguments") (codes "arguments") shown.arguments)
     (item (file_scope shown.file) no_items)))
 
--- a variable; the reference is that of its lanes or elements, 0 if it has none
+-- a variable by its name, its value and its type; the reference is that of its lanes or elements, 0 if it has none
+abbrev pub named_so : (name value type : Bytes) → (reference : ℕ) → Members
+named_so name value type reference =
+    member (codes "name") (string name)
+    (member (codes "type") (string type)
+    (member (codes "value") (string value)
+    (member (codes "variablesReference") (natural reference) no_members)))
+
+-- A variable of a kind. Behind the name and the value of a lane that is not active stands a mark, which its expression has not; of an array it is told how
+-- many elements it has; and no expression shows a range of elements.
+abbrev pub variable_of : VariableKind → (name value type : Bytes) → (reference : ℕ) → Data
+variable_of kind.Plain name value type reference = object (member (codes "evaluateName") (string name) (named_so name value type reference))
+variable_of kind.Waits name value type reference = object (member (codes "evaluateName") (string name) (named_so (name ++ mark) (value ++ mark) type reference))
+variable_of (kind.Array elements) name value type reference =
+    object (member (codes "evaluateName") (string name) (member (codes "indexedVariables") (natural elements) (named_so name value type reference)))
+variable_of kind.Range name value type reference = object (named_so name value type reference)
+
+-- a variable
 abbrev pub variable : Variable → Data
-variable shown = object
-    (member (codes "evaluateName") (string (string_bytes shown.name))
-    (member (codes "name") (string (string_bytes shown.name))
-    (member (codes "type") (string (string_bytes shown.type_name))
-    (member (codes "value") (string (string_bytes shown.value))
-    (member (codes "variablesReference") (natural shown.reference) no_members)))))
+variable shown = variable_of shown.kind (string_bytes shown.name) (string_bytes shown.value) (string_bytes shown.type_name) shown.reference
 
 -- what an expression, or a line of the console, is answered: a text without lanes or elements
 abbrev pub evaluated : (text : Bytes) → Data

@@ -1,10 +1,11 @@
 //! The arguments of requests.
-ghost use Rattle.std.specs.Prelude.{◌≡◌, Err, IfOk, if◌then◌else◌, map, option_map};
+ghost use Rattle.std.specs.Prelude.{◌≡◌, Err, IfOk, Some, codes, if◌then◌else◌, map, option_map};
 ghost use Rattle.serde_json.specs.View.{items_view, view};
 ghost use Rattle.adapter_requests.specs.declared.reply.BreakpointFault.TheVariants.{Conditional};
-ghost use Rattle.adapter_messages.specs.Arguments.{asked, asked_text, breakpoints_of, each_asked, flag_at, is_absent, is_conditional, line_at, line_in, number_at, placed, target_in, text_at};
+ghost use Rattle.adapter_messages.specs.Arguments.{asked, asked_text, breakpoints_of, context_in, each_asked, filter_in, flag_at, is_absent, is_conditional, line_at, line_in, number_at, page_in, placed, target_in, text_at, unmarked};
 
-use adapter_requests::BreakpointFault;
+use adapter_requests::{BreakpointFault, Context, Filter, Page};
+use debug_words::is_same;
 use serde_json::Value;
 use std::alloc::{AllocError, Global};
 
@@ -123,5 +124,75 @@ pub(crate) fn is_absent(value: Option<&Value>) -> bool
     match value {
         None => true,
         Some(value) => value.is_null(),
+    }
+}
+
+/// Where an expression stands that a message asks for.
+pub(crate) fn context_of(message: &Value) -> Context
+    ensures { result ≡ context_in (text_at (codes "/arguments/context") (view message.now)) }
+{
+    match text_at(message, "/arguments/context") {
+        None => Context::Watch,
+        Some(word) => context_named(word),
+    }
+}
+
+/// Where an expression stands, by the word for it.
+fn context_named(word: &str) -> Context
+    ensures { result ≡ context_in (Some word.now) }
+{
+    if is_same(word.as_bytes(), b"repl") {
+        Context::Console
+    } else if is_same(word.as_bytes(), b"hover") {
+        Context::Hover
+    } else {
+        Context::Watch
+    }
+}
+
+/// Which of the children a message asks for.
+pub(crate) fn page_of(message: &Value) -> Page
+    ensures { result ≡ page_in (view message.now) }
+{
+    Page {
+        start: number_at(message, "/arguments/start"),
+        count: number_at(message, "/arguments/count"),
+        filter: filter_of(message),
+    }
+}
+
+/// Which kind of children a message asks for.
+fn filter_of(message: &Value) -> Filter
+    ensures { result ≡ filter_in (text_at (codes "/arguments/filter") (view message.now)) }
+{
+    match text_at(message, "/arguments/filter") {
+        None => Filter::All,
+        Some(word) => filter_named(word),
+    }
+}
+
+/// The kind of children that a word asks for.
+fn filter_named(word: &str) -> Filter
+    ensures { result ≡ filter_in (Some word.now) }
+{
+    if is_same(word.as_bytes(), b"named") {
+        Filter::Named
+    } else if is_same(word.as_bytes(), b"indexed") {
+        Filter::Indexed
+    } else {
+        Filter::All
+    }
+}
+
+/// What is behind the name and the value of a lane that is not active.
+pub(crate) const MARK: &str = " (waits)";
+
+/// A name or a value without the mark.
+pub(crate) fn unmarked(text: &str) -> &str
+    ensures { result.now ≡ unmarked text.now }
+{
+    match text.strip_suffix(MARK) {
+        Some(front) => front,
+        None => text,
     }
 }

@@ -1,11 +1,16 @@
 //! What replies tell, as JSON.
-ghost use Rattle.std.specs.Prelude.{◌≡◌, IfOk, codes};
+ghost use Rattle.std.specs.Prelude.{◌≡◌, ◌++◌, IfOk, codes, string_bytes};
 ghost use Rattle.serde_json.specs.Data.{no_members, object};
 ghost use Rattle.serde_json.specs.View.{view};
-ghost use Rattle.adapter_messages.specs.Replies.{array_of, body_of, breakpoint, capabilities, exception_filter, fault_text, file_name, file_scope, frames, known_scope, location, not_watchable, only, scopes, source, variable, watchable};
+ghost use Rattle.adapter_messages.specs.Replies.{array_of, body_of, breakpoint, capabilities, exception_filter, fault_text, file_name, file_scope, frames, known_scope, location, not_watchable, only, scopes, source, variable, variable_of, watchable};
 ghost use Rattle.adapter_messages.specs.Replies as spec;
+ghost use Rattle.adapter_messages.specs.Arguments.{mark};
+ghost use Rattle.adapter_requests.specs.declared.reply.VariableKind.TheVariants as kind;
 
-use adapter_requests::{Breakpoint, BreakpointFault, Exception, Frame, Reply, Scopes, Variable};
+use crate::arguments::MARK;
+use adapter_requests::{
+    Breakpoint, BreakpointFault, Exception, Frame, Reply, Scopes, Variable, VariableKind,
+};
 use serde_json::{Map, Value, json, push};
 use std::alloc::{AllocError, Global};
 use std::path::Path;
@@ -264,10 +269,74 @@ fn variables(alloc: Global, found: &[Variable]) -> Result<Value, AllocError>
 fn variable_value(alloc: Global, variable: &Variable) -> Result<Value, AllocError>
     ensures { IfOk result (λ v. view v ≡ spec.variable variable.now) }
 {
+    match variable.kind {
+        VariableKind::Plain => plain_value(alloc, variable),
+        VariableKind::Waits => waiting_value(alloc, variable),
+        VariableKind::Array(elements) => array_value(alloc, variable, elements),
+        VariableKind::Range => range_value(alloc, variable),
+    }
+}
+
+/// A scalar, a lane that is active or an element.
+fn plain_value(alloc: Global, variable: &Variable) -> Result<Value, AllocError>
+    ensures { IfOk result (λ v. view v ≡ variable_of kind.Plain (string_bytes variable.now.name) (string_bytes variable.now.value) (string_bytes variable.now.type_name) variable.now.reference) }
+{
     let name = variable.name.as_str();
+    let reference = variable.reference;
     json!(in alloc; {
         "evaluateName": name,
         "name": name,
+        "type": variable.type_name.as_str(),
+        "value": variable.value.as_str(),
+        "variablesReference": reference
+    })
+}
+
+/// A lane that is not active.
+fn waiting_value(alloc: Global, variable: &Variable) -> Result<Value, AllocError>
+    ensures { IfOk result (λ v. view v ≡ variable_of kind.Waits (string_bytes variable.now.name) (string_bytes variable.now.value) (string_bytes variable.now.type_name) variable.now.reference) }
+{
+    let name = marked(alloc, variable.name.as_str())?;
+    let value = marked(alloc, variable.value.as_str())?;
+    json!(in alloc; {
+        "evaluateName": variable.name.as_str(),
+        "name": name.as_str(),
+        "type": variable.type_name.as_str(),
+        "value": value.as_str(),
+        "variablesReference": variable.reference
+    })
+}
+
+/// A text with the mark of a lane that is not active.
+fn marked(alloc: Global, text: &str) -> Result<String, AllocError>
+    ensures { IfOk result (λ marked. string_bytes marked ≡ text.now ++ mark) }
+{
+    let mut marked = String::from_str(alloc, text)?;
+    marked.push_str(MARK)?;
+    Ok(marked)
+}
+
+/// An array of so many elements.
+fn array_value(alloc: Global, variable: &Variable, elements: usize) -> Result<Value, AllocError>
+    ensures { IfOk result (λ v. view v ≡ variable_of (kind.Array elements) (string_bytes variable.now.name) (string_bytes variable.now.value) (string_bytes variable.now.type_name) variable.now.reference) }
+{
+    let name = variable.name.as_str();
+    json!(in alloc; {
+        "evaluateName": name,
+        "indexedVariables": elements,
+        "name": name,
+        "type": variable.type_name.as_str(),
+        "value": variable.value.as_str(),
+        "variablesReference": variable.reference
+    })
+}
+
+/// A range of elements.
+fn range_value(alloc: Global, variable: &Variable) -> Result<Value, AllocError>
+    ensures { IfOk result (λ v. view v ≡ variable_of kind.Range (string_bytes variable.now.name) (string_bytes variable.now.value) (string_bytes variable.now.type_name) variable.now.reference) }
+{
+    json!(in alloc; {
+        "name": variable.name.as_str(),
         "type": variable.type_name.as_str(),
         "value": variable.value.as_str(),
         "variablesReference": variable.reference

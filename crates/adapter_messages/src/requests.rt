@@ -2,14 +2,16 @@
 ghost use Rattle.std.specs.Prelude.{◌≡◌, IfErr, IfNone, IfOk, IfSome, None, OnErr, OnOk, Some, codes, if◌then◌else◌, option_and_then};
 ghost use Rattle.serde_json.specs.Find.{as_number, as_str, as_u64, get, pointer};
 ghost use Rattle.serde_json.specs.View.{view};
-ghost use Rattle.adapter_messages.specs.Arguments.{IsRequest, IsRequestNamed, flag_at, head_of, in_console, is_right, number_at, text_at, text_of};
-ghost use Rattle.adapter_messages.specs.Faults.{IsRefused, IsRefusedNamed, NamesArgument, first_missing, launch_options, missing, needs};
+ghost use Rattle.adapter_messages.specs.Arguments.{IsRequest, IsRequestNamed, flag_at, head_of, is_right, number_at, text_at, text_of, unmarked};
+ghost use Rattle.adapter_messages.specs.Faults.{IsRefused, IsRefusedNamed, NamesArgument, first_missing, launch_options, missing, needs, page_options};
 ghost use Rattle.adapter_messages.specs.declared.requests.RequestFault.TheVariants.{Memory};
 
-use crate::arguments::{flag_at, is_absent, line_at, lines_of, number_at, targets_of, text_at};
+use crate::arguments::{
+    context_of, flag_at, is_absent, line_at, lines_of, number_at, page_of, targets_of, text_at,
+    unmarked,
+};
 use crate::names::{Name, named};
 use adapter_requests::{Launch, Request};
-use debug_words::is_same;
 use serde_json::Value;
 use std::alloc::{AllocError, Global};
 use thiserror::Error;
@@ -202,7 +204,9 @@ fn read_information(message: &Value) -> Result<Request<'_>, RequestFault>
     ensures refused { IfErr result (IsRefusedNamed Name.DataBreakpointInfo (view message.now)) }
 {
     let name = needed(text_at(message, "/arguments/name"), "name")?;
-    Ok(Request::DataBreakpointInfo { name })
+    Ok(Request::DataBreakpointInfo {
+        name: unmarked(name),
+    })
 }
 
 /// The watches.
@@ -221,10 +225,27 @@ fn read_variables(message: &Value) -> Result<Request<'_>, RequestFault>
     ensures complete { OnOk result (first_missing (needs Name.Variables (view message.now)) ≡ None) }
     ensures refused { IfErr result (IsRefusedNamed Name.Variables (view message.now)) }
 {
-    match number_at(message, "/arguments/variablesReference") {
-        Some(reference) => Ok(Request::Variables { reference }),
-        None => Err(RequestFault::Argument("variablesReference")),
+    let reference = match number_at(message, "/arguments/variablesReference") {
+        Some(reference) => reference,
+        None => return Err(RequestFault::Argument("variablesReference")),
+    };
+    if let Some(argument) = wrong_page(message) {
+        return Err(RequestFault::Argument(argument));
     }
+    Ok(Request::Variables {
+        reference,
+        page: page_of(message),
+    })
+}
+
+/// The first of the arguments of a page which is there by a wrong type.
+fn wrong_page(message: &Value) -> Option<&'static str>
+    ensures { text_of result ≡ first_missing (page_options (view message.now)) }
+{
+    let filter = is_right_text(message, "/arguments/filter");
+    let wrong = wrong_or(filter, "filter", None);
+    let wrong = wrong_or(is_right_number(message, "/arguments/count"), "count", wrong);
+    wrong_or(is_right_number(message, "/arguments/start"), "start", wrong)
 }
 
 /// The scopes of a frame.
@@ -252,8 +273,8 @@ fn read_set_variable(message: &Value) -> Result<Request<'_>, RequestFault>
     let value = needed(text_at(message, "/arguments/value"), "value")?;
     Ok(Request::SetVariable {
         reference,
-        name,
-        value,
+        name: unmarked(name),
+        value: unmarked(value),
     })
 }
 
@@ -267,18 +288,8 @@ fn read_evaluate(message: &Value) -> Result<Request<'_>, RequestFault>
     Ok(Request::Evaluate {
         expression,
         frame: number_at(message, "/arguments/frameId"),
-        is_console: is_console(message),
+        context: context_of(message),
     })
-}
-
-/// Whether an expression stands in the console.
-fn is_console(message: &Value) -> bool
-    ensures { result ≡ in_console (text_at (codes "/arguments/context") (view message.now)) }
-{
-    match text_at(message, "/arguments/context") {
-        Some(context) => is_same(context.as_bytes(), b"repl"),
-        None => false,
-    }
 }
 
 /// An argument that must be there.

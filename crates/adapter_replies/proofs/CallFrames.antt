@@ -18,7 +18,7 @@ use Rattle.adapter_replies.proofs.PlaceTexts.{bits_no_blank, column_no_blank, de
 -- ---- one position
 
 -- a line has its end
-no_line : (text : List ℕ) → [] ≡ text ++ 10 ∷ [] → ⊥
+pub no_line : (text : List ℕ) → [] ≡ text ++ 10 ∷ [] → ⊥
 no_line [] e = cc
 no_line (b ∷ text) e = cc
 
@@ -36,7 +36,7 @@ standing_told (Some standing) (Some f) deep lanes p e =
     ∙ ap (λ set. record { depth = deep; name = utf8_lossy p.function.now ++ codes " [" ++ set ++ codes "]"; place = line_and_column p.place } ∷ []) digits
 
 -- the words of a frame are not those of a program that has ended
-other_words : (place function deep bits : List ℕ) → frame_words place function deep bits ≡ codes "ended" → ⊥
+pub other_words : (place function deep bits : List ℕ) → frame_words place function deep bits ≡ codes "ended" → ⊥
 other_words place function deep bits e = let first : 97 ≡ 101 = ap (λ text. get_or text 0 0) e in absurd (omega (arith, first))
 
 -- a standing with the text of a program that has ended, or with none, is told as no frame
@@ -85,10 +85,10 @@ pub calls_at : (p : Program) (frames : List Frame) (n : ℕ) → 0 < n → calls
 calls_at p frames zero more = absurd (omega arith)
 calls_at p frames (suc n) more = let e : suc n - 1 ≡ n = omega arith in rw e refl
 
-same_number : (n : ℕ) → (n == n) ≡ true
+pub same_number : (n : ℕ) → (n == n) ≡ true
 same_number n = grind (arith, nat_tests)
 
-other_number : (n m : ℕ) → m < n → (n == m) ≡ false
+pub other_number : (n m : ℕ) → m < n → (n == m) ≡ false
 other_number n m less = grind (arith, nat_tests)
 
 module _ (p : Program) (inner frame : Frame) (frames : List Frame) where

@@ -1,5 +1,8 @@
+pub mod ActiveLanes
 pub mod CallFrames
+pub mod LaneValues
 pub mod Numbered
+pub mod PageRanges
 pub mod PlaceTexts
 pub mod Rows
 pub mod ToldVariables

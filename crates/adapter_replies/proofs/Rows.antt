@@ -18,6 +18,10 @@ use Rattle.adapter_requests.specs.declared.reply.Breakpoint.TheVariants.{Stands,
 use Rattle.adapter_requests.specs.declared.reply.BreakpointFault.TheVariants as fault
 use Rattle.adapter_requests.specs.declared.reply.Reply.TheVariants as reply
 use Rattle.adapter_requests.specs.declared.reply.StopReason.TheVariants as reason
+use Rattle.adapter_requests.specs.declared.reply.VariableKind.TheVariants as kind
+use Rattle.adapter_requests.specs.declared.request.Context.TheVariants.{Console, Hover, Watch}
+use Rattle.adapter_requests.specs.declared.request.Filter.TheVariants as filter
+use Rattle.adapter_requests.specs.declared.request.Page.{Page}
 use Rattle.adapter_requests.specs.declared.request.Request.TheVariants as request
 use Rattle.adapter_replies.specs.declared.places.Place.TheVariants as place
 use Rattle.adapter_replies.specs.Breakpoints.{breakpoint_of, is_part, told_breakpoint, watches_target}
@@ -26,8 +30,11 @@ use Rattle.adapter_replies.specs.declared.places.Scope.TheVariants.{Locals, Argu
 use Rattle.adapter_replies.specs.References.{is_set_there, place_now, place_of}
 use Rattle.adapter_replies.specs.Shown.{shown_text, without_end}
 use Rattle.adapter_replies.specs.Stopped.{reason_of}
-use Rattle.adapter_replies.specs.Told.{IsEvaluated, IsMoveTold, fixed_reply}
-use Rattle.adapter_replies.specs.Variables.{told_parts, type_text, values, whole_text}
+use Rattle.adapter_replies.specs.Expressions.{lanes_text, one_text, shown_in}
+use Rattle.adapter_replies.specs.Pages.{named_children, paged}
+use Rattle.adapter_replies.specs.Told.{IsEvaluated, IsMoveTold, fixed_reply, is_expression}
+use Rattle.adapter_replies.specs.Variables.{has_range, range_count, ranges_in, told_parts, type_text, values, waits_at, whole_text}
+use Rattle.adapter_replies.specs.Waiting.{waits}
 
 -- ---- references
 
@@ -59,6 +66,13 @@ set_in_the_top_frame = refl
 not_set_in_the_outer_frame : is_set_there 2 (place_of 11) ≡ false
 not_set_in_the_outer_frame = refl
 
+-- the third range of the fourth variable of the file, and the second of the second parameter at depth 2
+range_of_file : place_of 2003009 ≡ place.FileRange 3 2
+range_of_file = refl
+
+range_of_parameter : place_of 1001028 ≡ place.Range Arguments 2 1 1
+range_of_parameter = refl
+
 no_reference : place_of 0 ≡ place.Nothing
 no_reference = refl
 
@@ -86,12 +100,72 @@ uniform_scalar = record { name = codes "n"; id = File 0; type = t.Int32; rate = 
 abbrev varying_scalar : Variable
 varying_scalar = record { name = codes "x"; id = File 1; type = t.Int32; rate = rate.Varying; is_array = false; is_parameter = false; is_constant = false }
 
-no_parts : told_parts uniform_scalar (5 ∷ []) ≡ []
+-- a page that asks for no places
+abbrev whole_page : Page
+whole_page = record { start = None; count = None; filter = filter.All }
+
+no_parts : told_parts whole_page (true ∷ []) place.Nothing uniform_scalar (5 ∷ []) ≡ []
 no_parts = refl
 
-lane_values : map (λ told. told.value) (told_parts varying_scalar (5 ∷ 6 ∷ [])) ≡ codes "5" ∷ codes "6" ∷ []
+lane_values : map (λ told. told.value) (told_parts whole_page (true ∷ false ∷ []) place.Nothing varying_scalar (5 ∷ 6 ∷ [])) ≡ codes "5" ∷ codes "6" ∷ []
 unfolding digits value_of
 lane_values = refl
+
+lane_kinds : map (λ told. told.kind) (told_parts whole_page (true ∷ false ∷ []) place.Nothing varying_scalar (5 ∷ 6 ∷ [])) ≡ kind.Plain ∷ kind.Waits ∷ []
+unfolding digits value_of
+lane_kinds = refl
+
+-- in a program that has ended no lane waits, and no element of an array does
+none_waits : waits [] 1 ≡ false
+none_waits = refl
+
+no_element_waits : waits_at (true ∷ false ∷ []) true 1 ≡ false
+no_element_waits = refl
+
+-- ---- pages
+
+two_from_the_second : paged {A = ℕ} (record { start = Some 1; count = Some 2; filter = filter.All }) (7 ∷ 8 ∷ 9 ∷ 10 ∷ []) ≡ 8 ∷ 9 ∷ []
+two_from_the_second = refl
+
+all_for_0 : paged {A = ℕ} (record { start = None; count = Some 0; filter = filter.All }) (7 ∷ 8 ∷ []) ≡ 7 ∷ 8 ∷ []
+all_for_0 = refl
+
+no_variable_is_indexed : named_children {A = ℕ} filter.Indexed (7 ∷ []) ≡ []
+no_variable_is_indexed = refl
+
+three_ranges : ranges_in 2500 ≡ 3
+three_ranges = refl
+
+last_range : range_count 2500 2 ≡ 500
+last_range = refl
+
+no_range_behind : has_range true 2000 2 ≡ false
+no_range_behind = refl
+
+no_range_of_few : has_range true 1000 0 ≡ false
+no_range_of_few = refl
+
+-- ---- expressions
+
+a_lane_without_a_value : lanes_text t.Int8 (true ∷ false ∷ true ∷ []) (5 ∷ 6 ∷ 18446744073709551615 ∷ []) 3 ≡ codes "5 . -1"
+unfolding digits value_of
+a_lane_without_a_value = refl
+
+of_the_lowest_lane : one_text t.Bool (false ∷ true ∷ []) (0 ∷ 1 ∷ []) ≡ codes "true"
+of_the_lowest_lane = refl
+
+in_no_lane : one_text t.Bool (false ∷ false ∷ []) (0 ∷ 1 ∷ []) ≡ codes "."
+in_no_lane = refl
+
+short_under_the_mouse : shown_in Hover (codes "5 6") ≡ codes "5 6"
+short_under_the_mouse = refl
+
+-- a text that names no variable is an expression, but for a line of the console that is a command
+an_expression : is_expression Watch (codes "v + 1") (answer.Refused refusal.BadCommand) ≡ true
+an_expression = refl
+
+a_place_past_the_end : is_expression Watch (codes "a[9]") (answer.Refused refusal.OutOfRange) ≡ false
+a_place_past_the_end = refl
 
 -- ---- frames
 
@@ -193,18 +267,19 @@ part_of_a_scalar = refl
 -- ---- by the last answer
 
 -- an expression is told its values alone, a line of the console its answer
-values_alone : (target : _) (shown : _) (told : _) (text : Bytes) → IsEvaluated false (Some (answer.Shows target shown)) text (string_bytes told) (reply.Evaluated told None)
-values_alone target shown told text = refl
+values_alone : (target : _) (shown : _) (told : _) (name text : Bytes) → IsEvaluated Watch name (Some (answer.Shows target shown)) text (string_bytes told) (reply.Evaluated told None)
+values_alone target shown told name text = refl
 
-whole_answer : (target : _) (shown : _) (told : _) (text words : Bytes) → string_bytes told ≡ shown_text text → IsEvaluated true (Some (answer.Shows target shown)) text words (reply.Evaluated told None)
-whole_answer target shown told text words is = ap (λ line. Some (None, line)) is
+whole_answer : (target : _) (shown : _) (told : _) (name text words : Bytes) → string_bytes told ≡ shown_text text
+    → IsEvaluated Console name (Some (answer.Shows target shown)) text words (reply.Evaluated told None)
+whole_answer target shown told name text words is = ap (λ line. Some (None, line)) is
 
 -- a refusal is told as one
-refused_expression : (told : _) (text words : Bytes) → string_bytes told ≡ shown_text text → IsEvaluated false (Some (answer.Refused refusal.NoSuchName)) text words (reply.Refused told)
-refused_expression told text words is = ap (λ line. Some (None, line)) is
+refused_place : (told : _) (name text words : Bytes) → string_bytes told ≡ shown_text text → IsEvaluated Watch name (Some (answer.Refused refusal.OutOfRange)) text words (reply.Refused told)
+refused_place told name text words is = ap (λ line. Some (None, line)) is
 
-no_refused_value : (told : _) (why : _) (text words : Bytes) → IsEvaluated false (Some (answer.Refused refusal.NoSuchName)) text words (reply.Evaluated told why) → ⊥
-no_refused_value told why text words says = cc says
+no_refused_value : (told : _) (why : _) (name text words : Bytes) → IsEvaluated Watch name (Some (answer.Refused refusal.OutOfRange)) text words (reply.Evaluated told why) → ⊥
+no_refused_value told why name text words says = cc says
 
 at_watch : reason_of (answer.AtWatch 3) ≡ Some (reason.DataBreakpoint 3)
 at_watch = refl

@@ -17,9 +17,14 @@ use Rattle.debug_traits.specs.Devices.{Writes}
 use Rattle.debug_traits.specs.Frames.{ShowsNamedAt}
 use Rattle.debug_texts.specs.Wording.{value_text, values_text}
 use Rattle.debug_texts.proofs.Pieces.{flat_more}
+use Rattle.adapter_requests.specs.declared.reply.VariableKind.{VariableKind}
 use Rattle.adapter_replies.specs.declared.places.Place.{Place}
 use Rattle.adapter_replies.specs.References.{within}
 use Rattle.adapter_replies.specs.Variables.{ShowsOptionAt, ToldVariable, told_each, told_one, values}
+
+-- a variable, a lane, an element or a range
+abbrev pub made : (name value type : List ℕ) → VariableKind → Place → ToldVariable
+made name value type kind parts = record { name = name; value = value; type = type; kind = kind; parts = parts }
 
 -- ---- the text of values is of ASCII characters
 
@@ -87,6 +92,18 @@ still_works text old new failed (Err e) wrote is = absurd (cc)
 pub values_more : (type : IntType) (words : List ℕ) (i d : ℕ) (old new : List ℕ) → i < length words → old ≡ values_text type (take i words) → new ≡ old ++ value_text type (get_or words i d)
     → new ≡ values_text type (take (i + 1) words)
 values_more type words i d old new within so more = more ∙ ap (λ all. all ++ value_text type (get_or words i d)) so ∙ sym (flat_more (value_text type) words i d within)
+
+-- ---- one variable
+
+-- two that are alike in each part
+pub made_same : {name₁ name₂ value₁ value₂ type₁ type₂ : List ℕ} {kind₁ kind₂ : VariableKind} {parts₁ parts₂ : Place} → name₁ ≡ name₂ → value₁ ≡ value₂ → type₁ ≡ type₂ → kind₁ ≡ kind₂ → parts₁ ≡ parts₂
+    → made name₁ value₁ type₁ kind₁ parts₁ ≡ made name₂ value₂ type₂ kind₂ parts₂
+made_same {name₁} {name₂} {value₁} {value₂} {type₁} {type₂} {kind₁} {kind₂} {parts₁} {parts₂} name value type kind parts =
+    ap (λ x. made x value₁ type₁ kind₁ parts₁) name
+    ∙ ap (λ x. made name₂ x type₁ kind₁ parts₁) value
+    ∙ ap (λ x. made name₂ value₂ x kind₁ parts₁) type
+    ∙ ap (λ x. made name₂ value₂ type₂ x parts₁) kind
+    ∙ ap (λ x. made name₂ value₂ type₂ kind₂ x) parts
 
 -- ---- one variable after another
 

@@ -1,9 +1,12 @@
 pub mod Breakpoints
 pub mod Exceptions
+pub mod Expressions
 pub mod Frames
 pub mod Locations
+pub mod Pages
 pub mod References
 pub mod Shown
 pub mod Stopped
 pub mod Told
 pub mod Variables
+pub mod Waiting

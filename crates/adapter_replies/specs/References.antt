@@ -5,7 +5,8 @@ use Rattle.adapter_replies.specs.declared.places.Place.TheVariants as place
 use Rattle.adapter_replies.specs.declared.places.Scope.TheVariants.{Locals, Arguments}
 
 -- what a kind, a depth and a number stand for: 1 and 2 the local variables and the parameters of the frame at the depth, 3 and 4 the parts of one of them
--- by its number, 5 the variables of the file, 6 the parts of one of those
+-- by its number, 5 the variables of the file, 6 the parts of one of those; 7, 8 and 9 a range of the elements of one, where the number is RANGE VARIABLE with
+-- three digits for the variable's number
 abbrev pub numbered : (kind depth number : ℕ) → Place
 numbered kind deep number =
     if kind == 1 then place.Variables Locals deep
@@ -13,7 +14,10 @@ numbered kind deep number =
     else (if kind == 3 then place.Parts Locals deep number
     else (if kind == 4 then place.Parts Arguments deep number
     else (if kind == 5 then place.File
-    else (if kind == 6 then place.OfFile number else place.Nothing)))))
+    else (if kind == 6 then place.OfFile number
+    else (if kind == 7 then place.Range Locals deep (number % 1000) (number / 1000)
+    else (if kind == 8 then place.Range Arguments deep (number % 1000) (number / 1000)
+    else (if kind == 9 then place.FileRange (number % 1000) (number / 1000) else place.Nothing))))))))
 
 -- a reference is written NUMBER DEPTH KIND: two digits are the depth's, the last one is the kind's
 abbrev pub place_of : ℕ → Place
@@ -23,13 +27,25 @@ place_of n = if nat_lt 2147483647 n then place.Nothing else numbered (n % 10) (n
 abbrev pub has_room : (depth number : ℕ) → Bool
 has_room deep number = nat_lt deep 100 && nat_lt number 2147483
 
+-- whether they have room for a depth, a variable's number and a range
+abbrev pub has_range_room : (depth number range : ℕ) → Bool
+has_range_room deep number range = nat_lt deep 100 && (nat_lt number 1000 && nat_lt range 2147)
+
 -- what a reference can stand for; what there is no room for has none
 abbrev pub within : Place → Place
 within (place.Variables scope deep) = if has_room deep 0 then place.Variables scope deep else place.Nothing
 within (place.Parts scope deep number) = if has_room deep number then place.Parts scope deep number else place.Nothing
 within place.File = place.File
 within (place.OfFile number) = if has_room 0 number then place.OfFile number else place.Nothing
+within (place.Range scope deep number range) = if has_range_room deep number range then place.Range scope deep number range else place.Nothing
+within (place.FileRange number range) = if has_range_room 0 number range then place.FileRange number range else place.Nothing
 within place.Nothing = place.Nothing
+
+-- a range of the elements of the variable whose parts are at a place
+abbrev pub range_of : Place → (range : ℕ) → Place
+range_of (place.Parts scope deep number) range = place.Range scope deep number range
+range_of (place.OfFile number) range = place.FileRange number range
+range_of other range = place.Nothing
 
 -- whether a program of this depth has a frame at another one
 abbrev pub is_frame : (top depth : ℕ) → Bool
@@ -39,6 +55,7 @@ is_frame top deep = nat_lt 0 deep && not (nat_lt top deep)
 abbrev pub is_there : (top : ℕ) → Place → Bool
 is_there top (place.Variables scope deep) = is_frame top deep
 is_there top (place.Parts scope deep number) = is_frame top deep
+is_there top (place.Range scope deep number range) = is_frame top deep
 is_there top other = true
 
 -- what a reference stands for where the program has this depth
@@ -51,4 +68,6 @@ is_set_there top (place.Variables scope deep) = deep == top
 is_set_there top (place.Parts scope deep number) = deep == top
 is_set_there top place.File = true
 is_set_there top (place.OfFile number) = true
+is_set_there top (place.Range scope deep number range) = deep == top
+is_set_there top (place.FileRange number range) = true
 is_set_there top place.Nothing = false

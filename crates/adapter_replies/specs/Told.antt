@@ -1,9 +1,10 @@
 -- What each request is told.
-use Rattle.std.specs.Prelude.{◌≡◌, ℕ, Bool, true, false, List, [], ◌++◌, map, codes, string_bytes, Option, Some, None}
+use Rattle.std.specs.Prelude.{◌≡◌, ◌⊎◌, ℕ, Bool, true, false, not, ◌&&◌, is_some, List, [], ◌++◌, map, codes, string_bytes, Option, Some, None}
 use Rattle.gang_model.specs.Running.State.{State}
 use Rattle.gang_model.specs.Debugger.Debugger as model
 use Rattle.gang_model.specs.Types.Tree.{Variable}
 use Rattle.gang_model.specs.Debugger.Debugger.{Debugger, Setting, depth, now, target_words}
+use Rattle.gang_model.specs.Texts.CommandText.{command_of}
 use Rattle.gang_model.specs.Texts.Text.{Bytes}
 use Rattle.debug_answers.specs.declared.answer.Answer.{Answer}
 use Rattle.debug_answers.specs.declared.answer.Answer.TheVariants as answer
@@ -11,14 +12,20 @@ use Rattle.debug_answers.specs.declared.answer.Refusal.TheVariants as refusal
 use Rattle.debug_answers.specs.Meanings.{Means}
 use Rattle.debug_session.specs.Sessions.{is_refused}
 use Rattle.debug_traits.specs.Frames.{found_at}
+use Rattle.frame_values.specs.declared.values.ExpressionValue.{ExpressionValue}
+use Rattle.frame_values.specs.declared.values.NoValue.{NoValue}
+use Rattle.frame_values.specs.Values.{HasNoValue, IsValueOf}
 use Rattle.adapter_requests.specs.declared.reply.Breakpoint.{Breakpoint}
 use Rattle.adapter_requests.specs.declared.reply.StopReason.{StopReason}
 use Rattle.adapter_requests.specs.declared.reply.Reply.{Reply}
 use Rattle.adapter_requests.specs.declared.reply.Reply.TheVariants as reply
+use Rattle.adapter_requests.specs.declared.request.Context.{Context}
+use Rattle.adapter_requests.specs.declared.request.Context.TheVariants.{Console}
 use Rattle.adapter_requests.specs.declared.request.Request.{Request}
 use Rattle.adapter_requests.specs.declared.request.Request.TheVariants as request
 use Rattle.adapter_replies.specs.Exceptions.{no_fault}
 use Rattle.adapter_replies.specs.Breakpoints.{IsWatchableTold, is_watchable, told_breakpoint, told_watch}
+use Rattle.adapter_replies.specs.Expressions.{expression_text, is_memory, no_value_text, shown_in}
 use Rattle.adapter_replies.specs.Frames.{ToldFrame, all_frames, frame_view}
 use Rattle.adapter_replies.specs.Locations.{told_places}
 use Rattle.adapter_replies.specs.References.{is_frame, place_of, within}
@@ -69,27 +76,65 @@ abbrev pub told_value : Reply → Option (Option StopReason × Bytes)
 told_value (reply.Evaluated text reason) = Some (reason, string_bytes text)
 told_value other = None
 
--- what is told of a name in the frame at a depth: the values of the variable that it finds there
-abbrev pub IsNameTold : Setting → Debugger → (depth : ℕ) → Option Variable → Reply → Type 0
-IsNameTold s d deep None told = told_stop told ≡ Some (None, codes "only the name of a variable is looked up in an outer frame")
-IsNameTold s d deep (Some v) told = told_value told ≡ Some (None, values v.type (words_at s d deep v))
+-- the value of an expression where the frame at a depth stands
+pub record IsValueShown (s : Setting) (d : Debugger) (deep : ℕ) (context : Context) (text : Bytes) (told : Reply) : Type 0 where
+  pub found : ExpressionValue
+  pub is : IsValueOf text s d deep found
+  pub shown : told_value told ≡ Some (None, shown_in context (expression_text found))
 
-abbrev pub IsNameToldIn : (is_frame : Bool) → Setting → Debugger → (depth : ℕ) → (name : Bytes) → Reply → Type 0
-IsNameToldIn false s d deep name told = IsNoFrame told
-IsNameToldIn true s d deep name told = IsNameTold s d deep (found_at s.program deep (now s d) name) told
+-- why a text has no value where the frame at a depth stands; that there is no memory for it is told otherwise
+pub record IsNoValueShown (s : Setting) (d : Debugger) (deep : ℕ) (text : Bytes) (told : Reply) : Type 0 where
+  pub why : NoValue
+  pub is : HasNoValue text s d deep why
+  pub other : is_memory why ≡ false
+  pub shown : told_stop told ≡ Some (None, no_value_text why)
 
--- what an expression is told for which no command was done: it is looked up in the frame that it names
-abbrev pub IsLookedUp : Setting → Debugger → Option Answer → (frame : Option ℕ) → (name : Bytes) → Reply → Type 0
-IsLookedUp s d (Some given) frame name told = Unit {0}
-IsLookedUp s d None None name told = told ≡ reply.Done
-IsLookedUp s d None (Some frame) name told = IsNameToldIn (is_frame (depth (now s d)) frame) s d frame name told
+-- what is told of an expression where the frame at a depth stands
+abbrev pub IsExpressionTold : Setting → Debugger → (depth : ℕ) → Context → (text : Bytes) → Reply → Type 0
+IsExpressionTold s d deep context text told = IsValueShown s d deep context text told ⊎ IsNoValueShown s d deep text told
+
+-- what is told of a text in the frame at a depth: the values of the variable that it names there, or the value of the expression that it spells
+abbrev pub IsNameTold : Setting → Debugger → (depth : ℕ) → Context → (text : Bytes) → Option Variable → Reply → Type 0
+IsNameTold s d deep context text None told = IsExpressionTold s d deep context text told
+IsNameTold s d deep context text (Some v) told = told_value told ≡ Some (None, shown_in context (values v.type (words_at s d deep v)))
+
+-- the same in the frame of a number, if there is one
+abbrev pub IsNameToldIn : (is_frame : Bool) → Setting → Debugger → (depth : ℕ) → Context → (text : Bytes) → Reply → Type 0
+IsNameToldIn false s d deep context text told = IsNoFrame told
+IsNameToldIn true s d deep context text told = IsNameTold s d deep context text (found_at s.program deep (now s d) text) told
+
+-- whether an answer says that a text names no variable
+abbrev pub is_unnamed : Answer → Bool
+is_unnamed (answer.Refused refusal.BadCommand) = true
+is_unnamed (answer.Refused refusal.NoSuchName) = true
+is_unnamed other = false
+
+-- whether a text is a line of the console that spells a command
+abbrev pub is_line : Context → (text : Bytes) → Bool
+is_line Console text = is_some (command_of text)
+is_line other text = false
+
+-- whether a text is an expression, since `print` finds no variable by it
+abbrev pub is_expression : Context → (text : Bytes) → Answer → Bool
+is_expression context text given = is_unnamed given && not (is_line context text)
+
+-- what is told of a text for which `print` was done in the top frame, where it is an expression
+abbrev pub IsPrinted : (is_expression : Bool) → Setting → Debugger → Context → (text : Bytes) → Reply → Type 0
+IsPrinted true s d context text told = IsExpressionTold s d (depth (now s d)) context text told
+IsPrinted false s d context text told = Unit {0}
+
+-- what is told of an expression in the frame where it stands; for one in another frame than the top one no command was done
+abbrev pub IsLookedUp : Setting → Debugger → Option Answer → (frame : Option ℕ) → Context → (text : Bytes) → Reply → Type 0
+IsLookedUp s d (Some given) frame context text told = IsPrinted (is_expression context text given) s d context text told
+IsLookedUp s d None None context text told = told ≡ reply.Done
+IsLookedUp s d None (Some frame) context text told = IsNameToldIn (is_frame (depth (now s d)) frame) s d frame context text told
 
 -- what a request is told where a machine stands for a debugger
 abbrev pub IsToldOf : Setting → Debugger → (last : Option Answer) → Request → Reply → Type 0
 IsToldOf s d last request.StackTrace told = told_frames told ≡ Some (all_frames s.program (now s d).frames)
 IsToldOf s d last (request.Scopes frame) told = AreScopesTold (is_frame (depth (now s d)) frame) frame told
-IsToldOf s d last (request.Variables reference) told = AreVariablesTold (told_now s d reference) told
-IsToldOf s d last (request.Evaluate expression frame is_console) told = IsLookedUp s d last frame expression.now told
+IsToldOf s d last (request.Variables reference page) told = AreVariablesTold (told_now page s d reference) told
+IsToldOf s d last (request.Evaluate expression frame context) told = IsLookedUp s d last frame context expression.now told
 IsToldOf s d last (request.DataBreakpointInfo name) told = IsWatchableTold (is_watchable s d name.now) name.now told
 IsToldOf s d last other told = Unit {0}
 
@@ -167,16 +212,21 @@ IsTextTold false given shown told = told_value told ≡ Some (reason_of given, s
 abbrev pub IsLineTold : Answer → (text : Bytes) → Reply → Type 0
 IsLineTold given text told = IsTextTold (is_refused given) given (shown_text text) told
 
--- what an expression is told: its values, or why there are none
-abbrev pub IsValueTold : Answer → (text values : Bytes) → Reply → Type 0
-IsValueTold (answer.Shows target shown) text values told = told_value told ≡ Some (None, values)
-IsValueTold given text values told = IsLineTold given text told
+-- what the name of a variable is told: its values, or why there are none
+abbrev pub IsValueTold : Context → Answer → (text values : Bytes) → Reply → Type 0
+IsValueTold context (answer.Shows target shown) text values told = told_value told ≡ Some (None, shown_in context values)
+IsValueTold context given text values told = IsLineTold given text told
+
+-- what a request to evaluate is told by the answer to its line, but for an expression
+abbrev pub IsAnsweredIn : (is_expression : Bool) → Context → Answer → (text values : Bytes) → Reply → Type 0
+IsAnsweredIn true context given text values told = Unit {0}
+IsAnsweredIn false Console given text values told = IsLineTold given text told
+IsAnsweredIn false context given text values told = IsValueTold context given text values told
 
 -- what a request to evaluate is told by an answer
-abbrev pub IsEvaluated : (is_console : Bool) → Option Answer → (text values : Bytes) → Reply → Type 0
-IsEvaluated is_console None text values told = Unit {0}
-IsEvaluated true (Some given) text values told = IsLineTold given text told
-IsEvaluated false (Some given) text values told = IsValueTold given text values told
+abbrev pub IsEvaluated : Context → (expression : Bytes) → Option Answer → (text values : Bytes) → Reply → Type 0
+IsEvaluated context expression None text values told = Unit {0}
+IsEvaluated context expression (Some given) text values told = IsAnsweredIn (is_expression context expression given) context given text values told
 
 -- the values that an answer shows
 abbrev pub shown_values : State → model.Answer → Bytes
@@ -192,5 +242,5 @@ IsAnswered last text values request.Continue told = IsMoveTold last text told
 IsAnswered last text values request.StepBack told = IsMoveTold last text told
 IsAnswered last text values request.ReverseContinue told = IsMoveTold last text told
 IsAnswered last text values (request.SetVariable reference name value) told = IsSetTold last text values told
-IsAnswered last text values (request.Evaluate expression frame is_console) told = IsEvaluated is_console last text values told
+IsAnswered last text values (request.Evaluate expression frame context) told = IsEvaluated context expression.now last text values told
 IsAnswered last text values other told = Unit {0}

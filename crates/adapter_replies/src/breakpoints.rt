@@ -8,7 +8,7 @@ ghost use Rattle.debug_commands.specs.Views.{target_view};
 ghost use Rattle.gang_model.specs.Source.Names.{same_text};
 ghost use Rattle.adapter_replies.specs.Breakpoints.{IsWatchableTold, can_watch, has_name, has_target, is_part, is_watchable, no_watch, same_index, standing, told_breakpoint, told_watch, watch_number, watches_target};
 
-use crate::scopes::has_parts;
+use crate::parts::has_parts;
 use adapter_requests::{Breakpoint, BreakpointFault, Reply};
 use debug_answers::{NumberedStop, Stop};
 use debug_commands::{Command, Target, read_command};

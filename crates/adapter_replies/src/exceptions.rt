@@ -73,7 +73,7 @@ fn fault_number(name: FaultName) -> &'static str
 }
 
 /// The number and name of a fault.
-fn fault_text(name: FaultName) -> &'static str
+pub(crate) fn fault_text(name: FaultName) -> &'static str
     ensures { result.now ≡ fault_text name }
 {
     match name {

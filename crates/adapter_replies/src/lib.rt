@@ -3,13 +3,17 @@
 
 mod breakpoints;
 mod exceptions;
+mod expressions;
 mod frames;
 mod locations;
+mod pages;
+mod parts;
 mod places;
 mod replies;
 mod scopes;
 mod stops;
 mod texts;
+mod waiting;
 
 pub use exceptions::exception_reply;
 pub use places::{depth_of, is_set_there};

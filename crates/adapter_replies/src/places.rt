@@ -1,8 +1,8 @@
 //! The references by which an editor asks for variables.
-ghost use Rattle.std.specs.Prelude.{◌≡◌, ◌<◌, if◌then◌else◌};
+ghost use Rattle.std.specs.Prelude.{◌≡◌, ◌<◌, ◌*◌, ◌+◌, if◌then◌else◌};
 ghost use Rattle.gang_model.specs.Debugger.Debugger as model;
 ghost use Rattle.gang_model.specs.Debugger.Debugger.{Debugger, Setting, now};
-ghost use Rattle.adapter_replies.specs.References.{has_room, is_frame, is_set_there, is_there, numbered, place_now, place_of, within};
+ghost use Rattle.adapter_replies.specs.References.{has_range_room, has_room, is_frame, is_set_there, is_there, numbered, place_now, place_of, range_of, within};
 ghost use Rattle.adapter_replies.specs.declared.places.Place.TheVariants as place;
 
 use debug_traits::RecordedMachine;
@@ -34,6 +34,18 @@ pub(crate) enum Place {
     File,
     /// The lanes or elements of the variable of the file of this number.
     OfFile(usize),
+    /// A range of the elements of a variable of a frame: the first 1,000 are range 0, and so on.
+    Range {
+        scope: Scope,
+        depth: usize,
+        number: usize,
+        range: usize,
+    },
+    /// A range of the elements of the variable of the file of this number.
+    FileRange {
+        number: usize,
+        range: usize,
+    },
     Nothing,
 }
 
@@ -45,6 +57,11 @@ const DEPTHS: usize = 100;
 
 /// How many numbers a reference has room for.
 const NUMBERS: usize = 2_147_483;
+
+/// How many variables, and how many ranges of each, a reference to a range has room for.
+const VARIABLES: usize = 1_000;
+
+const RANGES: usize = 2_147;
 
 /// How deep the program is; one that has ended counts as depth 1.
 pub fn depth_of<M: RecordedMachine>(machine: &M) -> usize
@@ -100,6 +117,22 @@ fn numbered(kind: u64, depth: usize, number: usize) -> Place
         },
         5 => Place::File,
         6 => Place::OfFile(number),
+        7 => Place::Range {
+            scope: Scope::Locals,
+            depth,
+            number: number % VARIABLES,
+            range: number / VARIABLES,
+        },
+        8 => Place::Range {
+            scope: Scope::Arguments,
+            depth,
+            number: number % VARIABLES,
+            range: number / VARIABLES,
+        },
+        9 => Place::FileRange {
+            number: number % VARIABLES,
+            range: number / VARIABLES,
+        },
         _ => Place::Nothing,
     }
 }
@@ -129,6 +162,19 @@ pub(crate) fn reference_of(place: Place) -> u64
         } => reference(4, depth, number),
         Place::File => reference(5, 0, 0),
         Place::OfFile(number) => reference(6, 0, number),
+        Place::Range {
+            scope: Scope::Locals,
+            depth,
+            number,
+            range,
+        } => range_reference(7, depth, number, range),
+        Place::Range {
+            scope: Scope::Arguments,
+            depth,
+            number,
+            range,
+        } => range_reference(8, depth, number, range),
+        Place::FileRange { number, range } => range_reference(9, 0, number, range),
         Place::Nothing => 0,
     }
 }
@@ -142,6 +188,42 @@ fn reference(kind: u64, depth: usize, number: usize) -> u64
         number as u64 * 1000 + depth as u64 * 10 + kind
     } else {
         0
+    }
+}
+
+/// The reference of a kind, a depth, a variable's number and a range.
+fn range_reference(kind: u64, depth: usize, number: usize, range: usize) -> u64
+    requires { kind < 10 }
+    ensures { place_of result ≡ (if has_range_room depth number range then numbered kind depth (range * 1000 + number) else place.Nothing) }
+{
+    if depth < DEPTHS && number < VARIABLES && range < RANGES {
+        reference(kind, depth, range * VARIABLES + number)
+    } else {
+        0
+    }
+}
+
+/// A range of the elements of the variable whose parts are at a place.
+pub(crate) fn range_of(place: Place, range: usize) -> Place
+    ensures { result ≡ range_of place range }
+{
+    match place {
+        Place::Parts {
+            scope,
+            depth,
+            number,
+        } => Place::Range {
+            scope,
+            depth,
+            number,
+            range,
+        },
+        Place::OfFile(number) => Place::FileRange { number, range },
+        Place::Variables { .. }
+        | Place::File
+        | Place::Range { .. }
+        | Place::FileRange { .. }
+        | Place::Nothing => Place::Nothing,
     }
 }
 
@@ -168,7 +250,13 @@ fn is_there(top: usize, place: Place) -> bool
             depth,
             number: _,
         } => is_frame(top, depth),
-        Place::File | Place::OfFile(_) | Place::Nothing => true,
+        Place::Range {
+            scope: _,
+            depth,
+            number: _,
+            range: _,
+        } => is_frame(top, depth),
+        Place::File | Place::OfFile(_) | Place::FileRange { .. } | Place::Nothing => true,
     }
 }
 
@@ -184,7 +272,13 @@ pub fn is_set_there(top: usize, reference: u64) -> bool
             depth,
             number: _,
         } => depth == top,
-        Place::File | Place::OfFile(_) => true,
+        Place::Range {
+            scope: _,
+            depth,
+            number: _,
+            range: _,
+        } => depth == top,
+        Place::File | Place::OfFile(_) | Place::FileRange { .. } => true,
         Place::Nothing => false,
     }
 }

@@ -10,26 +10,26 @@ ghost use Rattle.adapter_replies.specs.References.{is_frame, place_of, within};
 ghost use Rattle.adapter_replies.specs.Variables.{told_now};
 ghost use Rattle.adapter_replies.specs.declared.places.Place.TheVariants as place;
 ghost use Rattle.adapter_replies.specs.declared.places.Scope.TheVariants.{Arguments, Locals};
-ghost use Rattle.adapter_replies.specs.Told.{AreBreakpointsTold, AreScopesTold, AreVariablesTold, IsAnswered, IsEvaluated, IsLineTold, IsLookedUp, IsMoveTold, IsNameTold, IsSetTold, IsTextTold, IsToldOf, IsValueTold, MeansLast, fixed_reply, is_ended, refusal_text, shown_values, told_stop};
+ghost use Rattle.adapter_replies.specs.Told.{AreBreakpointsTold, AreScopesTold, AreVariablesTold, IsAnswered, IsEvaluated, IsLineTold, IsLookedUp, IsMoveTold, IsNameTold, IsSetTold, IsTextTold, IsToldOf, IsValueTold, MeansLast, fixed_reply, is_ended, is_expression, is_line, is_unnamed, refusal_text, shown_values, told_stop};
 
 use crate::breakpoints::{breakpoints, watchable, watches};
 use crate::exceptions::NO_FAULT;
+use crate::expressions::{expression_reply, shown_in};
 use crate::frames::frames;
 use crate::locations::locations;
 use crate::places::{Place, Scope, depth_of, is_frame, reference_of};
 use crate::scopes::variables;
 use crate::stops::stop_of;
 use crate::texts::{answer_text, value_text, value_text_at};
-use adapter_requests::{Reply, Request, Scopes, Stop, StopReason};
+use adapter_requests::{Context, Page, Reply, Request, Scopes, Stop, StopReason};
 use debug_answers::{Answer, NumberedStop, Refusal};
+use debug_commands::read_command;
 use debug_traits::{FramedMachine, RecordedMachine};
+use frame_expressions::ExpressionMachine;
 use std::alloc::{AllocError, Global};
 
 /// Why a request for a frame is refused.
 const NO_FRAME: &str = "no frame has this number now";
-
-/// Why an expression is refused in an outer frame.
-const ONLY_NAMES: &str = "only the name of a variable is looked up in an outer frame";
 
 /// Why a variable is not set.
 const NOT_SET: &str = "only a variable of the top frame or of the file can be set";
@@ -39,7 +39,7 @@ const NOT_SET: &str = "only a variable of the top frame or of the file can be se
 /// # Errors
 ///
 /// Out of memory.
-pub fn reply_to<M: FramedMachine>(
+pub fn reply_to<M: ExpressionMachine>(
     alloc: Global,
     machine: &M,
     stops: &[NumberedStop],
@@ -78,10 +78,10 @@ pub fn reply_to<M: FramedMachine>(
         Request::Evaluate {
             expression,
             frame,
-            is_console,
+            context,
         } => match last {
-            Some(answer) => evaluated(alloc, machine, stops, *is_console, answer),
-            None => looked_up(alloc, machine, *frame, expression),
+            Some(answer) => evaluated(alloc, machine, stops, *context, expression, answer),
+            None => looked_up(alloc, machine, *frame, *context, expression),
         },
         Request::Next
         | Request::StepIn
@@ -90,7 +90,7 @@ pub fn reply_to<M: FramedMachine>(
         | Request::StepBack
         | Request::ReverseContinue => moved(alloc, machine, stops, last),
         Request::StackTrace => Ok(Reply::Frames(frames(alloc, machine)?)),
-        Request::Variables { reference } => shown(alloc, machine, *reference),
+        Request::Variables { reference, page } => shown(alloc, machine, *reference, *page),
         Request::Scopes { frame } => scopes(alloc, machine, *frame),
         Request::Threads => Ok(Reply::Threads),
         Request::Initialize => Ok(Reply::Capabilities),
@@ -104,11 +104,16 @@ pub fn reply_to<M: FramedMachine>(
     }
 }
 
-/// The variables that a reference stands for, or a refusal where it stands for none now.
-fn shown<M: FramedMachine>(alloc: Global, machine: &M, reference: u64) -> Result<Reply, AllocError>
-    ensures { (s : Setting) (d : Debugger) → M.stands machine.now s d → IfOk result (AreVariablesTold (told_now s d reference)) }
+/// The variables that a reference stands for, as a page asks for them, or a refusal where it stands for none now.
+fn shown<M: FramedMachine>(
+    alloc: Global,
+    machine: &M,
+    reference: u64,
+    page: Page,
+) -> Result<Reply, AllocError>
+    ensures { (s : Setting) (d : Debugger) → M.stands machine.now s d → IfOk result (AreVariablesTold (told_now page s d reference)) }
 {
-    match variables(alloc, machine, reference)? {
+    match variables(alloc, machine, reference, page)? {
         Some(variables) => Ok(Reply::Variables(variables)),
         None => refused(alloc, "nothing has this reference now"),
     }
@@ -145,14 +150,15 @@ fn scopes_of(depth: usize) -> Scopes
     }
 }
 
-/// What a name finds in the frame of a number, where there is such a frame.
-fn looked_up<M: FramedMachine>(
+/// What a text means in the frame of a number, where there is such a frame.
+fn looked_up<M: ExpressionMachine>(
     alloc: Global,
     machine: &M,
     frame: Option<u64>,
-    name: &str,
+    context: Context,
+    text: &str,
 ) -> Result<Reply, AllocError>
-    ensures { (s : Setting) (d : Debugger) → M.stands machine.now s d → IfOk result (IsLookedUp s d None frame name.now) }
+    ensures { (s : Setting) (d : Debugger) → M.stands machine.now s d → IfOk result (IsLookedUp s d None frame context text.now) }
 {
     let Some(frame) = frame else {
         return Ok(Reply::Done);
@@ -161,25 +167,27 @@ fn looked_up<M: FramedMachine>(
     if !is_frame(depth_of(machine), depth) {
         return refused(alloc, NO_FRAME);
     }
-    found(alloc, machine, depth, name)
+    found(alloc, machine, depth, context, text)
 }
 
-/// What a name finds in the frame at a depth.
-fn found<M: FramedMachine>(
+/// What a text means in the frame at a depth: the variable that it names there, or an expression.
+fn found<M: ExpressionMachine>(
     alloc: Global,
     machine: &M,
     depth: usize,
-    name: &str,
+    context: Context,
+    text: &str,
 ) -> Result<Reply, AllocError>
     ensures { (s : Setting) (d : Debugger) → M.stands machine.now s d
-        → IfOk result (IsNameTold s d depth (found_at s.program depth (now s d) name.now)) }
+        → IfOk result (IsNameTold s d depth context text.now (found_at s.program depth (now s d) text.now)) }
 {
-    match machine.find_at(depth, name.as_bytes()) {
-        None => refused(alloc, ONLY_NAMES),
-        Some(shown) => Ok(Reply::Evaluated {
-            text: value_text_at(alloc, machine, depth, shown, None)?,
-            reason: None,
-        }),
+    match machine.find_at(depth, text.as_bytes()) {
+        None => expression_reply(alloc, machine, depth, context, text),
+        Some(shown) => {
+            let values = value_text_at(alloc, machine, depth, shown)?;
+            let text = shown_in(alloc, context, values)?;
+            Ok(Reply::Evaluated { text, reason: None })
+        }
     }
 }
 
@@ -253,23 +261,54 @@ fn set<M: RecordedMachine>(
     Ok(Reply::Refused(answer_text(alloc, &answer, machine, stops)?))
 }
 
-/// The value of an expression, or the answer to a line of the console; or why there is none.
-fn evaluated<M: RecordedMachine>(
+/// The value of an expression in the top frame, or the answer to a line of the console; or why there is none.
+fn evaluated<M: ExpressionMachine>(
     alloc: Global,
     machine: &M,
     stops: &[NumberedStop],
-    is_console: bool,
+    context: Context,
+    expression: &str,
     answer: Answer<'_>,
 ) -> Result<Reply, AllocError>
-    ensures { (s : Setting) (at d : Debugger) (meant : model.Answer) → M.stands machine.now s at → at.events ≡ d.events → AreStops s stops.now d.stops
+    ensures stands { (s : Setting) (d : Debugger) → M.stands machine.now s d → IfOk result (IsLookedUp s d (Some answer.entry) None context expression.now) }
+    ensures answered { (s : Setting) (at d : Debugger) (meant : model.Answer) → M.stands machine.now s at → at.events ≡ d.events → AreStops s stops.now d.stops
         → Means s d answer.entry meant
-        → IfOk result (λ told. IsEvaluated is_console (Some answer.entry) (text s meant d) (shown_values (now s d) meant) told) }
+        → IfOk result (λ told. IsEvaluated context expression.now (Some answer.entry) (text s meant d) (shown_values (now s d) meant) told) }
 {
-    if is_console {
-        line_of(alloc, machine, stops, answer)
-    } else {
-        value_of(alloc, machine, stops, answer)
+    if is_expression(context, expression, &answer) {
+        return expression_reply(alloc, machine, depth_of(machine), context, expression);
     }
+    match context {
+        Context::Console => line_of(alloc, machine, stops, answer),
+        Context::Hover | Context::Watch => value_of(alloc, machine, stops, context, answer),
+    }
+}
+
+/// Whether a text is an expression, since `print` finds no variable by it.
+fn is_expression(context: Context, text: &str, answer: &Answer<'_>) -> bool
+    ensures { result ≡ is_expression context text.now answer.now }
+{
+    is_unnamed(answer) && !is_line(context, text)
+}
+
+/// Whether a text is a line of the console that spells a command.
+fn is_line(context: Context, text: &str) -> bool
+    ensures { result ≡ is_line context text.now }
+{
+    match context {
+        Context::Console => read_command(text.as_bytes()).is_some(),
+        Context::Hover | Context::Watch => false,
+    }
+}
+
+/// Whether an answer says that a text names no variable.
+fn is_unnamed(answer: &Answer<'_>) -> bool
+    ensures { result ≡ is_unnamed answer.now }
+{
+    matches!(
+        answer,
+        Answer::Refused(Refusal::BadCommand | Refusal::NoSuchName)
+    )
 }
 
 /// The answer to a line of the console.
@@ -297,18 +336,20 @@ fn told_line(text: String, answer: &Answer<'_>) -> Reply
     }
 }
 
-/// The value of an expression, or why there is none.
+/// The values of a variable, or why there are none.
 fn value_of<M: RecordedMachine>(
     alloc: Global,
     machine: &M,
     stops: &[NumberedStop],
+    context: Context,
     answer: Answer<'_>,
 ) -> Result<Reply, AllocError>
     ensures { (s : Setting) (at d : Debugger) (meant : model.Answer) → M.stands machine.now s at → at.events ≡ d.events → AreStops s stops.now d.stops
-        → Means s d answer.entry meant → IfOk result (λ told. IsValueTold answer.entry (text s meant d) (shown_values (now s d) meant) told) }
+        → Means s d answer.entry meant → IfOk result (λ told. IsValueTold context answer.entry (text s meant d) (shown_values (now s d) meant) told) }
 {
     if let Answer::Shows { target, shown } = answer {
-        let text = value_text(alloc, machine, shown, target.at)?;
+        let values = value_text(alloc, machine, shown, target.at)?;
+        let text = shown_in(alloc, context, values)?;
         return Ok(Reply::Evaluated { text, reason: None });
     }
     let reply = line_of(alloc, machine, stops, answer)?;

@@ -1,49 +1,75 @@
 //! The variables that an editor shows.
-ghost use Rattle.std.specs.Prelude.{◌≡◌, ◌++◌, ◌<◌, ◌≤◌, ◌||◌, IfOk, IfSome, Option, map, option_map, slice_get, string_bytes, take};
+ghost use Rattle.std.specs.Prelude.{◌≡◌, ◌++◌, ◌<◌, IfOk, IfSome, Option, map, option_map, slice_get, string_bytes, take};
 ghost use Rattle.gang_model.specs.Types.Tree as model;
 ghost use Rattle.gang_model.specs.Debugger.Debugger as debugger;
 ghost use Rattle.gang_model.specs.Debugger.Debugger.{Debugger, Setting, now};
-ghost use Rattle.std.specs.List.{range_with_len};
 ghost use Rattle.debug_traits.specs.Frames.{IsShownAt, ShowsNamedAt, ShowsNextAt};
 ghost use Rattle.debug_traits.specs.Machines.{file_variables};
 ghost use Rattle.adapter_replies.specs.References.{place_of};
-ghost use Rattle.adapter_replies.specs.Variables.{ShowsOptionAt, is_found, is_varying, of_scope, scope_list, told_each, told_now, told_one, told_option, told_part, told_parts, told_whole, type_name, type_text, variable_view, whole_text, words_at};
+ghost use Rattle.adapter_replies.specs.Variables.{ShowsOptionAt, is_found, of_scope, scope_list, told_each, told_now, told_one, told_whole, type_text, variable_view, whole_kind, whole_text, words_at};
 ghost use Rattle.adapter_replies.specs.declared.places.Place.TheVariants as place;
 
+use crate::pages::named_of;
+use crate::parts::{has_parts, parts_of, range_parts_of, type_name};
 use crate::places::{Place, Scope, depth_of, place_now, reference_of};
 use crate::texts::value_text_at;
-use adapter_requests::Variable;
+use adapter_requests::{Page, Variable, VariableKind};
 use debug_traits::{FramedMachine, NamedVariable, NextLocal, Shown};
-use gang_types::{IntType, Rate};
+use gang_types::Rate;
 use std::alloc::{AllocError, Global};
 
-/// The most variables of the file, and the most lanes or elements, that are shown at once.
+/// The most variables of the file that are shown.
 const MOST_SHOWN: usize = 1_000;
 
-/// The variables that a reference stands for, if it stands for any now.
+/// The variables that a reference stands for, if it stands for any now, as a page asks for them.
 pub(crate) fn variables<M: FramedMachine>(
     alloc: Global,
     machine: &M,
     reference: u64,
+    page: Page,
 ) -> Result<Option<Vec<Variable>>, AllocError>
     ensures { (s : Setting) (d : Debugger) → M.stands machine.now s d
-        → IfOk result (λ told. option_map (λ variables. map variable_view variables.items) told ≡ told_now s d reference) }
+        → IfOk result (λ told. option_map (λ variables. map variable_view variables.items) told ≡ told_now page s d reference) }
 {
     let top = depth_of(machine);
     match place_now(top, reference) {
-        Place::Variables { scope, depth } => Ok(Some(of_frame(alloc, machine, scope, depth)?)),
+        Place::Variables { scope, depth } => {
+            let told = of_frame(alloc, machine, scope, depth)?;
+            Ok(Some(named_of(alloc, told, page)?))
+        }
         Place::Parts {
             scope,
             depth,
             number,
         } => {
+            let place = Place::Parts {
+                scope,
+                depth,
+                number,
+            };
             let named = variable_of(machine, scope, depth, number);
-            parts_of(alloc, machine, depth, named)
+            parts_of(alloc, machine, depth, place, named, page)
         }
-        Place::File => Ok(Some(of_file(alloc, machine, top)?)),
+        Place::Range {
+            scope,
+            depth,
+            number,
+            range,
+        } => {
+            let named = variable_of(machine, scope, depth, number);
+            range_parts_of(alloc, machine, depth, range, named, page)
+        }
+        Place::File => {
+            let told = of_file(alloc, machine, top)?;
+            Ok(Some(named_of(alloc, told, page)?))
+        }
         Place::OfFile(number) => {
             let named = file_variable(machine, top, number);
-            parts_of(alloc, machine, top, named)
+            parts_of(alloc, machine, top, Place::OfFile(number), named, page)
+        }
+        Place::FileRange { number, range } => {
+            let named = file_variable(machine, top, number);
+            range_parts_of(alloc, machine, top, range, named, page)
         }
         Place::Nothing => Ok(None),
     }
@@ -210,8 +236,20 @@ fn whole<M: FramedMachine>(
         name: String::from_utf8_lossy(alloc, named.name)?,
         value: whole_value(alloc, machine, depth, shown)?,
         type_name: type_text(alloc, shown)?,
+        kind: whole_kind(shown.is_array, shown.count),
         reference: if has_parts(shown) { reference } else { 0 },
     })
+}
+
+/// A scalar, or an array of so many elements.
+fn whole_kind(is_array: bool, count: usize) -> VariableKind
+    ensures { result ≡ whole_kind is_array count }
+{
+    if is_array {
+        VariableKind::Array(count)
+    } else {
+        VariableKind::Plain
+    }
 }
 
 /// The values of a scalar, or how many elements an array has.
@@ -228,89 +266,7 @@ fn whole_value<M: FramedMachine>(
         let count = shown.count;
         return format!(in alloc; "{count} elements");
     }
-    value_text_at(alloc, machine, depth, shown, None)
-}
-
-/// The lanes or elements of a variable, if there is one.
-fn parts_of<M: FramedMachine>(
-    alloc: Global,
-    machine: &M,
-    depth: usize,
-    named: Option<NamedVariable<'_>>,
-) -> Result<Option<Vec<Variable>>, AllocError>
-    ensures { (s : Setting) (d : Debugger) (given : Option model.Variable) → M.stands machine.now s d → ShowsOptionAt s d depth given named.entry
-        → IfOk result (λ told. option_map (λ variables. map variable_view variables.items) told ≡ told_option s d depth given) }
-{
-    match named {
-        None => Ok(None),
-        Some(named) => Ok(Some(parts(alloc, machine, depth, named)?)),
-    }
-}
-
-/// The lanes or elements of a variable; of a uniform scalar there are none.
-fn parts<M: FramedMachine>(
-    alloc: Global,
-    machine: &M,
-    depth: usize,
-    named: NamedVariable<'_>,
-) -> Result<Vec<Variable>, AllocError>
-    ensures { (s : Setting) (d : Debugger) (v : model.Variable) → M.stands machine.now s d → ShowsNamedAt s d depth v named.entry
-        → IfOk result (λ told. map variable_view told.items ≡ told_parts v (words_at s d depth v)) }
-{
-    let count = if has_parts(named.shown) {
-        named.shown.count.min(MOST_SHOWN)
-    } else {
-        0
-    };
-    first_parts(alloc, machine, depth, named, count)
-}
-
-/// The first so many lanes or elements of a variable, which has as many.
-fn first_parts<M: FramedMachine>(
-    alloc: Global,
-    machine: &M,
-    depth: usize,
-    named: NamedVariable<'_>,
-    count: usize,
-) -> Result<Vec<Variable>, AllocError>
-    requires few { count ≤ 1000 }
-    requires within { count ≤ named.shown.count }
-    ensures { (s : Setting) (d : Debugger) (v : model.Variable) → M.stands machine.now s d → ShowsNamedAt s d depth v named.entry
-        → IfOk result (λ told. map variable_view told.items ≡ map (told_part v (words_at s d depth v)) (range_with_len 0 count)) }
-{
-    let mut told = Vec::new(alloc);
-    for index in 0..count {
-        told.push(part(alloc, machine, depth, named, index as u32)?)?;
-    }
-    Ok(told)
-}
-
-/// A lane or an element of a variable.
-fn part<M: FramedMachine>(
-    alloc: Global,
-    machine: &M,
-    depth: usize,
-    named: NamedVariable<'_>,
-    index: u32,
-) -> Result<Variable, AllocError>
-    ensures { (s : Setting) (d : Debugger) (v : model.Variable) → M.stands machine.now s d → ShowsNamedAt s d depth v named.entry
-        → index < named.entry.shown.count → IfOk result (λ told. variable_view told ≡ told_part v (words_at s d depth v) index) }
-{
-    let mut name = String::from_utf8_lossy(alloc, named.name)?;
-    name.push_str(format!(in alloc; "[{index}]")?.as_str())?;
-    Ok(Variable {
-        name,
-        value: value_text_at(alloc, machine, depth, named.shown, Some(index))?,
-        type_name: String::from_str(alloc, type_name(named.shown.value_type))?,
-        reference: 0,
-    })
-}
-
-/// Whether a variable has lanes or elements.
-pub(crate) fn has_parts(shown: Shown) -> bool
-    ensures { result ≡ (shown.is_array || is_varying shown.rate) }
-{
-    shown.is_array || shown.rate == Rate::Varying
+    value_text_at(alloc, machine, depth, shown)
 }
 
 /// The type of a variable, as a source has it.
@@ -327,22 +283,5 @@ fn type_text(alloc: Global, shown: Shown) -> Result<String, AllocError>
         format!(in alloc; "{rate} {name}[{count}]")
     } else {
         format!(in alloc; "{rate} {name}")
-    }
-}
-
-/// The name of a type.
-fn type_name(value_type: IntType) -> &'static str
-    ensures { result.now ≡ type_name value_type }
-{
-    match value_type {
-        IntType::Bool => "bool",
-        IntType::Int8 => "int8",
-        IntType::Int16 => "int16",
-        IntType::Int32 => "int32",
-        IntType::Int64 => "int64",
-        IntType::Uint8 => "uint8",
-        IntType::Uint16 => "uint16",
-        IntType::Uint32 => "uint32",
-        IntType::Uint64 => "uint64",
     }
 }

@@ -1,5 +1,5 @@
 //! The texts of answers.
-ghost use Rattle.std.specs.Prelude.{◌≡◌, ◌++◌, [], drop, false, Some, IfOk, string_bytes};
+ghost use Rattle.std.specs.Prelude.{◌≡◌, ◌<◌, ◌++◌, ◌∷◌, [], drop, false, Some, IfOk, string_bytes};
 ghost use Rattle.gang_model.specs.Types.Tree.{Variable};
 ghost use Rattle.gang_model.specs.Debugger.Debugger as model;
 ghost use Rattle.gang_model.specs.Debugger.Debugger.{Debugger, Setting, now, part_shown, shown_words};
@@ -93,40 +93,43 @@ pub(crate) fn value_text<M: RecordedMachine>(
     String::from_utf8_lossy(alloc, behind_first(writer.bytes.as_slice()))
 }
 
-/// The values of a variable in the frame at a depth, or of a part of it, with blanks between.
+/// The values of a variable in the frame at a depth, with blanks between.
 pub(crate) fn value_text_at<M: FramedMachine>(
     alloc: Global,
     machine: &M,
     depth: usize,
     shown: Shown,
-    at: Option<u32>,
 ) -> Result<String, AllocError>
-    ensures { (s : Setting) (d : Debugger) (v : Variable) → M.stands machine.now s d → IsShownAt s d depth v shown → IsInside at shown.count
-        → IfOk result (λ text. string_bytes text ≡ values v.type (part_shown at (words_at s d depth v))) }
+    ensures { (s : Setting) (d : Debugger) (v : Variable) → M.stands machine.now s d → IsShownAt s d depth v shown
+        → IfOk result (λ text. string_bytes text ≡ values v.type (words_at s d depth v)) }
 {
-    let words = words_of(alloc, machine, depth, shown, at)?;
+    let words = all_words(alloc, machine, depth, shown)?;
     words_text(alloc, shown.value_type, words.as_slice())
 }
 
-/// The words of a variable in the frame at a depth, or one of them.
-fn words_of<M: FramedMachine>(
+/// The value of a lane or an element of a variable in the frame at a depth.
+pub(crate) fn element_text<M: FramedMachine>(
     alloc: Global,
     machine: &M,
     depth: usize,
     shown: Shown,
-    at: Option<u32>,
-) -> Result<Vec<u64>, AllocError>
-    ensures { (s : Setting) (d : Debugger) (v : Variable) → M.stands machine.now s d → IsShownAt s d depth v shown → IsInside at shown.count
-        → IfOk result (λ words. words.items ≡ part_shown at (words_at s d depth v)) }
+    index: usize,
+) -> Result<String, AllocError>
+    ensures { (s : Setting) (d : Debugger) (v : Variable) → M.stands machine.now s d → IsShownAt s d depth v shown → index < shown.count
+        → IfOk result (λ text. string_bytes text ≡ values v.type (part_shown (Some index) (words_at s d depth v))) }
 {
-    match at {
-        None => all_words(alloc, machine, depth, shown),
-        Some(index) => {
-            let mut words = Vec::new(alloc);
-            words.push(machine.word_at(depth, shown, index as usize))?;
-            Ok(words)
-        }
-    }
+    word_text(
+        alloc,
+        shown.value_type,
+        machine.word_at(depth, shown, index),
+    )
+}
+
+/// The value of a word of a type.
+pub(crate) fn word_text(alloc: Global, value_type: IntType, word: u64) -> Result<String, AllocError>
+    ensures { IfOk result (λ text. string_bytes text ≡ values value_type (word ∷ [])) }
+{
+    words_text(alloc, value_type, &[word])
 }
 
 /// The words of a variable in the frame at a depth.

@@ -6,5 +6,6 @@ mod request;
 
 pub use reply::{
     Breakpoint, BreakpointFault, Exception, Frame, Reply, Scopes, Stop, StopReason, Variable,
+    VariableKind,
 };
-pub use request::{Launch, Request};
+pub use request::{Context, Filter, Launch, Page, Request};

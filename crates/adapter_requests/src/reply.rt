@@ -48,12 +48,26 @@ pub struct Frame {
     pub column: u32,
 }
 
-/// A variable, or one of its lanes or elements.
+/// What is shown as a variable.
+#[derive(Clone, Copy, Debug, PartialEq, Eq)]
+pub enum VariableKind {
+    /// A scalar, a lane that is active or an element.
+    Plain,
+    /// A lane that is not active where the frame stands.
+    Waits,
+    /// An array of so many elements.
+    Array(usize),
+    /// Elements of an array one behind another: no expression shows them.
+    Range,
+}
+
+/// A variable, one of its lanes or elements, or a range of elements.
 #[derive(Drop)]
 pub struct Variable {
     pub name: String,
     pub value: String,
     pub type_name: String,
+    pub kind: VariableKind,
     /// The reference of its lanes or elements, 0 if it has none.
     pub reference: u64,
 }

@@ -20,6 +20,37 @@ pub struct Launch<'a> {
     pub stops_on_entry: bool,
 }
 
+/// Where an expression stands that is evaluated.
+#[derive(Clone, Copy, Debug, PartialEq, Eq)]
+pub enum Context {
+    /// In the console, where a line that spells a command of the debugger is done.
+    Console,
+    /// Under the mouse.
+    Hover,
+    /// In a list of watched expressions, or anywhere else.
+    Watch,
+}
+
+/// Which kind of children is asked for.
+#[derive(Clone, Copy, Debug, PartialEq, Eq)]
+pub enum Filter {
+    All,
+    /// The variables of a scope.
+    Named,
+    /// Lanes and elements.
+    Indexed,
+}
+
+/// Which of the children of a reference are asked for.
+#[derive(Clone, Copy, Debug, PartialEq, Eq)]
+pub struct Page {
+    /// The place of the first one, 0 where there is none.
+    pub start: Option<u64>,
+    /// How many; all of them where it is none or 0.
+    pub count: Option<u64>,
+    pub filter: Filter,
+}
+
 /// A request, with those of its arguments that mean something here.
 #[derive(Drop)]
 pub enum Request<'a> {
@@ -57,6 +88,7 @@ pub enum Request<'a> {
     /// The variables of this reference.
     Variables {
         reference: u64,
+        page: Page,
     },
     /// One of the variables of this reference is set.
     SetVariable {
@@ -68,7 +100,7 @@ pub enum Request<'a> {
     Evaluate {
         expression: &'a str,
         frame: Option<u64>,
-        is_console: bool,
+        context: Context,
     },
     Next,
     StepIn,

@@ -14,7 +14,7 @@ use adapter_requests::{Launch, Reply, Request, StopReason};
 use adapter_session::{answer_request, breakpoint_here, restore_stops};
 use debug_answers::Answer;
 use debug_session::Session;
-use debug_traits::FramedMachine;
+use frame_expressions::ExpressionMachine;
 use serde_json::Value;
 use std::alloc::{AllocError, Global};
 use std::io::{Read, Write};
@@ -42,7 +42,7 @@ impl<R: Read, O: Write> Connection<R, O> {
     ///
     /// How the connection ended before that.
     #[tactic(auto, using(crate::proofs::ReadMessages::serves_nothing, crate::proofs::ReadMessages::lets_nothing_go))]
-    pub fn serve<M: FramedMachine>(
+    pub fn serve<M: ExpressionMachine>(
         &mut self,
         launch: &LaunchMessage,
         session: &mut Session<M>,
@@ -60,7 +60,7 @@ impl<R: Read, O: Write> Connection<R, O> {
     /// # Errors
     ///
     /// How the connection ended before that.
-    pub fn restart<M: FramedMachine>(
+    pub fn restart<M: ExpressionMachine>(
         &mut self,
         launch: &LaunchMessage,
         old: &Session<M>,
@@ -100,7 +100,7 @@ impl<R: Read, O: Write> Connection<R, O> {
     ///
     /// How the connection ended before that.
     #[tactic(auto, using(crate::proofs::ReadMessages::serves_nothing, crate::proofs::ReadMessages::lets_nothing_go))]
-    pub fn go_on<M: FramedMachine>(
+    pub fn go_on<M: ExpressionMachine>(
         &mut self,
         launch: &LaunchMessage,
         session: &mut Session<M>,
@@ -123,7 +123,7 @@ impl<R: Read, O: Write> Connection<R, O> {
 
     /// Answers a message.
     #[tactic(auto, using(crate::proofs::ServedRequests::answers_nothing, crate::proofs::ServedRequests::answers_following))]
-    fn answer<M: FramedMachine>(
+    fn answer<M: ExpressionMachine>(
         &mut self,
         launch: &Launch<'_>,
         session: &mut Session<M>,
@@ -148,7 +148,7 @@ impl<R: Read, O: Write> Connection<R, O> {
 
     /// Does a request and answers it, and tells what came of it; a restart is not answered.
     #[tactic(auto, using(crate::proofs::ServedRequests::follows_nothing, crate::proofs::ServedRequests::follows_asking))]
-    fn do_request<M: FramedMachine>(
+    fn do_request<M: ExpressionMachine>(
         &mut self,
         launch: &Launch<'_>,
         session: &mut Session<M>,
@@ -200,7 +200,7 @@ impl<R: Read, O: Write> Connection<R, O> {
     /// Begins the run: the program stops before its first step, where it is to or a breakpoint stands there, or runs to where it
     /// stops by itself.
     #[tactic(auto, using(crate::proofs::ServedRequests::begins_nothing, crate::proofs::ServedRequests::begins_asking))]
-    fn begin<M: FramedMachine>(
+    fn begin<M: ExpressionMachine>(
         &mut self,
         launch: &Launch<'_>,
         session: &mut Session<M>,
@@ -222,7 +222,7 @@ impl<R: Read, O: Write> Connection<R, O> {
     }
 
     /// Tells that the program stands before its first step, and why.
-    fn tell_beginning<M: FramedMachine>(
+    fn tell_beginning<M: ExpressionMachine>(
         &mut self,
         session: &Session<M>,
         answer: &Answer<'_>,
@@ -236,7 +236,7 @@ impl<R: Read, O: Write> Connection<R, O> {
 }
 
 /// Does a request.
-fn ask<M: FramedMachine>(
+fn ask<M: ExpressionMachine>(
     alloc: Global,
     program: &str,
     session: &mut Session<M>,

@@ -5,6 +5,8 @@ use Rattle.gang_model.specs.Debugger.Debugger.{Command, Debugger, Setting, Stop,
 use Rattle.gang_model.specs.Texts.CommandText.{command_of}
 use Rattle.gang_model.specs.Texts.Text.{Bytes}
 use Rattle.adapter_requests.specs.declared.reply.BreakpointFault.{BreakpointFault}
+use Rattle.adapter_requests.specs.declared.request.Context.{Context}
+use Rattle.adapter_requests.specs.declared.request.Context.TheVariants.{Console}
 use Rattle.adapter_requests.specs.declared.request.Request.{Request}
 use Rattle.adapter_requests.specs.declared.request.Request.TheVariants as request
 use Rattle.adapter_replies.specs.References.{is_set_there, place_of}
@@ -59,6 +61,11 @@ abbrev pub print_lines : (is_elsewhere : Bool) → Bytes → List Bytes
 print_lines true text = []
 print_lines false text = only (print_line text)
 
+-- whether an expression stands in the console
+abbrev pub is_console : Context → Bool
+is_console Console = true
+is_console other = false
+
 -- the line of an expression: in the console the line itself, where it spells a command; else that which shows it
 abbrev pub evaluated : (is_console is_elsewhere : Bool) → Bytes → List Bytes
 evaluated is_console is_elsewhere text = if is_console && is_some (command_of text) then only text else print_lines is_elsewhere text
@@ -98,7 +105,7 @@ lines_of program top stops request.ReverseContinue = only (codes "reverse-contin
 lines_of program top stops (request.SetBreakpoints source lines) = break_lines (is_program program source) stops lines.items
 lines_of program top stops (request.SetDataBreakpoints targets) = watch_lines stops targets.items
 lines_of program top stops (request.SetVariable reference name value) = set_lines (is_set_there top (place_of reference)) name.now value.now
-lines_of program top stops (request.Evaluate expression frame is_console) = evaluated is_console (is_elsewhere top frame) expression.now
+lines_of program top stops (request.Evaluate expression frame context) = evaluated (is_console context) (is_elsewhere top frame) expression.now
 lines_of program top stops other = []
 
 -- the command of a line, where it spells one

@@ -14,7 +14,7 @@ use adapter_replies::{depth_of, reply_to};
 use adapter_requests::{Reply, Request};
 use debug_answers::Answer;
 use debug_session::Session;
-use debug_traits::FramedMachine;
+use frame_expressions::ExpressionMachine;
 use std::alloc::{AllocError, Global};
 
 /// Does the commands of a request, where the program's source has this path, and says what the request is told.
@@ -22,7 +22,7 @@ use std::alloc::{AllocError, Global};
 /// # Errors
 ///
 /// Out of memory, and then nothing was done.
-pub fn answer_request<M: FramedMachine>(
+pub fn answer_request<M: ExpressionMachine>(
     alloc: Global,
     program: &str,
     session: &mut Session<M>,
@@ -41,7 +41,7 @@ pub fn answer_request<M: FramedMachine>(
 }
 
 /// What a request is told, or that there is no memory for it.
-fn told<M: FramedMachine>(
+fn told<M: ExpressionMachine>(
     alloc: Global,
     program: &str,
     session: &Session<M>,

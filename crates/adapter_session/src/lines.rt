@@ -4,10 +4,10 @@ ghost use Rattle.gang_model.specs.Debugger.Debugger as model;
 ghost use Rattle.gang_model.specs.Debugger.Debugger.{Setting};
 ghost use Rattle.debug_answers.specs.Meanings.{AreStops};
 ghost use Rattle.adapter_session.specs.Given.{given_numbers, is_of};
-ghost use Rattle.adapter_session.specs.Requested.{break_line, delete_line, evaluated, is_elsewhere, is_program, line_for, lines_of, only, set_lines, watch_line};
+ghost use Rattle.adapter_session.specs.Requested.{break_line, delete_line, evaluated, is_console, is_elsewhere, is_program, line_for, lines_of, only, set_lines, watch_line};
 
 use adapter_replies::is_set_there;
-use adapter_requests::{BreakpointFault, Request};
+use adapter_requests::{BreakpointFault, Context, Request};
 use debug_answers::{NumberedStop, Stop};
 use debug_commands::read_command;
 use debug_words::is_same;
@@ -60,8 +60,13 @@ pub fn command_lines(
         Request::Evaluate {
             expression,
             frame,
-            is_console,
-        } => evaluated(alloc, expression, *is_console, is_elsewhere(depth, *frame)),
+            context,
+        } => evaluated(
+            alloc,
+            expression,
+            is_console(*context),
+            is_elsewhere(depth, *frame),
+        ),
         Request::Initialize
         | Request::Launch(_)
         | Request::BreakpointLocations { .. }
@@ -123,6 +128,13 @@ fn is_elsewhere(top: usize, frame: Option<u64>) -> bool
         None => false,
         Some(frame) => frame as usize != top,
     }
+}
+
+/// Whether an expression stands in the console.
+fn is_console(context: Context) -> bool
+    ensures { result ≡ is_console context }
+{
+    context == Context::Console
 }
 
 /// The line of an expression: in the console the line itself, where it spells a command; else that which shows it, unless it is

@@ -4,29 +4,33 @@ use Rattle.gang_model.specs.Debugger.Events.{after}
 use Rattle.gang_model.specs.Texts.Text.{Bytes, text}
 use Rattle.adapter_requests.specs.declared.reply.Reply.{Reply}
 use Rattle.adapter_requests.specs.declared.reply.Reply.TheVariants as reply
+use Rattle.adapter_requests.specs.declared.request.Context.{Context}
 use Rattle.debug_answers.specs.declared.answer.Answer.{Answer}
 use Rattle.debug_answers.specs.declared.answer.Answer.TheVariants as answer
 use Rattle.debug_answers.specs.Meanings.{Means}
 use Rattle.debug_texts.proofs.Meant.{shown_at}
+use Rattle.adapter_replies.specs.Expressions.{shown_in}
 use Rattle.adapter_replies.specs.Told.{IsLineTold, IsValueTold, shown_values}
 use Rattle.adapter_replies.specs.Variables.{values}
 use Rattle.adapter_replies.proofs.replies.value_of.Goals as goal
 
 -- an answer that shows nothing is told as a line of the console is
-otherwise : (given : Answer) (words shown : Bytes) (told : Reply) → ((target : _) (v : _) → given ≡ answer.Shows target v → ⊥) → IsLineTold given words told
-    → IsValueTold given words shown told
-otherwise (answer.Shows target v) words shown told not is = absurd (not target v refl)
-otherwise other words shown told not is = is
+otherwise : (context : Context) (given : Answer) (words shown : Bytes) (told : Reply) → ((target : _) (v : _) → given ≡ answer.Shows target v → ⊥) → IsLineTold given words told
+    → IsValueTold context given words shown told
+otherwise context (answer.Shows target v) words shown told not is = absurd (not target v refl)
+otherwise context other words shown told not is = is
 
 pub returns-in-Shows : goal.returns-in-Shows
 returns-in-Shows g c s at d meant st same stops means =
     let is = c.in-Shows.is in
+    let context = c.args.context in
     let (v, are, shown, inside) = subst (λ given. Means s d given meant) is means in
-    let says = c.in_ok-text.ensures s at v st (shown_at s at d v c.in-Shows.shown same shown) inside
+    let says = c.in_ok-values.ensures s at v st (shown_at s at d v c.in-Shows.shown same shown) inside
     ∙ ap (λ events. values v.type (part_shown c.in-Shows.target.at (shown_words (after s.program s.first events) v))) same
     ∙ ap (shown_values (now s d)) (sym are) in
-    subst (λ given. IsValueTold given (text s meant d) (shown_values (now s d) meant) (reply.Evaluated c.in_ok-text.text None)) (sym is) (ap (λ words. Some (None, words)) says)
+    subst (λ given. IsValueTold context given (text s meant d) (shown_values (now s d) meant) (reply.Evaluated c.in_ok-text.text None)) (sym is)
+    (ap (λ words. Some (None, words)) (c.in_ok-text.ensures ∙ ap (shown_in context) says))
 
 pub returns : goal.returns
 returns g c s at d meant st same stops means =
-    otherwise c.args.answer (text s meant d) (shown_values (now s d) meant) c.in_ok-reply.reply c.in_default.not-Shows (c.in_ok-reply.ensures s at d meant st same stops means)
+    otherwise c.args.context c.args.answer (text s meant d) (shown_values (now s d) meant) c.in_ok-reply.reply c.in_default.not-Shows (c.in_ok-reply.ensures s at d meant st same stops means)

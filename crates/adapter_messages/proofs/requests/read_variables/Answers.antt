@@ -1,0 +1,11 @@
+use Rattle.std.proofs.Common.{Some, codes, ap, sym, ◌∙◌, is_some, if◌then◌else◌}
+use Rattle.serde_json.specs.View.{view}
+use Rattle.adapter_messages.specs.Arguments.{text_of}
+use Rattle.adapter_messages.specs.Faults.{first_missing, page_options}
+use Rattle.adapter_messages.proofs.requests.read_variables.Goals as goal
+
+pub returns-clause-complete : goal.returns-clause-complete
+returns-clause-complete c =
+    let options = page_options (view c.args.message.now) in
+    ap (λ given. if is_some given then first_missing options else Some (codes "variablesReference")) (sym c.number_at.ensures ∙ c.in-Some.is)
+    ∙ sym (ap text_of (sym c.in_default.is) ∙ c.wrong_page.ensures)
