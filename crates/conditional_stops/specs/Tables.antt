@@ -1,0 +1,73 @@
+-- The conditions and the counts of breakpoints and watches, by their numbers.
+use Rattle.std.specs.Prelude.{ℕ, ◌==◌, ◌&&◌, ◌||◌, not, nat_le, nat_lt, Bool, List, [], ◌∷◌, ◌++◌, filter, find, length, Option, Some, None, option_map, if◌then◌else◌}
+use Rattle.conditional_stops.specs.declared.table.ConditionRefusal.{ConditionRefusal}
+use Rattle.conditional_stops.specs.declared.table.ConditionRefusal.TheVariants.{TooLong, TableFull}
+
+-- the texts of conditions, and how many stops are still to be passed; each by the number of its breakpoint or watch
+pub record Table : Type 0 where
+  pub conditions : List (ℕ × List ℕ)
+  pub counts : List (ℕ × ℕ)
+
+-- no condition, and no count
+abbrev pub nothing : Table
+nothing = record { conditions = []; counts = [] }
+
+-- whether nothing is there
+abbrev pub is_nothing : Table → Bool
+is_nothing table = (length table.conditions == 0) && (length table.counts == 0)
+
+-- what stands by a number, if anything does
+abbrev pub entry_at : {A : Type 0} → ℕ → List (ℕ × A) → Option A
+entry_at number entries = option_map (λ entry. entry.1) (find (λ entry. entry.0 == number) entries)
+
+-- all that does not stand by a number
+abbrev pub beside : {A : Type 0} → ℕ → List (ℕ × A) → List (ℕ × A)
+beside number entries = filter (λ entry. not (entry.0 == number)) entries
+
+-- whether 64 others are there, as many as can be
+abbrev pub is_full_beside : {A : Type 0} → ℕ → List (ℕ × A) → Bool
+is_full_beside number entries = nat_le 64 (length (beside number entries))
+
+-- the condition of a breakpoint or watch, if it has one
+abbrev pub condition_of : ℕ → Table → Option (List ℕ)
+condition_of number table = entry_at number table.conditions
+
+-- the number, or 0 where there is none
+abbrev pub or_zero : Option ℕ → ℕ
+or_zero None = 0
+or_zero (Some n) = n
+
+-- how many stops of a breakpoint or watch are still to be passed
+abbrev pub passes_of : ℕ → Table → ℕ
+passes_of number table = or_zero (entry_at number table.counts)
+
+-- a breakpoint or watch has this condition
+abbrev pub with_condition : ℕ → (text : List ℕ) → Table → Table
+with_condition number text table = record table { conditions = beside number table.conditions ++ (number, text) ∷ [] }
+
+-- it has none
+abbrev pub without_condition : ℕ → Table → Table
+without_condition number table = record table { conditions = beside number table.conditions }
+
+-- so many of its stops are to be passed; a count of 0 takes no room
+abbrev pub with_passes : ℕ → (count : ℕ) → Table → Table
+with_passes number count table =
+    record table { counts = if (count == 0) || is_full_beside number table.counts then beside number table.counts else beside number table.counts ++ (number, count) ∷ [] }
+
+-- none of its stops is
+abbrev pub without_passes : ℕ → Table → Table
+without_passes number table = record table { counts = beside number table.counts }
+
+-- neither its condition nor its count is there
+abbrev pub without : ℕ → Table → Table
+without number table = record { conditions = beside number table.conditions; counts = beside number table.counts }
+
+-- why a condition is not taken, if it is not
+abbrev pub condition_refusal : ℕ → (text : List ℕ) → Table → Option ConditionRefusal
+condition_refusal number text table =
+    if nat_lt 256 (length text) then Some TooLong else (if is_full_beside number table.conditions then Some TableFull else None)
+
+-- why a count is not taken, if it is not
+abbrev pub count_refusal : ℕ → (count : ℕ) → Table → Option ConditionRefusal
+count_refusal number count table =
+    if count == 0 then None else (if is_full_beside number table.counts then Some TableFull else None)

@@ -1,0 +1,177 @@
+//! Which breakpoints and watches count, where a command has stopped.
+ghost use Rattle.std.specs.Prelude.{◌≡◌, ℕ, Some};
+ghost use Rattle.gang_model.specs.Debugger.Debugger as model;
+ghost use Rattle.gang_model.specs.Debugger.Debugger.{Debugger, Setting, now, on_line};
+ghost use Rattle.gang_model.specs.Debugger.Positions.{line_now};
+ghost use Rattle.debug_answers.specs.Meanings.{IsStop};
+ghost use Rattle.debug_session.specs.Moves.{noted, watch_words};
+ghost use Rattle.debug_session.specs.Sessions.{StandsFor, bare};
+ghost use Rattle.conditional_stops.specs.Reasons as spec;
+ghost use Rattle.conditional_stops.specs.Reasons.{Asks, AsksOne};
+ghost use Rattle.conditional_stops.specs.Tables.{condition_of, passes_of};
+ghost use Rattle.conditional_stops.specs.Verdicts.{IsJudged};
+ghost use Rattle.conditional_stops.specs.Views.{table_of};
+
+use crate::judging::{Verdict, judge_condition};
+use crate::reasons::{CountedStop, Reason};
+use crate::table::Conditions;
+use crate::watching::{WordsBefore, noted_at, shows};
+use debug_answers::Stop;
+use debug_session::Session;
+use debug_traits::RecordedMachine;
+use frame_expressions::ExpressionMachine;
+use std::alloc::Global;
+
+/// What a breakpoint or watch makes of a stop.
+#[derive(Clone, Copy, Debug, PartialEq, Eq)]
+pub(crate) enum Taking {
+    /// It counts.
+    Counts,
+    /// It would count, but is one of those that are still to be passed.
+    Passes,
+    /// Its condition does not hold.
+    Fails,
+}
+
+/// Asks all breakpoints and watches at which a command stopped: the first that counts.
+pub(crate) fn ask_all<M: ExpressionMachine>(
+    alloc: Global,
+    before: &WordsBefore,
+    conditions: &mut Conditions,
+    session: &Session<M>,
+) -> Option<CountedStop>
+    ensures { (s : Setting) (began d : Debugger) → StandsFor M.stands session.now s d → noted before.now.items ≡ watch_words (now s began) d.stops
+        → Asks s d (spec.reasons s began d) (table_of conditions.old) result (table_of conditions.new) }
+{
+    let breakpoint = ask_breakpoints(alloc, conditions, session);
+    let watch = ask_watches(alloc, before, conditions, session);
+    first_of(breakpoint, watch)
+}
+
+/// Asks the breakpoints on the line where the program stands: the first that counts.
+fn ask_breakpoints<M: ExpressionMachine>(
+    alloc: Global,
+    conditions: &mut Conditions,
+    session: &Session<M>,
+) -> Option<CountedStop>
+    ensures { (s : Setting) (d : Debugger) → StandsFor M.stands session.now s d
+        → Asks s d (spec.breakpoints_here s d d.stops) (table_of conditions.old) result (table_of conditions.new) }
+{
+    let line = line_of(session.machine());
+    let mut first = None;
+    for entry in session.stops() {
+        if is_on_line(entry.stop, line) {
+            let reason = Reason::Breakpoint(entry.number);
+            first = first_of(first, ask(alloc, reason, conditions, session.machine()));
+        }
+    }
+    first
+}
+
+/// Asks the watches that show other words than were noted: the first that counts.
+fn ask_watches<M: ExpressionMachine>(
+    alloc: Global,
+    before: &WordsBefore,
+    conditions: &mut Conditions,
+    session: &Session<M>,
+) -> Option<CountedStop>
+    ensures { (s : Setting) (began d : Debugger) → StandsFor M.stands session.now s d → noted before.now.items ≡ watch_words (now s began) d.stops
+        → Asks s d (spec.changed_watches s began d d.stops) (table_of conditions.old) result (table_of conditions.new) }
+{
+    let mut first = None;
+    let mut next = 0;
+    for entry in session.stops() {
+        if let Stop::Watch { variable, at } = entry.stop {
+            if !shows(session.machine(), variable, at, noted_at(before, next)) {
+                let reason = Reason::Watch(entry.number);
+                first = first_of(first, ask(alloc, reason, conditions, session.machine()));
+            }
+            next += 1;
+        }
+    }
+    first
+}
+
+/// Asks one breakpoint or watch: the stop, if it counts.
+fn ask<M: ExpressionMachine>(
+    alloc: Global,
+    reason: Reason,
+    conditions: &mut Conditions,
+    machine: &M,
+) -> Option<CountedStop>
+    ensures { (s : Setting) (d : Debugger) → M.stands machine.now s (bare d) → AsksOne s d reason (table_of conditions.old) result (table_of conditions.new) }
+{
+    let number = reason.number();
+    let verdict = judge(alloc, number, conditions, machine);
+    let passes = conditions.passes(number);
+    match taking_of(passes, &verdict) {
+        Taking::Counts => Some(CountedStop { reason, verdict }),
+        Taking::Passes => {
+            conditions.put_passes(number, passes.saturating_sub(1));
+            None
+        }
+        Taking::Fails => None,
+    }
+}
+
+/// What the condition of a breakpoint or watch comes to, where it has one.
+fn judge<M: ExpressionMachine>(
+    alloc: Global,
+    number: u32,
+    conditions: &Conditions,
+    machine: &M,
+) -> Option<Verdict>
+    ensures { (s : Setting) (d : Debugger) → M.stands machine.now s (bare d) → IsJudged (condition_of number (table_of conditions.now)) s d result }
+{
+    match conditions.condition(number) {
+        Some(text) => Some(judge_condition(alloc, text, machine)),
+        None => None,
+    }
+}
+
+/// What a breakpoint or watch makes of a stop, of which so many are still to be passed.
+fn taking_of(passes: u32, verdict: &Option<Verdict>) -> Taking
+    ensures { result ≡ spec.taking_of passes verdict.now }
+{
+    match verdict {
+        Some(Verdict::NoValue(_)) => Taking::Counts,
+        Some(Verdict::Fails) => Taking::Fails,
+        Some(Verdict::Holds(_)) | None => {
+            if passes == 0 {
+                Taking::Counts
+            } else {
+                Taking::Passes
+            }
+        }
+    }
+}
+
+/// The first of two, if it is there.
+fn first_of(first: Option<CountedStop>, later: Option<CountedStop>) -> Option<CountedStop>
+    ensures { result ≡ spec.first_of first later }
+{
+    match first {
+        Some(counted) => Some(counted),
+        None => later,
+    }
+}
+
+/// The line where a machine stands, unless the program has ended.
+fn line_of<M: RecordedMachine>(machine: &M) -> Option<u32>
+    ensures { (s : Setting) (d : Debugger) → M.stands machine.now s d → line_now s.program (now s d) ≡ result }
+{
+    match machine.position() {
+        Some(position) => Some(position.place.line),
+        None => None,
+    }
+}
+
+/// Whether this is a breakpoint on a line, if there is a line.
+fn is_on_line(stop: Stop, line: Option<u32>) -> bool
+    ensures { (s : Setting) (meant : model.Stop) → IsStop s stop meant → on_line line meant ≡ result }
+{
+    match (stop, line) {
+        (Stop::Line(own), Some(here)) => here == own,
+        (Stop::Line(_), None) | (Stop::Watch { .. }, _) => false,
+    }
+}

@@ -1,0 +1,14 @@
+//! Breakpoints and watches with conditions and counts, over a session of the debugger.
+#![tactic(auto)]
+
+mod asking;
+mod going;
+mod judging;
+mod reasons;
+mod table;
+mod watching;
+
+pub use going::{Direction, MoveEnd, Moved, continue_on};
+pub use judging::{HoldingLanes, Verdict, judge_condition};
+pub use reasons::{CountedStop, Reason};
+pub use table::{ConditionRefusal, Conditions, LONGEST_CONDITION};
