@@ -28,7 +28,7 @@ FULL = b"C11 TableFull: 64 breakpoints and watches are there; `delete N` makes r
 
 # A loop of 201 steps, and where its program begins.
 LOOP = b"export void go() {\n    uniform int n = 0;\n    while (n < 100)\n        n += 1;\n}\n"
-AT_START = b"go at loop.ispc:2:5, lanes ####\n"
+AT_START = b"go at loop.ispc:2:5, "
 
 
 def explained(number):

@@ -52,14 +52,15 @@ LONG = b"""export void go() {
 """
 TYPED_LINES = b"break 5\ncontinue\ncontinue\n"
 PROGRESS, CLEARED = b"\r100,000 moves", b"\r                \r"
-SHOWN = b"""go at long.ispc:2:5, lanes ####
+SHOWN = b"""go at long.ispc:2:5, step 0, lanes ####
        1  export void go() {
 ->     2      uniform int n = 0;
               ^
        3      while (n < 51000)
        4          n += 1;
 breakpoint 1 at line 5
-%s%sthe step limit of one command is reached: go at long.ispc:4:9, lanes ####
+%s%sthe step limit of one command is reached:
+go at long.ispc:4:9, step 100500, lanes ####
        2      uniform int n = 0;
        3      while (n < 51000)
 ->     4          n += 1;
@@ -67,7 +68,7 @@ breakpoint 1 at line 5
        5      n = 7;
        6  }
   n = 50249
-%sbreakpoint 1: go at long.ispc:5:5, lanes ####
+%sbreakpoint 1: go at long.ispc:5:5, step 102002, lanes ####
        3      while (n < 51000)
        4          n += 1;
 ->     5      n = 7;
@@ -156,7 +157,18 @@ def runs(root):
     """A run for each session, and one for each line that users of GDB type."""
     page = [Run(f"{PAGE}: {line}", as_bytes([line]), ["debug", "go.ispc"], is_known, b"", data={"go.ispc": SOURCE}) for line in typed(root)]
     habits = Habits(root)
-    return [it.run() for it in sessions(root)] + page + [habits.run(*row) for row in habits.rows]
+    return [it.run() for it in sessions(root)] + page + [habits.run(*row) for row in habits.rows] + [checkpoints()]
+
+
+def checkpoints():
+    """As many checkpoints as there may be, and one more, which is refused by a name; one that goes makes room for the next number."""
+    lines = b"checkpoint\n" * 65 + b"delete checkpoint 7\ncheckpoint\ninfo checkpoints\n"
+    noted = b"".join(b"checkpoint %d at step 0\n" % number for number in range(1, 65))
+    listed = b"".join(b"%d  step 0\n" % number for number in range(1, 66) if number != 7)
+    full = b"CheckpointsFull: 64 checkpoints are there; `delete checkpoint N` makes room.\n"
+    shown_then = noted + full + b"noted no more\ncheckpoint 65 at step 0\n" + listed
+    judge = lambda text: [] if text.endswith(shown_then) else ["64 checkpoints are not noted, or more are:", *shown(text)]
+    return Run("64 checkpoints are noted, and no more", lines, ["debug", "go.ispc"], judge, b"", data={"go.ispc": SOURCE})
 
 
 def results(program):

@@ -24,14 +24,14 @@ BRANCHES = b"""export void go() {
 }
 """
 # What two moves show in colours: the arrow and the mark in cyan, active lanes in green and others in grey, new values in yellow.
-IN_COLOURS = b"""go at go.ispc:4:9, lanes \x1b[90m.\x1b[32m#\x1b[90m..\x1b[0m
+IN_COLOURS = b"""go at go.ispc:4:9, step 2, lanes \x1b[90m.\x1b[32m#\x1b[90m..\x1b[0m
        2      int x = 1;
        3      if (programIndex == 1)
 \x1b[36m->\x1b[0m     4          x = 2;
                   \x1b[36m^\x1b[0m
        5  }
   x = \x1b[33m1\x1b[0m \x1b[33m1\x1b[0m \x1b[33m1\x1b[0m \x1b[33m1\x1b[0m
-go at go.ispc:5:1, lanes \x1b[32m####\x1b[0m
+go at go.ispc:5:1, step 3, lanes \x1b[32m####\x1b[0m
        3      if (programIndex == 1)
        4          x = 2;
 \x1b[36m->\x1b[0m     5  }

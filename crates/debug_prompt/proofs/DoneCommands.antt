@@ -43,6 +43,10 @@ sets_none other moving sets = sets
 reply_done : (s : Setting) (command : Command) (d : Debugger) (r : Reply) → (MayRunOut command d → ⊥) → IsReply s command d r → r ≡ do_command s command d
 reply_done s command d r sure is = elim is [ inl e ↦ e | inr out ↦ absurd (sure out.0) ]
 
+-- a command that wants for no memory has one reply
+pub only_reply : (may_want : Type 0) (s : Setting) (command : Command) (d : Debugger) (r : Reply) → (MayRunOut command d → ⊥) → (Sets command → ⊥) → RepliesOn may_want s command d r → r ≡ do_command s command d
+only_reply may_want s command d r sure none is = elim is [ inl is ↦ reply_done s command d r sure is | inr out ↦ absurd (none out.1.0) ]
+
 -- a command that moves has one reply
 pub sure_reply : (may_want : Type 0) (s : Setting) (command : Command) (d : Debugger) (r : Reply) → doing.moves command ≡ true → RepliesOn may_want s command d r → r ≡ do_command s command d
 sure_reply may_want s command d r moving is = elim is [ inl is ↦ reply_done s command d r (move_sure command d moving) is | inr none ↦ absurd (sets_none command moving none.1.0) ]

@@ -3,3 +3,4 @@ mod DoneCommands
 mod Displays
 mod WorkedLines
 mod PieceLaws
+mod MomentLaws

@@ -24,7 +24,8 @@ use Rattle.debug_session.proofs.Moves.{forward_fails, forward_goes, forward_over
 use Rattle.debug_session.proofs.Turns.{first_nowhere, first_stop_at}
 use Rattle.debug_traits.specs.declared.machine.Position.{Position}
 use Rattle.debug_traits.specs.Machines.{line_of_position}
-use Rattle.debug_prompt.specs.Doing.{is_here, stop_here}
+use Rattle.debug_prompt.specs.Doing.{stop_here}
+use Rattle.debug_prompt.specs.Moments.{is_here}
 use Rattle.debug_prompt.specs.Given as given
 use Rattle.debug_prompt.specs.Pieces.{GoesBy, MeansEnd, NoWatch, at_breakpoint, continued, ends_there, is_watch, watches}
 use Rattle.debug_prompt.proofs.AnswersMean.{is_here-means}

@@ -1,11 +1,15 @@
 -- Lines, and the commands that are done for them, computed.
 use Rattle.std.proofs.Common.{◌≡◌, refl, ap}
-use Rattle.std.specs.Prelude.{ℕ, true, false, List, [], ◌∷◌, pos, Some, None, codes, if◌then◌else◌}
+use Rattle.std.specs.Prelude.{ℕ, ◌^◌, true, false, List, [], ◌∷◌, pos, Some, None, codes, if◌then◌else◌}
 use Rattle.std.specs.List.{list_any}
-use Rattle.gang_model.specs.Debugger.Debugger.{AtBreakpoint, Command, Debugger, DoBreak, DoDelete, DoPrint, DoSet, Ended, Line, NoGoal, Refused, Setting, StepLimit, first_stop, forward, has_ended, now, on_line, reply, unless_refused}
+use Rattle.gang_model.specs.Debugger.Debugger.{AtBreakpoint, Command, Debugger, DoBreak, DoDelete, DoPrint, DoReverseStep, DoSet, DoUndo, Ended, Line, NoGoal, Refused, Setting, StepLimit, first_stop, forward, has_ended, now, on_line, reply, unless_refused}
+use Rattle.gang_model.specs.Debugger.Events.{LaneOf, Poke, Step}
+use Rattle.gang_types.specs.declared.places.VarId.TheVariants as id
 use Rattle.debug_answers.specs.declared.stops.Stop.TheVariants as stop
+use Rattle.prompt_lines.specs.declared.line.Kind.TheVariants as kind
 use Rattle.prompt_lines.specs.Sources.{Sheet}
-use Rattle.debug_prompt.specs.Doing.{commands_of, follows, held_after, kept_after}
+use Rattle.debug_prompt.specs.Doing.{changes_named, commands_of, follows, held_after, kept_after, step_noted}
+use Rattle.debug_prompt.specs.Moments.{all_back, at_first, is_unset, is_whole, to_moment}
 use Rattle.debug_prompt.specs.Holding.{Held, held_at_start, nothing_kept}
 use Rattle.debug_prompt.specs.Pieces.{at_breakpoint, continued, is_watch}
 
@@ -22,7 +26,7 @@ at_start s d line = commands_of source nothing_kept held_at_start s d line
 
 -- two temporary breakpoints are there, and x is displayed
 some_held : Held
-some_held = record { temporaries = 2 ∷ 5 ∷ []; displays = (1, codes "print  x") ∷ []; next = 2; has_begun = true; frame = 0 }
+some_held = record { temporaries = 2 ∷ 5 ∷ []; displays = (1, codes "print  x") ∷ []; next = 2; has_begun = true; frame = 0; checkpoints = (3, 7) ∷ []; next_checkpoint = 4 }
 
 temporary_row : (s : Setting) (d : Debugger) → at_start s d (codes "tbreak 7") ≡ DoBreak 7 ∷ []
 unfolding at_start
@@ -78,9 +82,68 @@ refused_row : follows some_held (Refused Ended) ≡ []
 unfolding some_held
 refused_row = refl
 
-undisplay_row : (s : Setting) (d : Debugger) → held_after source nothing_kept some_held s d (codes "undisplay 1") ≡ record { temporaries = 2 ∷ 5 ∷ []; displays = []; next = 2; has_begun = true; frame = 0 }
+undisplay_row : (s : Setting) (d : Debugger) → held_after source nothing_kept some_held s d (codes "undisplay 1") ≡ record { temporaries = 2 ∷ 5 ∷ []; displays = []; next = 2; has_begun = true; frame = 0; checkpoints = (3, 7) ∷ []; next_checkpoint = 4 }
 unfolding some_held
 undisplay_row s d = refl
+
+-- an expression is printed again, and nothing is set again
+expression_row : kept_after nothing_kept (codes "p x + 1") ≡ record { kind = kind.Print; text = codes "print  x + 1" }
+expression_row = refl
+
+not_set_again_row : kept_after nothing_kept (codes "p x = 1") ≡ nothing_kept
+not_set_again_row = refl
+
+-- ---- moments
+
+-- three events can be taken back: two steps, and a value that was set between them
+some_events : Debugger
+some_events = record { events = Step ∷ Poke (LaneOf (id.File 0) 1) 5 ∷ Step ∷ []; kept = 3; history = 2 ^ 62; stops = []; next = 1 }
+
+back_row : all_back some_events ≡ DoUndo ∷ DoUndo ∷ DoUndo ∷ []
+unfolding some_events
+back_row = refl
+
+first_row : (at_first some_events).events ≡ []
+unfolding some_events
+first_row = refl
+
+whole_row : is_whole some_events ≡ true
+unfolding some_events
+whole_row = refl
+
+limited_row : is_whole (record some_events { history = 100 }) ≡ false
+unfolding some_events
+limited_row = refl
+
+-- two steps were made: back to the first one is one step, which the value that was set is not
+goto_row : (s : Setting) → to_moment 1 s some_events ≡ DoReverseStep 1 ∷ []
+unfolding some_events
+goto_row s = refl
+
+goto_here_row : (s : Setting) → to_moment 2 s some_events ≡ []
+unfolding some_events
+goto_here_row s = refl
+
+set_there_row : is_unset some_events ≡ false
+unfolding some_events
+set_there_row = refl
+
+restart_row : (s : Setting) → commands_of source nothing_kept (record some_held { displays = [] }) s (record some_events { events = Step ∷ []; kept = 1 }) (codes "restart 4") ≡ []
+unfolding some_held some_events
+restart_row s = refl
+
+ten_row : changes_named (codes "watch  x[2]") ≡ Some (record { name = codes "x"; at = Some 2 }, 10)
+ten_row = refl
+
+three_row : changes_named (codes "watch  x[2] 3 ") ≡ Some (record { name = codes "x"; at = Some 2 }, 3)
+three_row = refl
+
+no_count_row : changes_named (codes "watch  x now") ≡ None
+no_count_row = refl
+
+noted_row : step_noted some_held (Some 3) ≡ Some 7
+unfolding some_held
+noted_row = refl
 
 -- a breakpoint ends a `continue` behind a piece, and no breakpoint does not
 breakpoint_row : at_breakpoint (first_stop (on_line (Some 9)) ((1, Line 7) ∷ (2, Line 9) ∷ [])) ≡ Some (AtBreakpoint 2)

@@ -1,20 +1,22 @@
 -- What is done for a line: a list of the debugger's commands, by what the prompt holds, where the debugger stands and the line.
 -- What a prompt does beside a command is done by commands too: what is displayed is printed, and a temporary breakpoint is deleted.
-use Rattle.std.specs.Prelude.{ℕ, ◌+◌, ◌-◌, ◌==◌, ◌&&◌, Bool, true, false, not, nat_lt, List, [], ◌∷◌, ◌++◌, drop, length, filter, Option, Some, None, is_none, option_and_then, option_map, if◌then◌else◌}
-use Rattle.std.specs.List.{list_any}
-use Rattle.gang_model.specs.Debugger.Debugger.{Answer, AtBreakpoint, BreaksAt, Command, Debugger, DoBreak, DoContinue, DoDelete, DoFinish, DoNext, DoPrint, DoQuit, DoReverseContinue, DoReverseFinish, DoReverseNext, DoReverseStep, DoSet, DoStep, DoUndo, Here, Refused, Setting, Shows, Target, bad_part, depth, do_command, first_stop, found, least_from, now, on_line, shown_words, step_lines}
+use Rattle.std.specs.Prelude.{ℕ, ◌+◌, ◌-◌, ◌==◌, ◌&&◌, Bool, true, false, not, nat_lt, List, [], ◌∷◌, ◌++◌, drop, take, length, filter, Option, Some, None, is_none, option_and_then, option_map, if◌then◌else◌}
+use Rattle.std.specs.List.{list_any, suffix_len}
+use Rattle.gang_model.specs.Debugger.Debugger.{Answer, AtBreakpoint, BreaksAt, Command, Debugger, DoBreak, DoContinue, DoDelete, DoFinish, DoNext, DoPrint, DoQuit, DoReverseContinue, DoReverseFinish, DoReverseNext, DoReverseStep, DoSet, DoStep, DoUndo, DoWatch, Refused, Setting, Shows, Target, Watches, bad_part, depth, do_command, first_stop, found, kept_steps, least_from, now, on_line, shown_words, step_lines}
 use Rattle.gang_model.specs.Debugger.Positions.{line_now}
 use Rattle.gang_model.specs.Types.Tree.{Variable}
 use Rattle.gang_types.specs.declared.places.VarId.{VarId}
 use Rattle.gang_types.specs.declared.places.VarId.TheVariants as id
 use Rattle.gang_model.specs.Texts.CommandText.{command_of, index}
+use Rattle.gang_model.specs.Texts.Spellings.{is_blank}
 use Rattle.debug_traits.specs.Frames.{found_at, state_at}
 use Rattle.prompt_lines.specs.declared.line.Kind.{Kind}
 use Rattle.prompt_lines.specs.declared.line.Kind.TheVariants as kind
 use Rattle.prompt_lines.specs.declared.line.Look.TheVariants as look
 use Rattle.prompt_lines.specs.Sources.{Sheet, line_named}
-use Rattle.prompt_lines.specs.Words.{Spelled, argument_of, held_text, is_alone, line_of, setting_text}
+use Rattle.prompt_lines.specs.Words.{Spelled, argument_of, held_text, is_alone, line_of, moment_of, setting_text}
 use Rattle.debug_prompt.specs.Holding.{Held, nothing_kept}
+use Rattle.debug_prompt.specs.Moments.{all_back, at_first, is_unchanged, is_unset, is_whole, led, steps_on, stops_back, to_moment}
 use Rattle.debug_prompt.specs.declared.prompt.Turn.{Turn}
 use Rattle.debug_prompt.specs.declared.prompt.Turn.TheVariants as turn
 
@@ -63,6 +65,50 @@ abbrev pub made_number : Answer → Option ℕ
 made_number (BreaksAt n line) = Some n
 made_number answer = None
 
+-- the target that a command watches
+abbrev pub watch_of : Option Command → Option Target
+watch_of (Some (DoWatch target)) = Some target
+watch_of command = None
+
+-- the watch that was made
+abbrev pub watch_number : Answer → Option ℕ
+watch_number (Watches n target) = Some n
+watch_number answer = None
+
+-- the number of steps that a command line names
+abbrev pub step_named : (text : List ℕ) → Option ℕ
+step_named text = option_and_then moment_of (argument_of text)
+
+-- the number that a command line names
+abbrev pub index_named : (text : List ℕ) → Option ℕ
+index_named text = option_and_then index (argument_of text)
+
+-- a text without the blanks at its end
+abbrev pub trimmed : List ℕ → List ℕ
+trimmed text = take (length text - suffix_len is_blank text) text
+
+-- where the last word of a text begins: behind the last blank
+abbrev pub last_place : List ℕ → ℕ
+last_place text = length text - suffix_len (λ byte. not (is_blank byte)) text
+
+-- a target, and a number
+abbrev pub with_count : Option Target → (number : Option ℕ) → Option (Target × ℕ)
+with_count None number = None
+with_count (Some target) None = None
+with_count (Some target) (Some n) = Some (target, n)
+
+-- a target and the number behind it
+abbrev pub counted : (text : List ℕ) → Option (Target × ℕ)
+counted text = with_count (watch_of (command_of (take (last_place text) text))) (index (drop (last_place text) text))
+
+-- the target whose changes a command line names, and how many of them at most: ten, or a number behind it
+abbrev pub ten_or : Option Target → (other : Option (Target × ℕ)) → Option (Target × ℕ)
+ten_or None other = other
+ten_or (Some target) other = Some (target, 10)
+
+abbrev pub changes_named : (text : List ℕ) → Option (Target × ℕ)
+changes_named text = ten_or (watch_of (command_of text)) (counted (trimmed text))
+
 -- so many times a step
 abbrev pub count_of : Option Command → Option ℕ
 count_of (Some (DoStep n)) = Some n
@@ -79,11 +125,6 @@ frame_above h calls = option_map (λ n. h.frame + n) calls
 -- the number of the frame so many calls below it, at least that of the top frame
 abbrev pub frame_below : Held → Option ℕ → Option ℕ
 frame_below h calls = option_map (λ n. h.frame - n) calls
-
--- whether a goal is reached, or the end
-abbrev pub is_here : Answer → Bool
-is_here Here = true
-is_here answer = false
 
 -- whether a target is shown
 abbrev pub is_shown : Answer → Bool
@@ -164,14 +205,78 @@ abbrev pub own : Setting → Debugger → Held → Option Command → List Comma
 own s d h None = []
 own s d h (Some command) = done_with s d h command
 
--- the breakpoint at which `run` stands already: that on the line of the first step, where the program has not begun
-abbrev pub stands_at : Setting → Debugger → Held → Option ℕ
-stands_at s d h = if h.has_begun then None else stop_here s d
-
 -- `run` stops at once at a breakpoint where it stands already, else it goes on
 abbrev pub ran : Setting → Debugger → Held → (at : Option ℕ) → List Command
 ran s d h None = done_with s d h DoContinue
 ran s d h (Some number) = follows h (AtBreakpoint number)
+
+-- what is done only where the run can be taken back to its start
+abbrev pub if_whole : Debugger → List Command → List Command
+if_whole d commands = if is_whole d then commands else []
+
+-- the program begins anew: everything is taken back, and then it runs as at first
+abbrev pub ran_anew : Setting → Debugger → Held → List Command
+ran_anew s d h = all_back d ++ ran s (at_first d) h (stop_here s (at_first d))
+
+-- `run`: a program that has not begun begins, and another one anew
+abbrev pub run_by : Setting → Debugger → Held → List Command
+run_by s d h = if h.has_begun then if_whole d (ran_anew s d h) else ran s d h (stop_here s d)
+
+-- everything is taken back, and all that is displayed is printed
+abbrev pub started_anew : Debugger → Held → List Command
+started_anew d h = all_back d ++ shown h.displays
+
+-- `start`: a program that has begun is taken back to its start
+abbrev pub start_by : Debugger → Held → List Command
+start_by d h = if h.has_begun then if_whole d (started_anew d h) else []
+
+-- to a moment, and all that is displayed is printed
+abbrev pub went_to : ℕ → Setting → Debugger → Held → List Command
+went_to n s d h = to_moment n s d ++ shown h.displays
+
+-- to a moment, where one is named
+abbrev pub go_by : Setting → Debugger → Held → (step : Option ℕ) → List Command
+go_by s d h None = []
+go_by s d h (Some n) = if_whole d (went_to n s d h)
+
+-- the number of steps that lead to what was noted by a number
+abbrev pub step_in : List (ℕ × ℕ) → (number : ℕ) → Option ℕ
+step_in [] n = None
+step_in (entry ∷ entries) n = if entry.0 == n then Some entry.1 else step_in entries n
+
+abbrev pub step_noted : Held → (number : Option ℕ) → Option ℕ
+step_noted h None = None
+step_noted h (Some n) = step_in h.checkpoints n
+
+-- back to the last change of what has been watched, and the watch goes; where there is none, on again to where it stood
+abbrev pub sought : Setting → Held → Debugger → (made : Option ℕ) → List Command
+sought s h d None = []
+sought s h d (Some number) =
+    let r = do_command s DoReverseContinue d in
+    let e = (do_command s (DoDelete (Some number)) r.next).next in
+    DoReverseContinue ∷ DoDelete (Some number) ∷ (if is_unchanged d r.answer then steps_on (kept_steps d) s e else follows h r.answer)
+
+-- back to the last change of a target
+abbrev pub last_by : Setting → Debugger → Held → Option Target → List Command
+last_by s d h None = []
+last_by s d h (Some target) = let made = do_command s (DoWatch target) d in DoWatch target ∷ sought s h made.next (watch_number made.answer)
+
+-- back over so many of the last changes of what has been watched, the watch goes, and on again to where it stood
+abbrev pub told_changes : Setting → Debugger → (most : ℕ) → (made : Option ℕ) → List Command
+told_changes s d most None = []
+told_changes s d most (Some number) =
+    let back = stops_back most s d in
+    let e = (do_command s (DoDelete (Some number)) (led s back d)).next in
+    back ++ DoDelete (Some number) ∷ steps_on (kept_steps d - kept_steps e) s e
+
+-- so many of the last changes of a target
+abbrev pub watched_changes : Setting → Debugger → Target → (most : ℕ) → List Command
+watched_changes s d target most = let made = do_command s (DoWatch target) d in DoWatch target ∷ told_changes s made.next most (watch_number made.answer)
+
+-- the same, where single steps lead back to where the program stands
+abbrev pub changes_by : Setting → Debugger → Option (Target × ℕ) → List Command
+changes_by s d None = []
+changes_by s d (Some named) = if is_unset d then watched_changes s d named.0 named.1 else []
 
 -- a breakpoint is made
 abbrev pub broken : (line : Option ℕ) → List Command
@@ -215,12 +320,17 @@ commands_by kind.Finish sheet s d h text = in_top h (own s d h (command_of text)
 commands_by kind.Print sheet s d h text = printed_or_set s d h (print_of (command_of text)) (command_of (setting_text text))
 commands_by kind.Set sheet s d h text = set_by s d h (command_of text)
 commands_by kind.Break sheet s d h text = broken (line_named sheet text)
-commands_by kind.Run sheet s d h text = if is_alone text then ran s d h (stands_at s d h) else []
+commands_by kind.Run sheet s d h text = if is_alone text then run_by s d h else []
+commands_by kind.Start sheet s d h text = if is_alone text then start_by d h else []
 commands_by kind.Clear sheet s d h text = cleared (stop_on s d (line_named sheet text))
 commands_by kind.Temporary sheet s d h text = broken (line_named sheet text)
 commands_by kind.Until sheet s d h text = if is_alone text then done_with s d h (DoNext 1) else until_line s d h (line_named sheet text)
 commands_by kind.Hexadecimal sheet s d h text = in_top h (printed (print_of (command_of text)))
 commands_by kind.Display sheet s d h text = in_top h (if is_alone text then shown h.displays else printed (print_of (command_of text)))
+commands_by kind.Goto sheet s d h text = go_by s d h (step_named text)
+commands_by kind.Restart sheet s d h text = go_by s d h (step_noted h (index_named text))
+commands_by kind.Last sheet s d h text = last_by s d h (watch_of (command_of text))
+commands_by kind.Changes sheet s d h text = changes_by s d (changes_named text)
 commands_by kind sheet s d h text = []
 
 -- the commands that are done for a line, where one is kept
@@ -246,10 +356,22 @@ abbrev pub after_own : Setting → Debugger → Held → Option Command → Held
 after_own s d h None = h
 after_own s d h (Some command) = after_command s d h command
 
--- what `run` changes
+-- what a run that begins changes
 abbrev pub after_run : Setting → Debugger → Held → (at : Option ℕ) → Held
 after_run s d h None = after_command s d h DoContinue
 after_run s d h (Some number) = begun h (AtBreakpoint number)
+
+-- what `run` changes
+abbrev pub after_run_by : Setting → Debugger → Held → Held
+after_run_by s d h = if h.has_begun then (if is_whole d then after_run s (at_first d) h (stop_here s (at_first d)) else h) else after_run s d h (stop_here s d)
+
+-- the program has not begun
+abbrev pub not_begun : Held → Held
+not_begun h = record h { has_begun = false; frame = 0 }
+
+-- what `start` changes
+abbrev pub after_start : Debugger → Held → Held
+after_start d h = if h.has_begun && is_whole d then not_begun h else h
 
 -- what going on to a breakpoint changes
 abbrev pub after_going : Setting → Held → Debugger → (made : Option ℕ) → Held
@@ -260,6 +382,40 @@ after_going s h d (Some number) = begun h (do_command s DoContinue d).answer
 abbrev pub after_until : Setting → Debugger → Held → (line : Option ℕ) → Held
 after_until s d h None = h
 after_until s d h (Some n) = let made = do_command s (DoBreak n) d in after_going s h made.next (made_number made.answer)
+
+-- what going to a moment changes
+abbrev pub after_go : Debugger → Held → (step : Option ℕ) → Held
+after_go d h None = h
+after_go d h (Some n) = if is_whole d then started h else h
+
+-- what going back to a change changes
+abbrev pub after_sought : Setting → Held → Debugger → (made : Option ℕ) → Held
+after_sought s h d None = h
+after_sought s h d (Some number) = let r = do_command s DoReverseContinue d in if is_unchanged d r.answer then h else begun h r.answer
+
+abbrev pub after_last : Setting → Debugger → Held → Option Target → Held
+after_last s d h None = h
+after_last s d h (Some target) = let made = do_command s (DoWatch target) d in after_sought s h made.next (watch_number made.answer)
+
+-- a number of steps is noted, where fewer than 64 are and a number is left
+abbrev pub with_checkpoint : Held → (step : ℕ) → Held
+with_checkpoint h step =
+    if nat_lt (length h.checkpoints) 64 && nat_lt h.next_checkpoint 10000000
+    then record h { checkpoints = h.checkpoints ++ (h.next_checkpoint, step) ∷ []; next_checkpoint = h.next_checkpoint + 1 } else h
+
+-- the moment is noted, where its number of steps is known
+abbrev pub after_checkpoint : Debugger → Held → Held
+after_checkpoint d h = if is_whole d then with_checkpoint h (kept_steps d) else h
+
+-- without what was noted by a number, or without all
+abbrev pub without_checkpoint : Held → (number : Option ℕ) → Held
+without_checkpoint h None = record h { checkpoints = [] }
+without_checkpoint h (Some n) = record h { checkpoints = filter (λ entry. not (entry.0 == n)) h.checkpoints }
+
+-- what has a number is noted no more
+abbrev pub after_forget : Held → Option (Option ℕ) → Held
+after_forget h None = h
+after_forget h (Some number) = without_checkpoint h number
 
 -- numbers with one more, the oldest of 64 left out
 abbrev pub with_number : List ℕ → ℕ → List ℕ
@@ -305,7 +461,8 @@ after_delete h (Some number) = without_display h number
 abbrev pub changed_by : Kind → Sheet → Setting → Debugger → Held → (text : List ℕ) → Held
 changed_by kind.Own sheet s d h text = after_own s d h (command_of text)
 changed_by kind.Finish sheet s d h text = if h.frame == 0 then after_own s d h (command_of text) else h
-changed_by kind.Run sheet s d h text = if is_alone text then after_run s d h (stands_at s d h) else h
+changed_by kind.Run sheet s d h text = if is_alone text then after_run_by s d h else h
+changed_by kind.Start sheet s d h text = if is_alone text then after_start d h else h
 changed_by kind.Until sheet s d h text = if is_alone text then after_command s d h (DoNext 1) else after_until s d h (line_named sheet text)
 changed_by kind.Temporary sheet s d h text = after_break s d h (line_named sheet text)
 changed_by kind.Display sheet s d h text = if is_alone text then h else after_print s d h text (print_of (command_of text))
@@ -313,6 +470,11 @@ changed_by kind.Undisplay sheet s d h text = after_delete h (delete_of (command_
 changed_by (kind.Look look.Frame) sheet s d h text = selected s d h (frame_named h text)
 changed_by (kind.Look look.Up) sheet s d h text = selected s d h (frame_above h (count_of (command_of text)))
 changed_by (kind.Look look.Down) sheet s d h text = selected s d h (frame_below h (count_of (command_of text)))
+changed_by kind.Goto sheet s d h text = after_go d h (step_named text)
+changed_by kind.Restart sheet s d h text = after_go d h (step_noted h (index_named text))
+changed_by kind.Last sheet s d h text = after_last s d h (watch_of (command_of text))
+changed_by kind.Checkpoint sheet s d h text = if is_alone text then after_checkpoint d h else h
+changed_by kind.Forget sheet s d h text = after_forget h (delete_of (command_of text))
 changed_by kind sheet s d h text = h
 
 -- what is held after a line
@@ -327,14 +489,19 @@ command_repeats None = false
 command_repeats (Some (DoPrint target)) = true
 command_repeats (Some command) = moves command
 
+-- whether a command sets a target
+abbrev pub sets : Option Command → Bool
+sets (Some (DoSet target z)) = true
+sets command = false
+
 -- whether a command line of a kind does
 abbrev pub repeats : Kind → (text : List ℕ) → Bool
 repeats kind.Own text = command_repeats (command_of text)
-repeats kind.Run text = true
 repeats kind.Finish text = command_repeats (command_of text)
-repeats kind.Print text = command_repeats (command_of text)
+repeats kind.Print text = not (sets (command_of (setting_text text)))
 repeats kind.Until text = true
 repeats kind.Hexadecimal text = true
+repeats kind.Last text = true
 repeats (kind.Look look.List) text = true
 repeats (kind.Look look.Up) text = true
 repeats (kind.Look look.Down) text = true

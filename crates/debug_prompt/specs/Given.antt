@@ -1,6 +1,8 @@
 -- What an answer tells, as it is given.
 use Rattle.std.specs.Prelude.{ℕ, Bool, true, false, List, [], ◌++◌, Option, Some, None, if◌then◌else◌}
-use Rattle.gang_model.specs.Debugger.Debugger.{Command}
+use Rattle.gang_model.specs.Debugger.Debugger.{Command, Target}
+use Rattle.debug_commands.specs.declared.command.Target as declared
+use Rattle.debug_commands.specs.Views.{target_view}
 use Rattle.debug_answers.specs.declared.answer.Answer.{Answer}
 use Rattle.debug_answers.specs.declared.answer.Answer.TheVariants as answer
 use Rattle.debug_traits.specs.declared.machine.Shown.{Shown}
@@ -17,6 +19,22 @@ abbrev pub made_number : Answer → Option ℕ
 made_number (answer.BreaksAt n line) = Some n
 made_number given = None
 
+-- the watch that was made
+abbrev pub watch_number : Answer → Option ℕ
+watch_number (answer.Watches n target) = Some n
+watch_number given = None
+
+-- whether a breakpoint or a watch stopped a move
+abbrev pub is_stop : Answer → Bool
+is_stop (answer.AtBreakpoint n) = true
+is_stop (answer.AtWatch n) = true
+is_stop given = false
+
+-- whether the history goes back no further
+abbrev pub is_history_end : Answer → Bool
+is_history_end answer.HistoryEnd = true
+is_history_end given = false
+
 -- whether a goal is reached, or the end
 abbrev pub is_here : Answer → Bool
 is_here answer.Here = true
@@ -31,6 +49,11 @@ is_shown given = false
 abbrev pub is_refusal : Answer → Bool
 is_refusal (answer.Refused r) = true
 is_refusal given = false
+
+-- a target and a number, as the definitions have them
+abbrev pub counted_view : Option (declared.Target × ℕ) → Option (Target × ℕ)
+counted_view None = None
+counted_view (Some named) = Some (target_view named.0, named.1)
 
 -- what follows a move
 abbrev pub follows : Held → Answer → List Command

@@ -4,22 +4,26 @@ use Rattle.prompt_lines.specs.Sources.{Sheet}
 use Rattle.prompt_lines.specs.Words.{Spelled}
 use Rattle.prompt_texts.specs.declared.source.Source.{Source}
 use Rattle.prompt_lines.specs.declared.line.Kind.TheVariants as kind
+use Rattle.debug_prompt.specs.declared.holding.Checkpoint.{Checkpoint}
 use Rattle.debug_prompt.specs.declared.holding.Displayed.{Displayed}
 use Rattle.debug_prompt.specs.declared.holding.Holding as declared
 
 -- the numbers of the last breakpoints that go when they have stopped a move; what is displayed after each move, by its number and
 -- its command line; the next such number; whether the program has begun, by a move or by `run`; the number of the frame
--- that is selected, the top one being number 0
+-- that is selected, the top one being number 0; the moments that were noted, each by its number and how many steps lead to it; the
+-- next such number
 pub record Held : Type 0 where
   pub temporaries : List ℕ
   pub displays : List (ℕ × List ℕ)
   pub next : ℕ
   pub has_begun : Bool
   pub frame : ℕ
+  pub checkpoints : List (ℕ × ℕ)
+  pub next_checkpoint : ℕ
 
 -- what is held at the start
 abbrev pub held_at_start : Held
-held_at_start = record { temporaries = []; displays = []; next = 1; has_begun = false; frame = 0 }
+held_at_start = record { temporaries = []; displays = []; next = 1; has_begun = false; frame = 0; checkpoints = []; next_checkpoint = 1 }
 
 -- a blank line, which does nothing
 abbrev pub nothing_kept : Spelled
@@ -29,9 +33,21 @@ nothing_kept = record { kind = kind.Own; text = [] }
 abbrev pub entry_of : Displayed → ℕ × List ℕ
 entry_of displayed = (displayed.number, displayed.text.items)
 
+-- a moment that was noted, by its number
+abbrev pub noted_of : Checkpoint → ℕ × ℕ
+noted_of checkpoint = (checkpoint.number, checkpoint.step)
+
 -- what is held, as the definitions have it
 abbrev pub held : declared.Holding → Held
-held h = record { temporaries = h.temporaries.items; displays = map entry_of h.displays.items; next = h.next; has_begun = h.has_begun; frame = h.frame }
+held h = record {
+  temporaries = h.temporaries.items;
+  displays = map entry_of h.displays.items;
+  next = h.next;
+  has_begun = h.has_begun;
+  frame = h.frame;
+  checkpoints = map noted_of h.checkpoints.items;
+  next_checkpoint = h.next_checkpoint;
+}
 
 -- the source that is shown
 abbrev pub sheet : Source → Sheet

@@ -1,4 +1,5 @@
 pub mod Holding
+pub mod Moments
 pub mod Doing
 pub mod Given
 pub mod Pieces

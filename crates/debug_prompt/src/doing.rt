@@ -1,5 +1,5 @@
 //! Moves and breakpoints, by the kind of a command line.
-ghost use Rattle.std.specs.Prelude.{◌≡◌, ◌==◌, [], Some, if◌then◌else◌};
+ghost use Rattle.std.specs.Prelude.{◌≡◌, ◌==◌, Some, if◌then◌else◌};
 ghost use Rattle.gang_model.specs.Debugger.Debugger.{Debugger, Setting, DoNext};
 ghost use Rattle.gang_model.specs.Texts.CommandText.{command_of};
 ghost use Rattle.command_lists.specs.Lists.{HasDone};
@@ -10,7 +10,7 @@ ghost use Rattle.debug_prompt.specs.Doing as spec;
 ghost use Rattle.debug_prompt.specs.Holding.{held, sheet};
 
 use crate::holding::Holding;
-use crate::pieces::{go_on, stop_here, stop_on};
+use crate::pieces::{go_on, stop_on};
 use crate::readings::{line_of, made_number};
 use crate::turning::{Scene, do_alone, do_own, follow};
 use debug_answers::Answer;
@@ -39,59 +39,6 @@ pub(crate) fn do_spelled<M: RecordedMachine, O: AnswerWriter + Drop>(
     match read_command(text) {
         Some(command) => do_own(command, holding, scene, session, page),
         None => tell_unknown(scene.line, page),
-    }
-}
-
-/// Begins the program, or goes on: before it has begun it stops at once at a breakpoint where it stands.
-pub(crate) fn run<M: RecordedMachine, O: AnswerWriter + Drop>(
-    text: &[u8],
-    holding: &mut Holding,
-    scene: Scene<'_>,
-    session: &mut Session<M>,
-    page: &mut Page<O>,
-)
-    ensures { (s : Setting) (d : Debugger) → StandsFor M.stands session.old s d → s.limit ≡ scene.entry.most_steps
-        → HasDone M.stands s (if is_alone text.now then spec.ran s d (held holding.old) (spec.stands_at s d (held holding.old)) else []) d session.new
-        × (held holding.new ≡ (if is_alone text.now then spec.after_run s d (held holding.old) (spec.stands_at s d (held holding.old)) else held holding.old)) }
-{
-    if is_alone(text) {
-        run_from(stands_at(holding, session), holding, scene, session, page);
-    } else {
-        tell_unknown(scene.line, page);
-    }
-}
-
-/// The breakpoint at which `run` stands already.
-fn stands_at<M: RecordedMachine>(holding: &Holding, session: &Session<M>) -> Option<u32>
-    ensures { (s : Setting) (d : Debugger) → StandsFor M.stands session.now s d → result ≡ spec.stands_at s d (held holding.now) }
-{
-    if holding.has_begun() {
-        None
-    } else {
-        stop_here(session)
-    }
-}
-
-/// Stops at once at a breakpoint where the program stands already, if there is one, else goes on.
-fn run_from<M: RecordedMachine, O: AnswerWriter + Drop>(
-    at: Option<u32>,
-    holding: &mut Holding,
-    scene: Scene<'_>,
-    session: &mut Session<M>,
-    page: &mut Page<O>,
-)
-    ensures { (s : Setting) (d : Debugger) → StandsFor M.stands session.old s d → s.limit ≡ scene.entry.most_steps
-        → HasDone M.stands s (spec.ran s d (held holding.old) at) d session.new
-        × (held holding.new ≡ spec.after_run s d (held holding.old) at) }
-{
-    match at {
-        None => do_own(Command::Continue, holding, scene, session, page),
-        Some(number) => {
-            let answer = Answer::AtBreakpoint(number);
-            let before = Before::note(session.machine());
-            tell_move(&answer, scene.line, &before, scene.source, session, page);
-            follow(&answer, holding, scene, session, page);
-        }
     }
 }
 

@@ -1,5 +1,5 @@
 //! What a prompt holds from line to line, as far as it decides what is done.
-ghost use Rattle.std.specs.Prelude.{◌≡◌, ◌==◌, []};
+ghost use Rattle.std.specs.Prelude.{◌≡◌, ◌==◌, [], Some};
 ghost use Rattle.std.specs.List.{list_any};
 ghost use Rattle.debug_prompt.specs.Doing as spec;
 ghost use Rattle.debug_prompt.specs.Holding.{held, held_at_start};
@@ -13,7 +13,10 @@ const TEMPORARIES: usize = 64;
 /// How much may be displayed.
 const DISPLAYS: usize = 16;
 
-/// The last number that is given to what is displayed.
+/// How many moments may be noted.
+const CHECKPOINTS: usize = 64;
+
+/// The last number that is given to what is displayed, or to a moment.
 const LAST_NUMBER: u32 = 10_000_000;
 
 /// What is displayed after each move: its number, and the command line that prints it.
@@ -35,8 +38,24 @@ impl Default for Displayed {
     }
 }
 
-/// The numbers of the last temporary breakpoints, what is displayed, whether the program has begun, and which frame
-/// is selected.
+/// A moment of the run: its number, and how many steps lead to it.
+#[derive(Clone, Copy, Drop)]
+pub(crate) struct Checkpoint {
+    pub(crate) number: u32,
+    pub(crate) step: u64,
+}
+
+/// The blank in an unused place.
+impl Default for Checkpoint {
+    ghost is_default = { λ checkpoint. checkpoint.number ≡ 0 };
+
+    fn default() -> Self {
+        Checkpoint { number: 0, step: 0 }
+    }
+}
+
+/// The numbers of the last temporary breakpoints, what is displayed, whether the program has begun, which frame is selected,
+/// and the moments that were noted.
 #[derive(Drop)]
 pub(crate) struct Holding {
     temporaries: ArrayVec<u32, TEMPORARIES>,
@@ -44,6 +63,8 @@ pub(crate) struct Holding {
     next: u32,
     has_begun: bool,
     frame: usize,
+    checkpoints: ArrayVec<Checkpoint, CHECKPOINTS>,
+    next_checkpoint: u32,
 }
 
 impl Holding {
@@ -57,6 +78,8 @@ impl Holding {
             next: 1,
             has_begun: false,
             frame: 0,
+            checkpoints: ArrayVec::new(),
+            next_checkpoint: 1,
         }
     }
 
@@ -80,6 +103,14 @@ impl Holding {
     {
         self.has_begun = true;
         self.frame = 0;
+    }
+
+    /// Notes that the program has not begun, and selects the top frame.
+    pub(crate) fn forget_start(&mut self)
+        ensures { held self.new ≡ spec.not_begun (held self.old) }
+    {
+        self.has_begun = false;
+        self.select(0);
     }
 
     /// The number of the frame that is selected, the top one being number 0.
@@ -145,6 +176,48 @@ impl Holding {
         match number {
             None => self.displays.clear(),
             Some(number) => self.displays.retain(|entry| entry.number != number),
+        }
+    }
+
+    /// The moments that were noted.
+    pub(crate) fn checkpoints(&self) -> &[Checkpoint]
+        ensures { result.now ≡ self.now.checkpoints.items }
+    {
+        self.checkpoints.as_slice()
+    }
+
+    /// Notes a moment, where there is room, and gives its number.
+    pub(crate) fn add_checkpoint(&mut self, step: u64) -> Option<u32>
+        ensures { held self.new ≡ spec.with_checkpoint (held self.old) step }
+    {
+        if self.checkpoints.is_full() || self.next_checkpoint >= LAST_NUMBER {
+            return None;
+        }
+        let number = self.next_checkpoint;
+        self.checkpoints.push(Checkpoint { number, step });
+        self.next_checkpoint += 1;
+        Some(number)
+    }
+
+    /// How many steps lead to the moment of a number.
+    pub(crate) fn checkpoint(&self, number: u32) -> Option<u64>
+        ensures { result ≡ spec.step_noted (held self.now) (Some number) }
+    {
+        for checkpoint in self.checkpoints.as_slice() {
+            if checkpoint.number == number {
+                return Some(checkpoint.step);
+            }
+        }
+        None
+    }
+
+    /// Notes the moment of a number no more, or none.
+    pub(crate) fn remove_checkpoint(&mut self, number: Option<u32>)
+        ensures { held self.new ≡ spec.without_checkpoint (held self.old) number }
+    {
+        match number {
+            None => self.checkpoints.clear(),
+            Some(number) => self.checkpoints.retain(|entry| entry.number != number),
         }
     }
 }

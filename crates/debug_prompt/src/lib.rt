@@ -1,12 +1,15 @@
 //! A prompt: what people type is done by the debugger's own commands, and shown with the source.
 #![tactic(auto)]
 
+mod beginning;
 mod doing;
 mod expressions;
 mod frames;
 mod holding;
 mod listing;
 mod looking;
+mod moments;
+mod past;
 mod pieces;
 mod printing;
 mod prompt;

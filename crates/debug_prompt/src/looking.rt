@@ -9,6 +9,7 @@ ghost use Rattle.debug_prompt.specs.Holding.{held, sheet};
 use crate::frames::{frame_above, frame_below, frame_named, select, selected_depth};
 use crate::holding::Holding;
 use crate::listing::{Lines, Listed, lines_of};
+use crate::moments::show_checkpoints;
 use crate::readings::{delete_of, is_move, line_of, print_of};
 use crate::turning::Scene;
 use debug_commands::{Command, read_command};
@@ -70,6 +71,7 @@ impl Looking {
             Look::Recording => self.show_recording(text, scene, session, page),
             Look::Frames | Look::Full | Look::Here | Look::Line | Look::Source | Look::Watches =>
                 look_at_program(look, text, scene, session, page),
+            Look::Checkpoints => show_checkpoints(holding, page),
             Look::Type | Look::Locals | Look::Arguments | Look::Variables | Look::Displays => {
                 look_at_values(look, text, holding, scene, session, page);
             }
@@ -121,8 +123,12 @@ impl Looking {
 fn may_move(line: &PromptLine) -> bool {
     match line.kind {
         Kind::Run
+        | Kind::Start
         | Kind::Finish
         | Kind::Until
+        | Kind::Goto
+        | Kind::Restart
+        | Kind::Last
         | Kind::Look(Look::Frame)
         | Kind::Look(Look::Up)
         | Kind::Look(Look::Down) => true,

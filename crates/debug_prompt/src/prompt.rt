@@ -7,11 +7,14 @@ ghost use Rattle.prompt_lines.specs.Readings.{spelled};
 ghost use Rattle.debug_prompt.specs.Doing as spec;
 ghost use Rattle.debug_prompt.specs.Holding.{held, held_at_start, nothing_kept, sheet};
 
-use crate::doing::{break_temporarily, clear, do_spelled, finish, go_until, make_break, run};
+use crate::beginning::{run, start};
+use crate::doing::{break_temporarily, clear, do_spelled, finish, go_until, make_break};
 use crate::holding::Holding;
 use crate::looking::Looking;
+use crate::moments::{forget, go_to_step, note_moment, restart};
+use crate::past::{go_to_last, tell_changes};
 use crate::printing::{display, print, print_hexadecimal, set_spelled, undisplay};
-use crate::readings::command_repeats;
+use crate::readings::{command_repeats, sets};
 use crate::turning::Scene;
 use debug_commands::{Command, read_command};
 use debug_session::Session;
@@ -146,22 +149,28 @@ fn repeats(line: &PromptLine) -> bool
     ensures { result ≡ spec.repeats line.now.kind line.now.text.items }
 {
     match line.kind {
-        Kind::Own | Kind::Finish | Kind::Print => {
-            command_repeats(read_command(line.text.as_slice()))
-        }
-        Kind::Run
-        | Kind::Until
+        Kind::Own | Kind::Finish => command_repeats(read_command(line.text.as_slice())),
+        Kind::Print => !sets(line.text.as_slice()),
+        Kind::Until
         | Kind::Hexadecimal
+        | Kind::Last
         | Kind::Look(Look::List)
         | Kind::Look(Look::Up)
         | Kind::Look(Look::Down) => true,
         Kind::Again
+        | Kind::Run
+        | Kind::Start
         | Kind::Set
         | Kind::Break
         | Kind::Clear
         | Kind::Temporary
         | Kind::Display
         | Kind::Undisplay
+        | Kind::Goto
+        | Kind::Changes
+        | Kind::Checkpoint
+        | Kind::Restart
+        | Kind::Forget
         | Kind::Look(_) => false,
     }
 }
@@ -185,6 +194,7 @@ fn do_meant<M: ExpressionMachine, O: AnswerWriter + Drop>(
         Kind::Again => {}
         Kind::Own => do_spelled(text, holding, scene, session, page),
         Kind::Run => run(text, holding, scene, session, page),
+        Kind::Start => start(text, holding, scene, session, page),
         Kind::Finish => finish(text, holding, scene, session, page),
         Kind::Print => print(text, holding, scene, session, page),
         Kind::Hexadecimal => print_hexadecimal(text, holding, scene, session, page),
@@ -195,6 +205,12 @@ fn do_meant<M: ExpressionMachine, O: AnswerWriter + Drop>(
         Kind::Until => go_until(text, holding, scene, session, page),
         Kind::Display => display(text, holding, scene, session, page),
         Kind::Undisplay => undisplay(text, holding, scene, page),
+        Kind::Goto => go_to_step(text, holding, scene, session, page),
+        Kind::Restart => restart(text, holding, scene, session, page),
+        Kind::Last => go_to_last(text, holding, scene, session, page),
+        Kind::Changes => tell_changes(text, scene, session, page),
+        Kind::Checkpoint => note_moment(text, holding, scene, session, page),
+        Kind::Forget => forget(text, holding, scene, page),
         Kind::Look(look) => looking.look(look, text, is_again, holding, scene, session, page),
     }
 }

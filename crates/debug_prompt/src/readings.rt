@@ -1,17 +1,24 @@
 //! What command lines and answers tell a prompt.
-ghost use Rattle.std.specs.Prelude.{◌≡◌};
+ghost use Rattle.std.specs.Prelude.{◌≡◌, ◌≤◌, length, not};
+ghost use Rattle.std.specs.List.{suffix_len};
 ghost use Rattle.gang_model.specs.Texts.CommandText.{command_of};
+ghost use Rattle.gang_model.specs.Texts.Spellings.{is_blank};
 ghost use Rattle.debug_commands.specs.TargetViews.{target_option};
 ghost use Rattle.debug_commands.specs.Views.{command_view, option_view};
 ghost use Rattle.prompt_lines.specs.Sources.{line_named};
+ghost use Rattle.prompt_lines.specs.Words.{setting_text};
 ghost use Rattle.debug_prompt.specs.Doing as spec;
 ghost use Rattle.debug_prompt.specs.Given as given;
 ghost use Rattle.debug_prompt.specs.Holding.{sheet};
 
 use debug_answers::Answer;
 use debug_commands::{Command, Target, read_command};
-use prompt_lines::line_named;
+use debug_words::is_blank;
+use prompt_lines::{argument, index, line_named, moment, setting_line};
 use prompt_texts::Source;
+
+/// How many changes are listed where no number is named.
+const LISTED: u32 = 10;
 
 /// Whether a command moves.
 pub(crate) fn is_move(command: Command<'_>) -> bool
@@ -52,6 +59,16 @@ pub(crate) fn command_repeats(command: Option<Command<'_>>) -> bool
     }
 }
 
+/// Whether a command line that begins with `print` sets a target.
+pub(crate) fn sets(text: &[u8]) -> bool
+    ensures { result ≡ spec.sets (command_of (setting_text text.now)) }
+{
+    match read_command(setting_line(text).as_slice()) {
+        Some(Command::Set { .. }) => true,
+        _ => false,
+    }
+}
+
 /// The target that a command line prints.
 pub(crate) fn print_of(text: &[u8]) -> Option<Target<'_>>
     ensures { target_option result ≡ spec.print_of (command_of text.now) }
@@ -89,6 +106,87 @@ pub(crate) fn delete_of(text: &[u8]) -> Option<Option<u32>>
     }
 }
 
+/// The number of steps that a command line names.
+pub(crate) fn step_named(text: &[u8]) -> Option<u64>
+    ensures { result ≡ spec.step_named text.now }
+{
+    moment(argument(text)?)
+}
+
+/// The number that a command line names.
+pub(crate) fn index_named(text: &[u8]) -> Option<u32>
+    ensures { result ≡ spec.index_named text.now }
+{
+    index(argument(text)?)
+}
+
+/// The target that a command line watches.
+pub(crate) fn watch_of(text: &[u8]) -> Option<Target<'_>>
+    ensures { target_option result ≡ spec.watch_of (command_of text.now) }
+{
+    match read_command(text) {
+        Some(Command::Watch(target)) => Some(target),
+        _ => None,
+    }
+}
+
+/// The target whose changes a command line names, and how many of them at most.
+pub(crate) fn changes_named(text: &[u8]) -> Option<(Target<'_>, u32)>
+    ensures { given.counted_view result ≡ spec.changes_named text.now }
+{
+    match watch_of(text) {
+        Some(target) => Some((target, LISTED)),
+        None => counted(trimmed(text)),
+    }
+}
+
+/// A target and the number behind it.
+fn counted(text: &[u8]) -> Option<(Target<'_>, u32)>
+    ensures { given.counted_view result ≡ spec.counted text.now }
+{
+    let place = last_place(text);
+    let target = watch_of(&text[..place])?;
+    let number = index(&text[place..])?;
+    Some((target, number))
+}
+
+/// Where the last word of a text begins.
+fn last_place(text: &[u8]) -> usize
+    ensures place { result ≡ spec.last_place text.now }
+    ensures within { result ≤ length text.now }
+{
+    text.len() - last_len(text)
+}
+
+/// How many bytes the last word of a text has.
+fn last_len(text: &[u8]) -> usize
+    ensures run { result ≡ suffix_len (λ byte. not (is_blank byte)) text.now }
+    ensures within { result ≤ length text.now }
+{
+    text.iter()
+        .rev()
+        .take_while(|byte| !is_blank(**byte))
+        .count()
+}
+
+/// A text without the blanks at its end.
+fn trimmed(text: &[u8]) -> &[u8]
+    ensures { result.now ≡ spec.trimmed text.now }
+{
+    &text[..text.len() - blank_len(text)]
+}
+
+/// How many blanks a text ends with.
+fn blank_len(text: &[u8]) -> usize
+    ensures run { result ≡ suffix_len is_blank text.now }
+    ensures within { result ≤ length text.now }
+{
+    text.iter()
+        .rev()
+        .take_while(|byte| is_blank(**byte))
+        .count()
+}
+
 /// The breakpoint that stopped a move.
 pub(crate) fn stopped_number(answer: &Answer<'_>) -> Option<u32>
     ensures { result ≡ given.stopped_number answer.now }
@@ -107,6 +205,30 @@ pub(crate) fn made_number(answer: &Answer<'_>) -> Option<u32>
         Answer::BreaksAt { number, .. } => Some(*number),
         _ => None,
     }
+}
+
+/// The watch that was made.
+pub(crate) fn watch_number(answer: &Answer<'_>) -> Option<u32>
+    ensures { result ≡ given.watch_number answer.now }
+{
+    match answer {
+        Answer::Watches { number, .. } => Some(*number),
+        _ => None,
+    }
+}
+
+/// Whether a breakpoint or a watch stopped a move.
+pub(crate) fn is_stop(answer: &Answer<'_>) -> bool
+    ensures { result ≡ given.is_stop answer.now }
+{
+    matches!(answer, Answer::AtBreakpoint(_) | Answer::AtWatch(_))
+}
+
+/// Whether the history goes back no further.
+pub(crate) fn is_history_end(answer: &Answer<'_>) -> bool
+    ensures { result ≡ given.is_history_end answer.now }
+{
+    matches!(answer, Answer::HistoryEnd)
 }
 
 /// Whether a goal is reached, or the end.

@@ -1,9 +1,9 @@
 -- Lines, and what they stand for, computed.
 use Rattle.std.proofs.Common.{◌≡◌, refl}
-use Rattle.std.specs.Prelude.{[], codes}
+use Rattle.std.specs.Prelude.{[], None, Some, codes}
 use Rattle.prompt_lines.specs.declared.line.Kind.TheVariants as kind
 use Rattle.prompt_lines.specs.declared.line.Look.TheVariants as look
-use Rattle.prompt_lines.specs.Words.{line_of}
+use Rattle.prompt_lines.specs.Words.{line_of, moment_of}
 
 temporary_row : line_of (codes "tbreak 5") ≡ record { kind = kind.Temporary; text = codes "break  5" }
 temporary_row = refl
@@ -25,6 +25,24 @@ list_row = refl
 
 look_row : line_of (codes "up 2") ≡ record { kind = kind.Look look.Up; text = codes "step  2" }
 look_row = refl
+
+goto_row : line_of (codes "goto 4711") ≡ record { kind = kind.Goto; text = codes "goto  4711" }
+goto_row = refl
+
+last_row : line_of (codes "last x[1]") ≡ record { kind = kind.Last; text = codes "watch  x[1]" }
+last_row = refl
+
+forget_row : line_of (codes "delete checkpoint 2") ≡ record { kind = kind.Forget; text = codes "delete  2" }
+forget_row = refl
+
+start_row : line_of (codes "start") ≡ record { kind = kind.Start; text = codes "start " }
+start_row = refl
+
+moment_row : moment_of (codes "100000") ≡ Some 100000
+moment_row = refl
+
+no_moment_row : moment_of (codes "99999999999999999999") ≡ None
+no_moment_row = refl
 
 -- a longer word is another one
 longer_row : line_of (codes "upwards") ≡ record { kind = kind.Own; text = codes "upwards" }

@@ -3,7 +3,7 @@
 use Rattle.std.specs.Prelude.{ℕ, Bool, true, false, ◌||◌, List, [], ◌∷◌, ◌++◌, drop, take, Option, Some, None, option_and_then, codes, if◌then◌else◌}
 use Rattle.std.specs.List.{prefix_len}
 use Rattle.std.specs.Option.{option_or}
-use Rattle.gang_model.specs.Texts.Spellings.{Word, behind, is_blank, words_of_line}
+use Rattle.gang_model.specs.Texts.Spellings.{Word, behind, decimal_number, in_range, is_blank, words_of_line}
 use Rattle.gang_model.specs.Texts.CommandText.{is_mark}
 use Rattle.prompt_lines.specs.declared.line.Kind.{Kind}
 use Rattle.prompt_lines.specs.declared.line.Kind.TheVariants as kind
@@ -41,6 +41,8 @@ rows =
     ∷ row (codes "rni" ∷ []) kind.Own (codes "reverse-next")
     ∷ row (codes "run" ∷ []) kind.Run (codes "continue")
     ∷ row (codes "r" ∷ []) kind.Run (codes "continue")
+    ∷ row (codes "start" ∷ []) kind.Start (codes "start")
+    ∷ row (codes "starti" ∷ []) kind.Start (codes "start")
     ∷ row (codes "cont" ∷ []) kind.Own (codes "continue")
     ∷ row (codes "fg" ∷ []) kind.Own (codes "continue")
     ∷ row (codes "finish" ∷ []) kind.Finish (codes "finish")
@@ -65,6 +67,7 @@ rows =
     ∷ row (codes "advance" ∷ []) kind.Until (codes "break")
     ∷ row (codes "undisplay" ∷ []) kind.Undisplay (codes "delete")
     ∷ row (codes "delete" ∷ codes "display" ∷ []) kind.Undisplay (codes "delete")
+    ∷ row (codes "delete" ∷ codes "checkpoint" ∷ []) kind.Forget (codes "delete")
     ∷ row (codes "delete" ∷ codes "breakpoints" ∷ []) kind.Own (codes "delete")
     ∷ row (codes "d" ∷ []) kind.Own (codes "delete")
     ∷ row (codes "del" ∷ []) kind.Own (codes "delete")
@@ -75,6 +78,11 @@ rows =
     ∷ row (codes "i" ∷ codes "breakpoints" ∷ []) kind.Own (codes "info breakpoints")
     ∷ row (codes "info" ∷ codes "breakpoints" ∷ []) kind.Own (codes "info breakpoints")
     ∷ row (codes "exit" ∷ []) kind.Own (codes "quit")
+    ∷ row (codes "goto" ∷ []) kind.Goto (codes "goto")
+    ∷ row (codes "last" ∷ []) kind.Last (codes "watch")
+    ∷ row (codes "changes" ∷ []) kind.Changes (codes "watch")
+    ∷ row (codes "checkpoint" ∷ []) kind.Checkpoint (codes "checkpoint")
+    ∷ row (codes "restart" ∷ []) kind.Restart (codes "goto")
     ∷ []
 
 -- all words that people type for what is looked at
@@ -103,6 +111,8 @@ looks =
     ∷ row (codes "i" ∷ codes "args" ∷ []) (kind.Look look.Arguments) []
     ∷ row (codes "info" ∷ codes "variables" ∷ []) (kind.Look look.Variables) []
     ∷ row (codes "info" ∷ codes "display" ∷ []) (kind.Look look.Displays) []
+    ∷ row (codes "info" ∷ codes "checkpoints" ∷ []) (kind.Look look.Checkpoints) []
+    ∷ row (codes "i" ∷ codes "checkpoints" ∷ []) (kind.Look look.Checkpoints) []
     ∷ row (codes "info" ∷ codes "record" ∷ []) (kind.Look look.Recording) []
     ∷ row (codes "record" ∷ []) (kind.Look look.Recording) []
     ∷ row (codes "info" ∷ codes "watchpoints" ∷ []) (kind.Look look.Watches) []
@@ -110,8 +120,6 @@ looks =
     ∷ row (codes "info" ∷ codes "source" ∷ []) (kind.Look look.Source) []
     ∷ row (codes "info" ∷ codes "line" ∷ []) (kind.Look look.Line) (codes "break")
     ∷ row (codes "info" ∷ codes "program" ∷ []) (kind.Look look.Here) []
-    ∷ row (codes "start" ∷ []) (kind.Look look.Here) []
-    ∷ row (codes "starti" ∷ []) (kind.Look look.Here) []
     ∷ row (codes "info" ∷ []) (kind.Look look.Lists) []
     ∷ row (codes "i" ∷ []) (kind.Look look.Lists) []
     ∷ row (codes "help" ∷ []) (kind.Look look.Help) []
@@ -188,6 +196,10 @@ second words = None
 -- what stands behind the first word of a command line of two words
 abbrev pub argument_of : List ℕ → Option Word
 argument_of text = second (words_of_line is_mark text)
+
+-- a number of steps, of which there are at most 2 ^ 62
+abbrev pub moment_of : Word → Option ℕ
+moment_of word = in_range 0 4611686018427387904 (decimal_number word)
 
 -- the command line that sets what another, which begins with `print`, names
 abbrev pub setting_text : List ℕ → List ℕ

@@ -7,5 +7,7 @@ mod sources;
 mod table;
 
 pub use line::{HELD, Kind, Look, PromptLine, Text};
-pub use reading::{argument, breaking_line, held_line, index, is_alone, read_line, setting_line};
+pub use reading::{
+    argument, breaking_line, held_line, index, is_alone, moment, read_line, setting_line,
+};
 pub use sources::line_named;

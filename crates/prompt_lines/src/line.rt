@@ -32,6 +32,8 @@ pub enum Look {
     Variables,
     /// What is displayed after each move.
     Displays,
+    /// The moments that were noted.
+    Checkpoints,
     /// How much can be taken back.
     Recording,
     /// The watches.
@@ -57,8 +59,10 @@ pub enum Kind {
     Again,
     /// The command is done.
     Own,
-    /// The program is begun, or goes on.
+    /// The program begins, or begins anew.
     Run,
+    /// The program is taken back to where it begins.
+    Start,
     /// The program goes on until a frame is left.
     Finish,
     /// A target is printed, or set first.
@@ -79,6 +83,18 @@ pub enum Kind {
     Display,
     /// What has the number is displayed no more.
     Undisplay,
+    /// The program goes to the moment after so many steps.
+    Goto,
+    /// The program goes back to the last change of a target.
+    Last,
+    /// The last changes of a target are listed.
+    Changes,
+    /// The moment is noted.
+    Checkpoint,
+    /// The program goes to a moment that was noted.
+    Restart,
+    /// A moment is noted no more.
+    Forget,
     Look(Look),
 }
 

@@ -17,6 +17,9 @@ const PRINT: &[u8] = b"print";
 /// The largest number of a command.
 const LARGEST: u128 = 10_000_000;
 
+/// The largest number of steps.
+const MOST_STEPS: u128 = 4_611_686_018_427_387_904;
+
 /// What a line stands for, its line feed not included. It takes no memory and never fails.
 pub fn read_line(line: &[u8]) -> PromptLine
     ensures { spelled result ≡ spec.line_of line.now }
@@ -175,6 +178,18 @@ pub fn index(word: &[u8]) -> Option<u32>
     let number = digits_number(Radix::Decimal, word)?;
     if number <= LARGEST {
         Some(number as u32)
+    } else {
+        None
+    }
+}
+
+/// A number of steps, at most 2^62.
+pub fn moment(word: &[u8]) -> Option<u64>
+    ensures { result ≡ spec.moment_of word.now }
+{
+    let number = digits_number(Radix::Decimal, word)?;
+    if number <= MOST_STEPS {
+        Some(number as u64)
     } else {
         None
     }

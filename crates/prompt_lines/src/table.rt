@@ -10,7 +10,7 @@ pub(crate) struct Row(
 );
 
 /// The words of what is done, mostly by their names in GDB. Of two that a line begins with the first one counts.
-pub(crate) const ROWS: [Row; 49] = [
+pub(crate) const ROWS: [Row; 57] = [
     Row(&[b"set", b"var"], Kind::Set, b"set var"),
     Row(&[b"set", b"variable"], Kind::Set, b"set var"),
     Row(
@@ -30,6 +30,8 @@ pub(crate) const ROWS: [Row; 49] = [
     Row(&[b"rni"], Kind::Own, b"reverse-next"),
     Row(&[b"run"], Kind::Run, b"continue"),
     Row(&[b"r"], Kind::Run, b"continue"),
+    Row(&[b"start"], Kind::Start, b"start"),
+    Row(&[b"starti"], Kind::Start, b"start"),
     Row(&[b"cont"], Kind::Own, b"continue"),
     Row(&[b"fg"], Kind::Own, b"continue"),
     Row(&[b"finish"], Kind::Finish, b"finish"),
@@ -54,6 +56,7 @@ pub(crate) const ROWS: [Row; 49] = [
     Row(&[b"advance"], Kind::Until, b"break"),
     Row(&[b"undisplay"], Kind::Undisplay, b"delete"),
     Row(&[b"delete", b"display"], Kind::Undisplay, b"delete"),
+    Row(&[b"delete", b"checkpoint"], Kind::Forget, b"delete"),
     Row(&[b"delete", b"breakpoints"], Kind::Own, b"delete"),
     Row(&[b"d"], Kind::Own, b"delete"),
     Row(&[b"del"], Kind::Own, b"delete"),
@@ -64,6 +67,11 @@ pub(crate) const ROWS: [Row; 49] = [
     Row(&[b"i", b"breakpoints"], Kind::Own, b"info breakpoints"),
     Row(&[b"info", b"breakpoints"], Kind::Own, b"info breakpoints"),
     Row(&[b"exit"], Kind::Own, b"quit"),
+    Row(&[b"goto"], Kind::Goto, b"goto"),
+    Row(&[b"last"], Kind::Last, b"watch"),
+    Row(&[b"changes"], Kind::Changes, b"watch"),
+    Row(&[b"checkpoint"], Kind::Checkpoint, b"checkpoint"),
+    Row(&[b"restart"], Kind::Restart, b"goto"),
 ];
 
 /// The words of what is looked at, for a line that begins with none of the others.
@@ -91,6 +99,12 @@ pub(crate) const LOOKS: [Row; 37] = [
     Row(&[b"i", b"args"], Kind::Look(Look::Arguments), b""),
     Row(&[b"info", b"variables"], Kind::Look(Look::Variables), b""),
     Row(&[b"info", b"display"], Kind::Look(Look::Displays), b""),
+    Row(
+        &[b"info", b"checkpoints"],
+        Kind::Look(Look::Checkpoints),
+        b"",
+    ),
+    Row(&[b"i", b"checkpoints"], Kind::Look(Look::Checkpoints), b""),
     Row(&[b"info", b"record"], Kind::Look(Look::Recording), b""),
     Row(&[b"record"], Kind::Look(Look::Recording), b""),
     Row(&[b"info", b"watchpoints"], Kind::Look(Look::Watches), b""),
@@ -98,8 +112,6 @@ pub(crate) const LOOKS: [Row; 37] = [
     Row(&[b"info", b"source"], Kind::Look(Look::Source), b""),
     Row(&[b"info", b"line"], Kind::Look(Look::Line), b"break"),
     Row(&[b"info", b"program"], Kind::Look(Look::Here), b""),
-    Row(&[b"start"], Kind::Look(Look::Here), b""),
-    Row(&[b"starti"], Kind::Look(Look::Here), b""),
     Row(&[b"info"], Kind::Look(Look::Lists), b""),
     Row(&[b"i"], Kind::Look(Look::Lists), b""),
     Row(&[b"help"], Kind::Look(Look::Help), b""),

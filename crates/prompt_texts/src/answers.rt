@@ -3,6 +3,7 @@ use crate::causes::tell_refused_here;
 use crate::changes::Before;
 use crate::frames::put_frames;
 use crate::marked::digits;
+use crate::moments::step_of;
 use crate::page::Page;
 use crate::places::{put_around, put_place};
 use crate::refusals::put_refused;
@@ -31,11 +32,12 @@ pub fn tell_move<M: RecordedMachine, O: AnswerWriter + Drop>(
         return;
     }
     let columns = put_reason(answer, page);
-    put_place(columns, session.machine().position(), source, page);
-    if let Some(position) = session.machine().position() {
+    let machine = session.machine();
+    put_place(columns, machine.position(), step_of(machine), source, page);
+    if let Some(position) = machine.position() {
         put_around(&position, source, page);
     }
-    before.tell_changes(session.machine(), page);
+    before.tell_changes(machine, page);
 }
 
 /// Writes why a move ended, where it is not the goal or the end, and says how many columns that takes.

@@ -1,9 +1,15 @@
 //! Which variables a move changed.
+use crate::answers::put_target;
+use crate::moments::step_of;
 use crate::page::Page;
+use crate::places::put_place_alone;
+use crate::source::Source;
 use crate::values::put_value;
 use arrayvec::ArrayVec;
+use debug_commands::Target;
+use debug_session::Session;
 use debug_traits::{AnswerWriter, NamedVariable, RecordedMachine, Shown};
-use gang_types::VarId;
+use gang_types::{IntType, VarId};
 
 /// The most lanes of a gang.
 const WIDEST: usize = 16;
@@ -91,15 +97,15 @@ impl Before {
             Some(old) if old == now.as_slice() => {}
             Some(old) => {
                 put_name(named, page);
-                put_words(named.shown, old, page);
+                put_all(named.shown.value_type, old, page);
                 page.put(b" ->");
-                put_words(named.shown, now.as_slice(), page);
+                put_all(named.shown.value_type, now.as_slice(), page);
                 page.put(b"\n");
             }
             None if self.ids.is_full() => {}
             None => {
                 put_name(named, page);
-                put_words(named.shown, now.as_slice(), page);
+                put_all(named.shown.value_type, now.as_slice(), page);
                 page.put(b"\n");
             }
         }
@@ -110,6 +116,148 @@ impl Before {
         let place = self.ids.as_slice().iter().position(|id| *id == key)?;
         let words = self.words.as_slice().get(place)?;
         Some(words.as_slice())
+    }
+}
+
+/// What a variable of the file, or a lane or an element of one, shows; and whether a later change was told.
+#[derive(Drop)]
+pub struct Watched<'a> {
+    target: Target<'a>,
+    value_type: IntType,
+    words: Words,
+    is_told: bool,
+}
+
+impl<'a> Watched<'a> {
+    /// Notes what a target shows.
+    pub fn note<M: RecordedMachine>(target: Target<'a>, machine: &M) -> Self {
+        let mut watched = Watched {
+            target,
+            value_type: IntType::Int32,
+            words: Words::new(),
+            is_told: false,
+        };
+        let Some(number) = machine.find_in_file(target.name) else {
+            return watched;
+        };
+        let Some(named) = machine.file_variable(number) else {
+            return watched;
+        };
+        watched.value_type = named.shown.value_type;
+        watched.words = match target.at {
+            None => words_of(named.shown, machine),
+            Some(index) => word_at(named.shown, index as usize, machine),
+        };
+        watched
+    }
+
+    /// What is watched.
+    pub fn target(&self) -> Target<'a> {
+        self.target
+    }
+
+    /// Writes what the statement at the place changed.
+    pub fn tell_last<M: RecordedMachine, O: AnswerWriter + Drop>(
+        &self,
+        machine: &M,
+        page: &mut Page<O>,
+    ) {
+        put_target(self.target, page);
+        page.put(b" =");
+        Watched::note(self.target, machine).put_before(self, page);
+        page.put(b" by this statement:\n");
+    }
+
+    /// Writes a line for the place, if the statement there changed what is shown; gives what it shows there.
+    pub fn tell_change<M: RecordedMachine, O: AnswerWriter + Drop>(
+        self,
+        source: Source<'_>,
+        session: &Session<M>,
+        page: &mut Page<O>,
+    ) -> Self {
+        let machine = session.machine();
+        let mut older = Watched::note(self.target, machine);
+        older.is_told = self.is_told;
+        if older.words.as_slice() != self.words.as_slice() {
+            put_change_place(source, machine, page);
+            older.put_before(&self, page);
+            page.put(b"\n");
+            older.is_told = true;
+        }
+        older
+    }
+
+    /// Writes what is shown where the way back ends; or, where no change was told, that there was none.
+    pub fn tell_first<M: RecordedMachine, O: AnswerWriter + Drop>(
+        &self,
+        session: &Session<M>,
+        page: &mut Page<O>,
+    ) {
+        if self.is_told {
+            page.put(if is_whole(session) {
+                b"at the start:"
+            } else {
+                b"at the first step that is kept:"
+            });
+            put_all(self.value_type, self.words.as_slice(), page);
+            page.put(b"\n");
+        } else {
+            tell_never_changed(self.target, session, page);
+        }
+    }
+
+    /// Writes what is shown, and what was shown then.
+    fn put_before<O: AnswerWriter + Drop>(&self, newer: &Self, page: &mut Page<O>) {
+        put_all(self.value_type, self.words.as_slice(), page);
+        page.put(b" ->");
+        put_all(self.value_type, newer.words.as_slice(), page);
+    }
+}
+
+/// Writes that a target has not changed.
+pub fn tell_never_changed<M: RecordedMachine, O: AnswerWriter + Drop>(
+    target: Target<'_>,
+    session: &Session<M>,
+    page: &mut Page<O>,
+) {
+    put_target(target, page);
+    page.put(if is_whole(session) {
+        b" has had its value from the start\n"
+    } else {
+        b" has had its value since the first step that is kept\n"
+    });
+}
+
+/// Whether the way back leads to the start.
+fn is_whole<M: RecordedMachine>(session: &Session<M>) -> bool {
+    step_of(session.machine()).is_some()
+}
+
+/// Writes the place of a change, and how many steps lead to it.
+fn put_change_place<M: RecordedMachine, O: AnswerWriter + Drop>(
+    source: Source<'_>,
+    machine: &M,
+    page: &mut Page<O>,
+) {
+    if let Some(position) = machine.position() {
+        put_place_alone(&position, step_of(machine), source, page);
+        page.put(b":");
+    }
+}
+
+/// The word of a lane or of an element.
+fn word_at<M: RecordedMachine>(shown: Shown, index: usize, machine: &M) -> Words {
+    let mut words = Words::new();
+    if index < shown.count {
+        words.push(machine.word(shown, index));
+    }
+    words
+}
+
+/// Writes a blank and the value of each word.
+fn put_all<O: AnswerWriter + Drop>(value_type: IntType, words: &[u64], page: &mut Page<O>) {
+    for word in words {
+        put_value(value_type, *word, page);
     }
 }
 
@@ -145,11 +293,4 @@ fn words_of<M: RecordedMachine>(shown: Shown, machine: &M) -> Words {
         }
     }
     words
-}
-
-/// Writes a blank and the value of each word.
-fn put_words<O: AnswerWriter + Drop>(shown: Shown, words: &[u64], page: &mut Page<O>) {
-    for word in words {
-        put_value(shown.value_type, *word, page);
-    }
 }

@@ -46,9 +46,15 @@ fn put_frame<M: RecordedMachine, O: AnswerWriter + Drop>(
     page.put_number(number as i128);
     page.put(b"  ");
     if number == 0 {
-        put_place(0, machine.position(), source, page);
+        put_place(0, machine.position(), None, source, page);
     } else {
-        put_place(0, machine.call(depth.saturating_sub(number)), source, page);
+        put_place(
+            0,
+            machine.call(depth.saturating_sub(number)),
+            None,
+            source,
+            page,
+        );
     }
 }
 

@@ -9,6 +9,7 @@ mod frames;
 mod help;
 mod looks;
 mod marked;
+mod moments;
 mod page;
 mod places;
 mod refusals;
@@ -17,16 +18,19 @@ mod values;
 
 pub use answers::{tell, tell_hexadecimal, tell_move};
 pub use causes::tell_refused;
-pub use changes::Before;
+pub use changes::{Before, Watched, tell_never_changed};
 pub use expressions::{Digits, Spelled, show_expression, tell_no_value};
 pub use frames::{
     show_arguments, show_bits, show_frame, show_frames, show_full_frames, show_locals, show_value,
 };
 pub use looks::{
-    list_lines, show_displayed, show_help, show_here, show_line, show_lists, show_recording,
-    show_source, show_text, show_type, show_variables, show_watches,
+    list_lines, show_displayed, show_help, show_here, show_line, show_lists, show_source,
+    show_text, show_type, show_variables, show_watches,
 };
 pub use marked::put_marked;
+pub use moments::{
+    show_checkpoint, show_recording, tell_checkpoint, tell_no_such_step, tell_not_whole, tell_usage,
+};
 pub use page::Page;
 pub use refusals::tell_unknown;
 pub use source::Source;

@@ -1,6 +1,7 @@
 //! What is looked at: nothing changes in the debugger.
 use crate::answers::{put_target, put_watched};
 use crate::help::{put_help, put_topic};
+use crate::moments::step_of;
 use crate::page::Page;
 use crate::places::{put_around, put_line, put_place};
 use crate::source::Source;
@@ -14,7 +15,7 @@ use prompt_help::explanation;
 
 /// What `info` lists.
 const LISTS: &[u8] =
-    b"`info` lists: breakpoints, watchpoints, locals, args, variables, display, frame, stack, record, source, line [N], program.\n";
+    b"`info` lists: breakpoints, watchpoints, locals, args, variables, display, frame, stack, record, checkpoints, source, line [N], program.\n";
 
 /// The most variables of a file that are shown.
 const VARIABLES: usize = 256;
@@ -60,7 +61,8 @@ pub fn show_here<M: RecordedMachine, O: AnswerWriter + Drop>(
     session: &Session<M>,
     page: &mut Page<O>,
 ) {
-    put_place(0, session.machine().position(), source, page);
+    let machine = session.machine();
+    put_place(0, machine.position(), step_of(machine), source, page);
     if let Some(position) = session.machine().position() {
         put_around(&position, source, page);
     }
@@ -109,47 +111,6 @@ pub fn show_displayed<O: AnswerWriter + Drop>(number: u32, target: Target<'_>, p
     page.put(b": ");
     put_target(target, page);
     page.put(b"\n");
-}
-
-/// The most events that a machine keeps that has a limit.
-const MOST_KEPT: usize = 65_536;
-
-/// Writes how much can be taken back, and that there may be older steps where the history was full once.
-pub fn show_recording<M: RecordedMachine, O: AnswerWriter + Drop>(
-    was_full: bool,
-    session: &Session<M>,
-    page: &mut Page<O>,
-) {
-    let machine = session.machine();
-    if machine.limit() > MOST_KEPT {
-        return show_whole_recording(machine, page);
-    }
-    if !was_full {
-        page.put(b"all is recorded: ");
-    }
-    page.put_number(machine.kept() as i128);
-    page.put(b" steps and changes can be taken back, of ");
-    page.put_number(machine.limit() as i128);
-    page.put(b" at most");
-    if was_full {
-        page.put(b"; older ones, if there were any, are gone");
-    }
-    page.put(b" (`set record full insn-number-max N` changes that)\n");
-}
-
-/// Writes how many steps and changes were made, of which all can be taken back.
-fn show_whole_recording<M: RecordedMachine, O: AnswerWriter + Drop>(
-    machine: &M,
-    page: &mut Page<O>,
-) {
-    let steps = machine.kept_steps();
-    page.put(b"all is recorded: ");
-    page.put_number(steps as i128);
-    page.put(b" steps and ");
-    page.put_number(machine.kept().saturating_sub(steps) as i128);
-    page.put(
-        b" changes were made, and all can be taken back (`set record full insn-number-max N` limits that)\n",
-    );
 }
 
 /// Writes a line for each watch.

@@ -28,26 +28,44 @@ const BETWEEN: usize = 14;
 /// How many stand before the number of a depth.
 const DEPTH: usize = 8;
 
-/// Writes where the program stands, behind a reason of so many columns, on the same line if it has room there.
+/// How many stand before the number of a step.
+const STEP: usize = 7;
+
+/// Writes where the program stands, behind a reason of so many columns, on the same line if it has room there; and after how many
+/// steps, where that is known.
 pub(crate) fn put_place<O: AnswerWriter + Drop>(
     before: usize,
     position: Option<Position<'_>>,
+    step: Option<usize>,
     source: Source<'_>,
     page: &mut Page<O>,
 ) {
     match position {
         None => {
             page.put(between(before, 0));
-            page.put(b"the program has ended\n");
+            page.put(b"the program has ended");
+            put_last_step(step, page);
+            page.put(b"\n");
         }
         Some(position) => {
-            page.put(between(before, columns(&position, source)));
-            put_front(&position, source, page);
-            page.put(front_end(&position, source));
-            put_marks(position.width, position.lanes, page);
+            page.put(between(before, columns(&position, step, source)));
+            put_place_alone(&position, step, source, page);
             page.put(b"\n");
         }
     }
+}
+
+/// Writes a place, and after how many steps it is, where that is known.
+pub(crate) fn put_place_alone<O: AnswerWriter + Drop>(
+    position: &Position<'_>,
+    step: Option<usize>,
+    source: Source<'_>,
+    page: &mut Page<O>,
+) {
+    put_front(position, source, page);
+    put_step(step, page);
+    page.put(front_end(position, step, source));
+    put_marks(position.width, position.lanes, page);
 }
 
 /// What stands between a reason of so many columns and a place.
@@ -62,7 +80,7 @@ fn between(before: usize, place: usize) -> &'static [u8] {
 }
 
 /// How many columns a place takes.
-fn columns(position: &Position<'_>, source: Source<'_>) -> usize {
+fn columns(position: &Position<'_>, step: Option<usize>, source: Source<'_>) -> usize {
     position
         .function
         .len()
@@ -70,6 +88,7 @@ fn columns(position: &Position<'_>, source: Source<'_>) -> usize {
         .saturating_add(digits(position.place.line))
         .saturating_add(digits(position.place.col))
         .saturating_add(depth_columns(position.depth))
+        .saturating_add(step_columns(step))
         .saturating_add(position.width)
         .saturating_add(BETWEEN)
 }
@@ -83,9 +102,17 @@ fn depth_columns(depth: usize) -> usize {
     }
 }
 
+/// How many columns the number of a step takes, where there is one.
+fn step_columns(step: Option<usize>) -> usize {
+    match step {
+        None => 0,
+        Some(step) => digits(u32::try_from(step).unwrap_or(u32::MAX)).saturating_add(STEP),
+    }
+}
+
 /// What stands before the lanes' marks: behind long names they have a line of their own, so that no terminal breaks them.
-fn front_end(position: &Position<'_>, source: Source<'_>) -> &'static [u8] {
-    if columns(position, source).saturating_add(NUMBER) > COLUMNS {
+fn front_end(position: &Position<'_>, step: Option<usize>, source: Source<'_>) -> &'static [u8] {
+    if columns(position, step, source).saturating_add(NUMBER) > COLUMNS {
         b",\n    lanes "
     } else {
         b", lanes "
@@ -109,6 +136,33 @@ fn put_front<O: AnswerWriter + Drop>(
         page.put(b", depth ");
         page.put_number(position.depth as i128);
     }
+}
+
+/// Writes the number of a step, where there is one.
+fn put_step<O: AnswerWriter + Drop>(step: Option<usize>, page: &mut Page<O>) {
+    if let Some(step) = step {
+        page.put(b", step ");
+        page.put_number(step as i128);
+    }
+}
+
+/// Writes after how many steps the program has ended, where that is known.
+fn put_last_step<O: AnswerWriter + Drop>(step: Option<usize>, page: &mut Page<O>) {
+    if let Some(step) = step {
+        page.put(b" after ");
+        put_counted(step, b" step", b" steps", page);
+    }
+}
+
+/// Writes a number, and what is counted: one, or others.
+pub(crate) fn put_counted<O: AnswerWriter + Drop>(
+    count: usize,
+    one: &[u8],
+    others: &[u8],
+    page: &mut Page<O>,
+) {
+    page.put_number(count as i128);
+    page.put(if count == 1 { one } else { others });
 }
 
 /// Writes a mark for each lane of the gang, lane 0 first: `#` where it is active, and `.` where it waits.

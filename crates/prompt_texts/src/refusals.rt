@@ -91,7 +91,7 @@ fn sentence(refusal: Refusal) -> &'static [u8] {
             b"C2 NoSuchName: no variable in scope or of the file has this name and this part.\n",
         Refusal::NoHistory => b"C3 NoHistory: nothing is kept that could be taken back.\n",
         Refusal::Ended =>
-            b"C4 Ended: the program has ended; `reverse-step` or `reverse-continue` goes back into it, and `run` goes on from there.\n",
+            b"C4 Ended: the program has ended; `reverse-step` or `reverse-continue` goes back into it, and `run` begins it anew.\n",
         Refusal::Outermost =>
             b"C6 Outermost: this is the outermost frame, which no other called.\n",
         Refusal::NoLine => b"C7 NoLine: no line from there on has a step.\n",
