@@ -84,7 +84,7 @@ const COMMANDS: [Reason; 16] = [
 ];
 
 /// Further first words.
-const FURTHER: [Reason; 15] = [
+const FURTHER: [Reason; 14] = [
     Reason(
         &[b"catch", b"tcatch", b"handle", b"signal", b"signals"],
         b"There are no signals or exceptions: a fault stops the program by itself, before the statement that has it.",
@@ -117,10 +117,6 @@ const FURTHER: [Reason; 15] = [
             b"alias",
         ],
         b"There are no scripts or commands of one's own; lines may come from a file or a pipe on standard input.",
-    ),
-    Reason(
-        &[b"checkpoint", b"restart"],
-        b"There are no checkpoints: `reverse-step`, `reverse-continue` and `undo` go back to any step that is kept.",
     ),
     Reason(
         &[b"printf", b"eval"],
@@ -202,11 +198,7 @@ const FURTHER: [Reason; 15] = [
 ];
 
 /// The words behind `info`.
-const LISTS: [Reason; 6] = [
-    Reason(
-        &[b"checkpoints"],
-        b"There are no checkpoints: `reverse-step`, `reverse-continue` and `undo` go back to any step that is kept.",
-    ),
+const LISTS: [Reason; 5] = [
     Reason(
         &[b"registers", b"all-registers", b"reg"],
         b"There are no registers: `info locals`, `info args` and `print T` show variables.",

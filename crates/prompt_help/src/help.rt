@@ -29,7 +29,7 @@ const FIRST: [Topic; 16] = [
     Topic {
         names: &[b"run", b"r"],
         usage: b"run",
-        text: b"begins the program: it stops at once at a breakpoint of the first line; later the same as `continue`.",
+        text: b"begins the program: it stops at once at a breakpoint of the first line. Where it has begun, everything is taken back, also what `set var` set, and it begins anew.",
     },
     Topic {
         names: &[b"continue", b"c", b"cont", b"fg"],
@@ -44,7 +44,7 @@ const FIRST: [Topic; 16] = [
     Topic {
         names: &[b"start", b"starti"],
         usage: b"start",
-        text: b"shows where the program stands: it has begun already.",
+        text: b"shows where the program begins. Where it has begun, everything is taken back first.",
     },
     Topic {
         names: &[b"reverse-step", b"rs", b"reverse-stepi", b"rsi"],
@@ -177,15 +177,46 @@ const OTHERS: [Topic; 16] = [
     },
 ];
 
-/// All commands, in two parts, in the order in which help lists them.
-pub fn topics() -> [&'static [Topic]; 2] {
-    [&FIRST, &OTHERS]
+/// The commands that go to moments of the run, and tell of them.
+const MOMENTS: [Topic; 5] = [
+    Topic {
+        names: &[b"goto"],
+        usage: b"goto N",
+        text: b"goes back or on to the moment after N steps of the run; no breakpoint stops it.",
+    },
+    Topic {
+        names: &[b"last"],
+        usage: b"last T",
+        text: b"goes back to the statement that changed a variable of the file, a lane or an element last.",
+    },
+    Topic {
+        names: &[b"changes"],
+        usage: b"changes T [N]",
+        text: b"lists its last ten changes, or N, the newest first; the program stands where it stood.",
+    },
+    Topic {
+        names: &[b"checkpoint"],
+        usage: b"checkpoint",
+        text: b"notes the moment; `info checkpoints` lists those that are noted, and `delete checkpoint N` notes one no more.",
+    },
+    Topic {
+        names: &[b"restart"],
+        usage: b"restart N",
+        text: b"goes to the moment of checkpoint N.",
+    },
+];
+
+/// All commands, in three parts, in the order in which help lists them.
+pub fn topics() -> [&'static [Topic]; 3] {
+    [&FIRST, &OTHERS, &MOMENTS]
 }
 
 /// The command that has the first word of a text.
 pub fn topic_of(text: &[u8]) -> Option<Topic> {
     let (word, _) = next_word(Marks::OfCommands, text)?;
-    topic_in(&FIRST, word).or(topic_in(&OTHERS, word))
+    topic_in(&FIRST, word)
+        .or(topic_in(&OTHERS, word))
+        .or(topic_in(&MOMENTS, word))
 }
 
 /// The command that has a word, among these.

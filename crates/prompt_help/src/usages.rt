@@ -30,7 +30,7 @@ const FIRST: [Reason; 16] = [
     ),
     Reason(
         &[b"start", b"starti"],
-        b"`start` stands alone: it shows where the program stands.",
+        b"`start` stands alone: it shows where the program begins.",
     ),
     Reason(
         &[b"reverse-step", b"rs", b"reverse-stepi", b"rsi"],
