@@ -1,7 +1,7 @@
 """Pages of runs: what `rinddecade page` writes of examples and kernels is, moment by moment, what tools/meaning works out.
 
-Compared are place, function, depth, lanes, open calls and the values of all variables of all frames and of the file, also at the end, and
-that of each change something changed. The viewer round the record is the one of crates/page_viewer, and nothing of a source ends the record.
+Compared are place, function, depth, lanes, open calls, the values of all variables of all frames and of the file with their types and how many
+words each has, also at the end, and that of each change something changed. The viewer round the record is the one of crates/page_viewer, and nothing of a source ends the record.
 """
 
 import json
@@ -65,45 +65,110 @@ export void go() {
 }
 """
 
+# Each type, as a lane's, as one for all lanes and as elements, of which each frame at depths 1 to 3 and the file change some: also to below 0,
+# to 0 and to the greatest. A call changes the elements that the frames below it see.
+TYPES = """uniform bool flags[3];
+uniform int8 bytes[5];
+uniform unsigned int64 most[2];
+uniform int16 low = -1;
+uniform unsigned int16 high = 65535;
+bool each = true;
+int64 wide = 0;
+void deepest(uniform bool set, uniform int8 part[], uniform uint8 small) {
+    uniform int8 first = part[0];
+    part[0] = first - 100;
+    part[1] = part[0];
+    part[1] = part[0];
+    flags[1] = set;
+    flags[1] = !set;
+    small = small - 1;
+    uint8 lane = small + programIndex;
+    lane = lane + 250;
+}
+uint16 middle(uint16 x, int16 y, uniform bool set) {
+    uniform uint32 count = 0;
+    count = count - 1;
+    if (x > 3) {
+        y = -y;
+        deepest(set, &bytes[1], 0);
+    }
+    x = x * 40000;
+    deepest(!set, bytes, 7);
+    y = y - 32767;
+    return x;
+}
+export void go() {
+    uniform int32 one = -2147483647;
+    one = one - 1;
+    uniform uint64 big = 0;
+    big = big - 1;
+    most[1] = big;
+    uint32 parts = programIndex;
+    parts = parts - 1;
+    bool odd = (programIndex & 1) == 1;
+    wide = programIndex;
+    wide = wide * -1000000007000000;
+    uint16 low_part = middle(programIndex, 5, true);
+    if (odd) {
+        uint16 again = middle(4, -5, false);
+        low_part = again;
+    }
+    each = !each;
+    low = low + 1;
+    high = high + 1;
+    low = low;
+}
+"""
+
 
 # ---- what is wanted
 
-def values_of(state, variable):
+def words_of(state, variable):
     if variable.is_array:
         array, first, length = state.view(variable)
-        words = state.memory[array][first : first + length]
-    else:
-        words = state.words(variable)
-    return [("false", "true")[it] if variable.type == "bool" else str(it) for it in words[:MOST_ELEMENTS]]
+        return state.memory[array][first : first + length]
+    return state.words(variable)
 
 
-def variables_at(debugger):
-    """The variables of the file and of each frame, in order: depth, name and values."""
+def values_of(state, variable, most_words):
+    return [("false", "true")[it] if variable.type == "bool" else str(it) for it in words_of(state, variable)[:most_words]]
+
+
+def shape_of(state, variable):
+    """The type of a variable, whether its words are lanes or elements or one for all lanes, and how many there are."""
+    kind = "elements" if variable.is_array else {"varying": "lanes", "uniform": "one"}[variable.rate]
+    return variable.type, kind, len(words_of(state, variable))
+
+
+def seen_at(debugger):
+    """The variables of the file and of each frame, in order: depth, variable, and the state that shows it."""
     state, found = debugger.state, []
     bare = running.State(state.width, state.memory, state.frames[:1])
-    found += [(0, it.name, values_of(bare, it)) for it in debugger.program.globals]
+    found += [(0, it, bare) for it in debugger.program.globals]
     for depth, frame in enumerate(state.frames, 1):
         above = state.frames[depth] if depth < len(state.frames) else None
         scope = above.call.scope if above else debugger.spot()[2]
         own = running.State(state.width, state.memory, state.frames[:depth])
         ordered = sorted(scope, key=lambda it: not it.is_parameter)
-        found += [(depth, it.name, values_of(own, it)) for it in ordered]
+        found += [(depth, it, own) for it in ordered]
     return found
 
 
-def moment_of(debugger):
-    """Place text, the open calls, the entry's first, and the variables."""
+def moment_of(debugger, most_words):
+    """Place text, the open calls, the entry's first, the variables with their values, and with their shapes."""
     calls = [[*above.call.place, below.function.name] for below, above in zip(debugger.state.frames, debugger.state.frames[1:])]
-    return debugger.place_text(), calls, variables_at(debugger)
+    seen = seen_at(debugger)
+    values = [(depth, it.name, values_of(state, it, most_words)) for depth, it, state in seen]
+    return debugger.place_text(), calls, values, [(depth, it.name, *shape_of(state, it)) for depth, it, state in seen]
 
 
-def wanted_of(source, options, first, most):
+def wanted_of(source, options, first, most, most_words=MOST_ELEMENTS):
     """The moments of a run from a step on, and how it ends."""
     debugger = Debugger(source, **options)
     moments, steps = [], 0
     while True:
         if steps >= first - 1:
-            moments.append(moment_of(debugger))
+            moments.append(moment_of(debugger, most_words))
         if not debugger.state.frames:
             return moments, ["ended"]
         if len(moments) > most:
@@ -144,35 +209,40 @@ def moments_in(record):
         shown = "".join("1" if lanes >> lane & 1 else "0" for lane in range(record["width"]))
         place = f"at {line}:{column} {record['functions'][function]} depth {depth} lanes {shown}" if line else "ended"
         there = [(*record["variables"][it][:2], [told_value(record, it, word) for word in own]) for it, own in values.items()]
-        yield place, [[*call[:2], record["functions"][call[2]]] for call in calls], there, wrong
+        shapes = [tuple(record["variables"][it]) for it in values]
+        yield place, [[*call[:2], record["functions"][call[2]]] for call in calls], there, shapes, wrong
 
 
-def is_page_of(source, options, first=1, most=100_000):
+def is_page_of(source, options, first, most, most_words):
     """Whether a page has the record of a run as tools/meaning has it."""
-    wanted, end = wanted_of(source, options, first, most)
+    wanted, end = wanted_of(source, options, first, most, most_words)
+    width = options["width"]
 
     def judged(text):
         page = text.decode(errors="replace")
         why = [] if page.count("</script>") == 2 else ["something ends a script"]
         record = record_of(page)
         why += [] if record["end"] == end else [f"the end is {record['end']}, and {end} is wanted"]
+        told = [record["width"], record["first"], record["most_words"]]
+        why += [] if told == [width, first, most_words] else [f"width, first number and most words are {told}, and {[width, first, most_words]} is wanted"]
         came = list(moments_in(record))
         why += [] if len(came) == len(wanted) else [f"{len(came)} moments, and {len(wanted)} are wanted"]
         for at, (one, other) in enumerate(zip(came, wanted)):
             why += differences(at, one, other)
             if why:
                 return why
-        return why + (came[-1][3][:3] if came else [])
+        return why + (came[-1][-1][:3] if came else [])
 
     return judged
 
 
 def differences(at, came, wanted):
     why = [f"moment {at}: {one}, and {other} is wanted" for one, other in zip(came[:2], wanted[:2]) if one != other]
-    mine, theirs = sorted(came[2], key=str), sorted(wanted[2], key=str)
-    return why + [f"moment {at}: {one}, and {other} is wanted" for one, other in zip(mine, theirs) if one != other] + (
-        [] if len(mine) == len(theirs) else [f"moment {at}: {len(mine)} variables, and {len(theirs)} are wanted"]
-    )
+    for mine, theirs in zip(came[2:4], wanted[2:4]):
+        mine, theirs = sorted(mine, key=str), sorted(theirs, key=str)
+        why += [f"moment {at}: {one}, and {other} is wanted" for one, other in zip(mine, theirs) if one != other]
+        why += [] if len(mine) == len(theirs) else [f"moment {at}: {len(mine)} variables, and {len(theirs)} are wanted"]
+    return why
 
 
 def is_whole_page(root):
@@ -196,13 +266,15 @@ def stored(root):
     return Run(f"stored page of {STORED}", b"", words, (root / f"examples/{STORED}.html").read_bytes(), b"", data=data)
 
 
-def run_of(name, source, words=(), options=None, data=None, first=1, most=100_000):
+def run_of(name, source, words=(), options=None, data=None, first=1, most=100_000, most_words=MOST_ELEMENTS):
     options = {"width": 4} | (options or {})
     said = ["page", f"{name}.ispc", *words, "--width", str(options["width"])]
     said += (["--from", str(first)] if first > 1 else []) + (["--most", str(most)] if most < 100_000 else [])
+    said += ["--elements", str(most_words)] if most_words != MOST_ELEMENTS else []
     text = source if isinstance(source, bytes) else source.encode()
-    judged = is_page_of(text.decode(errors="replace"), options, first, most)
-    run = Run(f"page of {name}, {options['width']} lanes, from {first}", b"", said, judged, b"", data={f"{name}.ispc": text} | (data or {}))
+    judged = is_page_of(text.decode(errors="replace"), options, first, most, most_words)
+    title = f"page of {name}, {options['width']} lanes, from {first}, {most_words} words"
+    run = Run(title, b"", said, judged, b"", data={f"{name}.ispc": text} | (data or {}))
     run.wanted = (options, first, most)
     return run
 
@@ -238,7 +310,9 @@ def kernel_runs(root):
 
 def runs(root):
     hostile = Run("page of a hostile source", b"", ["page", "hostile.ispc"], is_whole_page(root), b"", data={"hostile.ispc": HOSTILE})
-    own = [run_of(name, text, options={"width": width}) for name, text in (("hostile", HOSTILE), ("calls", CALLS)) for width in WIDTHS]
+    sources = (("hostile", HOSTILE), ("calls", CALLS), ("types", TYPES))
+    own = [run_of(name, text, options={"width": width}) for name, text in sources for width in WIDTHS]
+    own += [run_of("types", TYPES, options={"width": width}, most_words=most_words) for width in (8, 16) for most_words in (1, 3, 9)]
     cut = [run_of("calls", CALLS, first=first, most=most) for first, most in ((1, 1), (3, 5), (12, 100))]
     late = Run("page from behind the end", b"", ["page", "calls.ispc", "--from", "50"], b"", None, 2, {"calls.ispc": CALLS.encode()})
     return [stored(root), *example_runs(root), *kernel_runs(root), *own, *cut, hostile, late]

@@ -35,7 +35,6 @@ export void go() {
 """
 
 SHOWN = """(async () => {
-    clearTimeout(address_timer); // Else the page may write its own address over this one.
     if (location.hash !== "#%d") await new Promise(done => {
         addEventListener("hashchange", done, { once: true });
         location.hash = "#%d";
@@ -77,7 +76,7 @@ def why_not_shown(browser, file, wanted):
     browser.open(file.as_uri())
     why = []
     for number in spread(len(wanted)):
-        place, calls, variables = wanted[number - 1]
+        place, calls, variables, _ = wanted[number - 1]
         shown = json.loads(browser.value(SHOWN % (number, number)))
         own = {(depth, name): values for depth, name, values in variables}
         for what, came, meant_value in [
@@ -99,8 +98,8 @@ def at(browser):
 def keys(browser, file, wanted):
     """What a key or a click does that it is not to do; `wanted` has the moments of a run of several calls."""
     browser.open(file.as_uri() + "#1")
-    lines = [int(place.split(":")[0].split()[1]) if place != "ended" else 0 for place, _, _ in wanted]
-    depths = [int(place.split(" depth ")[1].split()[0]) if place != "ended" else 0 for place, _, _ in wanted]
+    lines = [int(place.split(":")[0].split()[1]) if place != "ended" else 0 for place, *_ in wanted]
+    depths = [int(place.split(" depth ")[1].split()[0]) if place != "ended" else 0 for place, *_ in wanted]
     last, why = len(wanted) - 1, []
 
     def goes(key, start, end, text=None, shift=False):
@@ -127,7 +126,7 @@ def keys(browser, file, wanted):
         goes("p", start, first(start, lambda it: depths[it] <= depths[start], -1), "p")
         goes("o", start, first(start, lambda it: depths[it] < depths[start]), "o")
         goes("i", start, first(start, lambda it: depths[it] < depths[start], -1), "i")
-    return why + marks(browser) + texts(browser, lines) + clicks(browser, lines, wanted) + browser.faults()
+    return why + marks(browser) + typed(browser) + texts(browser, lines) + clicks(browser, lines, wanted) + browser.faults()
 
 
 def marks(browser):
@@ -144,6 +143,15 @@ def marks(browser):
     kept = browser.value("location.hash")
     wanted = (7, 3, "#4,marks=4,8")
     return [] if (after, before, kept) == wanted else [f"bookmarks: {(after, before, kept)}, and {wanted} is wanted"]
+
+
+def typed(browser):
+    """An address that is typed right after a move goes to its step, also where the page is late."""
+    browser.value("go(5)")
+    browser.value("(() => { const end = performance.now() + 250; while (performance.now() < end); location.hash = '#9'; })()")
+    browser.value("new Promise(done => setTimeout(done, 400))")
+    came = (at(browser), browser.value("location.hash"))
+    return [] if came == (8, "#9") else [f"an address that is typed: {came}, and {(8, '#9')} is wanted"]
 
 
 def texts(browser, lines):

@@ -19,6 +19,10 @@ text{font:13px monospace;white-space:pre}
 </style>
 ";
 
+/// What a bar in place of a dot means, a yellow band, a darker ground and a red dot.
+const LEGEND: &[u8] =
+    b"bar: a lane leaves, yellow: rounds of a foreach, darker: inside calls, red: a fault";
+
 /// Writes the head of the picture, and its ground.
 pub(crate) fn write_head<O: AnswerWriter>(
     layout: &Layout,
@@ -185,6 +189,24 @@ fn write_step_number<O: AnswerWriter>(
     write_parts(writer, &parts)
 }
 
+/// Writes what the marks mean that have no name where they stand.
+pub(crate) fn write_legend<O: AnswerWriter>(
+    layout: &Layout,
+    writer: &mut O,
+) -> Result<(), WriteFault>
+    requires works { O.has_failed writer.old ≡ false }
+    ensures failed { O.has_failed writer.new ≡ is_err result }
+{
+    let parts = [
+        Text(b"<text class=\"number\" x=\"48\" y=\""),
+        Number(layout.height().saturating_sub(8)),
+        Text(b"\">"),
+        Text(LEGEND),
+        Text(b"</text>\n"),
+    ];
+    write_parts(writer, &parts)
+}
+
 /// Writes how the run ended.
 pub(crate) fn write_end<O: AnswerWriter>(
     seen: &Seen,
@@ -198,7 +220,7 @@ pub(crate) fn write_end<O: AnswerWriter>(
     let steps = seen.columns.len();
     let parts = [
         Text(b"<text class=\"number\" x=\"48\" y=\""),
-        Number(layout.height().saturating_sub(10)),
+        Number(layout.height().saturating_sub(24)),
         Text(b"\">"),
     ];
     write_parts(writer, &parts)?;

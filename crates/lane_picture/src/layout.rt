@@ -21,8 +21,8 @@ const LOW_ROW: usize = 20;
 /// What stands above the first line: the lanes' names, and the numbers of the steps.
 const ABOVE: usize = 34;
 
-/// The space below the last line or row, for how the run ended.
-const BELOW: usize = 26;
+/// The space below the last line or row, for how the run ended and what the marks mean.
+const BELOW: usize = 40;
 
 /// Where the name of the first lane stands, above the source.
 pub(crate) const FIRST_LANE: usize = 92;
@@ -132,7 +132,7 @@ impl Layout {
     }
 
     pub(crate) fn width(&self) -> usize {
-        self.column_left(self.columns).saturating_add(20).max(480)
+        self.column_left(self.columns).saturating_add(20).max(560)
     }
 
     pub(crate) fn height(&self) -> usize {

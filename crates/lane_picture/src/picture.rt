@@ -7,7 +7,9 @@ ghost use Rattle.lane_picture.specs.Tries.{HasBegun, end_view};
 
 use crate::bands::write_bands;
 use crate::columns::{Seen, StepsEnd, see_steps};
-use crate::frame::{write_end, write_head, write_lane_names, write_rows, write_step_numbers};
+use crate::frame::{
+    write_end, write_head, write_lane_names, write_legend, write_rows, write_step_numbers,
+};
 use crate::layout::Layout;
 use crate::parts::Part::{Any, Text};
 use crate::parts::write_parts;
@@ -139,6 +141,7 @@ fn write_image<O: AnswerWriter>(
     if let Some(watched) = subject.watched {
         write_strip(seen, watched, layout, writer)?;
     }
+    write_legend(layout, writer)?;
     write_end(seen, end, layout, writer)?;
     writer.write_all(b"</svg>\n")
 }

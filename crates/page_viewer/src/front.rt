@@ -23,7 +23,7 @@ fn front_0() -> &'static [u8] {
 <meta name=\"generator\" content=\"rinddecade page\">
 <meta name=\"viewport\" content=\"width=device-width, initial-scale=1\">
 <meta http-equiv=\"Content-Security-Policy\"
- content=\"default-src 'none'; script-src 'sha256-24FznhDB/Bri9KmZK+jk8qX8NyX1DuFdNEhPjt35pck='; style-src 'sha256-jCod5upd30hZuPLjvQdF7IH6/PSUC95nivZkK/ksdTs='; base-uri 'none'; form-action 'none'\">
+ content=\"default-src 'none'; script-src 'sha256-rx8tdprcsEvoCVBJb5aBeU2yLr/M0edPmWiVi6tcbbM='; style-src 'sha256-jCod5upd30hZuPLjvQdF7IH6/PSUC95nivZkK/ksdTs='; base-uri 'none'; form-action 'none'\">
 <title>A run, step by step</title>
 <style>
 :root {

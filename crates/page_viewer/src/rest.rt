@@ -631,6 +631,7 @@ function draw() {
 
 // ---- the address: #40, with bookmarks #40,marks=3,17
 let address_timer = null;
+let known_address = location.hash; // What the page set or read last. Where another one stands there, it was typed, and is still to be read.
 
 function address() {
   return `#${number_of(here.at)}${here.marks.length ? `,marks=${here.marks.map(number_of).join(\",\")}` : \"\"}`;
@@ -638,14 +639,26 @@ function address() {
 
 function keep_address() {
   clearTimeout(address_timer);
-  address_timer = setTimeout(() => { try { history.replaceState(null, \"\", address()); } catch { /* it is kept where it may be */ } }, 200);
+  address_timer = setTimeout(set_address, 200);
 }
 
-function read_address() {
-  const [, at, marks] = /^#(\\d+)?(?:,marks=([\\d,]+))?/.exec(location.hash) ?? [];
+function set_address() {
+  if (location.hash !== known_address) return;
+  try { history.replaceState(null, \"\", address()); } catch { /* it is kept where it may be */ }
+  known_address = location.hash;
+}
+
+function read_address(hash) {
+  known_address = hash;
+  const [, at, marks] = /^#(\\d+)?(?:,marks=([\\d,]+))?/.exec(hash) ?? [];
   const inside = number => number >= 0 && number <= LAST;
   here.marks = (marks ?? \"\").split(\",\").filter(it => it).map(it => Number(it) - first).filter(inside).sort((one, other) => one - other);
   go(at === undefined ? 0 : Number(at) - first);
+"
+}
+
+fn rest_9() -> &'static [u8] {
+    b"\
 }
 
 function toggle_mark() {
@@ -653,11 +666,6 @@ function toggle_mark() {
   here.marks = there ? here.marks.filter(at => at !== here.at) : [...here.marks, here.at].sort((one, other) => one - other);
   show();
   tell(there ? \"This bookmark is gone.\" : \"A bookmark is here; the address of the page keeps it.\");
-"
-}
-
-fn rest_9() -> &'static [u8] {
-    b"\
 }
 
 // ---- keys
@@ -797,7 +805,7 @@ $(\"mark\").onclick = toggle_mark;
 $(\"help\").onclick = () => $(\"keys\").showModal();
 $(\"search\").oninput = () => search($(\"search\").value);
 addEventListener(\"resize\", draw);
-addEventListener(\"hashchange\", read_address);
+addEventListener(\"hashchange\", event => read_address(new URL(event.newURL).hash));
 matchMedia(\"(prefers-color-scheme: dark)\").addEventListener(\"change\", draw);
 
 // ---- the start
@@ -811,7 +819,7 @@ for (const [, name, text] of KEYS) {
   key.append(element(\"kbd\", \"\", name));
   $(\"list\").append(key, element(\"dd\", \"\", text));
 }
-read_address();
+read_address(location.hash);
 </script>
 </body>
 </html>

@@ -1,2 +1,11 @@
+pub mod Adding
+pub mod CallsKept
+pub mod Differing
 pub mod MomentsNoted
+pub mod NewWords
+pub mod Numbers
+pub mod Places
+pub mod RecordKept
+pub mod RowsRead
+pub mod Seeing
 pub mod Telling

@@ -1,9 +1,11 @@
 //! The page of a run: one HTML file with a record of each of its moments, and a viewer that walks through them.
 #![tactic(auto)]
 
+mod calls;
 mod comparing;
 mod json;
 mod moments;
+mod names;
 mod noting;
 mod page;
 mod reading;

@@ -1,27 +1,43 @@
 //! What is noted of a run, step by step.
-ghost use Rattle.std.specs.Prelude.{◌≡◌, ◌≤◌, IfOk, OnErr};
+ghost use Rattle.std.specs.Prelude.{◌≡◌, ◌≤◌, [], IfOk, OnErr, Option};
 ghost use Rattle.gang_model.specs.Debugger.Debugger.{Debugger, Setting};
 ghost use Rattle.debug_session.specs.Sessions.{StandsFor};
-ghost use Rattle.debug_traits.specs.Machines.{position_text};
 ghost use Rattle.lane_picture.specs.Tries.{HasBegun};
-ghost use Rattle.run_page.specs.Moments.{HasNoted, NotesMoment, Stands};
+ghost use Rattle.gang_model.specs.Running.State.{State};
+ghost use Rattle.run_page.specs.Calls.{HasCallsOf, NotesCalls};
+ghost use Rattle.run_page.specs.Moments.{HasNoted, NotesMoment};
+ghost use Rattle.run_page.specs.Recording.{IsRecordOf, NotesChanges, sights_of};
+ghost use Rattle.run_page.specs.Rows.{AreDistinct, AreRowsOf};
 
+use crate::calls::{common_front, read_calls, stand_of};
 use crate::comparing::note_changes;
-use crate::moments::{Call, Moment, Stand};
-use crate::reading::read_view;
+use crate::moments::{Call, Moment};
+use crate::reading::read_rows;
 use crate::record::Record;
-use crate::variables::Variables;
-use crate::views::View;
+use crate::views::Row;
 use debug_session::Session;
-use debug_traits::{FramedMachine, Position};
+use debug_traits::FramedMachine;
 use lane_picture::{StepsEnd, end_after, try_step};
 use std::alloc::{AllocError, Global};
 
-/// What was told last: the calls of the frames below the top one, and what could be seen.
+/// What was told last: the calls of the frames below the top one, and the words of what could be seen.
 #[derive(Drop)]
 struct Told {
     calls: Vec<Call>,
-    view: View,
+    rows: Vec<Row>,
+}
+
+impl Told {
+    /// Of a run of which nothing was told.
+    fn new(alloc: Global) -> Told
+        ensures rows { result.rows.items ≡ [] }
+        ensures calls { result.calls.items ≡ [] }
+    {
+        Told {
+            calls: Vec::new(alloc),
+            rows: Vec::new(alloc),
+        }
+    }
 }
 
 /// Tries one step after another, so many at most, and notes where the program stands at first and after each of them, and what has
@@ -38,14 +54,15 @@ pub(crate) fn note_run<M: FramedMachine>(
 ) -> Result<(Record, StepsEnd), AllocError>
     ensures noted { IfOk result (λ noted. (s : Setting) (d : Debugger) → StandsFor M.stands session.old s d
         → HasNoted M.stands s most_steps d noted.0.moments.items noted.1 session.new) }
+    ensures changes { IfOk result (λ noted. (s : Setting) (d : Debugger) → StandsFor M.stands session.old s d → 1 ≤ s.limit
+        → IsRecordOf s d most_words noted.0) }
+    ensures calls { IfOk result (λ noted. (s : Setting) (d : Debugger) → StandsFor M.stands session.old s d → 1 ≤ s.limit
+        → HasCallsOf s d noted.0) }
     ensures memory { OnErr result ((s : Setting) (d : Debugger) → StandsFor M.stands session.old s d
         → HasBegun M.stands s most_steps d session.new) }
 {
     let mut record = Record::new(alloc);
-    let mut told = Told {
-        calls: Vec::new(alloc),
-        view: View::new(alloc),
-    };
+    let mut told = Told::new(alloc);
     for _count in 0..most_steps {
         note_moment(alloc, session.machine(), most_words, &mut told, &mut record)?;
         let Some(_position) = session.machine().position() else {
@@ -68,19 +85,25 @@ fn note_moment<M: FramedMachine>(
     told: &mut Told,
     noted: &mut Record,
 ) -> Result<(), AllocError>
-    ensures { IfOk result (λ _. NotesMoment M.stands machine.now noted.old.moments.items noted.new.moments.items) }
+    ensures moment { IfOk result (λ _. NotesMoment M.stands machine.now noted.old.moments.items noted.new.moments.items) }
+    ensures changes { IfOk result (λ _. (s : Setting) (d : Debugger) (before : Option State) → M.stands machine.now s d → AreDistinct (sights_of noted.old)
+        → AreRowsOf (sights_of noted.old) most_words s.program before told.old.rows.items → NotesChanges s d most_words before noted.old noted.new told.new.rows.items) }
+    ensures calls { IfOk result (λ _. (s : Setting) (d : Debugger) → M.stands machine.now s d
+        → NotesCalls s d told.old.calls.items noted.old noted.new told.new.calls.items) }
+    ensures distinct { IfOk result (λ _. AreDistinct (sights_of noted.old) → AreDistinct (sights_of noted.new)) }
 {
     let position = machine.position();
-    let stand = stand_of(position, &mut noted.variables)?;
+    let stand = stand_of(alloc, position, &mut noted.functions)?;
     noted.width = position.map_or(noted.width, |position| position.width);
-    let calls = read_calls(alloc, machine, stand, &mut noted.variables)?;
-    let view = read_view(alloc, machine, most_words, &mut noted.variables)?;
+    let calls = read_calls(alloc, machine, &mut noted.functions)?;
     let kept_calls = common_front(told.calls.as_slice(), calls.as_slice());
     let first_call = noted.calls.len();
-    let new_calls = calls.get(kept_calls..).unwrap_or(&[]);
-    noted.calls.extend_from_slice(new_calls)?;
+    noted
+        .calls
+        .extend_from_slice(&calls.as_slice()[kept_calls..])?;
+    let rows = read_rows(alloc, machine, most_words, &mut noted.variables)?;
     let first_change = noted.changes.len();
-    note_changes(&told.view, &view, &mut noted.changes)?;
+    note_changes(told.rows.as_slice(), rows.as_slice(), &mut noted.changes)?;
     noted.moments.push(Moment {
         stand,
         kept_calls,
@@ -90,55 +113,6 @@ fn note_moment<M: FramedMachine>(
         end_of_changes: noted.changes.len(),
     })?;
     told.calls = calls;
-    told.view = view;
+    told.rows = rows;
     Ok(())
-}
-
-/// Where a program stands, with the number of its function.
-fn stand_of(
-    position: Option<Position<'_>>,
-    variables: &mut Variables,
-) -> Result<Option<Stand>, AllocError>
-    ensures { IfOk result (λ stand. Stands (position_text position.entry) stand) }
-{
-    match position {
-        None => Ok(None),
-        Some(position) => Ok(Some(Stand {
-            place: position.place,
-            function: variables.function_number(position.function, 0)?,
-            depth: position.depth,
-            lanes: position.lanes,
-        })),
-    }
-}
-
-/// The calls that the frames below the top one made, the entry's first.
-fn read_calls<M: FramedMachine>(
-    alloc: Global,
-    machine: &M,
-    stand: Option<Stand>,
-    variables: &mut Variables,
-) -> Result<Vec<Call>, AllocError> {
-    let mut calls = Vec::new(alloc);
-    let top = stand.map_or(0, |stand| stand.depth);
-    for depth in 1..top {
-        if let Some(position) = machine.call(depth) {
-            let function = variables.function_number(position.function, 0)?;
-            calls.push(Call {
-                place: position.place,
-                function,
-            })?;
-        }
-    }
-    Ok(calls)
-}
-
-/// How many calls two lists have in common at their fronts.
-fn common_front(left: &[Call], right: &[Call]) -> usize {
-    for (index, call) in left.iter().enumerate() {
-        if right.get(index) != Some(call) {
-            return index;
-        }
-    }
-    left.len()
 }

@@ -1,18 +1,11 @@
 //! What can be seen at a moment, and what changes from one moment to the next.
-use std::alloc::Global;
+ghost use Rattle.std.specs.Prelude.{◌≡◌};
+ghost use Rattle.run_page.specs.Rows.{FindsWords};
 
-/// The words of a variable, by its number, among the words of all.
-#[derive(Clone, Copy, Debug)]
+/// The first words of a variable, by its number.
+#[derive(Drop)]
 pub(crate) struct Row {
     pub(crate) variable: usize,
-    pub(crate) first_word: usize,
-    pub(crate) end_of_words: usize,
-}
-
-/// The words of all variables that can be seen: those of the file, and those of each frame, the entry's first.
-#[derive(Drop)]
-pub(crate) struct View {
-    pub(crate) rows: Vec<Row>,
     pub(crate) words: Vec<u64>,
 }
 
@@ -31,27 +24,19 @@ pub(crate) enum Change {
     },
 }
 
-impl View {
-    pub(crate) fn new(alloc: Global) -> View {
-        View {
-            rows: Vec::new(alloc),
-            words: Vec::new(alloc),
+/// The words of a variable, which is looked for at one row first; none where it has no row.
+pub(crate) fn words_of(rows: &[Row], variable: usize, guess: usize) -> Option<&[u64]>
+    ensures { FindsWords rows.now variable result }
+{
+    if let Some(row) = rows.get(guess)
+        && row.variable == variable
+    {
+        return Some(row.words.as_slice());
+    }
+    for row in rows {
+        if row.variable == variable {
+            return Some(row.words.as_slice());
         }
     }
-
-    /// The words of a variable, which is looked for at one row first; none where it is not there.
-    pub(crate) fn words_of(&self, variable: usize, guess: usize) -> Option<&[u64]> {
-        if let Some(row) = self.rows.get(guess)
-            && row.variable == variable
-        {
-            return self.words_at(row);
-        }
-        let row = self.rows.iter().find(|row| row.variable == variable)?;
-        self.words_at(row)
-    }
-
-    /// The words of a row.
-    pub(crate) fn words_at(&self, row: &Row) -> Option<&[u64]> {
-        self.words.get(row.first_word..row.end_of_words)
-    }
+    None
 }

@@ -101,9 +101,9 @@ fn write_functions<O: AnswerWriter>(record: &Record, writer: &mut O) -> Result<(
     requires works { O.has_failed writer.old ≡ false }
     ensures failed { O.has_failed writer.new ≡ is_err result }
 {
-    for number in 0..record.variables.function_count() {
+    for (number, function) in record.functions.iter().enumerate() {
         write_comma(number, writer)?;
-        write_parts(writer, &[Any(record.variables.function(number))])?;
+        write_parts(writer, &[Any(function.as_slice())])?;
     }
     Ok(())
 }
@@ -113,18 +113,14 @@ fn write_variables<O: AnswerWriter>(record: &Record, writer: &mut O) -> Result<(
     requires works { O.has_failed writer.old ≡ false }
     ensures failed { O.has_failed writer.new ≡ is_err result }
 {
-    for (number, variable) in record.variables.variables.iter().enumerate() {
+    for (number, variable) in record.variables.iter().enumerate() {
         write_comma(number, writer)?;
-        write_variable(record.variables.name(variable), variable, writer)?;
+        write_variable(variable, writer)?;
     }
     Ok(())
 }
 
-fn write_variable<O: AnswerWriter>(
-    name: &[u8],
-    variable: &Variable,
-    writer: &mut O,
-) -> Result<(), WriteFault>
+fn write_variable<O: AnswerWriter>(variable: &Variable, writer: &mut O) -> Result<(), WriteFault>
     requires works { O.has_failed writer.old ≡ false }
     ensures failed { O.has_failed writer.new ≡ is_err result }
 {
@@ -133,7 +129,7 @@ fn write_variable<O: AnswerWriter>(
         Text(b"["),
         Number(variable.depth),
         Text(b","),
-        Any(name),
+        Any(variable.name.as_slice()),
         Text(b","),
         Text(type_name(shown.value_type)),
         Text(b","),
@@ -306,7 +302,7 @@ fn write_change<O: AnswerWriter>(
                 write_parts(writer, &[Number(variable), Text(b","), Number(part)])?;
             }
             writer.write_all(b",")?;
-            let value_type = match record.variables.variables.get(variable) {
+            let value_type = match record.variables.get(variable) {
                 Some(it) => it.shown.value_type,
                 None => IntType::Uint64,
             };
