@@ -90,9 +90,9 @@ module _ {M : Type 0} (stands : M → Setting → Debugger → Type 0) (program 
   alone request.Threads = tt
   alone request.StackTrace = tt
   alone (request.Scopes frame) = tt
-  alone (request.Variables reference) = tt
+  alone (request.Variables reference page) = tt
   alone (request.SetVariable reference name value) = tt
-  alone (request.Evaluate expression frame is_console) = tt
+  alone (request.Evaluate expression frame context) = tt
   alone request.Next = tt
   alone request.StepIn = tt
   alone request.StepOut = tt
