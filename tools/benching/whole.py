@@ -12,7 +12,7 @@ from .timed import NotRun, spent
 
 ROUNDS = 3
 TURNS = 1_999_999
-STEPS = works.steps_of_loop(TURNS)  # nearly the 10,000,000 moves that one command makes at most
+STEPS = works.steps_of_loop(TURNS) + 1  # nearly the 10,000,000 moves that one command makes at most
 SINGLE = 1_000
 NAME = "long.ispc"
 # The last statement of the run sets t, so that going back with its watch goes over that alone; s is set by the first.
