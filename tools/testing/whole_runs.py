@@ -34,7 +34,7 @@ export void go() {
 """
 SHOWN = ("turns", "sum", "kept")
 LOOK = "look"
-PLACE = re.compile(rb"^(?:.*: )?(\w+) at \S+?:(\d+):(\d+),(?: depth \d+,)? lanes ([#.]+)$", re.M)
+PLACE = re.compile(rb"^(?:.*: )?(\w+) at \S+?:(\d+):(\d+),(?: (?:step|depth) \d+,)* lanes ([#.]+)$", re.M)
 
 
 def plan(seed):
