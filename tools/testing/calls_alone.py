@@ -56,6 +56,12 @@ CALLS = {
     "lane_picture::draw": 3,
     "run_page::write_page": 0,
     "frame_values::value_of_expression": 0,
+    "lane_counts::Tally::note": 0,
+    "lane_profile::count_run": 0,
+    "profile_texts::write_profile": 0,
+    "profile_texts::write_comparison": 0,
+    "conditional_stops::judge_condition": 0,
+    "conditional_stops::continue_on": 0,
     "source_port::port": 0,
     "adapter_frames::FrameReader::next_message": 0,
     "adapter_frames::write_frame": 0,
@@ -75,10 +81,6 @@ CALLS = {
 NONE_TAKEN = {"adapter_frames::FrameReader::new", "adapter_server::Connection::new", "whole_runs::Notes::none", "whole_runs::Copies::none", "lane_counts::Tally::new"}
 # This shows on its page that memory was wanting: hostile.py refuses it each of its allocations.
 ON_A_PAGE = {"debug_prompt::Prompt::do_line"}
-# The verb `profile` makes these: front_ends.py refuses it each of its allocations.
-OF_PROFILES = {"lane_counts::Tally::note", "lane_profile::count_run", "profile_texts::write_profile", "profile_texts::write_comparison"}
-# No program stands on these yet: they are to be made alone before one does.
-OF_NO_PROGRAM = {"conditional_stops::continue_on", "conditional_stops::judge_condition"}
 # These are made by `tokens` and `check`.
 INNER = {"ispc_lexer::first_step", "type_check::typed_program"}
 # The parts of a layer, whose calls are made by those of the crate with the plain name; and the crates of tests.
@@ -100,7 +102,7 @@ def public_calls(crate):
 def check(listed):
     """One result: each public call that is given an allocator is made alone, but for the parts of a layer."""
     wanted = {name for crate in listed if not PARTS.fullmatch(crate.name) for name in public_calls(crate)}
-    why = [f"{it} is not made alone" for it in sorted(wanted - CALLS.keys() - NONE_TAKEN - ON_A_PAGE - OF_PROFILES - OF_NO_PROGRAM - INNER)]
+    why = [f"{it} is not made alone" for it in sorted(wanted - CALLS.keys() - NONE_TAKEN - ON_A_PAGE - INNER)]
     return Result("each public call that is given an allocator", not why, why)
 
 

@@ -6,12 +6,14 @@
 
 mod ends;
 mod messages;
+mod profiles;
 mod programs;
 mod records;
 mod replies;
 mod runs;
 mod samples;
 mod sources;
+mod stops;
 
 use ends::word;
 use std::{env, io};
@@ -35,6 +37,8 @@ fn call(rt: &HostRuntime, name: &str) -> &'static str {
         .or(programs::call(alloc, name))
         .or(records::call(alloc, name))
         .or(runs::call(alloc, name))
+        .or(profiles::call(alloc, name))
+        .or(stops::call(alloc, name))
         .or(messages::call(alloc, name))
         .or(replies::call(alloc, name));
     word(end)

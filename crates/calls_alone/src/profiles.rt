@@ -1,0 +1,72 @@
+//! Profiles of a run: what is counted, and what is told of it.
+use crate::ends::{Ended, end_of};
+use crate::runs::session;
+use crate::samples::SOURCE;
+use gang_types::Mask;
+use lane_counts::{Gang, StepAt, Tally};
+use lane_picture::StepsEnd;
+use lane_profile::count_run;
+use profile_texts::{Compared, Form, Subject, write_comparison, write_profile};
+use std::alloc::Global;
+use tests_devices::PieceWriter;
+
+/// Makes the call of a name, if there is memory for what it is called on.
+pub(crate) fn call(alloc: Global, name: &str) -> Option<Ended> {
+    match name {
+        "lane_counts::Tally::note" => Some(note_step(alloc)),
+        "lane_profile::count_run" => Some(end_of(&count_run(alloc, &mut session(alloc)?, 100))),
+        "profile_texts::write_profile" => Some(write_table(alloc, &tally(alloc)?)),
+        "profile_texts::write_comparison" => Some(compare(alloc, &tally(alloc)?)),
+        _ => None,
+    }
+}
+
+/// Counts one step.
+fn note_step(alloc: Global) -> Ended {
+    let at = StepAt {
+        line: 4,
+        function: b"go",
+        depth: 1,
+        gang: Gang::Four,
+        lanes: Mask::none(),
+    };
+    end_of(&Tally::new(alloc).note(alloc, at))
+}
+
+/// The counts of the run, if there is memory for them.
+fn tally(alloc: Global) -> Option<Tally> {
+    match count_run(alloc, &mut session(alloc)?, 100) {
+        Ok((tally, _)) => Some(tally),
+        Err(_) => None,
+    }
+}
+
+/// Writes the table of lines.
+fn write_table(alloc: Global, tally: &Tally) -> Ended {
+    let subject = Subject {
+        title: b"it.ispc",
+        source: SOURCE,
+        width: 4,
+        most_rows: 100,
+    };
+    let mut writer = PieceWriter::new(512, 512);
+    end_of(&write_profile(
+        alloc,
+        Form::Lines,
+        tally,
+        StepsEnd::Ended,
+        &subject,
+        &mut writer,
+    ))
+}
+
+/// Writes the shares at three widths.
+fn compare(alloc: Global, tally: &Tally) -> Ended {
+    let compared = Compared {
+        four: tally,
+        eight: tally,
+        sixteen: tally,
+    };
+    let mut writer = PieceWriter::new(512, 512);
+    end_of(&write_comparison(alloc, compared, SOURCE, &mut writer))
+}

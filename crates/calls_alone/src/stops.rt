@@ -1,0 +1,61 @@
+//! Stops with conditions.
+use crate::ends::{CallFault, Ended};
+use crate::runs::session;
+use conditional_stops::{
+    Conditions,
+    CountedStop,
+    Direction,
+    MoveEnd,
+    Verdict,
+    continue_on,
+    judge_condition,
+};
+use debug_commands::read_command;
+use ispc_debugger::ProgramSession;
+use std::alloc::Global;
+
+/// What holds where the program stands, and at its breakpoint.
+const CONDITION: &[u8] = b"n + t[1] > 0";
+
+/// Makes the call of a name, if there is memory for what it is called on.
+pub(crate) fn call(alloc: Global, name: &str) -> Option<Ended> {
+    match name {
+        "conditional_stops::judge_condition" => {
+            Some(end_of_verdict(judge_condition(alloc, CONDITION, session(alloc)?.machine())))
+        }
+        "conditional_stops::continue_on" => Some(go_on(alloc, &mut session(alloc)?)),
+        _ => None,
+    }
+}
+
+/// Goes on to a breakpoint with a condition, beside a watch of an element that stays as it is before.
+fn go_on(alloc: Global, session: &mut ProgramSession<4>) -> Ended {
+    for line in [b"break 10".as_slice(), b"watch t[1]".as_slice()] {
+        if let Some(command) = read_command(line) {
+            session.do_command(command);
+        }
+    }
+    let mut conditions = Conditions::new();
+    if conditions.set_condition(1, CONDITION).is_err() {
+        return Ended::Otherwise;
+    }
+    match continue_on(alloc, Direction::Forward, 9, &mut conditions, session).end {
+        MoveEnd::NoMemory => Ended::Memory,
+        MoveEnd::Stopped(
+            CountedStop {
+                verdict: Some(verdict),
+                ..
+            },
+        ) => end_of_verdict(verdict),
+        _ => Ended::Otherwise,
+    }
+}
+
+/// How the judging of a condition ended that holds.
+fn end_of_verdict(verdict: Verdict) -> Ended {
+    match verdict {
+        Verdict::Holds(_) => Ended::Done,
+        Verdict::NoValue(why) if why.is_memory() => Ended::Memory,
+        Verdict::Fails | Verdict::NoValue(_) => Ended::Otherwise,
+    }
+}
