@@ -3,7 +3,7 @@
 # Where the programs are installed: in PREFIX/bin, with what belongs to them in PREFIX/share.
 PREFIX = /usr/local
 
-.PHONY: demo program install uninstall test extension test-editors test-page prove gate build bench
+.PHONY: demo program install uninstall test mutants extension test-editors test-page prove gate build bench
 
 # Builds the program without its proofs, and shows the first example: its source, then each command with its answer; and where a picture is.
 demo:
@@ -36,6 +36,11 @@ uninstall:
 test:
 	@tools/needs $@ rt python3 cc
 	tools/run_tests
+
+# Turns bodies of the front ends, and says which of them no test finds; some twenty minutes of a processor.
+mutants:
+	@tools/needs $@ rt python3 cc
+	tools/mutants
 
 # Packs the extension of VS Code from editors/vscode: editors/vscode/out/rinddecade.vsix.
 extension:
@@ -79,7 +84,8 @@ build:
 	@echo "The proved programs are crates/ispc_cli/out/ispc_cli and crates/rinddecade/out/rinddecade"
 
 # Times of the lane kernels and of an expression's code beside their plain loops, as ratios; of the two records of old words; and of the
-# built program: steps, prints and moves a second, and ratios, also to gdb where it is on the path.
+# built program: steps, prints and moves a second, and ratios, also to plain C and to gdb where they are on the path, and the way back over a
+# long run.
 bench:
 	@tools/needs $@ rt python3
 	cd crates/kernel_bench && rt run -- signed && rt run -- unsigned

@@ -1,61 +1,219 @@
-"""The time of going back over a run that is longer than the machine's own record, at the prompt of `rinddecade debug`.
+"""The time of going back over a run that is longer than the machine's own record, at the prompt of `rinddecade debug`, beside what it may be.
 
-Each time is that of a run less that of the same run without the lines that are measured, each the least of some rounds.
+A program is given its lines one after another, and the processor's seconds that it takes for some of them are read off the system before and
+behind them. Each time is the least of some rounds. Each run is looked at for what it is to come to.
 """
 
+import contextlib
+import os
 import pathlib
 import subprocess
 import tempfile
 
 from . import works
-from .timed import NotRun, spent
+from .timed import NotRun
 
 ROUNDS = 3
+ALTERNATED = 7
 TURNS = 1_999_999
 STEPS = works.steps_of_loop(TURNS) + 1  # nearly the 10,000,000 moves that one command makes at most
-SINGLE = 1_000
+MIDDLE, SINGLE = STEPS // 2, 1_000
 NAME = "long.ispc"
 # The last statement of the run sets t, so that going back with its watch goes over that alone; s is set by the first.
 TEXT = works.loop(TURNS).replace("uniform int t = 0;\n", "uniform int t = 0;\nuniform int s = 0;\n").replace("int i = 0;\n", "s = 1;\nint i = 0;\n")
-TO_THE_END = ["step 10000000"]
-TO_THE_WATCH = ["watch s", "reverse-continue"]
-TO_THE_MIDDLE = [f"reverse-step {STEPS // 2}"]
-ONE_BY_ONE = ["reverse-step"] * SINGLE
+TO_THE_END = [f"step {STEPS}"]
+BACK, ONE_BY_ONE = ["watch s", "reverse-continue", "delete"], ["reverse-step"] * SINGLE
+# From where single steps are made.
+PLACES = {"the end": STEPS, "three quarters": 3 * STEPS // 4, "the middle": MIDDLE, "a quarter": STEPS // 4, "the start": 2 * SINGLE}
+# A loop of ten steps a turn, whose line with a breakpoint comes 100,000 times in 1,000,000 steps.
+CONDITION_TURNS, CONDITION_LINE = 100_000, 6
+CONDITION_STEPS = 10 * CONDITION_TURNS + 4
+CONDITION_TEXT = f"export void go() {{\nint i = 0;\nint x = 0;\nwhile (i < {CONDITION_TURNS}) {{\nx += i;\n" + "x ^= 5;\nx += 7;\n" * 3 + "x -= 3;\ni += 1;\n}\n}\n"
+CONDITIONAL, GOES_ON = [f"break {CONDITION_LINE} if i < 0"], ["continue"]
+LIBRARY = pathlib.Path(__file__).with_name("allocations.c")
+# What is typed behind the measured lines, and how it is answered: by the prompt, and by the program for scripts.
+MARK, MARK_OF_SCRIPTS = ("echo ----", b"----\n"), ("----", b"C1 BadCommand\n")
 
 
-def once(words, folder, lines):
-    """The processor's seconds of one run with these lines, and what it wrote."""
-    before = spent()
-    ended = subprocess.run([*words, NAME, "--steps", "10000000"], cwd=folder, input="".join(f"{it}\n" for it in lines).encode(), capture_output=True, env={})
-    if ended.returncode:
-        raise NotRun(f"status {ended.returncode} {ended.stderr.decode(errors='replace').strip()}")
-    return spent() - before, ended.stdout
+class Figure:
+    """What was measured, what it is, and what it may be at most, if that is said."""
+
+    def __init__(self, value, what, most=None, form=".2f"):
+        self.value, self.what, self.most, self.form = value, what, most, form
+
+    def line(self):
+        aim = "" if self.most is None else f" (aim: at most {self.most:{self.form}}{'' if self.value <= self.most else ', NOT MET'})"
+        return f"{self.value:>17,{self.form}} {self.what}{aim}"
 
 
-def seconds(words, folder, before, measured):
-    """The seconds of the measured lines behind those before."""
-    rounds = [(once(words, folder, before)[0], once(words, folder, [*before, *measured])[0]) for _ in range(ROUNDS)]
-    without, with_them = (min(it) for it in zip(*rounds))
-    return max(with_them - without, 0)
+class Desk:
+    """A program that runs, and is given lines."""
+
+    def __init__(self, words, folder, mark=MARK, environment=None):
+        self.mark, self.folder = mark, folder
+        streams = {"stdin": subprocess.PIPE, "stdout": subprocess.PIPE, "stderr": subprocess.DEVNULL}
+        self.process = subprocess.Popen([str(it) for it in words], cwd=folder, env=environment or {}, **streams)
+        self.done([])
+
+    def done(self, lines, wanted=b""):
+        """What is answered to these lines, which has a text."""
+        self.process.stdin.write("".join(f"{it}\n" for it in (*lines, self.mark[0])).encode())
+        self.process.stdin.flush()
+        told = []
+        while not told or told[-1] != self.mark[1]:
+            told.append(self.process.stdout.readline())
+            if not told[-1]:
+                raise NotRun(f"it ends with status {self.process.wait()}")
+        if wanted not in b"".join(told):
+            raise NotRun(f"it does not come to {wanted.decode()}")
+        return b"".join(told)
+
+    def used(self):
+        """The seconds of the processor that it has taken up to now."""
+        return int(pathlib.Path(f"/proc/{self.process.pid}/schedstat").read_text().split()[0]) / 1e9
+
+    def used_by_itself(self):
+        """Those of them that were not the system's."""
+        fields = pathlib.Path(f"/proc/{self.process.pid}/stat").read_text().rsplit(")", 1)[1].split()
+        return int(fields[11]) / os.sysconf("SC_CLK_TCK")
+
+    def seconds(self, lines, wanted=b""):
+        """The seconds for these lines."""
+        before = self.used()
+        self.done(lines, wanted)
+        return self.used() - before
+
+    def end(self):
+        self.process.stdin.close()
+        self.process.stdout.read()
+        self.process.wait()
 
 
-def told(desk, script):
-    """Returns pairs of a figure and what it is: of the prompt's program, beside the program for scripts where that is there."""
+@contextlib.contextmanager
+def begun(words, folder, **how):
+    """A program that runs as long as it is needed."""
+    desk = Desk(words, folder, **how)
+    try:
+        yield desk
+    finally:
+        desk.end()
+
+
+def debugged(program, name=NAME):
+    return [program, "debug", name, "--steps", "10000000"]
+
+
+def at_step(number):
+    return f"step {number}, lanes".encode()
+
+
+def least(rounds):
+    """The least of each of several times, of some rounds."""
+    return [min(it) for it in zip(*rounds)]
+
+
+def way_back(program, folder):
+    """The seconds of one run: forward, back to the start, to the middle, and of single steps from each place."""
+    with begun(debugged(program), folder) as desk:
+        times = [desk.seconds(TO_THE_END, at_step(STEPS)), desk.seconds(BACK, b"watch 1: go at")]
+        desk.done([f"goto {STEPS}"], at_step(STEPS))
+        times.append(desk.seconds([f"goto {MIDDLE}"], at_step(MIDDLE)))
+        desk.done([f"goto {STEPS}"], at_step(STEPS))
+        for number in PLACES.values():
+            desk.done([f"goto {number}"], at_step(number))
+            times.append(desk.seconds(ONE_BY_ONE, at_step(number - SINGLE)))
+    return times
+
+
+def back(program, folder):
+    """How it goes back over the whole run."""
+    forward, to_the_watch, to_the_middle, *single = least(way_back(program, folder) for _ in range(ROUNDS))
+    yield Figure(forward, f"seconds forward over {STEPS:,} steps")
+    yield Figure(to_the_watch / forward, "times these for reverse-continue from the end to a watch at the start", 3)
+    yield Figure(to_the_middle, "seconds for goto from the end to the middle", 1)
+    for name, seconds in zip(PLACES, single):
+        yield Figure(seconds, f"seconds for {SINGLE:,} steps back from {name}, one by one", 1)
+
+
+def by_itself(words, folder, mark):
+    """The seconds of a program's own code for the steps to the end."""
+    with begun(words, folder, mark=mark) as desk:
+        before = desk.used_by_itself()
+        desk.done(TO_THE_END)
+        return desk.used_by_itself() - before
+
+
+def beside_plain(program, script, folder):
+    """How it goes forward beside the machine without a whole run: by the least times, and in the middle one of the rounds, which alternate."""
+    plain = [script, NAME, "--history", "65536", "--steps", "10000000"]
+    rounds = [(by_itself(debugged(program), folder, MARK), by_itself(plain, folder, MARK_OF_SCRIPTS)) for _ in range(ALTERNATED)]
+    own, other = least(rounds)
+    yield Figure(own / other, "times the seconds of the program for scripts, which keeps 65,536 steps", 1.05)
+    yield Figure(sorted(one / other for one, other in rounds)[ALTERNATED // 2], f"times these in the middle one of {ALTERNATED} rounds")
+
+
+def copies(program, folder):
+    """How many copies there are, and what one takes: of the large allocations of one size those that are the most at one time."""
+    library, told = pathlib.Path(folder, "allocations.so"), pathlib.Path(folder, "allocations")
+    subprocess.run(["cc", "-O1", "-shared", "-fPIC", "-o", library, LIBRARY, "-ldl"], check=True)
+    with begun(debugged(program), folder, environment={"LD_PRELOAD": str(library), "ALLOCATIONS_FILE": str(told)}) as desk:
+        desk.done(TO_THE_END)
+    size, made, most = max((tuple(map(int, it.split())) for it in told.read_text().splitlines()), key=lambda it: it[2])
+    yield Figure(most, f"copies at most at one time, of {made} that are made over the run", form=".0f")
+    yield Figure(size / 1024, "kilobytes a copy", form=".0f")
+
+
+def of_profile(program, folder):
+    """The seconds of a whole run of a profile."""
+    ended = subprocess.Popen([program, "profile", NAME, "--most", str(STEPS)], cwd=folder, env={}, stdout=subprocess.PIPE)
+    text = ended.stdout.read()
+    _, status, used = os.wait4(ended.pid, 0)
+    ended.returncode = os.waitstatus_to_exitcode(status)
+    if ended.returncode or str(STEPS).encode() not in text:
+        raise NotRun(f"a profile ends with status {ended.returncode}")
+    return used.ru_utime + used.ru_stime
+
+
+def of_run(program, folder):
+    """The seconds of a whole run to the end."""
+    with begun(debugged(program), folder) as desk:
+        desk.done(TO_THE_END)
+        return desk.used()
+
+
+def profile(program, folder):
+    """What a profile of the run takes beside the run."""
+    run, counted = least((of_run(program, folder), of_profile(program, folder)) for _ in range(ROUNDS))
+    yield Figure(counted, f"seconds for a profile of {STEPS:,} steps", 6)
+    yield Figure(counted / run, "times the run, for its profile", 2)
+
+
+def with_condition(program, folder):
+    """The seconds of a run without a condition and with one."""
+    name = "condition.ispc"
+    pathlib.Path(folder, name).write_text(CONDITION_TEXT)
+    with begun(debugged(program, name), folder) as desk:
+        plain = desk.seconds(GOES_ON, b"has ended")
+        desk.done(["goto 0"])
+        if b"breakpoint 1 at line" not in desk.done(CONDITIONAL):
+            raise NotRun("breakpoints have no conditions")
+        return plain, desk.seconds(GOES_ON, b"has ended")
+
+
+def condition(program, folder):
+    """What a condition that is never true takes, on a line that comes in each tenth step."""
+    plain, with_it = least(with_condition(program, folder) for _ in range(ROUNDS))
+    yield Figure(with_it, f"seconds for continue over {CONDITION_STEPS:,} steps with a condition that is asked {CONDITION_TURNS:,} times", 1)
+    yield Figure((with_it - plain) / CONDITION_TURNS / (plain / CONDITION_STEPS), "times a step, for a condition", 10)
+
+
+def told(program, script):
+    """The figures of the prompt's program, beside the program for scripts where that is there; and why some are not there."""
     with tempfile.TemporaryDirectory(prefix="bench-whole-") as folder:
         pathlib.Path(folder, NAME).write_text(TEXT)
-        words = [desk, "debug"]
-        forward = seconds(words, folder, [], TO_THE_END)
-        back = seconds(words, folder, TO_THE_END, TO_THE_WATCH)
-        middle = seconds(words, folder, TO_THE_END, TO_THE_MIDDLE)
-        single = seconds(words, folder, [*TO_THE_END, *TO_THE_MIDDLE], ONE_BY_ONE)
-        _, text = once(words, folder, [*TO_THE_END, "info record"])
-        figures = [
-            (f"{forward:.2f}", f"seconds forward over {STEPS:,} steps"),
-            (f"{back / forward:.2f}", "times these for reverse-continue from the end to a watch at the start"),
-            (f"{middle / forward:.2f}", "times these from the end to the middle"),
-            (f"{single:.2f}", f"seconds for {SINGLE:,} steps back there, one by one"),
-        ]
-        if script:
-            plain = seconds([script, "--history", "65536"], folder, [], TO_THE_END)
-            figures.append((f"{forward / plain:.2f}", "times the seconds of the program for scripts, which keeps 65,536 steps"))
-        return figures, text.decode(errors="replace").splitlines()
+        parts = [back(program, folder), *([beside_plain(program, script, folder)] if script else [])]
+        for part in (*parts, copies(program, folder), profile(program, folder), condition(program, folder)):
+            try:
+                yield from part
+            except (NotRun, OSError, subprocess.CalledProcessError) as why:
+                yield str(why)

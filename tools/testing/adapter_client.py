@@ -155,9 +155,13 @@ class Client:
         return {it["name"]: it for it in self.ask("variables", variablesReference=reference)["variables"]}
 
     def end(self, command="disconnect"):
+        """Ends the adapter, which does not wait for the end of its input."""
         self.ask(command)
+        try:
+            need(self.process.wait(10) == 0, "the status is not 0")
+        except subprocess.TimeoutExpired:
+            raise Wrong(f"it goes on behind {command}, while its input is open") from None
         self.process.stdin.close()
-        need(self.process.wait(10) == 0, "the status is not 0")
 
 
     def scopes(self, frame):

@@ -120,4 +120,14 @@ def of_run(may_end):
 
 
 def tasks(root, program, failing):
-    return [task(run, it, program, failing) for run, may_end, more in runs(root) for it in (*more, of_run(may_end))]
+    return [it for found in (devices(root, program, failing), memory(root, program, failing)) for it in found]
+
+
+def devices(root, program, failing, name=""):
+    """Tasks: the devices of the runs of a name fail, or of all."""
+    return [task(run, it, program, failing) for run, _, more in runs(root) if name in run.name for it in more]
+
+
+def memory(root, program, failing):
+    """Tasks: each allocation of runs refused."""
+    return [task(run, of_run(may_end), program, failing) for run, may_end, _ in runs(root)]

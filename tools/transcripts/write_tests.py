@@ -4,27 +4,9 @@
 import pathlib
 import re
 
-from rows import ROWS
+from rows import TABLES
 
-TABLES = pathlib.Path(__file__).resolve().parents[2] / "crates/tests_rows/src/table"
-
-# Each table: its file, what its rows are about, and its first row; it goes on to the first row of the next one.
-FILES = [
-    ("statements", "Statements and expressions, forwards and back.", "StepAndBack"),
-    ("debugger", "The debugger's commands, and what it is given.", "HistoryLimit"),
-    ("forms", "Short circuits, inputs, parts of arrays, rounds and `switch`.", "ShortCircuit"),
-    ("library", "The calls of the library.", "LibraryReductions"),
-    ("control", "Control flow, calls and moves.", "DoEmptyBody"),
-    ("inputs", "Commands, and inputs with their refusals.", "CommandForms"),
-    ("input_ends", "The ends of each type in an input.", "InputEnds"),
-    ("divisions", "Divisions by 0, by each set of lanes.", "DivisionFaults"),
-    ("indices", "Elements that are not there, by each set of lanes.", "IndexFaults"),
-    ("lane_indices", "Lanes that are not there, by each set of lanes.", "LaneIndexFaults"),
-    ("assertions", "Assertions that fail, by each set of lanes.", "AssertFaults"),
-    ("refusals", "Sources that are refused.", "RefusedNames"),
-    ("order", "The order of faults, rounds, constants and types.", "LibraryTypes"),
-    ("runs", "Texts that nothing spells, counted steps, a history limit that changes, and reports.", "RefusedTexts"),
-]
+FOLDER = pathlib.Path(__file__).resolve().parents[2] / "crates/tests_rows/src/table"
 
 # What ends each field of a row but the last, and each row. Neither stands in a row.
 FIELD, END = "@", "$\n"
@@ -62,13 +44,11 @@ def table(about, rows):
 
 
 def main():
-    names = [row.name for row in ROWS]
-    firsts = [names.index(first) for _, _, first in FILES] + [len(ROWS)]
-    for (file, about, _), first, end in zip(FILES, firsts, firsts[1:]):
-        (TABLES / f"{file}.rt").write_text(table(about, ROWS[first:end]))
-    modules = sorted(file for file, _, _ in FILES)
+    for file, about, rows in TABLES:
+        (FOLDER / f"{file}.rt").write_text(table(about, rows))
+    modules = sorted(file for file, _, _ in TABLES)
     head = "//! The worked rows, table by table. Written by `tools/transcripts/write_tests.py`.\n"
-    (TABLES.parent / "table.rt").write_text(head + "".join(f"pub(crate) mod {it};\n" for it in modules))
+    (FOLDER.parent / "table.rt").write_text(head + "".join(f"pub(crate) mod {it};\n" for it in modules))
 
 
 main()

@@ -1,0 +1,1 @@
+"""Wrong bodies of the front ends, and which tests are to find them."""

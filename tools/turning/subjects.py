@@ -1,0 +1,89 @@
+"""The subjects of the tests that run `rinddecade`: the crates of whose bodies they are to find the wrong ones, and what they try with a program."""
+
+import tempfile
+
+from testing import adapter_client, desk, explained, front_ends, hostile, pictures, profiles, prompts, run_pages, terminals
+from testing.built import ended
+from testing.calls import side_by_side
+from testing.parts import done
+
+PROGRAM = "rinddecade"
+# So many runs are made together, and the others are not where one of these finds a body: each run of one that never ends takes its time.
+TOGETHER = 24
+
+
+def of_runs(*calls):
+    """What is tried: the runs that these calls give."""
+
+    def tried(root, program):
+        runs = [run for call in calls for run in call(root)]
+        for at in range(0, len(runs), TOGETHER):
+            yield side_by_side(lambda run: ended(program, run), runs[at : at + TOGETHER])
+
+    return tried
+
+
+def of_devices(name):
+    """What is tried: the devices of a run fail, after each byte."""
+
+    def tried(root, program):
+        with tempfile.TemporaryDirectory(prefix="failing-") as folder:
+            yield from side_by_side(done, front_ends.devices(root, program, hostile.library(folder), name))
+
+    return tried
+
+
+def of_terminals(root, program):
+    yield prompts.results(program)
+    yield terminals.results(program)
+
+
+def of_adapter(root, program):
+    for it in adapter_client.CHECKS:
+        yield [adapter_client.tried(it, root, [program, "adapter"])]
+
+
+def of_files(root, program):
+    yield desk.results(program)
+
+
+class Subject:
+    """Crates, and the calls that try a program and give lists of results, the quick ones first."""
+
+    def __init__(self, crates, *tried):
+        self.crates, self.tried = crates, tried
+
+    def failed(self, root, program):
+        """The names of the tests that fail, list by list. One that faults fails."""
+        for call in self.tried:
+            try:
+                for results in call(root, program):
+                    yield [it.name for it in results if not it.passed]
+            except InterruptedError:
+                raise
+            except Exception as fault:
+                yield [f"a test that ends with {type(fault).__name__} {fault}"]
+
+    def first_failed(self, root, program, right):
+        """A test that fails with a body, and not with the right ones; None where there is none."""
+        return next((name for names in self.failed(root, program) for name in names if name not in right), None)
+
+
+SUBJECTS = {
+    "prompt": Subject(
+        ("debug_prompt", "prompt_texts", "prompt_lines", "prompt_help", "terminal_lines"),
+        of_runs(prompts.runs, terminals.runs),
+        of_terminals,
+        of_devices("lines at the prompt"),
+    ),
+    "picture": Subject(("lane_picture",), of_runs(pictures.runs)),
+    "page": Subject(("run_page",), of_runs(run_pages.runs)),
+    "profile": Subject(("lane_counts", "lane_profile", "profile_texts"), of_runs(profiles.runs)),
+    "adapter": Subject(
+        ("adapter_frames", "adapter_messages", "adapter_replies", "adapter_session", "adapter_server"),
+        of_adapter,
+        of_devices("an editor"),
+    ),
+    "explain": Subject(("refusal_pages",), of_runs(explained.runs)),
+    "desk": Subject(("desk_options",), of_runs(lambda root: desk.runs()), of_files),
+}
