@@ -34,6 +34,27 @@ export void go() {
 }
 """
 
+# Foreach forms one in another, of full rounds and others, and calls in them.
+ROUNDS = """uniform int a[23];
+uniform int total = 0;
+int twice(int x) {
+    return x + x;
+}
+export void go() {
+    for (uniform int k = 0; k < 2; k++) {
+        foreach (i = 0 ... 10 + k) { // ; } not the end
+            int t = twice(i);
+            a[i] = t * (k + 1);
+            foreach_active (l) {
+                total += 1;
+            }
+        }
+        foreach (i = 0 ... 3)
+            if (i > 0) { a[i + 12] = i; } else a[i + 12] = -1;
+    }
+}
+"""
+
 SHOWN = """(async () => {
     if (location.hash !== "#%d") await new Promise(done => {
         addEventListener("hashchange", done, { once: true });
@@ -202,6 +223,48 @@ def clicks(browser, lines, wanted):
     return why
 
 
+# ---- bands
+
+def lanes_of_rounds(count, width=4):
+    """The lanes of each round over so many indices, as numbers."""
+    return [(1 << min(width, count - first)) - 1 for first in range(0, count, width)]
+
+
+def wanted_rounds():
+    """The rounds of ROUNDS: line, number, how many there are, and lanes."""
+    found = []
+    for k in range(2):
+        outer = lanes_of_rounds(10 + k)
+        for number, lanes in enumerate(outer, 1):
+            found.append([8, number, len(outer), lanes])
+            own = [1 << lane for lane in range(4) if lanes >> lane & 1]
+            found += [[11, at, len(own), lane] for at, lane in enumerate(own, 1)]
+        found.append([15, 1, 1, 7])
+    return found
+
+
+def bands(browser, file):
+    """What the bands of rounds and calls, the heat and the strip of an array have that they are not to have."""
+    browser.open(file.as_uri())
+    rounds = json.loads(browser.value("JSON.stringify(rounds.map(it => [it.line, it.number, it.of.all, it.lanes]))"))
+    why = [] if rounds == wanted_rounds() else [f"rounds: {rounds}, and {wanted_rounds()} is wanted"]
+    calls = json.loads(browser.value("JSON.stringify(spans.map(it => [it.name, it.depth]))"))
+    wanted = [["twice", 2]] * len([it for it in wanted_rounds() if it[0] == 8])
+    why += [] if calls == wanted else [f"calls: {calls}, and {wanted} is wanted"]
+    inside = json.loads(browser.value("JSON.stringify(moments.flatMap((moment, at) => moment[LINE] === 12 ? [rounds_in[at]?.line] : []))"))
+    why += [] if inside and set(inside) == {11} else [f"the steps on line 12 are in rounds of the lines {inside}"]
+    text = browser.value("(go(rounds.find(it => it.line === 8 && it.number === 3).from), $('round').textContent)")
+    why += [] if text == "round 3 of 3 of line 8, 2 of 4 lanes" else [f"the round is told as {text}"]
+    share = browser.value("rows[11].querySelector('.share').textContent")
+    why += [] if share == "25%" else [f"line 12 is done by {share} of the lanes, and 25% is wanted"]
+    browser.value("go(LAST)")
+    browser.value("who(variables.findIndex(it => it[NAME] === 'a'), 9)")
+    last = json.loads(browser.value("JSON.stringify(here.pick.strip.filter(it => it[2] > LAST).map(it => it[3]))"))
+    wanted = [2 * 2 * i for i in range(11)] + [0, -1, 1, 2] + [0] * 8
+    why += [] if sorted(last) == sorted(wanted) else [f"the strip ends with {last}, and {wanted} is wanted"]
+    return why + browser.faults()
+
+
 # ---- time
 
 def slow(browser, file):
@@ -218,7 +281,7 @@ def slow(browser, file):
 
 
 def results(root, program, browser, folder):
-    """A result for each example and kernel, for the keys, for a hostile source, and for a long run."""
+    """A result for each example and kernel, for the keys, for the bands, for a hostile source, and for a long run."""
     for run in run_pages.example_runs(root) + run_pages.kernel_runs(root):
         name = run.arguments[1].removesuffix(".ispc")
         data = {it: (text.read_bytes() if isinstance(text, pathlib.Path) else text) for it, text in run.data.items()}
@@ -235,6 +298,9 @@ def results(root, program, browser, folder):
     file = written(program, folder, "calls", run_pages.CALLS.encode(), [], {})
     why = keys(browser, file, run_pages.wanted_of(run_pages.CALLS, {"width": 4}, 1, 100_000)[0])
     yield Result("keys and clicks", not why, why)
+    file = written(program, folder, "rounds", ROUNDS.encode(), [], {})
+    why = bands(browser, file)
+    yield Result("rounds, calls and strips", not why, why)
     file = written(program, folder, "long", LONG.encode(), ["--width", "16"], {})
     why = slow(browser, file)
     yield Result("a long run", not why, why)

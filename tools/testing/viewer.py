@@ -19,6 +19,7 @@ STYLE = re.compile(r"<style>(.*?)</style>", re.S)
 SCRIPT = re.compile(r"<script>(.*?)</script>", re.S)
 MOST = 2_500  # bytes of a part
 LONGEST = 160  # bytes of a line
+WIDEST = 100  # bytes of a line of code
 
 
 def checksum(text):
@@ -52,11 +53,12 @@ def cut(text):
 def module(name, about, parts):
     """A file with a list of parts."""
     functions = [f"fn {name}_{number}() -> &'static [u8] {{\n    {literal(text)}\n}}\n" for number, text in enumerate(parts)]
-    arms = "".join(f"        {number} => Some({name}_{number}()),\n" for number in range(len(parts)))
+    calls = [f"{name}_{number}()" for number in range(len(parts))]
+    short = f"    [{', '.join(calls)}]"
+    array = short if len(short) <= WIDEST else "\n".join(["    [", *(f"        {call}," for call in calls), "    ]"])
     head = f"//! {about}, as `tools/page_viewer` writes it from page.html.\n"
-    count = f"/// How many parts there are.\npub const {name.upper()}_PARTS: usize = {len(parts)};\n"
-    choice = f"/// A part by its number, from 0 on.\npub fn {name}_part(number: usize) -> Option<&'static [u8]> {{\n    match number {{\n{arms}        _ => None,\n    }}\n}}\n"
-    return "\n".join([head, count, choice, *functions])
+    listed = f"/// {about}, in parts.\npub fn {name}_parts() -> [&'static [u8]; {len(parts)}] {{\n{array}\n}}\n"
+    return "\n".join([head, listed, *functions])
 
 
 def files(root):

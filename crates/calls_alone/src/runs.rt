@@ -85,8 +85,12 @@ fn write_run(alloc: Global, session: &mut ProgramSession<4>) -> Ended {
         most_steps: 100,
         most_words: 100,
     };
+    let viewer = run_page::Viewer {
+        front: &[b"<"],
+        rest: &[b">"],
+    };
     let mut writer = PieceWriter::new(512, 512);
-    end_of(&write_page(alloc, session, &subject, &mut writer))
+    end_of(&write_page(alloc, session, &subject, &viewer, &mut writer))
 }
 
 /// The value of an expression where the program stands.

@@ -1,17 +1,8 @@
 //! What stands before the record, as `tools/page_viewer` writes it from page.html.
 
-/// How many parts there are.
-pub const FRONT_PARTS: usize = 4;
-
-/// A part by its number, from 0 on.
-pub fn front_part(number: usize) -> Option<&'static [u8]> {
-    match number {
-        0 => Some(front_0()),
-        1 => Some(front_1()),
-        2 => Some(front_2()),
-        3 => Some(front_3()),
-        _ => None,
-    }
+/// What stands before the record, in parts.
+pub fn front_parts() -> [&'static [u8]; 4] {
+    [front_0(), front_1(), front_2(), front_3()]
 }
 
 fn front_0() -> &'static [u8] {
@@ -23,20 +14,22 @@ fn front_0() -> &'static [u8] {
 <meta name=\"generator\" content=\"rinddecade page\">
 <meta name=\"viewport\" content=\"width=device-width, initial-scale=1\">
 <meta http-equiv=\"Content-Security-Policy\"
- content=\"default-src 'none'; script-src 'sha256-rx8tdprcsEvoCVBJb5aBeU2yLr/M0edPmWiVi6tcbbM='; style-src 'sha256-jCod5upd30hZuPLjvQdF7IH6/PSUC95nivZkK/ksdTs='; base-uri 'none'; form-action 'none'\">
+ content=\"default-src 'none'; script-src 'sha256-m4gVR3B3ut6s6GiwYM7r7cx54dgZ6YhOsyurMxICICw='; style-src 'sha256-jPIcAm5JSnOol/p7ZPnD6n2ll17lfzWfIwbTyyJYBxQ='; base-uri 'none'; form-action 'none'\">
 <title>A run, step by step</title>
 <style>
 :root {
   color-scheme: light dark;
   --paper: #ffffff; --ink: #1b1f24; --faint: #66707c; --band: #f3f5f7; --rule: #d3d9e0;
-  --here: #fff0b3; --new: #cfeed8; --pick: #0060a0; --bad: #c03000; --bad-paper: #fdeae3; --heat: #f3d9b0; --round: #f0e442; --deep: #c9d2dc;
+  --here: #fff0b3; --new: #cfeed8; --pick: #0060a0; --bad: #c03000; --bad-paper: #fdeae3; --heat: #eec27d; --heat-rest: #f8ead2;
+  --round: #f0e442; --deep: #c9d2dc;
   --lane-0: #0072b2; --lane-1: #e69f00; --lane-2: #009e73; --lane-3: #cc79a7;
   --lane-4: #56b4e9; --lane-5: #d55e00; --lane-6: #000000; --lane-7: #999999;
 }
 @media (prefers-color-scheme: dark) {
   :root {
     --paper: #15181d; --ink: #e2e6ec; --faint: #98a2ae; --band: #1e2229; --rule: #3a414b;
-    --here: #4d4210; --new: #1c4a2a; --pick: #6cb8f5; --bad: #ff8a5c; --bad-paper: #40190c; --heat: #5a4320; --round: #b5aa2a; --deep: #47515e;
+    --here: #4d4210; --new: #1c4a2a; --pick: #6cb8f5; --bad: #ff8a5c; --bad-paper: #40190c; --heat: #7a5a20; --heat-rest: #3a2f1c;
+    --round: #b5aa2a; --deep: #47515e;
     --lane-0: #3f9fe0; --lane-1: #f0ad1f; --lane-2: #21c795; --lane-3: #e39ac4;
     --lane-4: #8fd0f7; --lane-5: #ff7f2a; --lane-6: #f4f4f4; --lane-7: #a8a8a8;
   }
@@ -56,8 +49,8 @@ button { cursor: pointer }
 button:hover, button[aria-pressed=true] { border-color: var(--pick); color: var(--pick) }
 :focus-visible { outline: 2px solid var(--pick); outline-offset: 1px }
 #step { width: 6.5em } #search { width: 11em }
-#place, #calls, #source, table, #end { font-family: ui-monospace, monospace }
-#place { font-weight: 600 } #calls, #end { color: var(--faint) } #end { margin-left: auto }
+#place, #calls, #round, #source, table, #end { font-family: ui-monospace, monospace }
+#place { font-weight: 600 } #calls, #round, #end { color: var(--faint) } #end { margin-left: auto }
 "
 }
 
@@ -74,7 +67,9 @@ fn front_1() -> &'static [u8] {
 #source span { flex: none }
 .number, .count { text-align: right; padding-right: .6em; color: var(--faint); user-select: none }
 .number { width: 3.4em } .count { width: 4.6em; font-size: 11px }
-.heated .count { background: linear-gradient(to left, var(--heat) var(--part), transparent var(--part)); color: var(--ink) }
+.heated .count { color: var(--ink); background: linear-gradient(to left, var(--heat) calc(var(--part) * var(--share)),
+  var(--heat-rest) 0 var(--part), transparent 0) }
+.share { display: none; width: 3.4em; padding-right: .8em; text-align: right; font-size: 11px; user-select: none } .heated .share { display: block }
 .dots { display: inline-flex; gap: 2px; align-items: center; padding: 0 .6em 0 .3em }
 .dot { width: 8px; height: 8px; border-radius: 50%; border: 2px solid transparent }
 .many .dots { gap: 0 } .many .dot { width: 7px; height: 7px }
@@ -87,14 +82,14 @@ table { border-collapse: collapse; font-size: 12.5px; margin-bottom: .8em }
 caption { text-align: left; white-space: nowrap; font: 12px system-ui, sans-serif; color: var(--faint) }
 th, td { padding: 0 .5em; text-align: right; font-weight: normal; border-radius: 3px }
 tbody th { text-align: left; font-weight: 600; white-space: nowrap } tbody th small { font-weight: normal; color: var(--faint) }
-thead th { border-bottom: 3px solid var(--own, transparent) }
-thead th.second { border-bottom-style: double }
-td { cursor: pointer } td:hover { outline: 1px solid var(--pick) }
 "
 }
 
 fn front_2() -> &'static [u8] {
     b"\
+thead th { border-bottom: 3px solid var(--own, transparent) }
+thead th.second { border-bottom-style: double }
+td { cursor: pointer } td:hover { outline: 1px solid var(--pick) }
 td.off { color: var(--faint) } td.new { background: var(--new) } td.pick { outline: 2px solid var(--pick) }
 .parts td { font-size: 11.5px; padding: 0 .35em } .parts thead th { border: 0; color: var(--faint); font-size: 11px; padding: 0 .35em }
 tbody th.index { font-weight: normal; color: var(--faint); font-size: 11px; text-align: right }
@@ -138,23 +133,23 @@ dl { display: grid; grid-template-columns: max-content 1fr; gap: .2em 1em; margi
 </span>
 <label>step <input id=\"step\" inputmode=\"numeric\" autocomplete=\"off\"></label><span id=\"of\"></span>
 <label>search <input id=\"search\" type=\"search\" autocomplete=\"off\" spellcheck=\"false\"></label>
-<button id=\"heat\" title=\"h\" aria-pressed=\"false\">heat</button>
-<button id=\"mark\" title=\"m\">bookmark</button>
-<button id=\"help\" title=\"?\">keys</button>
-<span id=\"end\"></span>
-</div>
 "
 }
 
 fn front_3() -> &'static [u8] {
     b"\
-<div><output id=\"place\"></output><span id=\"calls\"></span><span id=\"marks\"></span></div>
+<button id=\"heat\" title=\"h\" aria-pressed=\"false\">heat</button>
+<button id=\"mark\" title=\"m\">bookmark</button>
+<button id=\"help\" title=\"?\">keys</button>
+<span id=\"end\"></span>
+</div>
+<div><output id=\"place\"></output><span id=\"calls\"></span><span id=\"round\"></span><span id=\"marks\"></span></div>
 <div id=\"fault\" role=\"alert\" hidden></div>
 </header>
 <section id=\"source\" aria-label=\"source\"></section>
 <section id=\"values\" aria-label=\"values\"></section>
 <footer>
-<canvas id=\"time\" role=\"img\" aria-label=\"time, from left to right: lines, calls, and a row for each lane\"></canvas>
+<canvas id=\"time\" role=\"img\" aria-label=\"time, from left to right: lines, rounds, calls, and a row for each lane\"></canvas>
 <p id=\"told\"></p>
 <p class=\"unseen\" id=\"said\" role=\"status\" aria-live=\"polite\"></p>
 </footer>

@@ -4,5 +4,5 @@
 mod front;
 mod rest;
 
-pub use front::{FRONT_PARTS, front_part};
-pub use rest::{REST_PARTS, rest_part};
+pub use front::front_parts;
+pub use rest::rest_parts;

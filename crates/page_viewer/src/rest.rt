@@ -1,25 +1,23 @@
 //! What stands behind the record, as `tools/page_viewer` writes it from page.html.
 
-/// How many parts there are.
-pub const REST_PARTS: usize = 12;
-
-/// A part by its number, from 0 on.
-pub fn rest_part(number: usize) -> Option<&'static [u8]> {
-    match number {
-        0 => Some(rest_0()),
-        1 => Some(rest_1()),
-        2 => Some(rest_2()),
-        3 => Some(rest_3()),
-        4 => Some(rest_4()),
-        5 => Some(rest_5()),
-        6 => Some(rest_6()),
-        7 => Some(rest_7()),
-        8 => Some(rest_8()),
-        9 => Some(rest_9()),
-        10 => Some(rest_10()),
-        11 => Some(rest_11()),
-        _ => None,
-    }
+/// What stands behind the record, in parts.
+pub fn rest_parts() -> [&'static [u8]; 14] {
+    [
+        rest_0(),
+        rest_1(),
+        rest_2(),
+        rest_3(),
+        rest_4(),
+        rest_5(),
+        rest_6(),
+        rest_7(),
+        rest_8(),
+        rest_9(),
+        rest_10(),
+        rest_11(),
+        rest_12(),
+        rest_13(),
+    ]
 }
 
 fn rest_0() -> &'static [u8] {
@@ -96,15 +94,93 @@ fn rest_1() -> &'static [u8] {
 // ---- when a line is the next step's, and which lanes were ever there
 const times_of = lines.map(() => []);
 const lanes_on = lines.map(() => 0);
-const is_round = new Set();
+const lane_steps_of = lines.map(() => 0);
+const count_of = lanes => all_lanes.filter(lane => has(lanes, lane)).length;
 moments.forEach((moment, at) => {
   const line = moment[LINE] - 1;
   if (line < 0 || line >= lines.length) return;
   times_of[line].push(at);
   lanes_on[line] |= moment[LANES];
-  if (/^foreach/.test(lines[line].slice(moment[COLUMN] - 1))) is_round.add(at);
+  lane_steps_of[line] += count_of(moment[LANES]);
 });
 const hottest = times_of.reduce((most, times) => Math.max(most, times.length), 1);
+
+// ---- the rounds of foreach forms
+// Where the statement ends that begins at a place: [line, column] behind it. Comments are as blanks.
+const code = lines.join(\"\\n\").replace(/\\/\\/.*|\\/\\*[^]*?\\*\\//g, text => text.replace(/[^\\n]/g, \" \"));
+const starts = lines.reduce((found, line) => [...found, found[found.length - 1] + line.length + 1], [0]);
+
+function end_of_statement(line, column) {
+  let at = starts[line - 1] + column - 1;
+  for (let open = 0; at < code.length; at++) {
+    if (\"({[\".includes(code[at])) open++;
+    if (\")}]\".includes(code[at])) open--;
+    const is_end = code[at] === \";\" || code[at] === \"}\";
+    if (open <= 0 && is_end && !/^\\s*(else|while)\\b/.test(code.slice(at + 1, at + 200))) break;
+  }
+  const before = code.slice(0, at + 1).split(\"\\n\");
+  return [before.length, before[before.length - 1].length + 1];
+}
+
+// Each round: the moments from its step up to the next one that is not in it, its lanes, its number in its form, and in how many forms it is.
+const rounds = [];
+const rounds_in = moments.map(() => null); // The innermost round of a moment.
+
+function find_rounds() {
+  const forms = [];
+  const ends = new Map();
+  const is_in = (form, [line, column, , depth]) => depth > form.depth || (depth === form.depth && (line > form.line || (line === form.line
+    && column >= form.column)) && (line < form.end[0] || (line === form.end[0] && column < form.end[1])));
+  const close = (form, at) => { if (form.round) form.round.to = at; };
+  moments.forEach((moment, at) => {
+    const [line, column, , depth, lanes] = moment;
+    while (forms.length && !is_in(forms[forms.length - 1], moment)) close(forms.pop(), at);
+    if (line && /^foreach/.test(lines[line - 1]?.slice(column - 1) ?? \"\")) {
+      const key = `${line}:${column}`;
+      if (!ends.has(key)) ends.set(key, end_of_statement(line, column));
+      let form = forms[forms.length - 1];
+      if (form && form.line === line && form.column === column && form.depth === depth) {
+        close(form, at);
+        form.round = { from: at, to: LAST + 1, lanes, number: ++form.count.all, of: form.count, level: forms.length - 1, line };
+        rounds.push(form.round);
+      } else {
+        forms.push({ line, column, depth, end: ends.get(key), round: null, count: { all: 0 } });
+      }
+    }
+    rounds_in[at] = forms.map(form => form.round).filter(it => it).pop() ?? null;
+  });
+"
+}
+
+fn rest_2() -> &'static [u8] {
+    b"\
+}
+find_rounds();
+const round_levels = rounds.reduce((most, round) => Math.max(most, round.level + 1), 0);
+
+function round_text(at) {
+  const round = rounds_in[at];
+  if (!round) return \"\";
+  const lanes = count_of(round.lanes);
+  return `round ${round.number} of ${round.of.all} of line ${round.line}, ${lanes === width ? \"full\" : `${lanes} of ${width} lanes`}`;
+}
+
+// ---- the calls: from the first moment of each to the one behind it
+const spans = [];
+{
+  const open = [];
+  moments.forEach((moment, at) => {
+    const deep = moment[DEPTH];
+    while (open.length > Math.max(0, deep - 1)) open.pop().to = at;
+    const calls = calls_at[at];
+    while (open.length < deep - 1) {
+      const depth = open.length + 2;
+      const span = { from: at, to: LAST + 1, depth, name: functions[depth === deep ? moment[FUNCTION] : calls[depth - 1][2]] };
+      open.push(span);
+      spans.push(span);
+    }
+  });
+}
 
 // How many numbers of a list are less than one.
 function rank(list, number) {
@@ -157,17 +233,17 @@ function tell(text) {
   $(\"told\").textContent = text || HINT;
 }
 
+"
+}
+
+fn rest_3() -> &'static [u8] {
+    b"\
 function go(at, text = \"\") {
   if (at === undefined || Number.isNaN(at)) return tell(\"There is none.\");
   here.at = Math.max(0, Math.min(LAST, Math.round(at)));
   if (here.at < here.from || here.at > here.to) look(here.at - (here.to - here.from) / 2, here.to - here.from);
   tell(text);
   show();
-"
-}
-
-fn rest_2() -> &'static [u8] {
-    b"\
 }
 
 // Shows so many moments on the time line, from one on.
@@ -197,7 +273,28 @@ function go_line(line, back) {
 const name_of = (variable, part) => variables[variable][NAME] + (variables[variable][KIND] === \"one\" ? \"\" : `[${part}]`);
 
 function pick(variable, part) {
-  here.pick = { variable, part, times: changes_of(variable, part), name: name_of(variable, part) };
+  here.pick = { variable, part, times: changes_of(variable, part), name: name_of(variable, part), strip: strip_of(variable) };
+}
+
+// The values of all parts of a variable that has several: [part, moment, moment behind, value].
+function strip_of(variable) {
+  const found = [];
+  const open = new Map();
+  const close = (part, at) => {
+    const [from, value] = open.get(part) ?? [];
+    if (from !== undefined) found.push([part, from, at, value]);
+    open.delete(part);
+  };
+  if (variables[variable][KIND] === \"one\") return found;
+  moments.forEach((moment, at) => {
+    for (const [other, first, ...words] of moment[CHANGES]) {
+      if (other !== variable) continue;
+      if (first === undefined) for (const part of [...open.keys()]) close(part, at);
+      words.forEach((word, index) => { close(first + index, at); open.set(first + index, [at, Number(word)]); });
+    }
+  });
+  for (const part of [...open.keys()]) close(part, LAST + 1);
+  return found;
 }
 
 // Goes to the step that gave a value.
@@ -209,6 +306,11 @@ function who(variable, part) {
     return tell(`${here.pick.name} has had this value from the start of this record.`);
   }
   go(at - 1, `${here.pick.name} got its value by line ${moments[at - 1][LINE]}, the step that is next here. ] goes to after it.`);
+"
+}
+
+fn rest_4() -> &'static [u8] {
+    b"\
 }
 
 function go_change(step) {
@@ -229,19 +331,18 @@ const rows = lines.map((text, index) => {
   const count = element(\"span\", \"count\", times_of[index].length ? `${times_of[index].length}x` : \"\");
   const dots = element(\"span\", \"dots\");
   for (const lane of all_lanes) dots.append(element(\"i\"));
-  row.append(element(\"span\", \"number\", index + 1), count, dots, element(\"span\", \"text\", text));
+  const share = times_of[index].length ? lane_steps_of[index] / (times_of[index].length * width) : 0;
+  const percents = times_of[index].length ? `${Math.round(100 * share)}%` : \"\";
+  row.append(element(\"span\", \"number\", index + 1), count, dots, element(\"span\", \"share\", percents), element(\"span\", \"text\", text));
   row.style.setProperty(\"--part\", `${Math.round(100 * Math.log1p(times_of[index].length) / Math.log1p(hottest))}%`);
+  row.style.setProperty(\"--share\", share.toFixed(3));
   if (times_of[index].length) {
-    row.title = `${times_of[index].length} steps, by lanes ${all_lanes.filter(lane => has(lanes_on[index], lane)).join(\" \")}`;
+    const own = all_lanes.filter(lane => has(lanes_on[index], lane)).join(\" \");
+    row.title = `${times_of[index].length} steps, by lanes ${own}, on average ${percents} of all lanes`;
   }
   row.tabIndex = -1;
   row.dataset.line = index + 1;
   return row;
-"
-}
-
-fn rest_3() -> &'static [u8] {
-    b"\
 });
 
 const is_fault = run.end[0] === \"fault\";
@@ -266,6 +367,11 @@ function keep_in_sight(row) {
   if (own && (own.top < box.top + AROUND || own.bottom > box.bottom - AROUND)) {
     $(\"source\").scrollTop += own.top - box.top - Math.max(AROUND, box.height / 3);
   }
+"
+}
+
+fn rest_5() -> &'static [u8] {
+    b"\
 }
 
 function dot_class(lane, line, moment, places, bad) {
@@ -302,11 +408,6 @@ function seen(values) {
   const there = variables.flatMap((_, variable) => values[variable] ? [variable] : []);
   const rank_of = variable => 2 * variables[variable][OF_DEPTH] + (variables[variable][KIND] === \"elements\" ? 0 : 1);
   return there.sort((one, other) => rank_of(other) - rank_of(one) || one - other);
-"
-}
-
-fn rest_4() -> &'static [u8] {
-    b"\
 }
 
 function frame_name(depth, moment) {
@@ -331,6 +432,11 @@ function new_table(title, is_of_arrays) {
   return table;
 }
 
+"
+}
+
+fn rest_6() -> &'static [u8] {
+    b"\
 function new_cell(variable, part, row) {
   const cell = row.insertCell();
   cell.title = name_of(variable, part);
@@ -374,11 +480,6 @@ function build_tables(there, values, moment) {
   }
   $(\"values\").replaceChildren(...tables.values());
   $(\"values\").scrollTop = 0;
-"
-}
-
-fn rest_5() -> &'static [u8] {
-    b"\
 }
 
 function show_values(moment) {
@@ -399,6 +500,11 @@ function show_values(moment) {
       set_class(cell, name.filter(it => it).join(\" \"));
     });
   }
+"
+}
+
+fn rest_7() -> &'static [u8] {
+    b"\
 }
 
 // ---- what is told of a moment
@@ -434,11 +540,6 @@ function changed_text(moment) {
   const names = moment[CHANGES].map(it => it.length === 1 ? `${variables[it[0]][NAME]} is gone`
     : it.slice(2, 10).map((word, index) => `${name_of(it[0], it[1] + index)} is ${told_value(it[0], word)}`).join(\", \"));
   return names.slice(0, 6).join(\"; \");
-"
-}
-
-fn rest_6() -> &'static [u8] {
-    b"\
 }
 
 function show_marks() {
@@ -455,6 +556,7 @@ function show() {
   $(\"of\").textContent = `of ${number_of(LAST)}`;
   $(\"place\").textContent = place_text(moment);
   $(\"calls\").textContent = calls_at[here.at].slice().reverse().map(([line, , f]) => `< ${functions[f]} ${line}`).join(\" \");
+  $(\"round\").textContent = round_text(here.at);
   show_fault();
   show_source(moment);
   show_values(moment);
@@ -468,7 +570,12 @@ function show() {
 const canvas = $(\"time\");
 const ink = canvas.getContext(\"2d\");
 const layer = document.createElement(\"canvas\");
-const HIGH = { lines: 46, rounds: 5, calls: 10, plot: 38 };
+"
+}
+
+fn rest_8() -> &'static [u8] {
+    b"\
+const HIGH = { lines: 46, round: 7, call: 12, calls: 48, plot: 38, strip: 48 };
 const LEFT = 64;
 const lane_high = width > 8 ? 4 : width > 4 ? 6 : 8;
 let layer_key = \"\";
@@ -483,38 +590,32 @@ function bands() {
   let top = 4;
   const add = (name, high) => { found.push({ name, top, high }); top += high + 4; };
   add(\"lines\", HIGH.lines);
-  if (is_round.size) add(\"rounds\", HIGH.rounds);
-  if (deepest > 1) add(\"calls\", HIGH.calls);
+  if (round_levels) add(\"rounds\", HIGH.round * round_levels);
+  if (deepest > 1) add(\"calls\", Math.min(HIGH.calls, HIGH.call * (deepest - 1)));
   add(\"lanes\", Math.max(1, width) * lane_high);
   if (here.pick) add(\"plot\", HIGH.plot);
+  if (here.pick?.strip.length) add(\"parts\", Math.min(HIGH.strip, Math.max(12, 6 * strip_parts())));
   return { found, high: top };
 }
 
-// Sums per pixel: how many moments fall on it, how many of them have each lane, which lines are there, the most depth, and rounds.
+const strip_parts = () => here.pick.strip.reduce((most, it) => Math.max(most, it[0] + 1), 1);
+
+// Sums per pixel: how many moments fall on it, how many of them have each lane, and which lines are there.
 function sums(count) {
   const sum = { all: new Uint32Array(count), lanes: all_lanes.map(() => new Uint32Array(count)), lines: new Uint8Array(count * HIGH.lines) };
-  sum.depth = new Uint16Array(count);
-  sum.rounds = new Uint8Array(count);
   const stretch = count / (here.to - here.from);
   for (let at = Math.ceil(here.from); at <= here.to && at <= LAST; at++) {
     const moment = moments[at];
     const x = Math.min(count - 1, Math.floor((at - here.from) * stretch));
-    const end = Math.min(count - 1, Math.max(x, Math.ceil((at + 1 - here.from) * stretch) - 2));
+    const end = Math.min(count - 1, Math.max(x, Math.ceil((at + 1 - here.from) * stretch) - 1));
     const y = Math.round((moment[LINE] - 1) / Math.max(1, lines.length - 1) * (HIGH.lines - 3));
     for (let i = x; i <= end; i++) {
       sum.all[i]++;
       if (moment[LINE]) sum.lines[y * count + i] = 1;
       for (const lane of all_lanes) sum.lanes[lane][i] += moment[LANES] >> lane & 1;
-      sum.depth[i] = Math.max(sum.depth[i], moment[DEPTH]);
-      if (is_round.has(at)) sum.rounds[i] = 1;
     }
   }
   return sum;
-"
-}
-
-fn rest_7() -> &'static [u8] {
-    b"\
 }
 
 function draw_layer(look, scale, high, found) {
@@ -528,11 +629,17 @@ function draw_layer(look, scale, high, found) {
   for (const band of found) {
     to.globalAlpha = 1;
     to.fillStyle = look.getPropertyValue(\"--faint\");
-    to.fillText(band.name === \"plot\" ? here.pick.name.slice(0, 10) : band.name, 2, band.top + Math.min(band.high, 12) - 1);
+    const of_pick = { plot: here.pick?.name, parts: here.pick && `${variables[here.pick.variable][NAME]}[]` }[band.name];
+    to.fillText((of_pick ?? band.name).slice(0, 10), 2, band.top + Math.min(band.high, 12) - 1);
     to.fillStyle = look.getPropertyValue(\"--band\");
     to.fillRect(LEFT, band.top, count, band.high);
     DRAWS[band.name](to, look, band, sum, count);
   }
+"
+}
+
+fn rest_9() -> &'static [u8] {
+    b"\
 }
 
 const DRAWS = {
@@ -540,17 +647,39 @@ const DRAWS = {
     to.fillStyle = look.getPropertyValue(\"--ink\");
     for (let y = 0; y < HIGH.lines; y++) for (let x = 0; x < count; x++) if (sum.lines[y * count + x]) to.fillRect(LEFT + x, band.top + y, 1, 2.5);
   },
-  rounds(to, look, band, sum, count) {
+  // A round is as high as many of the lanes do it, and every other one is paler.
+  rounds(to, look, band) {
     to.fillStyle = look.getPropertyValue(\"--round\");
-    for (let x = 0; x < count; x++) if (sum.rounds[x]) to.fillRect(LEFT + x, band.top, 1, band.high);
-  },
-  calls(to, look, band, sum, count) {
-    to.fillStyle = look.getPropertyValue(\"--deep\");
-    const one = band.high / Math.max(1, deepest - 1);
-    for (let x = 0; x < count; x++) {
-      const high = Math.max(0, sum.depth[x] - 1) * one;
-      to.fillRect(LEFT + x, band.top + band.high - high, 1, high);
+    const one = band.high / round_levels;
+    for (const { from, to: end, lanes, number, level } of rounds) {
+      to.globalAlpha = number % 2 ? 1 : .6;
+      const high = (one - 1) * count_of(lanes) / width;
+      draw_span(to, from, end, band.top + level * one + one - 1 - high, high);
     }
+    to.globalAlpha = 1;
+  },
+  // A call with its name where there is room.
+  calls(to, look, band) {
+    const one = band.high / (deepest - 1);
+    for (const { from, to: end, depth, name } of spans) {
+      const top = band.top + (depth - 2) * one;
+      to.fillStyle = look.getPropertyValue(\"--deep\");
+      const room = draw_span(to, from, end, top, Math.max(1, one - 1));
+      to.fillStyle = look.getPropertyValue(\"--ink\");
+      if (one > 9 && room > 6 * name.length + 4) to.fillText(name, Math.max(LEFT, x_of(from)) + 3, top + one - 3);
+    }
+  },
+  // A row for each part of the picked variable, the darker the greater its value.
+  parts(to, look, band) {
+    const numbers = here.pick.strip.map(it => it[3]);
+    const [least, most] = numbers.reduce(([low, high], it) => [Math.min(low, it), Math.max(high, it)], [Infinity, -Infinity]);
+    const one = band.high / strip_parts();
+    to.fillStyle = look.getPropertyValue(\"--pick\");
+    for (const [part, from, end, value] of here.pick.strip) {
+      to.globalAlpha = .06 + .94 * (value - least) / Math.max(1, most - least);
+      draw_span(to, from, end, band.top + part * one, Math.max(1, one - (one > 3 ? 1 : 0)));
+    }
+    to.globalAlpha = 1;
   },
   lanes(to, look, band, sum, count) {
     for (const lane of all_lanes) {
@@ -567,6 +696,20 @@ const DRAWS = {
     draw_plot(to, look, band);
   },
 };
+
+"
+}
+
+fn rest_10() -> &'static [u8] {
+    b"\
+// Fills the part of a time line from one moment up to another, and tells how wide it is there.
+function draw_span(to, from, end, top, high) {
+  const [left, right] = [x_of(Math.max(here.from, from)), x_of(Math.min(here.to, end))];
+  if (right <= left) return 0;
+  const room = right - left;
+  to.fillRect(left, top, Math.max(1, room - (room > 4 ? 1 : 0)), high);
+  return room;
+}
 
 // The values of the picked part over time, the least at the bottom.
 function draw_plot(to, look, band) {
@@ -586,11 +729,6 @@ function draw_plot(to, look, band) {
     to.fillText(String(most).slice(0, 10), 2, band.top + 22);
     to.fillText(String(least).slice(0, 10), 2, band.top + band.high - 1);
   }
-"
-}
-
-fn rest_8() -> &'static [u8] {
-    b"\
 }
 
 // [moment, value] from each change of the picked part on, null where it is not there.
@@ -627,6 +765,11 @@ function draw() {
   for (const at of here.marks) mark(at, \"--bad\", 0, high, 1);
   if (is_fault) mark(LAST, \"--bad\", 0, high, 3);
   mark(here.at, \"--ink\", 0, high, 2);
+"
+}
+
+fn rest_11() -> &'static [u8] {
+    b"\
 }
 
 // ---- the address: #40, with bookmarks #40,marks=3,17
@@ -654,11 +797,6 @@ function read_address(hash) {
   const inside = number => number >= 0 && number <= LAST;
   here.marks = (marks ?? \"\").split(\",\").filter(it => it).map(it => Number(it) - first).filter(inside).sort((one, other) => one - other);
   go(at === undefined ? 0 : Number(at) - first);
-"
-}
-
-fn rest_9() -> &'static [u8] {
-    b"\
 }
 
 function toggle_mark() {
@@ -679,7 +817,7 @@ function heat() {
   here.heat = !here.heat;
   $(\"source\").classList.toggle(\"heated\", here.heat);
   $(\"heat\").setAttribute(\"aria-pressed\", String(here.heat));
-  tell(here.heat ? \"The bars beside the numbers say how often a line's step was done.\" : \"\");
+  tell(here.heat ? \"The bars say how often a line's step was done, their dark part and the percents by how many of the lanes.\" : \"\");
 }
 
 const KEYS = [
@@ -705,7 +843,7 @@ const KEYS = [
   [\"m\", \"m\", \"sets a bookmark here, or takes it away\", toggle_mark],
   [\".\", \".\", \"the next bookmark\", () => go(after_in(here.marks, here.at))],
   [\",\", \",\", \"the bookmark before\", () => go(before_in(here.marks, here.at))],
-  [\"h\", \"h\", \"how often each line was the next step\", heat],
+  [\"h\", \"h\", \"how often each line was the next step, and by how many of the lanes\", heat],
   [\"+\", \"+\", \"a shorter part of the time line\", () => zoom(.5)],
   [\"-\", \"-\", \"a longer part of it\", () => zoom(2)],
   [\"0\", \"0\", \"all of it\", () => { look(0, LAST); draw(); }],
@@ -714,7 +852,7 @@ const KEYS = [
 "
 }
 
-fn rest_10() -> &'static [u8] {
+fn rest_12() -> &'static [u8] {
     b"\
 ];
 
@@ -782,7 +920,7 @@ $(\"values\").onclick = event => {
 "
 }
 
-fn rest_11() -> &'static [u8] {
+fn rest_13() -> &'static [u8] {
     b"\
 const drag = event => go(at_of(event.clientX - canvas.getBoundingClientRect().left));
 canvas.onpointerdown = event => {

@@ -15,7 +15,8 @@ use desk_options::RunPage;
 use ispc_debugger::{ProgramSession, open_session};
 use ispc_options::Width;
 use ispc_refusals::Refusal;
-use run_page::{PageEnd, Subject, write_page};
+use page_viewer::{front_parts, rest_parts};
+use run_page::{PageEnd, Subject, Viewer, write_page};
 use std::fs;
 use std::io::{LineWriter, Write};
 use std::process::ExitCode;
@@ -117,8 +118,13 @@ fn page_on<const W: usize, O: Write + Drop>(
         most_steps: page.most,
         most_words: page.elements,
     };
+    let (front, rest) = (front_parts(), rest_parts());
+    let viewer = Viewer {
+        front: &front,
+        rest: &rest,
+    };
     let mut writer = StreamWriter::new(lines);
-    match write_page(rt.alloc(), session, &subject, &mut writer) {
+    match write_page(rt.alloc(), session, &subject, &viewer, &mut writer) {
         Err(_) => refuse(rt, &Refusal::Memory),
         Ok(PageEnd::WriteFault) => write_fault(rt),
         Ok(_) => ExitCode::SUCCESS,

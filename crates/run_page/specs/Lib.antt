@@ -1,8 +1,10 @@
 pub mod Calls
+pub mod ChangeTexts
 pub mod Changes
 pub mod Moments
 pub mod Names
 pub mod Pages
+pub mod RecordText
 pub mod Recording
 pub mod Rows
 pub mod Sights

@@ -1,13 +1,25 @@
--- What the writing of a page does to a session.
-use Rattle.std.specs.Prelude.{◌≡◌, ℕ, ◌≤◌, Bool, true, false}
+-- What the writing of a page does to a session, and what is written.
+use Rattle.std.specs.Prelude.{◌≡◌, ℕ, ◌≤◌, Bool, true, false, List, ◌++◌, Option, length, map}
+use Rattle.std.specs.Borrow.{Bor}
+use Rattle.std.specs.Io.KnownBytes.{Appends}
+use Rattle.std.specs.List.{concat}
 use Rattle.gang_model.specs.Debugger.Debugger.{Debugger, Setting, now}
 use Rattle.debug_traits.specs.Machines.{fault_view}
 use Rattle.debug_session.specs.declared.session.Session.{Session}
+use Rattle.gang_model.specs.Texts.Text.{Bytes}
+use Rattle.lane_picture.specs.declared.columns.StepsEnd.{StepsEnd}
 use Rattle.lane_picture.specs.Runs as run
 use Rattle.lane_picture.specs.Runs.{RunEnd, run_end, steps_taken}
-use Rattle.lane_picture.specs.Tries.{HasBegun}
+use Rattle.lane_picture.specs.Tries.{HasBegun, end_view}
 use Rattle.run_page.specs.declared.page.PageEnd.{PageEnd}
 use Rattle.run_page.specs.declared.page.PageEnd.TheVariants as end
+use Rattle.run_page.specs.declared.page.Subject.{Subject}
+use Rattle.run_page.specs.declared.page.Viewer.{Viewer}
+use Rattle.run_page.specs.declared.record.Record.{Record}
+use Rattle.run_page.specs.Calls.{HasCallsOf}
+use Rattle.run_page.specs.Moments.{AreMoments, moments_of}
+use Rattle.run_page.specs.Recording.{IsRecordOf}
+use Rattle.run_page.specs.RecordText.{record_text}
 
 -- whether the writer failed
 abbrev pub has_failed : PageEnd → Bool
@@ -27,3 +39,25 @@ pub record HasWritten {M : Type 0} (stands : M → Setting → Debugger → Type
   pub begun : HasBegun stands s most d session
   pub whole : 1 ≤ s.limit → begun.taken ≡ steps_taken s.program most (now s d)
   pub ends : 1 ≤ s.limit → TellsEnd told (run_end s.program most (now s d))
+
+-- ---- what is written
+
+-- parts, one behind another
+abbrev pub parts_text : List (Bor Bytes) → Bytes
+parts_text parts = concat (map (λ part. part.now) parts)
+
+-- the page of a record: the viewer round its text
+abbrev pub page_text : Viewer → Subject → StepsEnd → Record → Bytes
+page_text viewer subject ended kept = parts_text viewer.front.now ++ (record_text subject ended kept ++ parts_text viewer.rest.now)
+
+-- What was written is a page of a run and nothing else: that of a record which has a moment for each step that was done and one for the
+-- end, and of each moment where the program stands, the open calls, and the changes since the one before; and the page tells how the run ends.
+pub record IsPageOf (s : Setting) (d : Debugger) (viewer : Viewer) (subject : Subject) (old new : Option Bytes) : Type 0 where
+  pub kept : Record
+  pub ended : StepsEnd
+  pub text : Appends old new (page_text viewer subject ended kept)
+  pub ends : end_view ended ≡ run_end s.program subject.most_steps (now s d)
+  pub each : length kept.moments.items ≡ moments_of (steps_taken s.program subject.most_steps (now s d)) (end_view ended)
+  pub stand : AreMoments s.program (now s d) kept.moments.items
+  pub calls : HasCallsOf s d kept
+  pub changes : IsRecordOf s d subject.most_words kept

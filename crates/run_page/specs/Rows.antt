@@ -9,6 +9,8 @@ use Rattle.debug_traits.specs.declared.machine.NamedVariable.{NamedVariable}
 use Rattle.debug_traits.specs.declared.machine.Shown.{Shown}
 use Rattle.debug_traits.specs.Frames.{IsShownAt, scope_at}
 use Rattle.debug_traits.specs.Machines.{IsShown}
+use Rattle.run_page.specs.declared.reading.Scoped.{Scoped}
+use Rattle.run_page.specs.declared.reading.Scoped.TheVariants.{Parameters, Locals}
 use Rattle.run_page.specs.declared.variables.Variable.{Variable as Noted}
 use Rattle.run_page.specs.declared.views.Change.{Change}
 use Rattle.run_page.specs.declared.views.Change.TheVariants as change
@@ -47,6 +49,11 @@ ShowsNamedIn s d deep v given = (given.name.now ≡ v.name) × IsShownIn s d dee
 -- variables of one depth
 abbrev pub at_depth : (depth : ℕ) → List Variable → List (ℕ × Variable)
 at_depth deep variables = map (λ v. (deep, v)) variables
+
+-- what is of the parameters in scope, or of the other variables
+abbrev pub picked : {A : Type 0} → Scoped → (of_parameters of_locals : A) → A
+picked Parameters of_parameters of_locals = of_parameters
+picked Locals of_parameters of_locals = of_locals
 
 -- those in scope in the frame at a depth: the parameters, and then the others
 abbrev pub seen_at : Program → State → (depth : ℕ) → List (ℕ × Variable)

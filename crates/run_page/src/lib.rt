@@ -2,8 +2,8 @@
 #![tactic(auto)]
 
 mod calls;
+mod changes;
 mod comparing;
-mod json;
 mod moments;
 mod names;
 mod noting;
@@ -14,4 +14,4 @@ mod variables;
 mod views;
 mod writing;
 
-pub use page::{PageEnd, Subject, write_page};
+pub use page::{PageEnd, Subject, Viewer, write_page};

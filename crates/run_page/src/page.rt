@@ -1,17 +1,18 @@
 //! The page of a run.
-ghost use Rattle.std.specs.Prelude.{◌≡◌, false, is_err, IfOk, OnErr};
+ghost use Rattle.std.specs.Prelude.{◌≡◌, ◌≤◌, false, is_err, IfOk, OnErr};
+ghost use Rattle.std.specs.Io.KnownBytes.{Appends};
 ghost use Rattle.gang_model.specs.Debugger.Debugger.{Debugger, Setting};
 ghost use Rattle.debug_session.specs.Sessions.{StandsFor};
 ghost use Rattle.lane_picture.specs.Tries.{HasBegun, end_view};
-ghost use Rattle.run_page.specs.Pages.{HasWritten, TellsEnd, has_failed};
+ghost use Rattle.run_page.specs.Pages.{HasWritten, IsPageOf, TellsEnd, has_failed, page_text};
 
 use crate::noting::note_run;
 use crate::record::Record;
 use crate::writing::write_record;
 use debug_session::Session;
+use debug_texts::write_pieces;
 use debug_traits::{AnswerWriter, Fault, FramedMachine, WriteFault};
 use lane_picture::StepsEnd;
-use page_viewer::{FRONT_PARTS, REST_PARTS, front_part, rest_part};
 use std::alloc::{AllocError, Global};
 
 /// What a page is of.
@@ -28,6 +29,13 @@ pub struct Subject<'a> {
     pub most_words: u32,
 }
 
+/// The viewer of a page: what stands before the record and what stands behind it, each in parts.
+#[derive(Clone, Copy, Debug)]
+pub struct Viewer<'a> {
+    pub front: &'a [&'a [u8]],
+    pub rest: &'a [&'a [u8]],
+}
+
 /// How the writing of a page ended.
 #[derive(Clone, Copy, Debug, PartialEq, Eq)]
 pub enum PageEnd {
@@ -41,8 +49,8 @@ pub enum PageEnd {
     WriteFault,
 }
 
-/// Does one step after another, up to the end of the program, a fault or the most steps, and then writes a page of them, in which
-/// each moment can be seen.
+/// Does one step after another, up to the end of the program, a fault or the most steps, and then writes a page of them: the viewer
+/// round a record in which each moment can be seen.
 ///
 /// # Errors
 ///
@@ -51,11 +59,14 @@ pub fn write_page<M: FramedMachine, O: AnswerWriter>(
     alloc: Global,
     session: &mut Session<M>,
     subject: &Subject<'_>,
+    viewer: &Viewer<'_>,
     writer: &mut O,
 ) -> Result<PageEnd, AllocError>
     requires works { O.has_failed writer.old ≡ false }
     ensures written { IfOk result (λ end. (s : Setting) (d : Debugger) → StandsFor M.stands session.old s d
         → HasWritten M.stands s subject.now.most_steps d end session.new) }
+    ensures page { IfOk result (λ end. has_failed end ≡ false → (s : Setting) (d : Debugger) → StandsFor M.stands session.old s d → 1 ≤ s.limit
+        → IsPageOf s d viewer.now subject.now (O.written writer.old) (O.written writer.new)) }
     ensures failed { IfOk result (λ end. O.has_failed writer.new ≡ has_failed end) }
     ensures memory { OnErr result ((s : Setting) (d : Debugger) → StandsFor M.stands session.old s d
         → HasBegun M.stands s subject.now.most_steps d session.new) }
@@ -67,7 +78,7 @@ pub fn write_page<M: FramedMachine, O: AnswerWriter>(
         subject.most_steps,
         subject.most_words as usize,
     )?;
-    match write_parts_of_page(&record, end, subject, writer) {
+    match write_whole_page(&record, end, subject, viewer, writer) {
         Ok(()) => Ok(told(end)),
         Err(_) => Ok(PageEnd::WriteFault),
     }
@@ -85,38 +96,18 @@ fn told(end: StepsEnd) -> PageEnd
 }
 
 /// Writes the viewer, with the record in it.
-fn write_parts_of_page<O: AnswerWriter>(
-    record: &Record,
+fn write_whole_page<O: AnswerWriter>(
+    kept: &Record,
     end: StepsEnd,
     subject: &Subject<'_>,
+    viewer: &Viewer<'_>,
     writer: &mut O,
 ) -> Result<(), WriteFault>
     requires works { O.has_failed writer.old ≡ false }
+    ensures written { IfOk result (λ _. Appends (O.written writer.old) (O.written writer.new) (page_text viewer.now subject.now end kept.now)) }
     ensures failed { O.has_failed writer.new ≡ is_err result }
 {
-    write_front(writer)?;
-    write_record(record, end, subject, writer)?;
-    write_rest(writer)
-}
-
-/// Writes what stands before the record.
-fn write_front<O: AnswerWriter>(writer: &mut O) -> Result<(), WriteFault>
-    requires works { O.has_failed writer.old ≡ false }
-    ensures failed { O.has_failed writer.new ≡ is_err result }
-{
-    for number in 0..FRONT_PARTS {
-        writer.write_all(front_part(number).unwrap_or(b""))?;
-    }
-    Ok(())
-}
-
-/// Writes what stands behind the record.
-fn write_rest<O: AnswerWriter>(writer: &mut O) -> Result<(), WriteFault>
-    requires works { O.has_failed writer.old ≡ false }
-    ensures failed { O.has_failed writer.new ≡ is_err result }
-{
-    for number in 0..REST_PARTS {
-        writer.write_all(rest_part(number).unwrap_or(b""))?;
-    }
-    Ok(())
+    write_pieces(writer, viewer.front)?;
+    write_record(kept, end, subject, writer)?;
+    write_pieces(writer, viewer.rest)
 }

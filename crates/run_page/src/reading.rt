@@ -1,16 +1,24 @@
 //! What is read of a machine at a moment.
-ghost use Rattle.std.specs.Prelude.{◌≡◌, ◌<◌, ◌∷◌, [], ◌+◌, IfOk, length, map, slice_index, take};
+ghost use Rattle.std.specs.Prelude.{◌≡◌, ◌<◌, ◌∷◌, [], ◌+◌, IfOk, IfSome, length, map, slice_index, take};
 ghost use Rattle.gang_model.specs.Debugger.Debugger.{Debugger, Setting, now};
 ghost use Rattle.gang_model.specs.Types.Tree as model;
-ghost use Rattle.debug_traits.specs.Frames.{listed_at, listed_parameters_at};
+ghost use Rattle.debug_traits.specs.Frames.{ShowsNextAt, listed_at, listed_parameters_at};
 ghost use Rattle.debug_traits.specs.Machines.{file_variables};
-ghost use Rattle.run_page.specs.Rows.{AddsRows, AreDistinct, AreRows, Grows, IsShownIn, ShowsNamedIn, all_seen, at_depth, sight_view};
+ghost use Rattle.run_page.specs.Rows.{AddsRows, AreDistinct, AreRows, Grows, IsShownIn, ShowsNamedIn, all_seen, at_depth, picked, sight_view};
 ghost use Rattle.run_page.specs.Sights.{words_at};
 
 use crate::variables::{Variable, number_of};
 use crate::views::Row;
 use debug_traits::{FramedMachine, NamedVariable, NextLocal, Shown};
 use std::alloc::{AllocError, Global};
+
+/// Which of the variables in scope in a frame.
+#[derive(Clone, Copy, Debug)]
+enum Scoped {
+    Parameters,
+    /// All others.
+    Locals,
+}
 
 /// The first words, so many at most, of each variable that can be seen: those of the file, and those of each frame, the entry's first.
 ///
@@ -32,8 +40,24 @@ pub(crate) fn read_rows<M: FramedMachine>(
     read_file(alloc, machine, most_words, variables, &mut rows)?;
     for below in 0..frame_count(machine) {
         let depth = below + 1;
-        read_parameters(alloc, machine, depth, most_words, variables, &mut rows)?;
-        read_locals(alloc, machine, depth, most_words, variables, &mut rows)?;
+        read_scoped(
+            alloc,
+            machine,
+            Scoped::Parameters,
+            depth,
+            most_words,
+            variables,
+            &mut rows,
+        )?;
+        read_scoped(
+            alloc,
+            machine,
+            Scoped::Locals,
+            depth,
+            most_words,
+            variables,
+            &mut rows,
+        )?;
     }
     Ok(rows)
 }
@@ -70,10 +94,11 @@ fn read_file<M: FramedMachine>(
     Ok(())
 }
 
-/// Reads the parameters in scope in the frame at a depth.
-fn read_parameters<M: FramedMachine>(
+/// Reads the variables of a kind in scope in the frame at a depth.
+fn read_scoped<M: FramedMachine>(
     alloc: Global,
     machine: &M,
+    which: Scoped,
     depth: usize,
     most_words: usize,
     variables: &mut Vec<Variable>,
@@ -84,10 +109,10 @@ fn read_parameters<M: FramedMachine>(
     ensures distinct { AreDistinct (map sight_view variables.old.items) → AreDistinct (map sight_view variables.new.items) }
     ensures rows { IfOk result (λ _. (s : Setting) (d : Debugger) → M.stands machine.now s d
         → AddsRows (map sight_view variables.old.items) (map sight_view variables.new.items) most_words (now s d) rows.old.items rows.new.items
-        (at_depth depth (listed_parameters_at s d depth))) }
+        (at_depth depth (picked which (listed_parameters_at s d depth) (listed_at s d depth)))) }
 {
     let mut from = 0;
-    while let Some(next) = machine.next_parameter_at(depth, from) {
+    while let Some(next) = next_scoped(machine, which, depth, from) {
         let named = variable_here(next);
         read_row(alloc, machine, depth, named, most_words, variables, rows)?;
         from = place_after(next);
@@ -95,29 +120,23 @@ fn read_parameters<M: FramedMachine>(
     Ok(())
 }
 
-/// Reads the local variables in scope in the frame at a depth, parameters left out.
-fn read_locals<M: FramedMachine>(
-    alloc: Global,
+/// The first variable of a kind in scope in the frame at a depth, from a place on.
+fn next_scoped<M: FramedMachine>(
     machine: &M,
+    which: Scoped,
     depth: usize,
-    most_words: usize,
-    variables: &mut Vec<Variable>,
-    rows: &mut Vec<Row>,
-) -> Result<(), AllocError>
-    requires { 0 < depth }
-    ensures grows { Grows (map sight_view variables.old.items) (map sight_view variables.new.items) }
-    ensures distinct { AreDistinct (map sight_view variables.old.items) → AreDistinct (map sight_view variables.new.items) }
-    ensures rows { IfOk result (λ _. (s : Setting) (d : Debugger) → M.stands machine.now s d
-        → AddsRows (map sight_view variables.old.items) (map sight_view variables.new.items) most_words (now s d) rows.old.items rows.new.items
-        (at_depth depth (listed_at s d depth))) }
+    from: usize,
+) -> Option<NextLocal<'_>>
+    ensures all { (s : Setting) (d : Debugger) → M.stands machine.now s d
+        → picked which (M.parameters_at machine.now s d depth 0) (M.locals_at machine.now s d depth 0) ≡ picked which (listed_parameters_at s d depth) (listed_at s d depth) }
+    ensures next { (s : Setting) (d : Debugger) → M.stands machine.now s d
+        → ShowsNextAt s d depth (λ place. picked which (M.parameters_at machine.now s d depth place) (M.locals_at machine.now s d depth place)) from result }
+    ensures further { IfSome result (λ next. from < next.next) }
 {
-    let mut from = 0;
-    while let Some(next) = machine.next_local_at(depth, from) {
-        let named = variable_here(next);
-        read_row(alloc, machine, depth, named, most_words, variables, rows)?;
-        from = place_after(next);
+    match which {
+        Scoped::Parameters => machine.next_parameter_at(depth, from),
+        Scoped::Locals => machine.next_local_at(depth, from),
     }
-    Ok(())
 }
 
 /// Reads the first words of a variable of the frame at a depth, or of the file at depth 0.

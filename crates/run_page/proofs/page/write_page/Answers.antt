@@ -1,3 +1,6 @@
+use Rattle.std.proofs.Common.{◌∙◌, ap}
+use Rattle.lane_picture.specs.Tries.{end_view}
+use Rattle.run_page.specs.Moments.{moments_of}
 use Rattle.run_page.specs.declared.page.PageEnd.TheVariants.{WriteFault}
 use Rattle.run_page.proofs.Telling.{written}
 use Rattle.run_page.proofs.page.write_page.Goals as goal
@@ -9,3 +12,22 @@ returns-in-Ok-clause-written g c s d st =
 pub returns-clause-written : goal.returns-clause-written
 returns-clause-written g c s d st =
     written g.M.RecordedMachine.stands s c.args.subject.now.most_steps d c.in_ok-record.end WriteFault c.note_run.new.session tt (c.in_ok-record.ensures.noted s d st).run
+
+pub returns-in-Ok-clause-page : goal.returns-in-Ok-clause-page
+returns-in-Ok-clause-page g c works s d st limit =
+    let kept = c.in_ok-record.record in
+    let ended = c.in_ok-record.end in
+    let noted = c.in_ok-record.ensures.noted s d st in
+    record {
+      kept = kept;
+      ended = ended;
+      text = c.in-Ok.ensures.written;
+      ends = noted.run.ends limit;
+      each = noted.each limit ∙ ap (λ taken. moments_of taken (end_view ended)) (noted.run.whole limit);
+      stand = noted.stand limit;
+      calls = c.in_ok-record.ensures.calls s d st limit;
+      changes = c.in_ok-record.ensures.changes s d st limit;
+    }
+
+pub returns-clause-page : goal.returns-clause-page
+returns-clause-page g c works s d st limit = absurd (cc works)

@@ -1,6 +1,0 @@
--- the writer works
-use Rattle.std.proofs.Common.{◌≡◌, false}
-use Rattle.run_page.proofs.json.write_string.Given as goal
-
-abbrev pub invariant-loop-byte : goal.invariant-loop-byte
-invariant-loop-byte g l = g.O.AnswerWriter.has_failed l.writer ≡ false

@@ -1,6 +1,0 @@
--- the writer works
-use Rattle.std.proofs.Common.{◌≡◌, false}
-use Rattle.run_page.proofs.page.write_rest.Given as goal
-
-abbrev pub invariant-loop-number : goal.invariant-loop-number
-invariant-loop-number g l = g.O.AnswerWriter.has_failed l.writer ≡ false

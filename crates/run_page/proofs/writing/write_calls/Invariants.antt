@@ -1,6 +1,0 @@
--- the writer works
-use Rattle.std.proofs.Common.{◌≡◌, false}
-use Rattle.run_page.proofs.writing.write_calls.Given as goal
-
-abbrev pub invariant-loop-index : goal.invariant-loop-index
-invariant-loop-index g l = g.O.AnswerWriter.has_failed l.writer ≡ false
