@@ -32,11 +32,11 @@ _rinddecade() {
         picture)
             case "$before" in
                 --input|--commands|--to) _rinddecade_files; return ;;
-                --entry|--history|--steps|--watch|--most) return ;;
+                --entry|--history|--steps|--watch|--from|--most|--row) return ;;
                 --width) COMPREPLY=($(compgen -W "4 8 16" -- "$word")); return ;;
             esac
             case "$word" in
-                -*) COMPREPLY=($(compgen -W "--input --entry --width --history --steps --commands --watch --most --to --force -h --help" -- "$word")) ;;
+                -*) COMPREPLY=($(compgen -W "--input --entry --width --history --steps --commands --watch --from --most --row --to --force -h --help" -- "$word")) ;;
                 *) _rinddecade_files ;;
             esac
             ;;
@@ -54,12 +54,13 @@ _rinddecade() {
         profile)
             case "$before" in
                 --input|--to) _rinddecade_files; return ;;
-                --entry|--history|--steps|--most|--top) return ;;
+                --entry|--history|--steps|--from|--most|--top) return ;;
                 --width) COMPREPLY=($(compgen -W "4 8 16" -- "$word")); return ;;
-                --by) COMPREPLY=($(compgen -W "line function" -- "$word")); return ;;
+                --by) COMPREPLY=($(compgen -W "line function form" -- "$word")); return ;;
+                --color) COMPREPLY=($(compgen -W "auto always never" -- "$word")); return ;;
             esac
             case "$word" in
-                -*) COMPREPLY=($(compgen -W "--input --entry --width --history --steps --most --top --by --annotate --json --compare --to --force -h --help" -- "$word")) ;;
+                -*) COMPREPLY=($(compgen -W "--input --entry --width --history --steps --from --most --top --by --color --annotate --json --compare --to --force -h --help" -- "$word")) ;;
                 *) _rinddecade_files ;;
             esac
             ;;

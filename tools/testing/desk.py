@@ -16,7 +16,8 @@ VERSION = b"rinddecade 0.1.0\n"
 FIRST, RATE, HIDDEN = program.FIRST, program.RATE, program.HIDDEN
 FILES = {"first.ispc": FIRST}
 OF_A_RUN = (b"<SOURCE>", b"--input <FILE>", b"--entry <NAME>", b"--width <W>", b"--history <N>", b"[default: 65536]", b"--steps <N>")
-OF_A_PICTURE = (b"--commands <FILE>", b"--watch <T>", b"--most <N>", b"--to <FILE>", b"--force")
+OF_A_PICTURE = (b"--commands <FILE>", b"--watch <T>", b"--from <N>", b"--most <N>", b"--row <N>", b"[default: 60]", b"--to <FILE>", b"--force")
+OF_A_PROFILE = (b"--from <N>", b"--most <N>", b"--top <N>", b"--by <WHAT>", b"line, function, form", b"--color <WHEN>", b"--annotate", b"--json", b"--compare")
 PICTURE = b'<svg xmlns="http://www.w3.org/2000/svg" width="'
 MOST_COMMANDS = 1_048_576
 MOST_TYPED = 4_096
@@ -56,7 +57,7 @@ def helps():
         ("debug", "--help"): (b"Usage: rinddecade debug [OPTIONS] <SOURCE>", *OF_A_RUN),
         ("help", "debug"): (b"Usage: rinddecade debug [OPTIONS] <SOURCE>", *OF_A_RUN),
         ("picture", "--help"): (b"Usage: rinddecade picture [OPTIONS] <SOURCE>", *OF_A_RUN, *OF_A_PICTURE),
-        ("profile", "--help"): (b"Usage: rinddecade profile [OPTIONS] <SOURCE>", *OF_A_RUN, b"--most <N>", b"--top <N>", b"--by <WHAT>", b"--annotate", b"--json", b"--compare"),
+        ("profile", "--help"): (b"Usage: rinddecade profile [OPTIONS] <SOURCE>", *OF_A_RUN, *OF_A_PROFILE),
         ("port", "--help"): (b"Usage: rinddecade port [OPTIONS] <SOURCE>", b"--to", b"--force"),
         ("picture", "first.ispc", "-h"): (b"Usage: rinddecade picture [OPTIONS] <SOURCE>",),
         ("adapter", "--help"): (b"Usage: rinddecade adapter",),
@@ -74,9 +75,11 @@ def wrong_words():
     picture = [["--most", "0"], ["--most", ""], ["--most", "10000001"], ["--most", "-1"], ["--most", "1", "--most", "2"], ["--to"], ["--watch"]]
     picture += [["--to", "a.svg", "--to", "b.svg"], ["--watch", "x", "--watch", "x"], ["--commands"], ["--force", "--force"], ["--force=yes"]]
     picture += [["--watch", "nope"], ["--watch", "nope[1]"], ["--watch", ""], ["--watch", "x + 1"], ["--watch", "x y"]]
+    picture += [["--from", "0"], ["--from", "10000001"], ["--from", "2", "--from", "2"], ["--row", "0"], ["--row", "10000001"], ["--row"], ["--row=x"]]
     wrong = [[], ["step"], ["first.ispc"], ["--nothing"], ["--", "debug", "first.ispc"], ["debug"], ["picture"], ["debug", "--watch", "x", "first.ispc"]]
     wrong += [["adapter", "first.ispc"], ["adapter", "--width", "8"], ["explain"], ["explain", "--nothing"], ["help", "step"]]
     wrong += [["debug", "first.ispc", *it] for it in run] + [["picture", "first.ispc", *it] for it in run + picture]
+    wrong += [["profile", "first.ispc", "--from", "0"], ["profile", "first.ispc", "--color"], ["debug", "first.ispc", "--from", "2"], ["debug", "first.ispc", "--row", "2"]]
     told = begins_with(b"error: ")
     return [Run(f"wrong: {' '.join(words)}", b"", words, b"", told, 2, FILES) for words in wrong]
 

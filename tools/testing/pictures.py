@@ -5,6 +5,7 @@ Those of other sources show each step, lane, call and value that tools/meaning w
 Every picture is well-formed XML, also that of a source with bytes that are no text.
 """
 
+import bisect
 import re
 import xml.etree.ElementTree as trees
 
@@ -76,6 +77,34 @@ export void go() {
 """
 
 HALT = "export void go() {\n    int x = 7;\n    x = x / (programIndex - 6);\n}\n"
+
+# Lanes that wait over several rows of a loop, in the loop and behind it.
+LONG = """export void go() {
+    int x = programIndex;
+    for (uniform int i = 0; i < 40; i++) {
+        if (x == 1) {
+            x += 7;
+        } else if (x > 12) {
+            x -= i;
+            continue;
+        }
+        x++;
+    }
+    x = programIndex;
+    while (x < 30) x += programIndex + 2;
+    x = 0;
+}
+"""
+
+OF_LONG = [(4, 400, 1, 60), (8, 400, 1, 7), (16, 400, 1, 10_000_000), (8, 100, 33, 20), (4, 4, 21, 2), (16, 400, 1, 3)]
+
+NOT_SO_FAR = b"error: --from: the run ends before this step, or --steps is less\n"
+
+# The step of a way's end that stands at an edge of a row.
+EDGE = -1
+
+# The space above the baseline of the lanes' names, within a row, and the width of a digit.
+ABOVE, DIGIT = 22, 6
 
 MARK = re.compile(r"step (\d+), line (\d+), lane (\d+)")
 MOST_VALUES = 16
@@ -159,36 +188,71 @@ def other_runs():
     first = b"export void go() {\n    int x = programIndex;\n    if (x == 1) return;\n    x++;\n}\n"
     odd = has_text("export void go() { // <&>\"' \ufffd\ufffd\ufffd\ufffd\ufffd \ufffd\ufffd \ufffd\ufffd\ufffd \ufffd\ufffd\ufffd", "    int breaks = 1;")
     steps = [f"step {step}, line {line}, lane {lane}" for step, line, lane in [(1, 2, 0), (3, 3, 1), (4, 4, 3), (5, 5, 1)]]
+    late = has_titles("step 2, line 4, lane 3", "step 3, line 5, lane 1")
     return [
         Run("picture of odd bytes", b"", ["picture", "odd.ispc"], odd, b"", data={"odd.ispc": ODD}),
         Run("picture of a fault", b"", ["picture", "fault.ispc"], has_titles("F1 DivideByZero in lane 2"), b"", data={"fault.ispc": fault}),
         Run("picture of a return", b"", ["picture", "first.ispc"], has_titles(*steps), b"", data={"first.ispc": first}),
+        Run("picture from behind the end", b"", ["picture", "first.ispc", "--from", "7"], b"", NOT_SO_FAR, 2, {"first.ispc": first}),
+        Run("picture from the last step", b"", ["picture", "first.ispc", "--from", "5"], has_titles("step 5, line 5, lane 1"), b"", data={"first.ispc": first}),
+        Run("picture from behind --steps", b"", ["picture", "first.ispc", "--from", "5", "--steps", "3"], b"", NOT_SO_FAR, 2, {"first.ispc": first}),
+        Run("picture from where commands led", b"", ["picture", "first.ispc", "--commands", "two", "--from", "2"], late, b"", data={"first.ispc": first, "two": b"step 2\n"}),
     ]
 
 
 # ---- pictures that tools/meaning works out
 
-def seen_of(name, source, width, target, most):
-    """What a picture has to show of a run, step by step as tools/meaning goes."""
+def seen_of(name, source, width, target, most, first, row):
+    """What a picture has to show of a run from a step on, step by step as tools/meaning goes, in rows of so many steps."""
     debugger = Debugger(source, width)
-    seen = {"title": name, "lanes": ["lanes", *map(str, range(width))], "marks": [], "depths": [], "values": [], "rows": [], "fault": []}
-    before, rows, step, end = [], [], 0, ""
-    while debugger.state.frames and step < most and not end:
+    for _ in range(first - 1):
+        debugger.forward()
+    seen = {"title": name, "marks": [], "depths": [], "values": [], "fault": []}
+    before, names, lines, step, end = [], [], [], first - 1, ""
+    while debugger.state.frames and step < first - 1 + most and not end:
         step += 1
         place, lanes = debugger.spot()[:2]
         depth, values = len(debugger.state.frames), values_of(debugger, target)
-        seen["marks"] += [(step, place[0], lane) for lane in range(width) if lane in lanes]
-        seen["depths"] += [(step, depth)] if depth > 1 else []
-        seen["values"] += [(step, row, *it) for row, it in enumerate(values) if before[row : row + 1] != [it]]
-        before, rows = values, max([rows, row_names(target, values)], key=len)
+        if not (step - first) % row:
+            before, names, lines = [], [*names, []], [*lines, []]
+        seen["marks"] += [(len(lines) - 1, step, place[0], lane) for lane in range(width) if lane in lanes]
+        seen["depths"] += [(len(lines) - 1, step, depth)] if depth > 1 else []
+        seen["values"] += [(len(lines) - 1, step, number, *it) for number, it in enumerate(values) if before[number : number + 1] != [it]]
+        lines[-1].append(place[0])
+        before, names[-1] = values, max([names[-1], row_names(target, values)], key=len)
         try:
             debugger.forward()
         except Fault as fault:
             seen["fault"] = [f"{fault.name} in lane {fault.lane}"]
             end = f"fault {fault.name} lane {fault.lane} at step {step}"
-    seen["rows"] = rows
+    shown = [range(min(it), max(it) + 1) for it in lines] if len(lines) > 1 else [range(1, source.count("\n") + 1)]
+    seen["lines"] = [(at, it) for at, of_row in enumerate(shown) for it in of_row]
+    seen["lanes"] = [(at, it) for at in range(len(lines)) for it in ["lanes", *map(str, range(width))]]
+    seen["numbers"] = numbers_of(first, step, row)
+    seen["ways"] = sorted(it for lane in range(width) for it in ways_of(lane, seen, first, row))
+    seen["rows"] = [(at, *it) for at, of_row in enumerate(names) for it in of_row]
     seen["end"] = end or f"{'step limit' if debugger.state.frames else 'ended'} after step {step}"
     return seen
+
+
+def numbers_of(first, last, row):
+    """The numbers above the steps: of the first one of a row, and of each fifth one that is three steps behind that one or more."""
+    steps = [((step - first) // row, (step - first) % row, step) for step in range(first, last + 1)]
+    return [(at, step, str(step)) for at, of_row, step in steps if not of_row or (of_row > 2 and not step % 5)]
+
+
+def ways_of(lane, seen, first, row):
+    """The ways of a lane from step to step, also over the edges of rows, and through a row that shows the line where the lane waits."""
+    steps = [(at, step, line) for at, step, line, it in seen["marks"] if it == lane]
+    ways = []
+    for (at, step, line), (to_row, to_step, _) in zip(steps, steps[1:]):
+        kind = "goes" if to_step == step + 1 else "waits"
+        if at == to_row:
+            ways.append((at, lane, kind, step, to_step))
+        else:
+            through = [it for it in range(at + 1, to_row) if (it, line) in seen["lines"]]
+            ways += [(at, lane, kind, step, EDGE), *((it, lane, "waits", EDGE, EDGE) for it in through), (to_row, lane, kind, EDGE, to_step)]
+    return ways
 
 
 def values_of(debugger, target):
@@ -210,25 +274,64 @@ def row_names(target, values):
 
 
 def shown_in(text):
-    """What a picture shows, and what is wrong with where it stands; what stands at no step is at step 0."""
+    """What a picture shows, and what is wrong with where it stands: each but the title and the end with its row, what stands at no step at step 0."""
     tree = trees.fromstring(text)
-    marks, wrong = marks_in(tree)
-    steps = {mark.x: mark.step for mark in marks}
+    rows = Rows(tree)
+    marks, wrong = marks_in(tree, rows)
+    steps = {(mark.row, mark.x): mark.step for mark in marks}
     texts = list(tree.iter(f"{SVG}text"))
     values = [it for it in texts if it.get("class") == "value"]
-    tops = sorted({int(it.get("y")) for it in values})
-    inks = {it.get("stroke"): lane for lane, it in enumerate(legend(tree)[:COLOURS])}
+    tops = {row: sorted({int(it.get("y")) for it in values if rows.of(it) == row}) for row in range(len(rows.baselines))}
+    inks = {it.get("stroke"): lane for lane, it in enumerate([it for it in legend(tree) if not rows.of(it)][:COLOURS])}
+    step_at = lambda it, x: steps.get((rows.of(it), x), 0)
     said = {
         "title": tree.find(f"{SVG}title").text,
-        "lanes": [it.text for it in texts if it.get("y") == "22" and not it.get("text-anchor")],
-        "marks": sorted((mark.step, mark.line, mark.lane) for mark in marks),
-        "depths": [(steps.get(int(it.get("x")) + int(it.get("width")) // 2, 0), depth) for it, depth in depths_in(tree)],
-        "values": sorted((steps.get(int(it.get("x")), 0), tops.index(int(it.get("y"))), *word_of(it, inks)) for it in at(values, "middle")),
-        "rows": [word_of(it, inks) for it in at(values, "end")],
+        "lanes": [(rows.of(it), it.text) for it in texts if rows.is_above(it) and not it.get("text-anchor")],
+        "numbers": [(rows.of(it), step_at(it, int(it.get("x"))), it.text) for it in texts if rows.is_above(it) and it.get("text-anchor")],
+        "lines": [(rows.of(it), int(it.text)) for it in texts if it.get("class") == "number" and it.get("text-anchor") == "end"],
+        "marks": sorted((mark.row, mark.step, mark.line, mark.lane) for mark in marks),
+        "ways": sorted(ways_in(tree, rows, marks)),
+        "depths": [(rows.of(it), step_at(it, int(it.get("x")) + int(it.get("width")) // 2), depth) for it, depth in depths_in(tree)],
+        "values": sorted(
+            (rows.of(it), step_at(it, int(it.get("x"))), tops[rows.of(it)].index(int(it.get("y"))), *word_of(it, inks)) for it in at(values, "middle")
+        ),
+        "rows": [(rows.of(it), *word_of(it, inks)) for it in at(values, "end")],
         "fault": [it.text for it in tree.iter(f"{SVG}title") if " in lane " in it.text],
         "end": texts[-1].text,
     }
-    return said, wrong + legend_faults(tree, marks) + shade_faults(tree)
+    return said, wrong + legend_faults(tree, marks, rows) + shade_faults(tree)
+
+
+class Rows:
+    """Where the rows of a picture stand: each begins with the names of the lanes."""
+
+    def __init__(self, tree):
+        self.baselines = [int(it.get("y")) for it in tree.iter(f"{SVG}text") if it.text == "lanes" and it.get("class") == "number"]
+
+    def at(self, y):
+        return bisect.bisect(self.baselines, y + ABOVE) - 1
+
+    def of(self, element):
+        return self.at(int(element.get("y") or element.get("cy")))
+
+    def is_above(self, element):
+        """Whether a text stands above the lines of its row."""
+        return int(element.get("y")) in self.baselines
+
+
+def ways_in(tree, rows, marks):
+    """The ways between the marks of a lane, or from and to an edge of a row."""
+    steps = {(mark.lane, mark.x, mark.y): mark.step for mark in marks}
+    width = len(legend(tree)) // len(rows.baselines)
+    groups = [it for it in tree.iter(f"{SVG}g") if it.get("stroke") != "#ffffff"]
+    for number, group in enumerate(groups):
+        for it in group:
+            if it.get("class") not in ("goes", "waits"):
+                continue
+            points = [it.get("x1"), it.get("y1"), it.get("x2"), it.get("y2")] if it.tag == f"{SVG}line" else re.findall(r"\d+", it.get("points"))
+            x, y, to_x, to_y = map(int, [*points[:2], *points[-2:]])
+            lane = number % width
+            yield number // width, lane, it.get("class"), steps.get((lane, x, y), EDGE), steps.get((lane, to_x, to_y), EDGE)
 
 
 def at(elements, anchor):
@@ -248,23 +351,24 @@ def legend(tree):
 class Mark:
     """A dot or a bar, with its step, line and lane, its point and its colours."""
 
-    def __init__(self, element, colours):
+    def __init__(self, element, colours, rows):
         self.step, self.line, self.lane = map(int, MARK.fullmatch(element.find(f"{SVG}title").text).groups())
         point = (element.get("cx"), element.get("cy")) if element.get("cx") else re.match(r"M(\d+) (\d+)", element.get("d")).groups()
         self.x, self.y = map(int, point)
+        self.row = rows.at(self.y)
         self.colours = colours
 
 
-def marks_in(tree):
+def marks_in(tree, rows):
     """The marks of all lanes; what is wrong where those of one step are not below one another, those of a lane not in the row of their line."""
     marks = []
     for group in tree.iter(f"{SVG}g"):
         titled = [it for it in group if it.find(f"{SVG}title") is not None and MARK.fullmatch(it.find(f"{SVG}title").text)]
-        marks += [Mark(it, (group.get("fill"), group.get("stroke"))) for it in titled]
-    columns = sorted({(mark.step, mark.x) for mark in marks})
-    rows = sorted({(mark.line, mark.lane, mark.y) for mark in marks})
-    lefts, tops = [x for _, x in columns], [y for _, _, y in rows]
-    wrong = [] if lefts == sorted(set(lefts)) else ["the steps are not from left to right"]
+        marks += [Mark(it, (group.get("fill"), group.get("stroke")), rows) for it in titled]
+    columns = sorted({(mark.step, mark.row, mark.x) for mark in marks})
+    lines = sorted({(mark.row, mark.line, mark.lane, mark.y) for mark in marks})
+    lefts, tops = [it for _, *it in columns], [y for *_, y in lines]
+    wrong = [] if lefts == sorted(map(list, set(map(tuple, lefts)))) else ["the steps are not from left to right"]
     return marks, wrong + ([] if tops == sorted(set(tops)) else ["the lines and their lanes are not from top to bottom"])
 
 
@@ -274,14 +378,18 @@ def depths_in(tree):
     return [(it, int(title.text.split()[1])) for it, title in titled if title is not None and title.text.startswith("depth ")]
 
 
-def legend_faults(tree, marks):
+def legend_faults(tree, marks, rows):
     """What is wrong with the names of the lanes: each has the colours of its marks, and no two the same; none is at a step's number."""
-    names = legend(tree)
-    colours = [(it.get("fill"), it.get("stroke")) for it in names]
-    numbers = [int(it.get("x")) for it in tree if it.get("y") == "22" and it.get("text-anchor") == "middle"]
-    wrong = [] if len(set(colours)) == len(colours) else ["two lanes have the same colours"]
-    wrong += [f"lane {mark.lane} has other colours at step {mark.step}" for mark in marks if colours[mark.lane : mark.lane + 1] != [mark.colours]]
-    wrong += [f"the name of lane {lane} is at a step's number" for lane, it in enumerate(names) if numbers and int(it.get("cx")) + 16 > min(numbers)]
+    texts = [it for it in tree if it.tag == f"{SVG}text" and rows.is_above(it)]
+    wrong = []
+    for row in range(len(rows.baselines)):
+        names = [it for it in legend(tree) if rows.of(it) == row]
+        colours = [(it.get("fill"), it.get("stroke")) for it in names]
+        numbers = [(int(it.get("x")), len(it.text)) for it in texts if rows.of(it) == row and it.get("text-anchor") == "middle"]
+        wrong += [] if len(set(colours)) == len(colours) else ["two lanes have the same colours"]
+        wrong += [f"lane {it.lane} has other colours at step {it.step}" for it in marks if it.row == row and colours[it.lane : it.lane + 1] != [it.colours]]
+        wrong += [f"the name of lane {lane} is at a step's number" for lane, it in enumerate(names) if numbers and int(it.get("cx")) + 16 > min(numbers)[0]]
+        wrong += [f"two numbers of steps are at {x}" for (x, long), (at, other) in zip(numbers, numbers[1:]) if at - x < (long + other) * DIGIT // 2]
     return wrong
 
 
@@ -291,9 +399,9 @@ def shade_faults(tree):
     return [] if shades == sorted(set(shades)) else ["a deeper call is not darker"]
 
 
-def is_meant(name, source, width, target, most):
+def is_meant(name, source, width, target, most, first, row):
     """Whether a text is the picture of a run as tools/meaning has it."""
-    wanted = seen_of(name, source, width, target, most)
+    wanted = seen_of(name, source, width, target, most, first, row)
 
     def judged(text):
         why = is_picture(text)
@@ -306,18 +414,24 @@ def is_meant(name, source, width, target, most):
 
 
 def meant_runs():
-    """Pictures of each width, of elements, lanes, bools and negative values, of calls in calls, of a fault and of runs that are cut short."""
+    """Pictures of each width, of elements, lanes, bools and negative values, of calls in calls, of a fault, of runs that are cut short, of rows
+    and of runs from a step on."""
     return [
         *(meant_run("lanes.ispc", LANES, width, target) for width, target in OF_LANES),
         *(meant_run("elements.ispc", ELEMENTS, 4, target) for target in OF_ELEMENTS),
         *(meant_run("deep.ispc", DEEP, width, target) for width, target in [(4, "k"), (8, "r"), (16, "x")]),
         *(meant_run("lanes.ispc", LANES, 4, "x", most) for most in [1, 3, 7]),
         meant_run("halt.ispc", HALT, 8, "x"),
+        *(meant_run("lanes.ispc", LANES, width, "x", row=row) for width in (4, 8, 16) for row in (1, 4, 9)),
+        *(meant_run("deep.ispc", DEEP, width, "r", first=first, row=row) for width, first, row in [(4, 4, 5), (8, 9, 60), (16, 2, 7)]),
+        *(meant_run("long.ispc", LONG, width, "x", most, first, row) for width, most, first, row in OF_LONG),
+        *(meant_run("halt.ispc", HALT, 8, "x", first=2, row=row) for row in (1, 2)),
         meant_run("another name.ispc", HALT, 4, "x"),
     ]
 
 
-def meant_run(name, source, width, target, most=400):
+def meant_run(name, source, width, target, most=400, first=1, row=60):
     words = ["picture", name, "--width", str(width), "--watch", target, "--most", str(most)]
-    what = f"picture of {name}, {width} lanes, {target}, at most {most}"
-    return Run(what, b"", words, is_meant(name, source, width, target, most), b"", data={name: source.encode()})
+    words += [it for option, number, default in [("--from", first, 1), ("--row", row, 60)] if number != default for it in (option, str(number))]
+    what = f"picture of {name}, {width} lanes, {target}, at most {most} from {first}, rows of {row}"
+    return Run(what, b"", words, is_meant(name, source, width, target, most, first, row), b"", data={name: source.encode()})

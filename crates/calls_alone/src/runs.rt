@@ -69,7 +69,9 @@ fn draw_picture(alloc: Global, session: &mut ProgramSession<4>) -> Ended {
         title: b"it.ispc",
         source: SOURCE,
         watched: None,
+        first_number: 1,
         most_steps: 100,
+        row_steps: 2,
         form: Form::Image,
     };
     let mut writer = PieceWriter::new(512, 512);

@@ -68,7 +68,7 @@ module _ (widths : Bor (List (Bor Text))) (are : AreWidths widths) (old : Comman
       let width = value_passed _ rules refl refl refl old app m p 3 (option_or (codes "width") (parser.Names widths) (codes "4")) (omega arith) (λ d. refl) refl refl (parser.Names widths) refl refl refl (omega arith) in
       let w = which_width width.0
       (sym (ap (list_any (λ n. bytes_eq n width.0)) are) ∙ (sym (list_any-map (λ n. bytes_eq n width.0) (λ (s : Bor Text). s.now) widths.now) ∙ width.3)) in
-      let force = flag_passed _ rules refl refl refl old app m p 10 (flag (codes "force")) (omega arith) (λ d. refl) refl refl parser.Bool refl refl in
+      let force = flag_passed _ rules refl refl refl old app m p 12 (flag (codes "force")) (omega arith) (λ d. refl) refl refl parser.Bool refl refl in
       record {
         program = record {
           source = required_given _ rules refl refl refl old app m p 0 (wanted (codes "source")) (omega arith) (λ d. refl) refl refl refl refl refl;
@@ -76,7 +76,9 @@ module _ (widths : Bor (List (Bor Text))) (are : AreWidths widths) (old : Comman
           history = number_passed _ rules refl refl refl old app m p 4 (codes "history") 65536 (codes "65536") (omega arith) (λ d. refl) refl refl;
           steps = number_passed _ rules refl refl refl old app m p 5 (codes "steps") 10000000 (codes "1000000") (omega arith) (λ d. refl) refl refl;
         };
-        most = number_passed _ rules refl refl refl old app m p 8 (codes "most") 10000000 (codes "400") (omega arith) (λ d. refl) refl refl;
+        from = number_passed _ rules refl refl refl old app m p 8 (codes "from") 10000000 (codes "1") (omega arith) (λ d. refl) refl refl;
+        most = number_passed _ rules refl refl refl old app m p 9 (codes "most") 10000000 (codes "400") (omega arith) (λ d. refl) refl refl;
+        row = number_passed _ rules refl refl refl old app m p 10 (codes "row") 10000000 (codes "60") (omega arith) (λ d. refl) refl refl;
         flag = force.0;
         force = which_flags _ force.1;
       }
@@ -108,10 +110,10 @@ module _ (widths : Bor (List (Bor Text))) (are : AreWidths widths) (old : Comman
       let width = value_passed _ rules refl refl refl old app m p 3 (option_or (codes "width") (parser.Names widths) (codes "4")) (omega arith) (λ d. refl) refl refl (parser.Names widths) refl refl refl (omega arith) in
       let w = which_width width.0
       (sym (ap (list_any (λ n. bytes_eq n width.0)) are) ∙ (sym (list_any-map (λ n. bytes_eq n width.0) (λ (s : Bor Text). s.now) widths.now) ∙ width.3)) in
-      let annotate = flag_passed _ rules refl refl refl old app m p 9 (flag (codes "annotate")) (omega arith) (λ d. refl) refl refl parser.Bool refl refl in
-      let json = flag_passed _ rules refl refl refl old app m p 10 (flag (codes "json")) (omega arith) (λ d. refl) refl refl parser.Bool refl refl in
-      let compare = flag_passed _ rules refl refl refl old app m p 11 (flag (codes "compare")) (omega arith) (λ d. refl) refl refl parser.Bool refl refl in
-      let force = flag_passed _ rules refl refl refl old app m p 13 (flag (codes "force")) (omega arith) (λ d. refl) refl refl parser.Bool refl refl in
+      let annotate = flag_passed _ rules refl refl refl old app m p 11 (flag (codes "annotate")) (omega arith) (λ d. refl) refl refl parser.Bool refl refl in
+      let json = flag_passed _ rules refl refl refl old app m p 12 (flag (codes "json")) (omega arith) (λ d. refl) refl refl parser.Bool refl refl in
+      let compare = flag_passed _ rules refl refl refl old app m p 13 (flag (codes "compare")) (omega arith) (λ d. refl) refl refl parser.Bool refl refl in
+      let force = flag_passed _ rules refl refl refl old app m p 15 (flag (codes "force")) (omega arith) (λ d. refl) refl refl parser.Bool refl refl in
       record {
         program = record {
           source = required_given _ rules refl refl refl old app m p 0 (wanted (codes "source")) (omega arith) (λ d. refl) refl refl refl refl refl;
@@ -119,8 +121,9 @@ module _ (widths : Bor (List (Bor Text))) (are : AreWidths widths) (old : Comman
           history = number_passed _ rules refl refl refl old app m p 4 (codes "history") 65536 (codes "65536") (omega arith) (λ d. refl) refl refl;
           steps = number_passed _ rules refl refl refl old app m p 5 (codes "steps") 10000000 (codes "1000000") (omega arith) (λ d. refl) refl refl;
         };
-        most = number_passed _ rules refl refl refl old app m p 6 (codes "most") 10000000 (codes "10000000") (omega arith) (λ d. refl) refl refl;
-        top = number_passed _ rules refl refl refl old app m p 7 (codes "top") 65536 (codes "20") (omega arith) (λ d. refl) refl refl;
+        from = number_passed _ rules refl refl refl old app m p 6 (codes "from") 10000000 (codes "1") (omega arith) (λ d. refl) refl refl;
+        most = number_passed _ rules refl refl refl old app m p 7 (codes "most") 10000000 (codes "10000000") (omega arith) (λ d. refl) refl refl;
+        top = number_passed _ rules refl refl refl old app m p 8 (codes "top") 65536 (codes "20") (omega arith) (λ d. refl) refl refl;
         annotate = record { flag = annotate.0; given = which_flags _ annotate.1 };
         json = record { flag = json.0; given = which_flags _ json.1 };
         compare = record { flag = compare.0; given = which_flags _ compare.1 };

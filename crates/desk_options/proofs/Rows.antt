@@ -17,8 +17,8 @@ unfolding clap_on_literals
 each_option_of_debug = refl
 
 each_option_of_picture : faults
-    (codes "picture" ∷ codes "--watch" ∷ codes "x[2]" ∷ codes "--most=1" ∷ codes "--to" ∷ codes "a.svg" ∷ codes "--force" ∷ codes "--commands" ∷ codes "a.txt"
-    ∷ codes "a.ispc" ∷ []) ≡ []
+    (codes "picture" ∷ codes "--watch" ∷ codes "x[2]" ∷ codes "--from" ∷ codes "2" ∷ codes "--most=1" ∷ codes "--row" ∷ codes "9" ∷ codes "--to" ∷ codes "a.svg"
+    ∷ codes "--force" ∷ codes "--commands" ∷ codes "a.txt" ∷ codes "a.ispc" ∷ []) ≡ []
 unfolding clap_on_literals
 each_option_of_picture = refl
 
@@ -29,10 +29,14 @@ unfolding clap_on_literals
 each_option_of_page = refl
 
 each_option_of_profile : faults
-    (codes "profile" ∷ codes "--most=5" ∷ codes "--top" ∷ codes "3" ∷ codes "--by" ∷ codes "function" ∷ codes "--annotate" ∷ codes "--json" ∷ codes "--compare" ∷ codes "--to"
-    ∷ codes "a.txt" ∷ codes "--force" ∷ codes "a.ispc" ∷ []) ≡ []
+    (codes "profile" ∷ codes "--from=2" ∷ codes "--most=5" ∷ codes "--top" ∷ codes "3" ∷ codes "--by" ∷ codes "form" ∷ codes "--color" ∷ codes "never"
+    ∷ codes "--annotate" ∷ codes "--json" ∷ codes "--compare" ∷ codes "--to" ∷ codes "a.txt" ∷ codes "--force" ∷ codes "a.ispc" ∷ []) ≡ []
 unfolding clap_on_literals
 each_option_of_profile = refl
+
+no_first_step_of_a_profile : faults (codes "profile" ∷ codes "a.ispc" ∷ codes "--from" ∷ codes "0" ∷ []) ≡ ValueValidation ∷ []
+unfolding clap_on_literals
+no_first_step_of_a_profile = refl
 
 no_rows_of_a_profile : faults (codes "profile" ∷ codes "a.ispc" ∷ codes "--top" ∷ codes "0" ∷ []) ≡ ValueValidation ∷ []
 unfolding clap_on_literals
@@ -89,6 +93,10 @@ to_without_a_file = refl
 no_steps : faults (codes "picture" ∷ codes "a.ispc" ∷ codes "--most" ∷ codes "0" ∷ []) ≡ ValueValidation ∷ []
 unfolding clap_on_literals
 no_steps = refl
+
+no_steps_of_a_row : faults (codes "picture" ∷ codes "a.ispc" ∷ codes "--row" ∷ codes "0" ∷ []) ≡ ValueValidation ∷ []
+unfolding clap_on_literals
+no_steps_of_a_row = refl
 
 an_empty_number : faults (codes "picture" ∷ codes "a.ispc" ∷ codes "--most" ∷ codes "" ∷ []) ≡ ValueValidation ∷ []
 unfolding clap_on_literals

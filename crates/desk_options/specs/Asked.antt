@@ -51,7 +51,9 @@ pub record HasPicture (value : Text → Option Text) (picture : Picture) : Type 
   pub program : HasProgram value picture.program
   pub commands : value (codes "commands") ≡ text_of picture.commands
   pub watch : value (codes "watch") ≡ text_of picture.watch
+  pub from : option_map number_of (value (codes "from")) ≡ Some picture.from
   pub most : option_map number_of (value (codes "most")) ≡ Some picture.most
+  pub row : option_map number_of (value (codes "row")) ≡ Some picture.row
   pub to : value (codes "to") ≡ text_of picture.to
   pub force : IsTrue picture.force ↔ (value (codes "force") ≡ Some (codes "true"))
 
@@ -66,9 +68,11 @@ pub record HasPage (value : Text → Option Text) (page : RunPage) : Type 0 wher
 
 pub record HasProfile (value : Text → Option Text) (profile : Profile) : Type 0 where
   pub program : HasProgram value profile.program
+  pub from : option_map number_of (value (codes "from")) ≡ Some profile.from
   pub most : option_map number_of (value (codes "most")) ≡ Some profile.most
   pub top : option_map number_of (value (codes "top")) ≡ Some profile.top
   pub by : value (codes "by") ≡ text_of profile.by
+  pub color : value (codes "color") ≡ text_of profile.color
   pub annotate : IsTrue profile.annotate ↔ (value (codes "annotate") ≡ Some (codes "true"))
   pub json : IsTrue profile.json ↔ (value (codes "json") ≡ Some (codes "true"))
   pub compare : IsTrue profile.compare ↔ (value (codes "compare") ≡ Some (codes "true"))

@@ -37,7 +37,9 @@ debug_rules = option (codes "color") ∷ []
 abbrev pub picture_rules : List Rule
 picture_rules = option (codes "commands")
     ∷ option (codes "watch")
+    ∷ option_or (codes "from") (up_to 10000000) (codes "1")
     ∷ option_or (codes "most") (up_to 10000000) (codes "400")
+    ∷ option_or (codes "row") (up_to 10000000) (codes "60")
     ∷ option (codes "to")
     ∷ flag (codes "force")
     ∷ []
@@ -54,9 +56,11 @@ page_rules = option (codes "commands")
 
 -- what only a profile has
 abbrev pub profile_rules : List Rule
-profile_rules = option_or (codes "most") (up_to 10000000) (codes "10000000")
+profile_rules = option_or (codes "from") (up_to 10000000) (codes "1")
+    ∷ option_or (codes "most") (up_to 10000000) (codes "10000000")
     ∷ option_or (codes "top") (up_to 65536) (codes "20")
     ∷ option (codes "by")
+    ∷ option (codes "color")
     ∷ flag (codes "annotate")
     ∷ flag (codes "json")
     ∷ flag (codes "compare")

@@ -19,7 +19,9 @@ pub record ArePassed (found : Found) : Type 0 where
 -- and so did each value that only a picture has
 pub record ArePicturePassed (found : Found) : Type 0 where
   pub program : ArePassed found
+  pub from : HasNumber 10000000 found (codes "from")
   pub most : HasNumber 10000000 found (codes "most")
+  pub row : HasNumber 10000000 found (codes "row")
   pub flag : one_text found (codes "force") ≡ first_value found (codes "force")
   pub force : IfSome (first_value found (codes "force"))
       (λ text. (text ≡ codes "true") ⊎ (text ≡ codes "false"))
@@ -42,6 +44,7 @@ pub record IsFlagPassed (found : Found) (name : Text) : Type 0 where
 -- and so did each value that only a profile has
 pub record AreProfilePassed (found : Found) : Type 0 where
   pub program : ArePassed found
+  pub from : HasNumber 10000000 found (codes "from")
   pub most : HasNumber 10000000 found (codes "most")
   pub top : HasNumber 65536 found (codes "top")
   pub annotate : IsFlagPassed found (codes "annotate")

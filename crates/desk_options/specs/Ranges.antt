@@ -9,8 +9,12 @@ use Rattle.desk_options.specs.declared.verbs.Verb.TheVariants.{Debug, Picture, P
 
 pub record IsPictureInRange (picture : PictureOptions) : Type 0 where
   pub run : AreInRange picture.program.options
+  pub least_from : 1 ≤ picture.from
+  pub most_from : picture.from ≤ 10000000
   pub least_most : 1 ≤ picture.most
   pub most_most : picture.most ≤ 10000000
+  pub least_row : 1 ≤ picture.row
+  pub most_row : picture.row ≤ 10000000
 
 pub record IsPageInRange (page : RunPage) : Type 0 where
   pub run : AreInRange page.program.options
@@ -23,6 +27,8 @@ pub record IsPageInRange (page : RunPage) : Type 0 where
 
 pub record IsProfileInRange (profile : ProfileOptions) : Type 0 where
   pub run : AreInRange profile.program.options
+  pub least_from : 1 ≤ profile.from
+  pub most_from : profile.from ≤ 10000000
   pub least_most : 1 ≤ profile.most
   pub most_most : profile.most ≤ 10000000
   pub least_top : 1 ≤ profile.top

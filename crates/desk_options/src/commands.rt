@@ -1,5 +1,5 @@
 //! The option parser's commands: one for each verb, and one that lists them.
-ghost use Rattle.std.specs.Prelude.{◌≡◌, IfOk, [], false};
+ghost use Rattle.std.specs.Prelude.{◌≡◌, IfOk, [], codes, false};
 ghost use Rattle.clap.specs.Words.{app_of, new_app, rule_of};
 ghost use Rattle.clap.specs.declared.builder.command.Command.TheViews.{out-Command};
 ghost use Rattle.ispc_options.specs.Asked.{AreWidths, flag, option, option_or, up_to, valued};
@@ -183,9 +183,16 @@ fn with_program<'a>(alloc: Global, command: Command<'a>) -> Result<Command<'a>, 
 fn with_color<'a>(alloc: Global, command: Command<'a>) -> Result<Command<'a>, AllocError>
     ensures { IfOk result (λ parser. app_of parser ≡ with_rules (app_of command.entry) debug_rules) }
 {
-    command.arg(option(alloc, "color", "WHEN").help(
+    command.arg(when_colored(alloc))
+}
+
+/// The option that says when a text has colours.
+fn when_colored<'a>(alloc: Global) -> Arg<'a>
+    ensures { (rule_of result ≡ option (codes "color")) × (result.global ≡ false) }
+{
+    option(alloc, "color", "WHEN").help(
         "when the text has colours, auto on a terminal without NO_COLOR [default: auto] [possible values: auto, always, never]",
-    ))
+    )
 }
 
 /// A command with the options that only a picture has.
@@ -199,8 +206,14 @@ fn with_picture<'a>(alloc: Global, command: Command<'a>) -> Result<Command<'a>, 
         .arg(option(alloc, "watch", "T").help(
             "a variable, or a lane or an element of one as \"x[2]\", whose values are shown",
         ))?
+        .arg(option_or(alloc, "from", "N", up_to(MOST_STEPS), "1").help(
+            "the step that the picture begins with",
+        ))?
         .arg(option_or(alloc, "most", "N", up_to(MOST_STEPS), "400").help(
             "how many steps are drawn at most",
+        ))?
+        .arg(option_or(alloc, "row", "N", up_to(MOST_STEPS), "60").help(
+            "how many steps a row has; what follows stands in rows below",
         ))?
         .arg(option(alloc, "to", "FILE").help(
             "the file that is written, a page where its name ends with .html; else an SVG goes to standard output",
@@ -240,6 +253,9 @@ fn with_profile<'a>(alloc: Global, command: Command<'a>) -> Result<Command<'a>, 
     ensures { IfOk result (λ parser. app_of parser ≡ with_rules (app_of command.entry) profile_rules) }
 {
     command
+        .arg(option_or(alloc, "from", "N", up_to(MOST_STEPS), "1").help(
+            "the first step that is counted",
+        ))?
         .arg(option_or(alloc, "most", "N", up_to(MOST_STEPS), "10000000").help(
             "how many steps are done at most",
         ))?
@@ -247,8 +263,9 @@ fn with_profile<'a>(alloc: Global, command: Command<'a>) -> Result<Command<'a>, 
             "how many rows the table has at most, up to 65536",
         ))?
         .arg(option(alloc, "by", "WHAT").help(
-            "what the rows of the table are [default: line] [possible values: line, function]",
+            "what the rows of the table are [default: line] [possible values: line, function, form]",
         ))?
+        .arg(when_colored(alloc))?
         .arg(flag(alloc, "annotate").help(
             "shows the source in place of the table, with the counts of each line before it",
         ))?

@@ -16,13 +16,16 @@ pub(crate) fn profile_of<'a>(matches: &ArgMatches<'a>) -> Option<Profile<'a>>
     ensures read { AreProfilePassed (found_of matches.now) → IsSomeAnd result (HasProfile (first_value (found_of matches.now))) }
 {
     let program = program_of(matches)?;
+    let from = number_within(matches, "from", MOST_STEPS)?;
     let most = number_within(matches, "most", MOST_STEPS)?;
     let top = number_within(matches, "top", MOST_ROWS)?;
     Some(Profile {
         program,
+        from,
         most,
         top,
         by: matches.get_str("by"),
+        color: matches.get_str("color"),
         annotate: matches.get_flag("annotate"),
         json: matches.get_flag("json"),
         compare: matches.get_flag("compare"),

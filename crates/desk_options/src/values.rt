@@ -77,12 +77,16 @@ fn picture_of<'a>(matches: &ArgMatches<'a>) -> Option<Picture<'a>>
     ensures read { ArePicturePassed (found_of matches.now) → IsSomeAnd result (HasPicture (first_value (found_of matches.now))) }
 {
     let program = program_of(matches)?;
+    let from = number_within(matches, "from", MOST_STEPS)?;
     let most = number_within(matches, "most", MOST_STEPS)?;
+    let row = number_within(matches, "row", MOST_STEPS)?;
     Some(Picture {
         program,
         commands: matches.get_str("commands"),
         watch: matches.get_str("watch"),
+        from,
         most,
+        row,
         to: matches.get_str("to"),
         force: matches.get_flag("force"),
     })

@@ -16,14 +16,17 @@ pub struct Debugged<'a> {
     pub color: Option<&'a str>,
 }
 
-/// A picture of a program's run: the file of commands that come first, what is watched, how many steps are drawn at most, the file
-/// that is written, and whether it is written over whatever it holds.
+/// A picture of a program's run: the file of commands that come first, what is watched, the number of the step that the picture begins
+/// with, how many steps are drawn at most, how many of them a row has, the file that is written, and whether it is written over whatever
+/// it holds.
 #[derive(Clone, Copy, Debug, PartialEq, Eq)]
 pub struct Picture<'a> {
     pub program: Program<'a>,
     pub commands: Option<&'a str>,
     pub watch: Option<&'a str>,
+    pub from: u32,
     pub most: u32,
+    pub row: u32,
     pub to: Option<&'a str>,
     pub force: bool,
 }
@@ -41,15 +44,17 @@ pub struct RunPage<'a> {
     pub force: bool,
 }
 
-/// The profile of a program's run: how many steps are done at most, how many rows a table has at most, what its rows are if the words
-/// say that, whether the source is shown with its counts, or JSON, or the shares by gangs of all widths, the file that is written, and
-/// whether it is written over whatever it holds.
+/// The profile of a program's run: the number of the step that the counts begin with, how many steps are done at most, how many rows a
+/// table has at most, what its rows are and when the text has colours if the words say that, whether the source is shown with its counts,
+/// or JSON, or the shares by gangs of all widths, the file that is written, and whether it is written over whatever it holds.
 #[derive(Clone, Copy, Debug, PartialEq, Eq)]
 pub struct Profile<'a> {
     pub program: Program<'a>,
+    pub from: u32,
     pub most: u32,
     pub top: u32,
     pub by: Option<&'a str>,
+    pub color: Option<&'a str>,
     pub annotate: bool,
     pub json: bool,
     pub compare: bool,

@@ -3,3 +3,4 @@ pub mod Trying
 pub mod Counting
 pub mod Telling
 pub mod Watching
+mod RowSpans

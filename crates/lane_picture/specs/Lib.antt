@@ -3,3 +3,4 @@ pub mod Tries
 pub mod Seen
 pub mod Pictures
 pub mod Watched
+pub mod Rows

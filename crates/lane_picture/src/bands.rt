@@ -13,7 +13,7 @@ const DARKER: usize = 6;
 
 const MOST_FRAMES: usize = 7;
 
-/// Writes the grounds of all columns.
+/// Writes the grounds of the columns of a row.
 pub(crate) fn write_bands<O: AnswerWriter>(
     seen: &Seen,
     lines: &[&[u8]],
@@ -23,7 +23,7 @@ pub(crate) fn write_bands<O: AnswerWriter>(
     requires works { O.has_failed writer.old ≡ false }
     ensures failed { O.has_failed writer.new ≡ is_err result }
 {
-    for (index, column) in seen.columns.iter().enumerate() {
+    for (index, column) in layout.columns(seen).iter().enumerate() {
         write_depth(index, column, layout, writer)?;
         if kind_at(lines, column.place) == StepKind::Round {
             write_round(index, column, layout, writer)?;
@@ -77,7 +77,7 @@ fn write_round<O: AnswerWriter>(
     write_parts(writer, &parts)
 }
 
-/// Writes a rectangle of the height of all lines, up to its colour.
+/// Writes a rectangle of the height of all lines of the row, up to its colour.
 fn write_ground<O: AnswerWriter>(
     index: usize,
     layout: &Layout,
@@ -86,14 +86,14 @@ fn write_ground<O: AnswerWriter>(
     requires works { O.has_failed writer.old ≡ false }
     ensures failed { O.has_failed writer.new ≡ is_err result }
 {
-    let top = layout.row_top(1);
+    let top = layout.lines_top();
     let parts = [
         Text(b"<rect x=\""),
         Number(layout.column_left(index)),
         Text(b"\" y=\""),
         Number(top),
         Text(b"\" width=\""),
-        Number(layout.column_width),
+        Number(layout.sizes.column_width),
         Text(b"\" height=\""),
         Number(layout.lines_end().saturating_sub(top)),
         Text(b"\""),

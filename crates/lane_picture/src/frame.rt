@@ -1,10 +1,12 @@
 //! What stands round the tracks: the lines of the source, the names of the lanes, the numbers of the steps, how the run ended.
 ghost use Rattle.std.specs.Prelude.{◌≡◌, false, is_err};
 
-use crate::columns::{Seen, StepsEnd};
-use crate::layout::{FIRST_LANE, LANE_NAME, Layout};
+use crate::columns::StepsEnd;
+use crate::layout::Layout;
 use crate::parts::Part::{Any, Number, Text};
 use crate::parts::write_parts;
+use crate::sheet::Sheet;
+use crate::sizes::{FIRST_LANE, LANE_NAME};
 use crate::source::{MOST_SHOWN, shown_part};
 use crate::words::{fault_words, lane_colour, lane_fill};
 use debug_traits::{AnswerWriter, WriteFault};
@@ -16,6 +18,19 @@ text{font:13px monospace;white-space:pre}
 .waits{fill:none;stroke-width:1;stroke-dasharray:2 2}
 .goes{stroke-width:2.5}
 .leaves{stroke-width:3}
+@media (prefers-color-scheme:dark){
+:root{background:#15181d}
+svg{fill:#e2e6ec}
+.number{fill:#98a2ae}
+[fill=\"#ffffff\"]{fill:#15181d}
+[fill=\"#f4f4f4\"]{fill:#1e2229}
+[fill=\"#333333\"]{fill:#c8ced6}
+[fill=\"#f0e442\"]{fill-opacity:0.3}
+[fill=\"#000000\"]{fill:#f4f4f4}
+[stroke=\"#000000\"]{stroke:#f4f4f4}
+[fill=\"#0072b2\"]{fill:#3f9fe0}
+[stroke=\"#0072b2\"]{stroke:#3f9fe0}
+}
 </style>
 ";
 
@@ -25,15 +40,15 @@ const LEGEND: &[u8] =
 
 /// Writes the head of the picture, and its ground.
 pub(crate) fn write_head<O: AnswerWriter>(
-    layout: &Layout,
+    sheet: &Sheet,
     title: &[u8],
     writer: &mut O,
 ) -> Result<(), WriteFault>
     requires works { O.has_failed writer.old ≡ false }
     ensures failed { O.has_failed writer.new ≡ is_err result }
 {
-    let width = layout.width();
-    let height = layout.height();
+    let width = sheet.width();
+    let height = sheet.height();
     let parts = [
         Text(b"<svg xmlns=\"http://www.w3.org/2000/svg\" width=\""),
         Number(width),
@@ -52,8 +67,8 @@ pub(crate) fn write_head<O: AnswerWriter>(
     write_parts(writer, &parts)
 }
 
-/// Writes a row for each line of the source, every second one on a darker ground.
-pub(crate) fn write_rows<O: AnswerWriter>(
+/// Writes the lines of the source that a row shows, every second one on a darker ground.
+pub(crate) fn write_lines<O: AnswerWriter>(
     lines: &[&[u8]],
     layout: &Layout,
     writer: &mut O,
@@ -61,31 +76,31 @@ pub(crate) fn write_rows<O: AnswerWriter>(
     requires works { O.has_failed writer.old ≡ false }
     ensures failed { O.has_failed writer.new ≡ is_err result }
 {
-    for (index, line) in lines.iter().enumerate() {
-        write_ground(index, layout, writer)?;
-        write_line(index, line, layout, writer)?;
+    for (index, line) in layout.lines(lines).iter().enumerate() {
+        let number = layout.first_line.saturating_add(index);
+        write_ground(number, layout, writer)?;
+        write_line(number, line, layout, writer)?;
     }
     Ok(())
 }
 
 /// Writes the darker ground of every second line.
 fn write_ground<O: AnswerWriter>(
-    index: usize,
+    line: usize,
     layout: &Layout,
     writer: &mut O,
 ) -> Result<(), WriteFault>
     requires works { O.has_failed writer.old ≡ false }
     ensures failed { O.has_failed writer.new ≡ is_err result }
 {
-    if index % 2 == 0 {
+    if line % 2 == 1 {
         return Ok(());
     }
-    let line = index.saturating_add(1);
     let parts = [
         Text(b"<rect x=\"0\" y=\""),
-        Number(layout.row_top(line)),
+        Number(layout.line_top(line)),
         Text(b"\" width=\"100%\" height=\""),
-        Number(layout.row_height(line)),
+        Number(layout.line_height(line)),
         Text(b"\" fill=\"#f4f4f4\"/>\n"),
     ];
     write_parts(writer, &parts)
@@ -93,7 +108,7 @@ fn write_ground<O: AnswerWriter>(
 
 /// Writes a line of the source with its number.
 fn write_line<O: AnswerWriter>(
-    index: usize,
+    number: usize,
     line: &[u8],
     layout: &Layout,
     writer: &mut O,
@@ -101,10 +116,9 @@ fn write_line<O: AnswerWriter>(
     requires works { O.has_failed writer.old ≡ false }
     ensures failed { O.has_failed writer.new ≡ is_err result }
 {
-    let number = index.saturating_add(1);
     let middle = layout
-        .row_top(number)
-        .saturating_add(layout.row_height(number) / 2)
+        .line_top(number)
+        .saturating_add(layout.line_height(number) / 2)
         .saturating_add(4);
     let parts = [
         Text(b"<text class=\"number\" x=\"38\" y=\""),
@@ -128,24 +142,35 @@ fn write_line<O: AnswerWriter>(
 /// Writes the names of the lanes in their colours, above the source.
 pub(crate) fn write_lane_names<O: AnswerWriter>(
     width: usize,
+    layout: &Layout,
     writer: &mut O,
 ) -> Result<(), WriteFault>
     requires works { O.has_failed writer.old ≡ false }
     ensures failed { O.has_failed writer.new ≡ is_err result }
 {
-    writer.write_all(b"<text class=\"number\" x=\"48\" y=\"22\">lanes</text>\n")?;
+    let baseline = layout.names_line();
+    let head = [
+        Text(b"<text class=\"number\" x=\"48\" y=\""),
+        Number(baseline),
+        Text(b"\">lanes</text>\n"),
+    ];
+    write_parts(writer, &head)?;
     for lane in 0..width {
         let x = lane.saturating_mul(LANE_NAME).saturating_add(FIRST_LANE);
         let parts = [
             Text(b"<circle cx=\""),
             Number(x),
-            Text(b"\" cy=\"18\" r=\"3\" fill=\""),
+            Text(b"\" cy=\""),
+            Number(baseline.saturating_sub(4)),
+            Text(b"\" r=\"3\" fill=\""),
             Text(lane_fill(lane)),
             Text(b"\" stroke=\""),
             Text(lane_colour(lane)),
             Text(b"\"/><text class=\"number\" x=\""),
             Number(x.saturating_add(6)),
-            Text(b"\" y=\"22\">"),
+            Text(b"\" y=\""),
+            Number(baseline),
+            Text(b"\">"),
             Number(lane),
             Text(b"</text>\n"),
         ];
@@ -154,7 +179,7 @@ pub(crate) fn write_lane_names<O: AnswerWriter>(
     Ok(())
 }
 
-/// Writes the numbers of the first step and of each fifth one.
+/// Writes the numbers of the first step of a row and of each fifth one that is not next to it.
 pub(crate) fn write_step_numbers<O: AnswerWriter>(
     columns: usize,
     layout: &Layout,
@@ -164,7 +189,7 @@ pub(crate) fn write_step_numbers<O: AnswerWriter>(
     ensures failed { O.has_failed writer.new ≡ is_err result }
 {
     for index in 0..columns {
-        if index == 0 || index % 5 == 4 {
+        if index == 0 || (index > 2 && layout.number(index) % 5 == 0) {
             write_step_number(index, layout, writer)?;
         }
     }
@@ -182,24 +207,23 @@ fn write_step_number<O: AnswerWriter>(
     let parts = [
         Text(b"<text class=\"number\" x=\""),
         Number(layout.middle(index)),
-        Text(b"\" y=\"22\" text-anchor=\"middle\">"),
-        Number(index.saturating_add(1)),
+        Text(b"\" y=\""),
+        Number(layout.names_line()),
+        Text(b"\" text-anchor=\"middle\">"),
+        Number(layout.number(index)),
         Text(b"</text>\n"),
     ];
     write_parts(writer, &parts)
 }
 
 /// Writes what the marks mean that have no name where they stand.
-pub(crate) fn write_legend<O: AnswerWriter>(
-    layout: &Layout,
-    writer: &mut O,
-) -> Result<(), WriteFault>
+pub(crate) fn write_legend<O: AnswerWriter>(sheet: &Sheet, writer: &mut O) -> Result<(), WriteFault>
     requires works { O.has_failed writer.old ≡ false }
     ensures failed { O.has_failed writer.new ≡ is_err result }
 {
     let parts = [
         Text(b"<text class=\"number\" x=\"48\" y=\""),
-        Number(layout.height().saturating_sub(8)),
+        Number(sheet.height().saturating_sub(8)),
         Text(b"\">"),
         Text(LEGEND),
         Text(b"</text>\n"),
@@ -207,29 +231,28 @@ pub(crate) fn write_legend<O: AnswerWriter>(
     write_parts(writer, &parts)
 }
 
-/// Writes how the run ended.
+/// Writes how the run ended, after or at the step of this number.
 pub(crate) fn write_end<O: AnswerWriter>(
-    seen: &Seen,
+    last: usize,
     end: StepsEnd,
-    layout: &Layout,
+    sheet: &Sheet,
     writer: &mut O,
 ) -> Result<(), WriteFault>
     requires works { O.has_failed writer.old ≡ false }
     ensures failed { O.has_failed writer.new ≡ is_err result }
 {
-    let steps = seen.columns.len();
     let parts = [
         Text(b"<text class=\"number\" x=\"48\" y=\""),
-        Number(layout.height().saturating_sub(24)),
+        Number(sheet.height().saturating_sub(24)),
         Text(b"\">"),
     ];
     write_parts(writer, &parts)?;
     match end {
         StepsEnd::Ended => {
-            write_parts(writer, &[Text(b"ended after step "), Number(steps)])?;
+            write_parts(writer, &[Text(b"ended after step "), Number(last)])?;
         }
         StepsEnd::StepLimit => {
-            write_parts(writer, &[Text(b"step limit after step "), Number(steps)])?;
+            write_parts(writer, &[Text(b"step limit after step "), Number(last)])?;
         }
         StepsEnd::AtFault(fault) => {
             let told = [
@@ -238,7 +261,7 @@ pub(crate) fn write_end<O: AnswerWriter>(
                 Text(b" lane "),
                 Number(fault.lane),
                 Text(b" at step "),
-                Number(steps),
+                Number(last),
             ];
             write_parts(writer, &told)?;
         }

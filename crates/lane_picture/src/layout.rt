@@ -1,37 +1,14 @@
-//! Where the parts of a picture stand, in pixels.
+//! Where the parts of a row of a picture stand, in pixels.
 use crate::columns::{Column, MOST_WORDS, Seen};
-use crate::source::shown_part;
+use crate::sizes::{LOW_LINE, LastColumns, Sizes};
+use crate::spans::Span;
 use std::alloc::{AllocError, Global};
-
-/// The width of a character of the source.
-const CHARACTER: usize = 8;
-
-/// The width of a digit of a value.
-const DIGIT: usize = 6;
 
 /// The height of a row of values.
 const VALUE_ROW: usize = 14;
 
-/// The least width of a column.
-const LEAST_COLUMN: usize = 18;
-
-/// The height of the row of a line without steps.
-const LOW_ROW: usize = 20;
-
 /// What stands above the first line: the lanes' names, and the numbers of the steps.
 const ABOVE: usize = 34;
-
-/// The space below the last line or row, for how the run ended and what the marks mean.
-const BELOW: usize = 40;
-
-/// Where the name of the first lane stands, above the source.
-pub(crate) const FIRST_LANE: usize = 92;
-
-/// The space for the name of a lane.
-pub(crate) const LANE_NAME: usize = 24;
-
-/// The space left of the source, for the numbers of its lines.
-const NUMBERS: usize = 48;
 
 /// A point.
 #[derive(Clone, Copy, Debug)]
@@ -40,22 +17,26 @@ pub(crate) struct Point {
     pub(crate) y: usize,
 }
 
-/// The sizes of a picture.
-#[derive(Debug, Drop)]
+/// The sizes of a row, and which steps and lines it shows.
+#[derive(Drop)]
 pub(crate) struct Layout {
-    lane_gap: usize,
-    /// Where the row of each line begins, and where the last one ends.
+    pub(crate) sizes: Sizes,
+    /// The columns of the row.
+    span: Span,
+    /// The last column of each lane before the row.
+    before: LastColumns,
+    /// Where the row begins.
+    top: usize,
+    /// The first line that is shown.
+    pub(crate) first_line: usize,
+    /// Where each line begins, and where the last one ends.
     tops: Vec<usize>,
-    pub(crate) column_width: usize,
-    /// Where the first column begins.
-    pub(crate) left: usize,
-    columns: usize,
     /// How many rows of values stand below.
     pub(crate) value_rows: usize,
 }
 
 impl Layout {
-    /// The sizes for what was seen of a source of these lines, with values of so many characters at most.
+    /// The sizes of a row of these columns and lines, which begins at `top`.
     ///
     /// # Errors
     ///
@@ -63,65 +44,143 @@ impl Layout {
     pub(crate) fn new(
         alloc: Global,
         seen: &Seen,
-        lines: &[&[u8]],
-        longest_value: usize,
+        span: Span,
+        lines: Span,
+        top: usize,
+        before: LastColumns,
+        sizes: Sizes,
     ) -> Result<Layout, AllocError> {
-        let lane_gap = gap_of(seen.width);
-        let row_height = seen.width.saturating_mul(lane_gap).saturating_add(8);
-        let has_step = stepped_lines(alloc, seen, lines.len())?;
-        let tops = tops_of(alloc, &has_step, row_height.max(LOW_ROW))?;
-        let longest = lines.iter().map(|line| shown_part(line).len()).max();
-        let text = longest.unwrap_or(0).max(20).saturating_mul(CHARACTER);
+        let columns = columns_of(seen, span);
+        let has_step = stepped_lines(alloc, columns, lines)?;
+        let tops = tops_of(
+            alloc,
+            top.saturating_add(ABOVE),
+            &has_step,
+            sizes.line_height,
+        )?;
         Ok(Layout {
-            lane_gap,
+            sizes,
+            span,
+            before,
+            top,
+            first_line: lines.from,
             tops,
-            column_width: longest_value
-                .saturating_mul(DIGIT)
-                .saturating_add(6)
-                .max(LEAST_COLUMN),
-            left: text.saturating_add(NUMBERS + 16).max(names_end(seen.width)),
-            columns: seen.columns.len(),
-            value_rows: most_values(seen),
+            value_rows: most_values(seen, columns),
         })
     }
 
-    /// Where a column begins.
-    pub(crate) fn column_left(&self, column: usize) -> usize {
-        self.left
-            .saturating_add(column.saturating_mul(self.column_width))
+    /// The columns of the row.
+    pub(crate) fn columns<'a>(&self, seen: &'a Seen) -> &'a [Column] {
+        columns_of(seen, self.span)
+    }
+
+    /// The number of the step of a column of the row.
+    pub(crate) fn number(&self, index: usize) -> usize {
+        self.sizes
+            .first_number
+            .saturating_add(self.span.from)
+            .saturating_add(index)
+    }
+
+    /// Where a lane was before the row, if it did a step there, and whether that is the step just before.
+    pub(crate) fn came_from<'a>(&self, seen: &'a Seen, lane: usize) -> Option<(&'a Column, bool)> {
+        let at = self.before.of(lane)?;
+        let column = seen.columns.get(at)?;
+        Some((column, at.saturating_add(1) == self.span.from))
+    }
+
+    /// Whether a lane does a step behind the row.
+    pub(crate) fn goes_on(&self, lane: usize) -> bool {
+        self.sizes
+            .last
+            .of(lane)
+            .is_some_and(|at| at >= self.span.to)
+    }
+
+    /// Whether the row has the last column.
+    pub(crate) fn is_last(&self, seen: &Seen) -> bool {
+        self.span.to >= seen.columns.len()
+    }
+
+    /// The column behind the row.
+    pub(crate) fn next_column<'a>(&self, seen: &'a Seen) -> Option<&'a Column> {
+        seen.columns.get(self.span.to)
+    }
+
+    /// The lines that the row shows.
+    pub(crate) fn lines<'a>(&self, lines: &'a [&'a [u8]]) -> &'a [&'a [u8]] {
+        let from = self.first_line.saturating_sub(1);
+        lines
+            .get(from..from.saturating_add(self.tops.len()).saturating_sub(1))
+            .unwrap_or(&[])
+    }
+
+    /// Whether a line is shown.
+    pub(crate) fn shows(&self, line: usize) -> bool {
+        line >= self.first_line && line - self.first_line < self.tops.len().saturating_sub(1)
+    }
+
+    /// Where a column of the row begins.
+    pub(crate) fn column_left(&self, index: usize) -> usize {
+        self.sizes
+            .left
+            .saturating_add(index.saturating_mul(self.sizes.column_width))
     }
 
     /// The middle of a column.
-    pub(crate) fn middle(&self, column: usize) -> usize {
-        self.column_left(column)
-            .saturating_add(self.column_width / 2)
+    pub(crate) fn middle(&self, index: usize) -> usize {
+        self.column_left(index)
+            .saturating_add(self.sizes.column_width / 2)
     }
 
-    /// Where the row of a line begins, the first line being 1.
-    pub(crate) fn row_top(&self, line: usize) -> usize {
-        let top = self.tops.get(line.saturating_sub(1));
-        top.copied().unwrap_or(ABOVE)
+    /// Where the last column ends.
+    pub(crate) fn right(&self) -> usize {
+        self.column_left(self.span.to.saturating_sub(self.span.from))
     }
 
-    /// The height of the row of a line.
-    pub(crate) fn row_height(&self, line: usize) -> usize {
-        self.row_top(line.saturating_add(1))
-            .saturating_sub(self.row_top(line))
+    /// The baseline of what stands above the lines.
+    pub(crate) fn names_line(&self) -> usize {
+        self.top.saturating_add(22)
+    }
+
+    /// Where the first line begins.
+    pub(crate) fn lines_top(&self) -> usize {
+        self.top.saturating_add(ABOVE)
+    }
+
+    /// Where the last line ends.
+    pub(crate) fn lines_end(&self) -> usize {
+        self.tops.last().copied().unwrap_or(self.lines_top())
+    }
+
+    /// Where a line begins; for one before those that are shown where they begin, for one behind them where they end.
+    pub(crate) fn line_top(&self, line: usize) -> usize {
+        let top = self.tops.get(line.saturating_sub(self.first_line));
+        top.copied().unwrap_or(self.lines_end())
+    }
+
+    /// The height of a line.
+    pub(crate) fn line_height(&self, line: usize) -> usize {
+        self.line_top(line.saturating_add(1))
+            .saturating_sub(self.line_top(line))
+    }
+
+    /// Where the dot of a lane stands on a line, downwards; for a line that is not shown the edge that is next to it.
+    pub(crate) fn lane_line(&self, line: usize, lane: usize) -> usize {
+        let top = self.line_top(line);
+        if !self.shows(line) {
+            return top;
+        }
+        let down = lane.saturating_mul(self.sizes.lane_gap).saturating_add(8);
+        top.saturating_add(down)
     }
 
     /// Where the dot of a lane stands.
     pub(crate) fn dot(&self, index: usize, column: &Column, lane: usize) -> Point {
-        let top = self.row_top(column.place.line as usize);
-        let down = lane.saturating_mul(self.lane_gap).saturating_add(8);
         Point {
             x: self.middle(index),
-            y: top.saturating_add(down),
+            y: self.lane_line(column.place.line as usize, lane),
         }
-    }
-
-    /// Where the last line's row ends.
-    pub(crate) fn lines_end(&self) -> usize {
-        self.row_top(self.tops.len())
     }
 
     /// Where a row of values begins.
@@ -131,59 +190,56 @@ impl Layout {
             .saturating_add(row.saturating_mul(VALUE_ROW))
     }
 
-    pub(crate) fn width(&self) -> usize {
-        self.column_left(self.columns).saturating_add(20).max(560)
-    }
-
-    pub(crate) fn height(&self) -> usize {
-        self.value_top(self.value_rows).saturating_add(BELOW)
+    /// Where the row ends.
+    pub(crate) fn end(&self) -> usize {
+        self.value_top(self.value_rows)
     }
 }
 
+/// The columns from one to another.
+pub(crate) fn columns_of(seen: &Seen, span: Span) -> &[Column] {
+    seen.columns
+        .as_slice()
+        .get(span.from..span.to)
+        .unwrap_or(&[])
+}
+
 /// The most values of the watched variable in one column.
-fn most_values(seen: &Seen) -> usize {
-    let most = seen
-        .columns
+fn most_values(seen: &Seen, columns: &[Column]) -> usize {
+    let most = columns
         .iter()
         .map(|column| seen.values_at(column).len())
         .max();
     most.unwrap_or(0).min(MOST_WORDS)
 }
 
-/// Where the names of so many lanes end, above the source.
-fn names_end(width: usize) -> usize {
-    width.saturating_mul(LANE_NAME).saturating_add(FIRST_LANE)
-}
-
-/// The space between the dots of two lanes.
-fn gap_of(width: usize) -> usize {
-    match width {
-        0..=4 => 7,
-        5..=8 => 6,
-        _ => 5,
-    }
-}
-
-/// For each line, whether a step of a column stands on it.
-fn stepped_lines(alloc: Global, seen: &Seen, lines: usize) -> Result<Vec<bool>, AllocError> {
-    let mut has_step = vec![in alloc; false; lines]?;
-    for column in &seen.columns {
-        let index = (column.place.line as usize).saturating_sub(1);
-        if let Some(line) = has_step.get_mut(index) {
-            *line = true;
+/// For each line of some, whether a step of a column stands on it.
+fn stepped_lines(alloc: Global, columns: &[Column], lines: Span) -> Result<Vec<bool>, AllocError> {
+    let mut has_step = vec![in alloc; false; lines.to.saturating_sub(lines.from)]?;
+    for column in columns {
+        let line = column.place.line as usize;
+        if line >= lines.from {
+            if let Some(is_stepped) = has_step.get_mut(line - lines.from) {
+                *is_stepped = true;
+            }
         }
     }
     Ok(has_step)
 }
 
-/// Where the row of each line begins, and where the last one ends. Rows with steps have this height.
-fn tops_of(alloc: Global, has_step: &[bool], height: usize) -> Result<Vec<usize>, AllocError> {
+/// Where each line begins, the first one at `top`, and where the last one ends. Lines with steps have this height.
+fn tops_of(
+    alloc: Global,
+    top: usize,
+    has_step: &[bool],
+    height: usize,
+) -> Result<Vec<usize>, AllocError> {
     let mut tops = Vec::new(alloc);
-    let mut top = ABOVE;
+    let mut next = top;
     for is_high in has_step {
-        tops.push(top)?;
-        top = top.saturating_add(if *is_high { height } else { LOW_ROW });
+        tops.push(next)?;
+        next = next.saturating_add(if *is_high { height } else { LOW_LINE });
     }
-    tops.push(top)?;
+    tops.push(next)?;
     Ok(tops)
 }

@@ -8,13 +8,14 @@ ghost use Rattle.lane_picture.specs.Tries.{HasBegun, end_view};
 use crate::bands::write_bands;
 use crate::columns::{Seen, StepsEnd, see_steps};
 use crate::frame::{
-    write_end, write_head, write_lane_names, write_legend, write_rows, write_step_numbers,
+    write_end, write_head, write_lane_names, write_legend, write_lines, write_step_numbers,
 };
 use crate::layout::Layout;
 use crate::parts::Part::{Any, Text};
 use crate::parts::write_parts;
+use crate::sheet::Sheet;
 use crate::source::lines_of;
-use crate::strip::{longest_value, write_strip};
+use crate::strip::write_strip;
 use crate::tracks::write_tracks;
 use debug_commands::Target;
 use debug_session::Session;
@@ -38,8 +39,12 @@ pub struct Subject<'a> {
     pub source: &'a [u8],
     /// A variable whose values are shown below.
     pub watched: Option<Target<'a>>,
+    /// The number of the first step.
+    pub first_number: u32,
     /// The most steps that are done.
     pub most_steps: u32,
+    /// How many steps a row has; 0 is read as 1. Where there are more, rows stand one under the other.
+    pub row_steps: u32,
     pub form: Form,
 }
 
@@ -57,7 +62,8 @@ pub enum PictureEnd {
 }
 
 /// Does one step after another, up to the end of the program, a fault or the most steps, and then writes a picture of them: the
-/// lines of the source downwards, the steps across, and a track for each lane.
+/// lines of the source downwards, the steps across, and a track for each lane. A long run has rows, one under the other, each with its
+/// own lines.
 ///
 /// # Errors
 ///
@@ -78,11 +84,32 @@ pub fn draw<M: RecordedMachine, O: AnswerWriter>(
 {
     let lines = lines_of(alloc, subject.source)?;
     let (seen, end) = see_steps(alloc, session, subject.watched, subject.most_steps)?;
-    let layout = Layout::new(alloc, &seen, &lines, longest_value(&seen))?;
-    match write_picture(&seen, end, &lines, &layout, subject, writer) {
+    let sheet = Sheet::new(
+        alloc,
+        &seen,
+        &lines,
+        subject.row_steps,
+        subject.first_number,
+    )?;
+    let drawing = Drawing {
+        seen: &seen,
+        end,
+        lines: lines.as_slice(),
+        sheet: &sheet,
+    };
+    match write_picture(drawing, subject, writer) {
         Ok(()) => Ok(told(end)),
         Err(_) => Ok(PictureEnd::WriteFault),
     }
+}
+
+/// What was seen of a run, the lines of its source, and where they stand.
+#[derive(Clone, Copy)]
+struct Drawing<'a> {
+    seen: &'a Seen,
+    end: StepsEnd,
+    lines: &'a [&'a [u8]],
+    sheet: &'a Sheet,
 }
 
 fn told(end: StepsEnd) -> PictureEnd
@@ -98,10 +125,7 @@ fn told(end: StepsEnd) -> PictureEnd
 
 /// Writes the picture, in a page if one is asked for.
 fn write_picture<O: AnswerWriter>(
-    seen: &Seen,
-    end: StepsEnd,
-    lines: &[&[u8]],
-    layout: &Layout,
+    drawing: Drawing<'_>,
     subject: &Subject<'_>,
     writer: &mut O,
 ) -> Result<(), WriteFault>
@@ -109,7 +133,7 @@ fn write_picture<O: AnswerWriter>(
     ensures failed { O.has_failed writer.new ≡ is_err result }
 {
     if subject.form == Form::Image {
-        return write_image(seen, end, lines, layout, subject, writer);
+        return write_image(drawing, subject, writer);
     }
     let head = [
         Text(b"<!DOCTYPE html>\n<html lang=\"en\">\n<head><meta charset=\"utf-8\"/><title>"),
@@ -117,31 +141,48 @@ fn write_picture<O: AnswerWriter>(
         Text(b"</title></head>\n<body>\n"),
     ];
     write_parts(writer, &head)?;
-    write_image(seen, end, lines, layout, subject, writer)?;
+    write_image(drawing, subject, writer)?;
     writer.write_all(b"</body>\n</html>\n")
 }
 
 fn write_image<O: AnswerWriter>(
-    seen: &Seen,
-    end: StepsEnd,
-    lines: &[&[u8]],
-    layout: &Layout,
+    drawing: Drawing<'_>,
     subject: &Subject<'_>,
     writer: &mut O,
 ) -> Result<(), WriteFault>
     requires works { O.has_failed writer.old ≡ false }
     ensures failed { O.has_failed writer.new ≡ is_err result }
 {
-    write_head(layout, subject.title, writer)?;
-    write_rows(lines, layout, writer)?;
-    write_bands(seen, lines, layout, writer)?;
-    write_lane_names(seen.width, writer)?;
-    write_step_numbers(seen.columns.len(), layout, writer)?;
-    write_tracks(seen, lines, end, layout, writer)?;
-    if let Some(watched) = subject.watched {
-        write_strip(seen, watched, layout, writer)?;
+    let sheet = drawing.sheet;
+    write_head(sheet, subject.title, writer)?;
+    for row in &sheet.rows {
+        write_row(drawing, row, subject.watched, writer)?;
     }
-    write_legend(layout, writer)?;
-    write_end(seen, end, layout, writer)?;
+    write_legend(sheet, writer)?;
+    let steps = drawing.seen.columns.len();
+    let before = (subject.first_number as usize).saturating_sub(1);
+    write_end(before.saturating_add(steps), drawing.end, sheet, writer)?;
     writer.write_all(b"</svg>\n")
+}
+
+/// Writes a row of the picture.
+fn write_row<O: AnswerWriter>(
+    drawing: Drawing<'_>,
+    layout: &Layout,
+    watched: Option<Target<'_>>,
+    writer: &mut O,
+) -> Result<(), WriteFault>
+    requires works { O.has_failed writer.old ≡ false }
+    ensures failed { O.has_failed writer.new ≡ is_err result }
+{
+    let (seen, lines) = (drawing.seen, drawing.lines);
+    write_lines(lines, layout, writer)?;
+    write_bands(seen, lines, layout, writer)?;
+    write_lane_names(seen.width, layout, writer)?;
+    write_step_numbers(layout.columns(seen).len(), layout, writer)?;
+    write_tracks(seen, lines, drawing.end, layout, writer)?;
+    match watched {
+        Some(watched) => write_strip(seen, watched, layout, writer),
+        None => Ok(()),
+    }
 }

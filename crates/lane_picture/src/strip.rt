@@ -1,4 +1,4 @@
-//! The values of the watched variable, below the lines.
+//! The values of the watched variable, below the lines of a row.
 ghost use Rattle.std.specs.Prelude.{◌≡◌, false, is_err};
 
 use crate::columns::{Column, Seen, Value};
@@ -34,7 +34,8 @@ fn characters_of(given: Value) -> usize {
     digits.format(value(given.value_type, given.word)).len()
 }
 
-/// Writes the values of the watched variable: the name of each row, and each value where it is new.
+/// Writes the values of the watched variable below a row: the name of each row of values, and each value where it is new or the row of
+/// steps begins.
 pub(crate) fn write_strip<O: AnswerWriter>(
     seen: &Seen,
     watched: Target<'_>,
@@ -51,7 +52,7 @@ pub(crate) fn write_strip<O: AnswerWriter>(
         write_row_name(row, number, colour, watched, layout, writer)?;
     }
     let mut before: &[Value] = &[];
-    for (index, column) in seen.columns.iter().enumerate() {
+    for (index, column) in layout.columns(seen).iter().enumerate() {
         let values = seen.values_at(column);
         write_values(index, first, values, before, layout, writer)?;
         before = values;
@@ -59,7 +60,7 @@ pub(crate) fn write_strip<O: AnswerWriter>(
     Ok(())
 }
 
-/// Writes the name of a row.
+/// Writes the name of a row of values.
 fn write_row_name<'a, O: AnswerWriter>(
     row: usize,
     number: usize,
@@ -74,7 +75,7 @@ fn write_row_name<'a, O: AnswerWriter>(
     let baseline = layout.value_top(row).saturating_add(10);
     let parts = [
         Text(b"<text class=\"value\" x=\""),
-        Number(layout.left.saturating_sub(8)),
+        Number(layout.sizes.left.saturating_sub(8)),
         Text(b"\" y=\""),
         Number(baseline),
         Text(b"\" text-anchor=\"end\" fill=\""),

@@ -5,21 +5,22 @@ use crate::columns::{Column, Seen, StepsEnd};
 use crate::layout::{Layout, Point};
 use crate::parts::Part::{Number, Text};
 use crate::parts::write_parts;
+use crate::sizes::WIDEST;
 use crate::source::{StepKind, kind_at};
 use crate::words::{fault_words, lane_colour, lane_fill};
 use debug_traits::{AnswerWriter, Fault, WriteFault};
 
-/// The most lanes of a gang.
-const WIDEST: usize = 16;
-
-/// Where a lane was active last.
+/// Where a lane was last.
 #[derive(Clone, Copy, Debug)]
 struct Stop {
-    column: usize,
+    /// The column that follows its step, if that is one of the row.
+    next: Option<usize>,
     at: Point,
+    /// Whether its line is shown.
+    is_shown: bool,
 }
 
-/// Writes the track of each lane, and then all dots.
+/// Writes the track of each lane in a row, and then all dots.
 pub(crate) fn write_tracks<O: AnswerWriter>(
     seen: &Seen,
     lines: &[&[u8]],
@@ -37,8 +38,10 @@ pub(crate) fn write_tracks<O: AnswerWriter>(
         writer.write_all(b"</g>\n")?;
     }
     match end {
-        StepsEnd::AtFault(fault) => write_fault(fault, seen, layout, writer),
-        StepsEnd::Ended | StepsEnd::StepLimit => Ok(()),
+        StepsEnd::AtFault(fault) if layout.is_last(seen) => {
+            write_fault(fault, seen, layout, writer)
+        }
+        _ => Ok(()),
     }
 }
 
@@ -57,7 +60,8 @@ fn write_group<O: AnswerWriter>(lane: usize, writer: &mut O) -> Result<(), Write
     write_parts(writer, &parts)
 }
 
-/// Writes the ways of a lane from each step that it does to its next one.
+/// Writes the ways of a lane in a row: from each step that it does to its next one, from the left edge to its first one if it did one
+/// before, and from its last one to the right edge if it goes on behind the row.
 fn write_ways<O: AnswerWriter>(
     lane: usize,
     seen: &Seen,
@@ -67,21 +71,72 @@ fn write_ways<O: AnswerWriter>(
     requires works { O.has_failed writer.old ≡ false }
     ensures failed { O.has_failed writer.new ≡ is_err result }
 {
-    let mut last = None;
-    for (index, column) in seen.columns.iter().enumerate() {
+    let mut last = came_in(lane, seen, layout);
+    for (index, column) in layout.columns(seen).iter().enumerate() {
         if column.lanes.has::<WIDEST>(lane) {
             let at = layout.dot(index, column, lane);
-            write_way(last, Stop { column: index, at }, layout, writer)?;
-            last = Some(Stop { column: index, at });
+            write_way(last, index, at, layout, writer)?;
+            last = Some(Stop {
+                next: Some(index.saturating_add(1)),
+                at,
+                is_shown: true,
+            });
         }
     }
-    Ok(())
+    match last {
+        Some(last) if last.is_shown && layout.goes_on(lane) => {
+            write_way_out(last, lane, seen, layout, writer)
+        }
+        _ => Ok(()),
+    }
+}
+
+/// Where a lane comes into a row, if it did a step before: at the left edge, as high as it was.
+fn came_in(lane: usize, seen: &Seen, layout: &Layout) -> Option<Stop> {
+    let (column, is_next) = layout.came_from(seen, lane)?;
+    let line = column.place.line as usize;
+    Some(Stop {
+        next: if is_next { Some(0) } else { None },
+        at: Point {
+            x: layout.column_left(0),
+            y: layout.lane_line(line, lane),
+        },
+        is_shown: layout.shows(line),
+    })
+}
+
+/// Writes the way of a lane to the right edge of a row: thick where it does the next row's first step from the last one of this.
+fn write_way_out<O: AnswerWriter>(
+    last: Stop,
+    lane: usize,
+    seen: &Seen,
+    layout: &Layout,
+    writer: &mut O,
+) -> Result<(), WriteFault>
+    requires works { O.has_failed writer.old ≡ false }
+    ensures failed { O.has_failed writer.new ≡ is_err result }
+{
+    let is_straight = last.next == Some(layout.columns(seen).len())
+        && layout
+            .next_column(seen)
+            .is_some_and(|column| column.lanes.has::<WIDEST>(lane));
+    let to = Point {
+        x: layout.right(),
+        y: last.at.y,
+    };
+    write_line(
+        if is_straight { b"goes" } else { b"waits" },
+        last.at,
+        to,
+        writer,
+    )
 }
 
 /// Writes the way from a step of a lane, if there was one, to its next: straight, or along its line while it waits.
 fn write_way<O: AnswerWriter>(
     from: Option<Stop>,
-    to: Stop,
+    column: usize,
+    to: Point,
     layout: &Layout,
     writer: &mut O,
 ) -> Result<(), WriteFault>
@@ -90,19 +145,24 @@ fn write_way<O: AnswerWriter>(
 {
     match from {
         None => Ok(()),
-        Some(from) if from.column.saturating_add(1) == to.column => {
-            write_straight(from.at, to.at, writer)
-        }
-        Some(from) => write_wait(from.at, to, layout, writer),
+        Some(from) if from.next == Some(column) => write_line(b"goes", from.at, to, writer),
+        Some(from) => write_wait(from.at, column, to, layout, writer),
     }
 }
 
-fn write_straight<O: AnswerWriter>(from: Point, to: Point, writer: &mut O) -> Result<(), WriteFault>
+fn write_line<O: AnswerWriter>(
+    class: &[u8],
+    from: Point,
+    to: Point,
+    writer: &mut O,
+) -> Result<(), WriteFault>
     requires works { O.has_failed writer.old ≡ false }
     ensures failed { O.has_failed writer.new ≡ is_err result }
 {
     let parts = [
-        Text(b"<line class=\"goes\" x1=\""),
+        Text(b"<line class=\""),
+        Text(class),
+        Text(b"\" x1=\""),
         Number(from.x),
         Text(b"\" y1=\""),
         Number(from.y),
@@ -117,7 +177,8 @@ fn write_straight<O: AnswerWriter>(from: Point, to: Point, writer: &mut O) -> Re
 
 fn write_wait<O: AnswerWriter>(
     from: Point,
-    to: Stop,
+    column: usize,
+    to: Point,
     layout: &Layout,
     writer: &mut O,
 ) -> Result<(), WriteFault>
@@ -130,19 +191,19 @@ fn write_wait<O: AnswerWriter>(
         Text(b","),
         Number(from.y),
         Text(b" "),
-        Number(layout.middle(to.column.saturating_sub(1))),
+        Number(layout.middle(column.saturating_sub(1))),
         Text(b","),
         Number(from.y),
         Text(b" "),
-        Number(to.at.x),
+        Number(to.x),
         Text(b","),
-        Number(to.at.y),
+        Number(to.y),
         Text(b"\"/>\n"),
     ];
     write_parts(writer, &parts)
 }
 
-/// Writes a mark for each step of a lane.
+/// Writes a mark for each step of a lane in a row.
 fn write_dots<O: AnswerWriter>(
     lane: usize,
     seen: &Seen,
@@ -153,12 +214,12 @@ fn write_dots<O: AnswerWriter>(
     requires works { O.has_failed writer.old ≡ false }
     ensures failed { O.has_failed writer.new ≡ is_err result }
 {
-    for (index, column) in seen.columns.iter().enumerate() {
+    for (index, column) in layout.columns(seen).iter().enumerate() {
         if column.lanes.has::<WIDEST>(lane) {
             let at = layout.dot(index, column, lane);
             let is_bar = kind_at(lines, column.place) == StepKind::Leaves;
             write_mark(at, is_bar, writer)?;
-            write_title(index, column, lane, writer)?;
+            write_title(layout.number(index), column, lane, writer)?;
             writer.write_all(if is_bar { b"</path>\n" } else { b"</circle>\n" })?;
         }
     }
@@ -213,7 +274,7 @@ fn write_bar<O: AnswerWriter>(at: Point, writer: &mut O) -> Result<(), WriteFaul
 
 /// Writes what a mark tells.
 fn write_title<O: AnswerWriter>(
-    index: usize,
+    step: usize,
     column: &Column,
     lane: usize,
     writer: &mut O,
@@ -223,7 +284,7 @@ fn write_title<O: AnswerWriter>(
 {
     let parts = [
         Text(b"<title>step "),
-        Number(index.saturating_add(1)),
+        Number(step),
         Text(b", line "),
         Number(column.place.line as usize),
         Text(b", lane "),
@@ -233,7 +294,7 @@ fn write_title<O: AnswerWriter>(
     write_parts(writer, &parts)
 }
 
-/// Writes the mark of a fault, at the last step.
+/// Writes the mark of a fault, at the last step of a row.
 fn write_fault<O: AnswerWriter>(
     fault: Fault,
     seen: &Seen,
@@ -243,10 +304,11 @@ fn write_fault<O: AnswerWriter>(
     requires works { O.has_failed writer.old ≡ false }
     ensures failed { O.has_failed writer.new ≡ is_err result }
 {
-    let Some(column) = seen.columns.last() else {
+    let columns = layout.columns(seen);
+    let Some(column) = columns.last() else {
         return Ok(());
     };
-    let last = seen.columns.len().saturating_sub(1);
+    let last = columns.len().saturating_sub(1);
     let at = layout.dot(last, column, fault.lane);
     writer.write_all(b"<g fill=\"#ff0000\" stroke=\"#ffffff\">")?;
     write_dot(at, b"6", writer)?;

@@ -5,6 +5,7 @@ ghost use Rattle.ispc_debugger.specs.Runs.{lanes_of};
 
 use crate::files::{read_file, read_texts, reason};
 use crate::overwriting::{Written, refuse_overwriting};
+use crate::paging::{NOT_SO_FAR, goes_to_first};
 use crate::refusing::{Texts, refuse, refuse_because, refuse_file, refuse_program, write_fault};
 use crate::words_of_source::may_have_name;
 use debug_commands::{Command, Target, read_command};
@@ -30,30 +31,27 @@ const NO_TARGET: &[u8] =
 
 const NOT_NAMED: &[u8] = b"--watch: the source has no variable ";
 
-/// What is drawn of a run, and where to.
+/// What is drawn of a run: what the words ask for, the texts that they name, and what is watched.
 #[derive(Clone, Copy)]
 struct Plan<'a> {
+    picture: &'a Picture<'a>,
     texts: Texts<'a>,
     commands: &'a [u8],
     watched: Option<Target<'a>>,
-    most_steps: u32,
-    to: Option<&'a str>,
 }
 
 impl<'a> Plan<'a> {
     fn new(
+        picture: &'a Picture<'a>,
         texts: Texts<'a>,
         commands: &'a [u8],
         watched: Option<Target<'a>>,
-        most_steps: u32,
-        to: Option<&'a str>,
     ) -> Self {
         Plan {
+            picture,
             texts,
             commands,
             watched,
-            most_steps,
-            to,
         }
     }
 }
@@ -124,7 +122,7 @@ fn draw_texts(
             Err(_) => return refuse(rt, &Refusal::Memory),
         }
     }
-    let plan = Plan::new(texts, commands, watched, picture.most, picture.to);
+    let plan = Plan::new(picture, texts, commands, watched);
     let program = &picture.program;
     match program.options.width {
         Width::Four => draw_wide::<4>(rt, &plan, program),
@@ -149,6 +147,9 @@ fn draw_wide<const W: usize>(rt: &HostRuntime, plan: &Plan<'_>, program: &Progra
         Err(refusal) => refuse_program(rt, &refusal, program, plan.texts),
         Ok(mut session) => {
             do_lines(plan.commands, &mut session);
+            if !goes_to_first::<W>(plan.picture.from, &mut session) {
+                return refuse_because(rt, NOT_SO_FAR, b"");
+            }
             draw_session::<W>(rt, plan, &mut session)
         }
     }
@@ -177,7 +178,7 @@ fn draw_session<const W: usize>(
     plan: &Plan<'_>,
     session: &mut ProgramSession<W>,
 ) -> ExitCode {
-    let Some(path) = plan.to else {
+    let Some(path) = plan.picture.to else {
         return draw_on::<W, _>(rt, plan, Form::Image, rt.stdout(), session);
     };
     let form = if path.ends_with(".html") {
@@ -206,7 +207,9 @@ fn draw_on<const W: usize, O: Write + Drop>(
         title: plan.texts.source.name,
         source: plan.texts.source.text,
         watched: plan.watched,
-        most_steps: plan.most_steps,
+        first_number: plan.picture.from,
+        most_steps: plan.picture.most,
+        row_steps: plan.picture.row,
         form,
     };
     let mut writer = StreamWriter::new(lines);

@@ -21,7 +21,8 @@ use std::fs;
 use std::io::{LineWriter, Write};
 use std::process::ExitCode;
 
-const NOT_SO_FAR: &[u8] = b"--from: the run ends before this step, or --steps is less";
+/// What is said where the run does not get so far.
+pub(crate) const NOT_SO_FAR: &[u8] = b"--from: the run ends before this step, or --steps is less";
 
 /// Writes the page of a program's run. Its files are read first, the source before the input and this before the commands.
 pub(crate) fn page_run(rt: &HostRuntime, page: &RunPage<'_>) -> ExitCode
@@ -75,8 +76,8 @@ fn page_wide<const W: usize>(
     }
 }
 
-/// Does the steps before the first one that the page has: whether the run gets so far.
-fn goes_to_first<const W: usize>(from: u32, session: &mut ProgramSession<W>) -> bool {
+/// Does the steps before the first one that is shown: whether the run gets so far.
+pub(crate) fn goes_to_first<const W: usize>(from: u32, session: &mut ProgramSession<W>) -> bool {
     if from <= 1 {
         return true;
     }

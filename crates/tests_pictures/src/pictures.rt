@@ -25,7 +25,9 @@ fn subject(most_steps: u32, form: Form) -> Subject<'static> {
             name: b"x",
             at: None,
         }),
+        first_number: 1,
         most_steps,
+        row_steps: 60,
         form,
     }
 }
@@ -76,6 +78,23 @@ fn writes_each_lane_of_each_step(rt: HostRuntime) {
     assert!(rt; writer.has(b"<title>depth 2</title>"));
     assert!(rt; writer.has(b">ended after step 5</text>"));
     assert!(rt; writer.ends_with(b"</svg>\n"));
+}
+
+#[test]
+fn numbers_the_steps_of_rows(rt: HostRuntime) {
+    let mut session = Session::open(WalkingMachine::new(None), 100);
+    let mut writer = KeepingWriter::new(rt.alloc());
+    let subject = Subject {
+        first_number: 11,
+        row_steps: 2,
+        ..subject(9, Form::Image)
+    };
+    let end = draw(rt.alloc(), &mut session, &subject, &mut writer);
+    assert!(rt; end.ok() == Some(PictureEnd::Ended));
+    assert!(rt; writer.has(b"<title>step 11, line 1, lane 0</title>"));
+    assert!(rt; writer.has(b"<title>step 12, line 2, lane 3</title>"));
+    assert!(rt; writer.has(b"<title>step 15, line 5, lane 3</title>"));
+    assert!(rt; writer.has(b">ended after step 15</text>"));
 }
 
 #[test]
