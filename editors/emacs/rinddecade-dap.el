@@ -36,6 +36,9 @@
 (defvar treemacs-text-scale nil
   "The list of variables reads it, and older versions of treemacs have it not.")
 
+(defvar dap-exception-breakpoints nil
+  "Each launch reads it, and dap-mode 0.7 has it in dap-ui alone.")
+
 (defun rinddecade--is-gang (session)
   "Whether SESSION runs a gang."
   (equal (plist-get (dap--debug-session-launch-args session) :type) "rinddecade"))

@@ -14,6 +14,7 @@ import threading
 from .adapter_members import EVENTS, MEMBERS, NUMBER, TEXT, THREAD, TRUTH, Wrong, need, need_body, need_capabilities, need_members, need_stop, same
 from .adapter_frames import FRAME_CHECKS, written
 from .adapter_launches import LAUNCH_CHECKS
+from .adapter_moves import MOVE_CHECKS
 from .adapter_values import VALUE_CHECKS
 from .tried import Result
 
@@ -391,6 +392,13 @@ INCOMPLETE = [
     ("setVariable", {"variablesReference": 1, "name": "x"}, "value"),
     ("setVariable", {"variablesReference": 1, "name": "x", "value": 7}, "value"),
     ("breakpointLocations", {"endLine": 3}, "line"),
+    ("gotoTargets", {"source": {}}, "line"),
+    ("goto", {"threadId": 1}, "targetId"),
+    ("goto", {"targetId": 2**33}, "targetId"),
+    ("setExpression", {"value": "7"}, "expression"),
+    ("setExpression", {"expression": "x"}, "value"),
+    ("completions", {"column": 1}, "text"),
+    ("completions", {"text": "x"}, "column"),
     ("evaluate", {}, "expression"),
     ("evaluate", {"expression": ["x"]}, "expression"),
 ]
@@ -404,7 +412,7 @@ def wrong_requests(client, examples):
     same(client.refused("launch", program=str(examples / "first.ispc"), width=5), "width is 4, 8 or 16, history 1 to 65536, steps 1 to 10000000")
     client.launch(examples / "first.ispc")
     client.begin()
-    same(client.refused("gotoTargets", line=3), "no request gotoTargets")
+    same(client.refused("stepInTargets", frameId=1), "no request stepInTargets")
     for command, arguments, argument in INCOMPLETE:
         same(client.refused(command, **arguments), f"the argument `{argument}` is missing or of a wrong type")
     for raw, name in [
@@ -423,7 +431,7 @@ def wrong_requests(client, examples):
     client.end()
 
 
-CHECKS = [steps_and_back, watches, breaks, locations, variables, frames, faults, filters, the_end, wrong_requests, *FRAME_CHECKS, *LAUNCH_CHECKS, *VALUE_CHECKS]
+CHECKS = [steps_and_back, watches, breaks, locations, variables, frames, faults, filters, the_end, wrong_requests, *FRAME_CHECKS, *LAUNCH_CHECKS, *VALUE_CHECKS, *MOVE_CHECKS]
 
 
 def check(root, command):

@@ -8,6 +8,8 @@ BODIES = {
     "launch": ({}, {}),
     "setBreakpoints": ({"breakpoints": LIST}, {}),
     "breakpointLocations": ({"breakpoints": LIST}, {}),
+    "gotoTargets": ({"targets": LIST}, {}),
+    "goto": ({}, {"allThreadsContinued": TRUTH}),
     "setExceptionBreakpoints": ({}, {}),
     "exceptionInfo": ({"exceptionId": TEXT, "breakMode": TEXT}, {"description": TEXT, "details": MEMBERS}),
     "dataBreakpointInfo": ({"dataId": (TEXT, type(None)), "description": TEXT}, {"accessTypes": LIST, "canPersist": TRUTH}),
@@ -18,6 +20,8 @@ BODIES = {
     "scopes": ({"scopes": LIST}, {}),
     "variables": ({"variables": LIST}, {}),
     "setVariable": ({"value": TEXT}, {}),
+    "setExpression": ({"value": TEXT}, {}),
+    "completions": ({"targets": LIST}, {}),
     "evaluate": ({"result": TEXT, "variablesReference": NUMBER}, {}),
     "next": ({}, {"allThreadsContinued": TRUTH}),
     "stepIn": ({}, {"allThreadsContinued": TRUTH}),
@@ -32,11 +36,14 @@ BODIES = {
 CAPABILITIES = [
     "exceptionBreakpointFilters",
     "supportsBreakpointLocationsRequest",
+    "supportsCompletionsRequest",
     "supportsConfigurationDoneRequest",
     "supportsDataBreakpoints",
     "supportsEvaluateForHovers",
     "supportsExceptionInfoRequest",
+    "supportsGotoTargetsRequest",
     "supportsRestartRequest",
+    "supportsSetExpression",
     "supportsSetVariable",
     "supportsStepBack",
     "supportsTerminateRequest",
@@ -55,13 +62,15 @@ ITEMS = {
     "threads": ({"id": NUMBER, "name": TEXT}, {}),
     "stackFrames": ({"id": NUMBER, "name": TEXT, "line": NUMBER, "column": NUMBER, "source": MEMBERS}, {}),
     "scopes": ({"name": TEXT, "variablesReference": NUMBER, "expensive": TRUTH}, {"presentationHint": TEXT}),
-    "variables": ({"name": TEXT, "value": TEXT, "variablesReference": NUMBER}, {"type": TEXT, "evaluateName": TEXT, "indexedVariables": NUMBER}),
+    "variables": ({"name": TEXT, "value": TEXT, "variablesReference": NUMBER}, {"type": TEXT, "evaluateName": TEXT, "indexedVariables": NUMBER, "presentationHint": MEMBERS}),
 }
 
 # The words of the protocol, of which the adapter uses these, and the greatest reference that it has room for.
 HITS = ["breakpoint", "data breakpoint"]
-REASONS = ["entry", "step", "exception", "pause", *HITS]
+REASONS = ["entry", "step", "exception", "pause", "goto", *HITS]
 HINTS = ["locals", "arguments"]
+# What a hint says of a variable, and of a constant.
+ATTRIBUTES = [[], ["constant", "readOnly"]]
 ACCESSES = ["write"]
 BREAK_MODES = ["never", "always", "unhandled", "userUnhandled"]
 GREATEST = 2**31 - 1
@@ -124,6 +133,7 @@ def need_variable(item):
     need(is_marked == item["value"].endswith(WAITS), f"the marks of the variable {item}")
     name = item["name"][: -len(WAITS)] if is_marked else item["name"]
     is_range = ".." in name
+    need(item["presentationHint"]["attributes"] in ATTRIBUTES, f"the hint of the variable {item}")
     need(("evaluateName" in item) != is_range and item.get("evaluateName", name) == name, f"the variable {item}")
     is_array = item["type"].endswith("]")
     need(("indexedVariables" in item) == is_array, f"the number of the elements of {item}")
@@ -177,6 +187,12 @@ def need_exception(body):
     need_members("the details of a fault", body.get("details", {}), {}, {"message": TEXT, "typeName": TEXT})
 
 
+# Lists whose items have other members than those of the same name in other replies.
+LISTED = {
+    "breakpointLocations": ("breakpoints", {"line": NUMBER}),
+    "gotoTargets": ("targets", {"id": NUMBER, "label": TEXT, "line": NUMBER}),
+    "completions": ("targets", {"label": TEXT, "start": NUMBER, "length": NUMBER}),
+}
 # How many of what a request lists its reply lists.
 ASKED = {"setBreakpoints": "breakpoints", "setDataBreakpoints": "breakpoints"}
 
@@ -184,9 +200,10 @@ ASKED = {"setBreakpoints": "breakpoints", "setDataBreakpoints": "breakpoints"}
 def need_body(command, arguments, body):
     """What the reply to a request tells has the members of its command, and what the protocol says of their values."""
     need_members(f"the body of {command}", body, *BODIES[command])
-    if command == "breakpointLocations":
-        for item in body["breakpoints"]:
-            need_members("a location", item, {"line": NUMBER}, {})
+    if command in LISTED:
+        name, members = LISTED[command]
+        for item in body[name]:
+            need_members(f"an item of {command}", item, members, {})
         return
     for name, items in body.items():
         if name in ITEMS:

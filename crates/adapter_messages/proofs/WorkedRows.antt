@@ -1,5 +1,6 @@
 -- Examples of the definitions, computed.
-use Rattle.std.proofs.Common.{◌≡◌, true, false, Some, None, Ok, Err, codes, refl}
+use Rattle.std.proofs.Common.{◌≡◌, ◌^◌, true, false, Some, None, Ok, Err, codes, refl}
+use Rattle.std.specs.Fmt.{digits}
 use Rattle.std.specs.Path.{path_file_name, rsplit_once, split_last_component, trim_trailing}
 use Rattle.serde_json.proofs.OnLiterals.{serde_json_on_literals}
 use Rattle.serde_json.specs.Data.{Data, array, boolean, item, member, no_items, no_members, null, object, string}
@@ -12,8 +13,9 @@ use Rattle.adapter_messages.specs.Messages.{natural}
 use Rattle.adapter_requests.specs.declared.reply.VariableKind.TheVariants as kind
 use Rattle.adapter_requests.specs.declared.request.Context.TheVariants.{Hover, Watch}
 use Rattle.adapter_requests.specs.declared.request.Filter.TheVariants as filter
-use Rattle.adapter_messages.specs.Arguments.{asked, context_in, filter_in, line_in, unmarked}
-use Rattle.adapter_messages.specs.Replies.{breakpoint, file_name, only, stop_body, variable_of}
+use Rattle.adapter_requests.specs.declared.request.Way.TheVariants.{Backwards, Forwards}
+use Rattle.adapter_messages.specs.Arguments.{asked, context_in, filter_in, line_in, time_number, time_of, unmarked}
+use Rattle.adapter_messages.specs.Replies.{breakpoint, file_name, only, stop_body, time, times, variable_of}
 
 -- a path with folders, one without, and one without a last part
 behind_folders : file_name (codes "examples/first.ispc") ≡ codes "first.ispc"
@@ -72,7 +74,7 @@ no_line : asked line_in (object no_members) ≡ Err fault.Unplaced
 no_line = refl
 
 -- a request that is not known needs nothing
-another_request : missing (codes "gotoTargets") (object no_members) ≡ None
+another_request : missing (codes "goodbye") (object no_members) ≡ None
 another_request = refl
 
 -- a start that is a text, and one that is `null`
@@ -83,6 +85,39 @@ a_text_for_a_start = refl
 no_start : missing (codes "variables") (given (object (member (codes "start") null (member (codes "variablesReference") (natural 1) no_members)))) ≡ None
 unfolding serde_json_on_literals
 no_start = refl
+
+-- the numbers of the times of line 12, and what they stand for; a number past the greatest line stands for none
+the_next_time : time_number 12 Forwards ≡ 24
+the_next_time = refl
+
+its_time : time_of 24 ≡ Some (12, Forwards)
+its_time = refl
+
+the_last_time : time_of (time_number 12 Backwards) ≡ Some (12, Backwards)
+the_last_time = refl
+
+past_all_lines : time_of (2 ^ 33) ≡ None
+past_all_lines = refl
+
+no_target : missing (codes "goto") (given (only (codes "targetId") (string (codes "24")))) ≡ Some (codes "targetId")
+unfolding serde_json_on_literals
+no_target = refl
+
+-- a line has two times, and no line has none
+two_times : times (Some 12) ≡ item (time 12 Forwards) (item (time 12 Backwards) no_items)
+two_times = refl
+
+its_label : get (codes "label") (time 12 Backwards) ≡ Some (string (codes "line 12, the last time before"))
+unfolding digits
+its_label = refl
+
+no_times : times None ≡ no_items
+no_times = refl
+
+-- a constant cannot be set
+a_constant : get (codes "presentationHint") (variable_of kind.Plain true (codes "n") (codes "5") (codes "uniform int8") 0)
+    ≡ Some (only (codes "attributes") (array (item (string (codes "constant")) (item (string (codes "readOnly")) no_items))))
+a_constant = refl
 
 -- words of contexts and filters, and another one
 under_the_mouse : context_in (Some (codes "hover")) ≡ Hover
@@ -102,11 +137,11 @@ a_plain_name : unmarked (codes "x[2]") ≡ codes "x[2]"
 a_plain_name = refl
 
 -- no expression shows a range, and that of a lane that waits has no mark
-a_range : get (codes "evaluateName") (variable_of kind.Range (codes "a[0..999]") (codes "1000 elements") (codes "int8") 7) ≡ None
+a_range : get (codes "evaluateName") (variable_of kind.Range false (codes "a[0..999]") (codes "1000 elements") (codes "int8") 7) ≡ None
 a_range = refl
 
-a_waiting_lane : get (codes "name") (variable_of kind.Waits (codes "x[2]") (codes "5") (codes "int8") 0) ≡ Some (string (codes "x[2] (waits)"))
+a_waiting_lane : get (codes "name") (variable_of kind.Waits false (codes "x[2]") (codes "5") (codes "int8") 0) ≡ Some (string (codes "x[2] (waits)"))
 a_waiting_lane = refl
 
-its_expression : get (codes "evaluateName") (variable_of kind.Waits (codes "x[2]") (codes "5") (codes "int8") 0) ≡ Some (string (codes "x[2]"))
+its_expression : get (codes "evaluateName") (variable_of kind.Waits false (codes "x[2]") (codes "5") (codes "int8") 0) ≡ Some (string (codes "x[2]"))
 its_expression = refl

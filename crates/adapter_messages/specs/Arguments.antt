@@ -1,5 +1,5 @@
 -- What a request says.
-use Rattle.std.specs.Prelude.{◌≡◌, ℕ, ◌^◌, ◌-◌, ◌||◌, Bool, true, not, List, [], ◌∷◌, map, Option, Some, None, Result, Ok, Err, codes, if◌then◌else◌, is_some, length, nat_eq, nat_lt, option_and_then, option_map, take, unwrap_or}
+use Rattle.std.specs.Prelude.{◌≡◌, ℕ, ◌^◌, ◌-◌, ◌*◌, ◌+◌, ◌/◌, ◌%◌, ◌==◌, ◌||◌, Bool, true, not, List, [], ◌∷◌, map, Option, Some, None, Result, Ok, Err, codes, if◌then◌else◌, is_some, length, nat_eq, nat_lt, option_and_then, option_map, take, unwrap_or}
 use Rattle.std.specs.List.{ends_with}
 use Rattle.std.specs.Borrow.{Bor}
 use Rattle.serde_json.specs.Data.{Data, Items, item, no_items}
@@ -16,6 +16,8 @@ use Rattle.adapter_requests.specs.declared.request.Launch.{Launch}
 use Rattle.adapter_requests.specs.declared.request.Page.{Page}
 use Rattle.adapter_requests.specs.declared.request.Request.{Request}
 use Rattle.adapter_requests.specs.declared.request.Request.TheVariants as request
+use Rattle.adapter_requests.specs.declared.request.Way.{Way}
+use Rattle.adapter_requests.specs.declared.request.Way.TheVariants.{Backwards, Forwards}
 use Rattle.adapter_messages.specs.declared.names.Name.{Name}
 use Rattle.adapter_messages.specs.declared.names.Name.TheVariants as name
 use Rattle.adapter_messages.specs.Names.{named}
@@ -101,6 +103,25 @@ as_line n = if nat_lt n (2 ^ 32) then Some n else None
 abbrev pub line_at : (path : Bytes) → Data → Option ℕ
 line_at path message = option_and_then as_line (number_at path message)
 
+-- the number of a time of a line: LINE 0 for the next time, LINE 1 for the last one, in the base 2
+abbrev pub way_number : Way → ℕ
+way_number Forwards = 0
+way_number Backwards = 1
+
+abbrev pub time_number : (line : ℕ) → Way → ℕ
+time_number line way = line * 2 + way_number way
+
+-- the line and the time that a number stands for
+abbrev pub way_of : ℕ → Way
+way_of n = if n % 2 == 0 then Forwards else Backwards
+
+abbrev pub time_of : ℕ → Option (ℕ × Way)
+time_of n = option_map (λ line. (line, way_of n)) (as_line (n / 2))
+
+-- the line and the time that a message asks for
+abbrev pub time_in : Data → Option (ℕ × Way)
+time_in message = option_and_then time_of (number_at (codes "/arguments/targetId") message)
+
 -- the line of a breakpoint
 abbrev pub line_in : Data → Option ℕ
 line_in d = option_and_then as_line (option_and_then as_u64 (option_and_then as_number (get (codes "line") d)))
@@ -143,6 +164,8 @@ IsRequestNamed name.Launch message (request.Launch launch) = IsLaunch message la
 IsRequestNamed name.SetBreakpoints message (request.SetBreakpoints source lines) = (text_at (codes "/arguments/source/path") message ≡ text_of source) × (lines.items ≡ each_asked line_in (breakpoints_of message))
 IsRequestNamed name.BreakpointLocations message (request.BreakpointLocations source first last) =
     (text_at (codes "/arguments/source/path") message ≡ text_of source) × (line_at (codes "/arguments/line") message ≡ Some first) × (line_at (codes "/arguments/endLine") message ≡ last)
+IsRequestNamed name.GotoTargets message (request.GotoTargets source line) = (text_at (codes "/arguments/source/path") message ≡ text_of source) × (line_at (codes "/arguments/line") message ≡ Some line)
+IsRequestNamed name.Goto message (request.Goto line way) = time_in message ≡ Some (line, way)
 IsRequestNamed name.SetExceptionBreakpoints message request.SetExceptionBreakpoints = Unit {0}
 IsRequestNamed name.ExceptionInfo message request.ExceptionInfo = Unit {0}
 IsRequestNamed name.DataBreakpointInfo message (request.DataBreakpointInfo text) = unmarked_at (codes "/arguments/name") message ≡ Some text.now
@@ -155,6 +178,10 @@ IsRequestNamed name.Variables message (request.Variables reference page) = (numb
 IsRequestNamed name.SetVariable message (request.SetVariable reference text value) =
     (number_at (codes "/arguments/variablesReference") message ≡ Some reference) × (unmarked_at (codes "/arguments/name") message ≡ Some text.now)
     × (unmarked_at (codes "/arguments/value") message ≡ Some value.now)
+IsRequestNamed name.SetExpression message (request.SetExpression expression value frame) =
+    (text_at (codes "/arguments/expression") message ≡ Some expression.now) × (unmarked_at (codes "/arguments/value") message ≡ Some value.now) × (number_at (codes "/arguments/frameId") message ≡ frame)
+IsRequestNamed name.Completions message (request.Completions text column frame) =
+    (text_at (codes "/arguments/text") message ≡ Some text.now) × (number_at (codes "/arguments/column") message ≡ Some column) × (number_at (codes "/arguments/frameId") message ≡ frame)
 IsRequestNamed name.Evaluate message (request.Evaluate expression frame context) =
     (text_at (codes "/arguments/expression") message ≡ Some expression.now) × (number_at (codes "/arguments/frameId") message ≡ frame)
     × (context ≡ context_in (text_at (codes "/arguments/context") message))

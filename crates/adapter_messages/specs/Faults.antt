@@ -8,7 +8,7 @@ use Rattle.adapter_messages.specs.declared.names.Name.TheVariants as name
 use Rattle.adapter_messages.specs.declared.requests.RequestFault.{RequestFault}
 use Rattle.adapter_messages.specs.declared.requests.RequestFault.TheVariants as fault
 use Rattle.adapter_messages.specs.Names.{named}
-use Rattle.adapter_messages.specs.Arguments.{flag_at, is_right, line_at, number_at, text_at}
+use Rattle.adapter_messages.specs.Arguments.{flag_at, is_right, line_at, number_at, text_at, time_in}
 
 -- the arguments of a launch that may be left out, and whether each is of the right type where it is there
 abbrev pub launch_options : Data → List (Bytes × Bool)
@@ -33,10 +33,14 @@ page_options message =
 abbrev pub needs : Name → Data → List (Bytes × Bool)
 needs name.Launch message = (codes "program", is_some (text_at (codes "/arguments/program") message)) ∷ launch_options message
 needs name.BreakpointLocations message = (codes "line", is_some (line_at (codes "/arguments/line") message)) ∷ []
+needs name.GotoTargets message = (codes "line", is_some (line_at (codes "/arguments/line") message)) ∷ []
+needs name.Goto message = (codes "targetId", is_some (time_in message)) ∷ []
 needs name.DataBreakpointInfo message = (codes "name", is_some (text_at (codes "/arguments/name") message)) ∷ []
 needs name.Scopes message = (codes "frameId", is_some (number_at (codes "/arguments/frameId") message)) ∷ []
 needs name.Variables message = (codes "variablesReference", is_some (number_at (codes "/arguments/variablesReference") message)) ∷ page_options message
 needs name.SetVariable message = (codes "variablesReference", is_some (number_at (codes "/arguments/variablesReference") message)) ∷ (codes "name", is_some (text_at (codes "/arguments/name") message)) ∷ (codes "value", is_some (text_at (codes "/arguments/value") message)) ∷ []
+needs name.SetExpression message = (codes "expression", is_some (text_at (codes "/arguments/expression") message)) ∷ (codes "value", is_some (text_at (codes "/arguments/value") message)) ∷ []
+needs name.Completions message = (codes "text", is_some (text_at (codes "/arguments/text") message)) ∷ (codes "column", is_some (number_at (codes "/arguments/column") message)) ∷ []
 needs name.Evaluate message = (codes "expression", is_some (text_at (codes "/arguments/expression") message)) ∷ []
 needs name message = []
 

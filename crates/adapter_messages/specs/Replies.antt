@@ -1,13 +1,14 @@
 -- What a request is told: the body of each reply, and of the events of a stop and of an output. Members stand in the order of their keys.
-use Rattle.std.specs.Prelude.{ℕ, true, false, List, ◌++◌, map, Option, Some, None, codes, length, string_bytes, unwrap_or}
+use Rattle.std.specs.Prelude.{ℕ, Bool, true, false, List, ◌++◌, decimal, map, Option, Some, None, codes, length, string_bytes, unwrap_or}
 use Rattle.std.specs.Path.{path_file_name}
-use Rattle.serde_json.specs.Data.{Data, Members, array, boolean, item, member, no_items, no_members, null, object, string}
+use Rattle.serde_json.specs.Data.{Data, Items, Members, array, boolean, item, member, no_items, no_members, null, object, string}
 use Rattle.serde_json.specs.View.{items_of}
 use Rattle.gang_model.specs.Texts.Text.{Bytes}
 use Rattle.adapter_requests.specs.declared.reply.Breakpoint.{Breakpoint}
 use Rattle.adapter_requests.specs.declared.reply.Breakpoint.TheVariants.{Stands, Refused}
 use Rattle.adapter_requests.specs.declared.reply.BreakpointFault.{BreakpointFault}
 use Rattle.adapter_requests.specs.declared.reply.BreakpointFault.TheVariants as fault
+use Rattle.adapter_requests.specs.declared.reply.Completion.{Completion}
 use Rattle.adapter_requests.specs.declared.reply.Exception.{Exception}
 use Rattle.adapter_requests.specs.declared.reply.Frame.{Frame}
 use Rattle.adapter_requests.specs.declared.reply.Reply.{Reply}
@@ -18,7 +19,9 @@ use Rattle.adapter_requests.specs.declared.reply.StopReason.TheVariants as reaso
 use Rattle.adapter_requests.specs.declared.reply.Variable.{Variable}
 use Rattle.adapter_requests.specs.declared.reply.VariableKind.{VariableKind}
 use Rattle.adapter_requests.specs.declared.reply.VariableKind.TheVariants as kind
-use Rattle.adapter_messages.specs.Arguments.{mark}
+use Rattle.adapter_requests.specs.declared.request.Way.{Way}
+use Rattle.adapter_requests.specs.declared.request.Way.TheVariants.{Backwards, Forwards}
+use Rattle.adapter_messages.specs.Arguments.{mark, time_number}
 use Rattle.adapter_messages.specs.Messages.{failure, natural, reason_text, response}
 
 -- an array of what is shown for each of a list
@@ -42,14 +45,17 @@ abbrev pub capabilities : Data
 capabilities = object
     (member (codes "exceptionBreakpointFilters") (array (item exception_filter no_items))
     (member (codes "supportsBreakpointLocationsRequest") (boolean true)
+    (member (codes "supportsCompletionsRequest") (boolean true)
     (member (codes "supportsConfigurationDoneRequest") (boolean true)
     (member (codes "supportsDataBreakpoints") (boolean true)
     (member (codes "supportsEvaluateForHovers") (boolean true)
     (member (codes "supportsExceptionInfoRequest") (boolean true)
+    (member (codes "supportsGotoTargetsRequest") (boolean true)
     (member (codes "supportsRestartRequest") (boolean true)
+    (member (codes "supportsSetExpression") (boolean true)
     (member (codes "supportsSetVariable") (boolean true)
     (member (codes "supportsStepBack") (boolean true)
-    (member (codes "supportsTerminateRequest") (boolean true) no_members))))))))))
+    (member (codes "supportsTerminateRequest") (boolean true) no_members)))))))))))))
 
 -- why a breakpoint or a watch is not there
 abbrev pub fault_text : BreakpointFault → Bytes
@@ -69,6 +75,30 @@ breakpoint (Refused why) = object (member (codes "message") (string (fault_text 
 -- a line on which a breakpoint can stand
 abbrev pub location : ℕ → Data
 location line = only (codes "line") (natural line)
+
+-- which time of a line it is
+abbrev pub way_text : Way → Bytes
+way_text Forwards = codes "the next time"
+way_text Backwards = codes "the last time before"
+
+-- a time of a line to which the program can go
+abbrev pub time : (line : ℕ) → Way → Data
+time line way = object
+    (member (codes "id") (natural (time_number line way))
+    (member (codes "label") (string (codes "line " ++ (decimal line ++ (codes ", " ++ way_text way))))
+    (member (codes "line") (natural line) no_members)))
+
+-- the times of a line, if there is one
+abbrev pub times : Option ℕ → Items
+times None = no_items
+times (Some line) = item (time line Forwards) (item (time line Backwards) no_items)
+
+-- a name that can stand in a text, in place of so many bytes from a column on
+abbrev pub completion : Completion → Data
+completion shown = object
+    (member (codes "label") (string (string_bytes shown.name))
+    (member (codes "length") (natural shown.many)
+    (member (codes "start") (natural shown.start) no_members)))
 
 -- a target that can be watched: where it is written
 abbrev pub watchable : (target : Bytes) → Data
@@ -133,26 +163,32 @@ scopes shown = array
     (item (known_scope (codes "Arguments") (codes "arguments") shown.arguments)
     (item (file_scope shown.file) no_items)))
 
--- a variable by its name, its value and its type; the reference is that of its lanes or elements, 0 if it has none
-abbrev pub named_so : (name value type : Bytes) → (reference : ℕ) → Members
-named_so name value type reference =
+-- that what is shown can be set, or cannot since it is a constant
+abbrev pub hint : (is_constant : Bool) → Data
+hint false = only (codes "attributes") (array no_items)
+hint true = only (codes "attributes") (array (item (string (codes "constant")) (item (string (codes "readOnly")) no_items)))
+
+-- a variable by its name, whether it is constant, its type and its value; the reference is that of its lanes or elements, 0 if it has none
+abbrev pub named_so : (is_constant : Bool) → (name value type : Bytes) → (reference : ℕ) → Members
+named_so is_constant name value type reference =
     member (codes "name") (string name)
+    (member (codes "presentationHint") (hint is_constant)
     (member (codes "type") (string type)
     (member (codes "value") (string value)
-    (member (codes "variablesReference") (natural reference) no_members)))
+    (member (codes "variablesReference") (natural reference) no_members))))
 
 -- A variable of a kind. Behind the name and the value of a lane that is not active stands a mark, which its expression has not; of an array it is told how
 -- many elements it has; and no expression shows a range of elements.
-abbrev pub variable_of : VariableKind → (name value type : Bytes) → (reference : ℕ) → Data
-variable_of kind.Plain name value type reference = object (member (codes "evaluateName") (string name) (named_so name value type reference))
-variable_of kind.Waits name value type reference = object (member (codes "evaluateName") (string name) (named_so (name ++ mark) (value ++ mark) type reference))
-variable_of (kind.Array elements) name value type reference =
-    object (member (codes "evaluateName") (string name) (member (codes "indexedVariables") (natural elements) (named_so name value type reference)))
-variable_of kind.Range name value type reference = object (named_so name value type reference)
+abbrev pub variable_of : VariableKind → (is_constant : Bool) → (name value type : Bytes) → (reference : ℕ) → Data
+variable_of kind.Plain is_constant name value type reference = object (member (codes "evaluateName") (string name) (named_so is_constant name value type reference))
+variable_of kind.Waits is_constant name value type reference = object (member (codes "evaluateName") (string name) (named_so is_constant (name ++ mark) (value ++ mark) type reference))
+variable_of (kind.Array elements) is_constant name value type reference =
+    object (member (codes "evaluateName") (string name) (member (codes "indexedVariables") (natural elements) (named_so is_constant name value type reference)))
+variable_of kind.Range is_constant name value type reference = object (named_so is_constant name value type reference)
 
 -- a variable
 abbrev pub variable : Variable → Data
-variable shown = variable_of shown.kind (string_bytes shown.name) (string_bytes shown.value) (string_bytes shown.type_name) shown.reference
+variable shown = variable_of shown.kind shown.is_constant (string_bytes shown.name) (string_bytes shown.value) (string_bytes shown.type_name) shown.reference
 
 -- what an expression, or a line of the console, is answered: a text without lanes or elements
 abbrev pub evaluated : (text : Bytes) → Data
@@ -171,6 +207,8 @@ abbrev pub body_of : (program : Bytes) → Reply → Data
 body_of program reply.Capabilities = capabilities
 body_of program (reply.Breakpoints asked) = only (codes "breakpoints") (array_of breakpoint asked.items)
 body_of program (reply.Locations lines) = only (codes "breakpoints") (array_of location lines.items)
+body_of program (reply.Targets line) = only (codes "targets") (array (times line))
+body_of program (reply.Completions shown) = only (codes "targets") (array_of completion shown.items)
 body_of program (reply.Watchable target) = watchable (string_bytes target)
 body_of program reply.NotWatchable = not_watchable
 body_of program reply.Threads = only (codes "threads") (array (item gang no_items))

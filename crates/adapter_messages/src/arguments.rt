@@ -2,9 +2,9 @@
 ghost use Rattle.std.specs.Prelude.{◌≡◌, Err, IfOk, Some, codes, if◌then◌else◌, map, option_map};
 ghost use Rattle.serde_json.specs.View.{items_view, view};
 ghost use Rattle.adapter_requests.specs.declared.reply.BreakpointFault.TheVariants.{Conditional};
-ghost use Rattle.adapter_messages.specs.Arguments.{asked, asked_text, breakpoints_of, context_in, each_asked, filter_in, flag_at, is_absent, is_conditional, line_at, line_in, number_at, page_in, placed, target_in, text_at, unmarked};
+ghost use Rattle.adapter_messages.specs.Arguments.{asked, asked_text, breakpoints_of, context_in, each_asked, filter_in, flag_at, is_absent, is_conditional, line_at, line_in, number_at, page_in, placed, target_in, text_at, time_in, time_of, unmarked, way_of};
 
-use adapter_requests::{BreakpointFault, Context, Filter, Page};
+use adapter_requests::{BreakpointFault, Context, Filter, Page, Way};
 use debug_words::is_same;
 use serde_json::Value;
 use std::alloc::{AllocError, Global};
@@ -28,6 +28,34 @@ pub(crate) fn line_at(message: &Value, path: &str) -> Option<u32>
     ensures { result ≡ line_at path.now (view message.now) }
 {
     number_at(message, path).and_then(|line| u32::try_from(line).ok())
+}
+
+/// The line and the time of it that a message asks for, if it does.
+pub(crate) fn time_in(message: &Value) -> Option<(u32, Way)>
+    ensures { result ≡ time_in (view message.now) }
+{
+    number_at(message, "/arguments/targetId").and_then(time_of)
+}
+
+/// The line and the time that a number stands for.
+fn time_of(number: u64) -> Option<(u32, Way)>
+    ensures { result ≡ time_of number }
+{
+    match u32::try_from(number / 2) {
+        Ok(line) => Some((line, way_of(number))),
+        Err(_) => None,
+    }
+}
+
+/// The time of a line that a number stands for.
+fn way_of(number: u64) -> Way
+    ensures { result ≡ way_of number }
+{
+    if number % 2 == 0 {
+        Way::Forwards
+    } else {
+        Way::Backwards
+    }
 }
 
 /// The truth value at a place of a message, if there is one.

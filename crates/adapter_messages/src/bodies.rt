@@ -1,15 +1,16 @@
 //! What replies tell, as JSON.
-ghost use Rattle.std.specs.Prelude.{◌≡◌, ◌++◌, IfOk, codes, string_bytes};
-ghost use Rattle.serde_json.specs.Data.{no_members, object};
+ghost use Rattle.std.specs.Prelude.{◌≡◌, ◌≤◌, ◌++◌, IfOk, codes, string_bytes};
+ghost use Rattle.serde_json.specs.Data.{array, no_members, object};
 ghost use Rattle.serde_json.specs.View.{view};
-ghost use Rattle.adapter_messages.specs.Replies.{array_of, body_of, breakpoint, capabilities, exception_filter, fault_text, file_name, file_scope, frames, known_scope, location, not_watchable, only, scopes, source, variable, variable_of, watchable};
+ghost use Rattle.adapter_messages.specs.Replies.{array_of, body_of, breakpoint, capabilities, completion, exception_filter, fault_text, file_name, file_scope, frames, hint, known_scope, location, not_watchable, only, scopes, source, time, times, variable, variable_of, watchable, way_text};
 ghost use Rattle.adapter_messages.specs.Replies as spec;
-ghost use Rattle.adapter_messages.specs.Arguments.{mark};
+ghost use Rattle.adapter_messages.specs.Arguments.{mark, way_number};
 ghost use Rattle.adapter_requests.specs.declared.reply.VariableKind.TheVariants as kind;
 
 use crate::arguments::MARK;
 use adapter_requests::{
-    Breakpoint, BreakpointFault, Exception, Frame, Reply, Scopes, Variable, VariableKind,
+    Breakpoint, BreakpointFault, Completion, Exception, Frame, Reply, Scopes, Variable,
+    VariableKind, Way,
 };
 use serde_json::{Map, Value, json, push};
 use std::alloc::{AllocError, Global};
@@ -23,6 +24,8 @@ pub(crate) fn body_of(alloc: Global, program: &str, reply: &Reply) -> Result<Val
         Reply::Capabilities => capabilities(alloc),
         Reply::Breakpoints(made) => breakpoints(alloc, made),
         Reply::Locations(lines) => locations(alloc, lines),
+        Reply::Targets(line) => targets(alloc, *line),
+        Reply::Completions(shown) => completions(alloc, shown),
         Reply::Watchable(target) => watchable(alloc, target.as_str()),
         Reply::NotWatchable => not_watchable(alloc),
         Reply::Threads => json!(in alloc; {"threads": [{"id": 1u64, "name": "gang"}]}),
@@ -56,11 +59,14 @@ fn capabilities(alloc: Global) -> Result<Value, AllocError>
     json!(in alloc; {
         "exceptionBreakpointFilters": [filter],
         "supportsBreakpointLocationsRequest": true,
+        "supportsCompletionsRequest": true,
         "supportsConfigurationDoneRequest": true,
         "supportsDataBreakpoints": true,
         "supportsEvaluateForHovers": true,
         "supportsExceptionInfoRequest": true,
+        "supportsGotoTargetsRequest": true,
         "supportsRestartRequest": true,
+        "supportsSetExpression": true,
         "supportsSetVariable": true,
         "supportsStepBack": true,
         "supportsTerminateRequest": true
@@ -139,6 +145,74 @@ fn location_value(alloc: Global, line: u32) -> Result<Value, AllocError>
     ensures { IfOk result (λ v. view v ≡ location line) }
 {
     json!(in alloc; {"line": line})
+}
+
+/// The times of a line, if there is one.
+fn targets(alloc: Global, line: Option<u32>) -> Result<Value, AllocError>
+    ensures { IfOk result (λ v. view v ≡ only (codes "targets") (array (times line))) }
+{
+    match line {
+        None => json!(in alloc; {"targets": []}),
+        Some(line) => {
+            let next = time_value(alloc, line, Way::Forwards)?;
+            let last = time_value(alloc, line, Way::Backwards)?;
+            json!(in alloc; {"targets": [next, last]})
+        }
+    }
+}
+
+/// A time of a line to which the program can go.
+fn time_value(alloc: Global, line: u32, way: Way) -> Result<Value, AllocError>
+    ensures { IfOk result (λ v. view v ≡ time line way) }
+{
+    let which = way_text(way);
+    let label = format!(in alloc; "line {line}, {which}")?;
+    let id = u64::from(line) * 2 + way_number(way);
+    json!(in alloc; {"id": id, "label": label.as_str(), "line": line})
+}
+
+/// Which time of a line it is.
+fn way_text(way: Way) -> &'static str
+    ensures { result.now ≡ way_text way }
+{
+    match way {
+        Way::Forwards => "the next time",
+        Way::Backwards => "the last time before",
+    }
+}
+
+/// The number of a time of a line.
+fn way_number(way: Way) -> u64
+    ensures number { result ≡ way_number way }
+    ensures small { result ≤ 1 }
+{
+    match way {
+        Way::Forwards => 0,
+        Way::Backwards => 1,
+    }
+}
+
+/// The names that can stand in a text.
+fn completions(alloc: Global, made: &[Completion]) -> Result<Value, AllocError>
+    ensures { IfOk result (λ v. view v ≡ only (codes "targets") (array_of completion made.now)) }
+{
+    let mut list = Vec::new(alloc);
+    for name in made {
+        let shown = completion_value(alloc, name)?;
+        push(&mut list, shown)?;
+    }
+    json!(in alloc; {"targets": Value::Array(list)})
+}
+
+/// A name that can stand in a text.
+fn completion_value(alloc: Global, made: &Completion) -> Result<Value, AllocError>
+    ensures { IfOk result (λ v. view v ≡ completion made.now) }
+{
+    json!(in alloc; {
+        "label": made.name.as_str(),
+        "length": made.many,
+        "start": made.start
+    })
 }
 
 /// Why a breakpoint or a watch is not there.
@@ -277,15 +351,28 @@ fn variable_value(alloc: Global, variable: &Variable) -> Result<Value, AllocErro
     }
 }
 
+/// That what is shown can be set, or cannot since it is a constant.
+fn hint_value(alloc: Global, is_constant: bool) -> Result<Value, AllocError>
+    ensures { IfOk result (λ v. view v ≡ hint is_constant) }
+{
+    if is_constant {
+        json!(in alloc; {"attributes": ["constant", "readOnly"]})
+    } else {
+        json!(in alloc; {"attributes": []})
+    }
+}
+
 /// A scalar, a lane that is active or an element.
 fn plain_value(alloc: Global, variable: &Variable) -> Result<Value, AllocError>
-    ensures { IfOk result (λ v. view v ≡ variable_of kind.Plain (string_bytes variable.now.name) (string_bytes variable.now.value) (string_bytes variable.now.type_name) variable.now.reference) }
+    ensures { IfOk result (λ v. view v ≡ variable_of kind.Plain variable.now.is_constant (string_bytes variable.now.name) (string_bytes variable.now.value) (string_bytes variable.now.type_name) variable.now.reference) }
 {
+    let hint = hint_value(alloc, variable.is_constant)?;
     let name = variable.name.as_str();
     let reference = variable.reference;
     json!(in alloc; {
         "evaluateName": name,
         "name": name,
+        "presentationHint": hint,
         "type": variable.type_name.as_str(),
         "value": variable.value.as_str(),
         "variablesReference": reference
@@ -294,13 +381,15 @@ fn plain_value(alloc: Global, variable: &Variable) -> Result<Value, AllocError>
 
 /// A lane that is not active.
 fn waiting_value(alloc: Global, variable: &Variable) -> Result<Value, AllocError>
-    ensures { IfOk result (λ v. view v ≡ variable_of kind.Waits (string_bytes variable.now.name) (string_bytes variable.now.value) (string_bytes variable.now.type_name) variable.now.reference) }
+    ensures { IfOk result (λ v. view v ≡ variable_of kind.Waits variable.now.is_constant (string_bytes variable.now.name) (string_bytes variable.now.value) (string_bytes variable.now.type_name) variable.now.reference) }
 {
+    let hint = hint_value(alloc, variable.is_constant)?;
     let name = marked(alloc, variable.name.as_str())?;
     let value = marked(alloc, variable.value.as_str())?;
     json!(in alloc; {
         "evaluateName": variable.name.as_str(),
         "name": name.as_str(),
+        "presentationHint": hint,
         "type": variable.type_name.as_str(),
         "value": value.as_str(),
         "variablesReference": variable.reference
@@ -318,13 +407,15 @@ fn marked(alloc: Global, text: &str) -> Result<String, AllocError>
 
 /// An array of so many elements.
 fn array_value(alloc: Global, variable: &Variable, elements: usize) -> Result<Value, AllocError>
-    ensures { IfOk result (λ v. view v ≡ variable_of (kind.Array elements) (string_bytes variable.now.name) (string_bytes variable.now.value) (string_bytes variable.now.type_name) variable.now.reference) }
+    ensures { IfOk result (λ v. view v ≡ variable_of (kind.Array elements) variable.now.is_constant (string_bytes variable.now.name) (string_bytes variable.now.value) (string_bytes variable.now.type_name) variable.now.reference) }
 {
+    let hint = hint_value(alloc, variable.is_constant)?;
     let name = variable.name.as_str();
     json!(in alloc; {
         "evaluateName": name,
         "indexedVariables": elements,
         "name": name,
+        "presentationHint": hint,
         "type": variable.type_name.as_str(),
         "value": variable.value.as_str(),
         "variablesReference": variable.reference
@@ -333,10 +424,12 @@ fn array_value(alloc: Global, variable: &Variable, elements: usize) -> Result<Va
 
 /// A range of elements.
 fn range_value(alloc: Global, variable: &Variable) -> Result<Value, AllocError>
-    ensures { IfOk result (λ v. view v ≡ variable_of kind.Range (string_bytes variable.now.name) (string_bytes variable.now.value) (string_bytes variable.now.type_name) variable.now.reference) }
+    ensures { IfOk result (λ v. view v ≡ variable_of kind.Range variable.now.is_constant (string_bytes variable.now.name) (string_bytes variable.now.value) (string_bytes variable.now.type_name) variable.now.reference) }
 {
+    let hint = hint_value(alloc, variable.is_constant)?;
     json!(in alloc; {
         "name": variable.name.as_str(),
+        "presentationHint": hint,
         "type": variable.type_name.as_str(),
         "value": variable.value.as_str(),
         "variablesReference": variable.reference

@@ -11,6 +11,8 @@ pub(crate) enum Name {
     Launch,
     SetBreakpoints,
     BreakpointLocations,
+    GotoTargets,
+    Goto,
     SetExceptionBreakpoints,
     ExceptionInfo,
     DataBreakpointInfo,
@@ -21,6 +23,8 @@ pub(crate) enum Name {
     Scopes,
     Variables,
     SetVariable,
+    SetExpression,
+    Completions,
     Evaluate,
     Next,
     StepIn,
@@ -34,11 +38,13 @@ pub(crate) enum Name {
 }
 
 /// The requests that are known, by their commands.
-const NAMES: [(&str, Name); 24] = [
+const NAMES: [(&str, Name); 28] = [
     ("initialize", Name::Initialize),
     ("launch", Name::Launch),
     ("setBreakpoints", Name::SetBreakpoints),
     ("breakpointLocations", Name::BreakpointLocations),
+    ("gotoTargets", Name::GotoTargets),
+    ("goto", Name::Goto),
     ("setExceptionBreakpoints", Name::SetExceptionBreakpoints),
     ("exceptionInfo", Name::ExceptionInfo),
     ("dataBreakpointInfo", Name::DataBreakpointInfo),
@@ -49,6 +55,8 @@ const NAMES: [(&str, Name); 24] = [
     ("scopes", Name::Scopes),
     ("variables", Name::Variables),
     ("setVariable", Name::SetVariable),
+    ("setExpression", Name::SetExpression),
+    ("completions", Name::Completions),
     ("evaluate", Name::Evaluate),
     ("next", Name::Next),
     ("stepIn", Name::StepIn),

@@ -137,6 +137,7 @@ fn reason_text(reason: StopReason) -> &'static str
         StopReason::DataBreakpoint(_) => "data breakpoint",
         StopReason::Exception { .. } => "exception",
         StopReason::Pause => "pause",
+        StopReason::Goto => "goto",
     }
 }
 

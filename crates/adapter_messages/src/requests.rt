@@ -8,7 +8,7 @@ ghost use Rattle.adapter_messages.specs.declared.requests.RequestFault.TheVarian
 
 use crate::arguments::{
     context_of, flag_at, is_absent, line_at, lines_of, number_at, page_of, targets_of, text_at,
-    unmarked,
+    time_in, unmarked,
 };
 use crate::names::{Name, named};
 use adapter_requests::{Launch, Request};
@@ -75,6 +75,8 @@ pub fn read_request<'a>(
         Name::Launch => read_launch(message),
         Name::SetBreakpoints => read_breakpoints(alloc, message),
         Name::BreakpointLocations => read_locations(message),
+        Name::GotoTargets => read_targets(message),
+        Name::Goto => read_goto(message),
         Name::SetExceptionBreakpoints => Ok(Request::SetExceptionBreakpoints),
         Name::ExceptionInfo => Ok(Request::ExceptionInfo),
         Name::DataBreakpointInfo => read_information(message),
@@ -85,6 +87,8 @@ pub fn read_request<'a>(
         Name::Scopes => read_scopes(message),
         Name::Variables => read_variables(message),
         Name::SetVariable => read_set_variable(message),
+        Name::SetExpression => read_set_expression(message),
+        Name::Completions => read_completions(message),
         Name::Evaluate => read_evaluate(message),
         Name::Next => Ok(Request::Next),
         Name::StepIn => Ok(Request::StepIn),
@@ -197,6 +201,33 @@ fn read_locations(message: &Value) -> Result<Request<'_>, RequestFault>
     }
 }
 
+/// The times of a line.
+fn read_targets(message: &Value) -> Result<Request<'_>, RequestFault>
+    ensures accepted { IfOk result (λ request. IsRequestNamed Name.GotoTargets (view message.now) request) }
+    ensures complete { OnOk result (first_missing (needs Name.GotoTargets (view message.now)) ≡ None) }
+    ensures refused { IfErr result (IsRefusedNamed Name.GotoTargets (view message.now)) }
+{
+    match line_at(message, "/arguments/line") {
+        Some(line) => Ok(Request::GotoTargets {
+            source: text_at(message, "/arguments/source/path"),
+            line,
+        }),
+        None => Err(RequestFault::Argument("line")),
+    }
+}
+
+/// A time of a line to which the program goes.
+fn read_goto(message: &Value) -> Result<Request<'_>, RequestFault>
+    ensures accepted { IfOk result (λ request. IsRequestNamed Name.Goto (view message.now) request) }
+    ensures complete { OnOk result (first_missing (needs Name.Goto (view message.now)) ≡ None) }
+    ensures refused { IfErr result (IsRefusedNamed Name.Goto (view message.now)) }
+{
+    match time_in(message) {
+        Some((line, way)) => Ok(Request::Goto { line, way }),
+        None => Err(RequestFault::Argument("targetId")),
+    }
+}
+
 /// Whether a variable can be watched.
 fn read_information(message: &Value) -> Result<Request<'_>, RequestFault>
     ensures accepted { IfOk result (λ request. IsRequestNamed Name.DataBreakpointInfo (view message.now) request) }
@@ -276,6 +307,38 @@ fn read_set_variable(message: &Value) -> Result<Request<'_>, RequestFault>
         name: unmarked(name),
         value: unmarked(value),
     })
+}
+
+/// What an expression names is set.
+fn read_set_expression(message: &Value) -> Result<Request<'_>, RequestFault>
+    ensures accepted { IfOk result (λ request. IsRequestNamed Name.SetExpression (view message.now) request) }
+    ensures complete { OnOk result (first_missing (needs Name.SetExpression (view message.now)) ≡ None) }
+    ensures refused { IfErr result (IsRefusedNamed Name.SetExpression (view message.now)) }
+{
+    let expression = needed(text_at(message, "/arguments/expression"), "expression")?;
+    let new = needed(text_at(message, "/arguments/value"), "value")?;
+    Ok(Request::SetExpression {
+        expression,
+        value: unmarked(new),
+        frame: number_at(message, "/arguments/frameId"),
+    })
+}
+
+/// The names that can stand in a text.
+fn read_completions(message: &Value) -> Result<Request<'_>, RequestFault>
+    ensures accepted { IfOk result (λ request. IsRequestNamed Name.Completions (view message.now) request) }
+    ensures complete { OnOk result (first_missing (needs Name.Completions (view message.now)) ≡ None) }
+    ensures refused { IfErr result (IsRefusedNamed Name.Completions (view message.now)) }
+{
+    let text = needed(text_at(message, "/arguments/text"), "text")?;
+    match number_at(message, "/arguments/column") {
+        Some(column) => Ok(Request::Completions {
+            text,
+            column,
+            frame: number_at(message, "/arguments/frameId"),
+        }),
+        None => Err(RequestFault::Argument("column")),
+    }
 }
 
 /// An expression that is evaluated.

@@ -1,6 +1,8 @@
 -- Worked rows of what an editor is told.
 use Rattle.std.proofs.Common.{◌≡◌, refl, ap, ℕ, true, false, List, [], ◌∷◌, ◌++◌, Some, None, Ok, Err, codes, map, string_bytes, arith}
 use Rattle.std.specs.Fmt.{digits}
+use Rattle.std.specs.Prelude.{length, nat_lt}
+use Rattle.std.specs.List.{filter, join_by}
 use Rattle.std.proofs.lemmas.Str.{IsUtf8-from_ascii, utf8_lossy-IsUtf8}
 use Rattle.std.proofs.lemmas.Str.Ascii.{IsAscii-cons, IsAscii-nil}
 use Rattle.gang_types.specs.declared.places.VarId.TheVariants.{File}
@@ -11,6 +13,7 @@ use Rattle.gang_types.specs.Values.{value_of}
 use Rattle.gang_model.specs.Types.Tree.{Function, Program, Standing, Variable}
 use Rattle.gang_model.specs.Running.State.{Frame}
 use Rattle.gang_model.specs.Debugger.Debugger.{Line, Setting, Stop, Target, Watch}
+use Rattle.gang_model.specs.Texts.CommandText.{commands}
 use Rattle.gang_model.specs.Texts.Text.{Bytes, bits}
 use Rattle.debug_answers.specs.declared.answer.Answer.TheVariants as answer
 use Rattle.debug_answers.specs.declared.answer.Refusal.TheVariants as refusal
@@ -25,11 +28,12 @@ use Rattle.adapter_requests.specs.declared.request.Page.{Page}
 use Rattle.adapter_requests.specs.declared.request.Request.TheVariants as request
 use Rattle.adapter_replies.specs.declared.places.Place.TheVariants as place
 use Rattle.adapter_replies.specs.Breakpoints.{breakpoint_of, is_part, told_breakpoint, watches_target}
+use Rattle.adapter_replies.specs.Completions.{command_names, completed, frame_or, front, name_length}
 use Rattle.adapter_replies.specs.Frames.{all_frames, call_frame, call_told, calls_told, frame_name, standing_frame}
 use Rattle.adapter_replies.specs.declared.places.Scope.TheVariants.{Locals, Arguments}
 use Rattle.adapter_replies.specs.References.{is_set_there, place_now, place_of}
 use Rattle.adapter_replies.specs.Shown.{shown_text, without_end}
-use Rattle.adapter_replies.specs.Stopped.{reason_of}
+use Rattle.adapter_replies.specs.Stopped.{goto_reason, reason_of}
 use Rattle.adapter_replies.specs.Expressions.{lanes_text, one_text, shown_in}
 use Rattle.adapter_replies.specs.Pages.{named_children, paged}
 use Rattle.adapter_replies.specs.Told.{IsEvaluated, IsMoveTold, fixed_reply, is_expression}
@@ -286,3 +290,34 @@ at_watch = refl
 
 last_line : without_end (codes "ok\n") ≡ codes "ok"
 last_line = refl
+
+-- ---- names that are completed
+
+-- the commands are those of the table with more than two letters, by their words
+commands_of_the_table : command_names ≡ filter (λ name. nat_lt 2 (length name)) (map (λ entry. join_by (λ word. word) (codes " ") entry.0) commands)
+commands_of_the_table = refl
+
+-- a name at the end of a text is replaced from its first letter on, and a name that begins otherwise does not stand there
+abbrev the_front : Bytes
+the_front = front (codes "k + t - 1") 6
+
+its_name : name_length the_front ≡ 1
+its_name = refl
+
+two_of_three : completed the_front 1 (codes "total" ∷ codes "k" ∷ codes "table" ∷ []) ≡ record { name = codes "total"; start = 5; many = 1 } ∷ record { name = codes "table"; start = 5; many = 1 } ∷ []
+two_of_three = refl
+
+-- each name can stand where nothing is
+anything : completed [] 0 (codes "x" ∷ []) ≡ record { name = codes "x"; start = 1; many = 0 } ∷ []
+anything = refl
+
+top_frame : frame_or 3 None ≡ 3
+top_frame = refl
+
+-- ---- where a program went
+
+at_the_line : goto_reason answer.Here ≡ Some reason.Goto
+at_the_line = refl
+
+on_the_way : goto_reason (answer.AtBreakpoint 2) ≡ Some (reason.Breakpoint 2)
+on_the_way = refl

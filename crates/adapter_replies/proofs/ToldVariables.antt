@@ -23,8 +23,8 @@ use Rattle.adapter_replies.specs.References.{within}
 use Rattle.adapter_replies.specs.Variables.{ShowsOptionAt, ToldVariable, told_each, told_one, values}
 
 -- a variable, a lane, an element or a range
-abbrev pub made : (name value type : List ℕ) → VariableKind → Place → ToldVariable
-made name value type kind parts = record { name = name; value = value; type = type; kind = kind; parts = parts }
+abbrev pub made : (name value type : List ℕ) → VariableKind → (is_constant : Bool) → Place → ToldVariable
+made name value type kind is_constant parts = record { name = name; value = value; type = type; kind = kind; is_constant = is_constant; parts = parts }
 
 -- ---- the text of values is of ASCII characters
 
@@ -96,14 +96,15 @@ values_more type words i d old new within so more = more ∙ ap (λ all. all ++ 
 -- ---- one variable
 
 -- two that are alike in each part
-pub made_same : {name₁ name₂ value₁ value₂ type₁ type₂ : List ℕ} {kind₁ kind₂ : VariableKind} {parts₁ parts₂ : Place} → name₁ ≡ name₂ → value₁ ≡ value₂ → type₁ ≡ type₂ → kind₁ ≡ kind₂ → parts₁ ≡ parts₂
-    → made name₁ value₁ type₁ kind₁ parts₁ ≡ made name₂ value₂ type₂ kind₂ parts₂
-made_same {name₁} {name₂} {value₁} {value₂} {type₁} {type₂} {kind₁} {kind₂} {parts₁} {parts₂} name value type kind parts =
-    ap (λ x. made x value₁ type₁ kind₁ parts₁) name
-    ∙ ap (λ x. made name₂ x type₁ kind₁ parts₁) value
-    ∙ ap (λ x. made name₂ value₂ x kind₁ parts₁) type
-    ∙ ap (λ x. made name₂ value₂ type₂ x parts₁) kind
-    ∙ ap (λ x. made name₂ value₂ type₂ kind₂ x) parts
+pub made_same : {name₁ name₂ value₁ value₂ type₁ type₂ : List ℕ} {kind₁ kind₂ : VariableKind} {constant₁ constant₂ : Bool} {parts₁ parts₂ : Place} → name₁ ≡ name₂ → value₁ ≡ value₂ → type₁ ≡ type₂ → kind₁ ≡ kind₂ → constant₁ ≡ constant₂ → parts₁ ≡ parts₂
+    → made name₁ value₁ type₁ kind₁ constant₁ parts₁ ≡ made name₂ value₂ type₂ kind₂ constant₂ parts₂
+made_same {name₁} {name₂} {value₁} {value₂} {type₁} {type₂} {kind₁} {kind₂} {constant₁} {constant₂} {parts₁} {parts₂} name value type kind constant parts =
+    ap (λ x. made x value₁ type₁ kind₁ constant₁ parts₁) name
+    ∙ ap (λ x. made name₂ x type₁ kind₁ constant₁ parts₁) value
+    ∙ ap (λ x. made name₂ value₂ x kind₁ constant₁ parts₁) type
+    ∙ ap (λ x. made name₂ value₂ type₂ x constant₁ parts₁) kind
+    ∙ ap (λ x. made name₂ value₂ type₂ kind₂ x parts₁) constant
+    ∙ ap (λ x. made name₂ value₂ type₂ kind₂ constant₂ x) parts
 
 -- ---- one variable after another
 

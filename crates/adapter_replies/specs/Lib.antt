@@ -1,4 +1,5 @@
 pub mod Breakpoints
+pub mod Completions
 pub mod Exceptions
 pub mod Expressions
 pub mod Frames

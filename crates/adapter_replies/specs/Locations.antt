@@ -21,6 +21,11 @@ line_count first last = if nat_lt last first then 0 else min (last - first) 999 
 abbrev pub places_among : Program → (first count : ℕ) → List ℕ
 places_among p first count = filter (has_place p) (map (λ index. first + index) (range_with_len 0 count))
 
+-- the line to whose times the program can go: the first one from a line on that has a place; another source has none
+abbrev pub goto_line : Setting → (is_program : Bool) → (line : ℕ) → Option ℕ
+goto_line s false line = None
+goto_line s true line = least_from line (step_lines s.program)
+
 -- what is told of the lines from one to another, or of the one alone; another source has none
 abbrev pub told_places : Setting → (is_program : Bool) → (first : ℕ) → (last : Option ℕ) → List ℕ
 told_places s false first last = []

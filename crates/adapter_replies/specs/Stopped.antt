@@ -1,5 +1,5 @@
 -- Why a program stands still, by the answer that says so, and when an editor is told.
-use Rattle.std.specs.Prelude.{Bool, true, false, Option, Some, None, codes, string_bytes}
+use Rattle.std.specs.Prelude.{Bool, true, false, if◌then◌else◌, Option, Some, None, codes, string_bytes}
 use Rattle.std.specs.Borrow.{Bor}
 use Rattle.gang_model.specs.Texts.Text.{Bytes}
 use Rattle.adapter_requests.specs.declared.reply.Reply.{Reply}
@@ -23,6 +23,15 @@ reason_of answer.UndoneStep = Some reason.Step
 reason_of answer.UndonePoke = Some reason.Step
 reason_of other = None
 
+-- whether a goal is reached, or the end
+abbrev pub is_here : Answer → Bool
+is_here answer.Here = true
+is_here other = false
+
+-- the reason that an editor is told whose program was to go to a line
+abbrev pub goto_reason : Answer → Option StopReason
+goto_reason given = if is_here given then Some reason.Goto else reason_of given
+
 -- whether a request moves the program
 abbrev pub is_move : Request → Bool
 is_move request.Next = true
@@ -31,6 +40,7 @@ is_move request.StepOut = true
 is_move request.Continue = true
 is_move request.StepBack = true
 is_move request.ReverseContinue = true
+is_move (request.Goto line way) = true
 is_move other = false
 
 -- a reason and a text

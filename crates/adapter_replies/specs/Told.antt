@@ -25,15 +25,16 @@ use Rattle.adapter_requests.specs.declared.request.Request.{Request}
 use Rattle.adapter_requests.specs.declared.request.Request.TheVariants as request
 use Rattle.adapter_replies.specs.Exceptions.{no_fault}
 use Rattle.adapter_replies.specs.Breakpoints.{IsWatchableTold, is_watchable, told_breakpoint, told_watch}
+use Rattle.adapter_replies.specs.Completions.{ToldCompletion, completion_view, completions, frame_or, front}
 use Rattle.adapter_replies.specs.Expressions.{expression_text, is_memory, no_value_text, shown_in}
 use Rattle.adapter_replies.specs.Frames.{ToldFrame, all_frames, frame_view}
-use Rattle.adapter_replies.specs.Locations.{told_places}
+use Rattle.adapter_replies.specs.Locations.{goto_line, told_places}
 use Rattle.adapter_replies.specs.References.{is_frame, place_of, within}
 use Rattle.adapter_replies.specs.declared.places.Place.{Place}
 use Rattle.adapter_replies.specs.declared.places.Place.TheVariants as place
 use Rattle.adapter_replies.specs.declared.places.Scope.TheVariants.{Locals, Arguments}
 use Rattle.adapter_replies.specs.Shown.{shown_text}
-use Rattle.adapter_replies.specs.Stopped.{reason_of}
+use Rattle.adapter_replies.specs.Stopped.{goto_reason, reason_of}
 use Rattle.adapter_replies.specs.Variables.{ToldVariable, told_now, values, variable_view, words_at}
 
 -- the frames of a reply
@@ -70,6 +71,20 @@ IsNoFrame told = told_stop told ≡ Some (None, codes "no frame has this number 
 abbrev pub AreScopesTold : (is_frame : Bool) → (depth : ℕ) → Reply → Type 0
 AreScopesTold false deep told = IsNoFrame told
 AreScopesTold true deep told = told_scopes told ≡ Some (within (place.Variables Locals deep), within (place.Variables Arguments deep), place.File)
+
+-- the names of a reply that can stand in a text
+abbrev pub told_completions : Reply → Option (List ToldCompletion)
+told_completions (reply.Completions shown) = Some (map completion_view shown.items)
+told_completions other = None
+
+-- what a request for the names is told that can stand in a text, where the frame at a depth stands
+abbrev pub AreCompletionsTold : (is_frame : Bool) → Setting → Debugger → (depth : ℕ) → (front : Bytes) → Reply → Type 0
+AreCompletionsTold false s d deep front told = IsNoFrame told
+AreCompletionsTold true s d deep front told = told_completions told ≡ Some (completions s d deep front)
+
+-- the same in the frame of a number, or in the top one
+abbrev pub AreCompletionsToldIn : Setting → Debugger → (depth : ℕ) → (front : Bytes) → Reply → Type 0
+AreCompletionsToldIn s d deep front told = AreCompletionsTold (is_frame (depth (now s d)) deep) s d deep front told
 
 -- the text of what was evaluated, with the reason of a stop
 abbrev pub told_value : Reply → Option (Option StopReason × Bytes)
@@ -136,6 +151,7 @@ IsToldOf s d last (request.Scopes frame) told = AreScopesTold (is_frame (depth (
 IsToldOf s d last (request.Variables reference page) told = AreVariablesTold (told_now page s d reference) told
 IsToldOf s d last (request.Evaluate expression frame context) told = IsLookedUp s d last frame context expression.now told
 IsToldOf s d last (request.DataBreakpointInfo name) told = IsWatchableTold (is_watchable s d name.now) name.now told
+IsToldOf s d last (request.Completions text column frame) told = AreCompletionsToldIn s d (frame_or (depth (now s d)) frame) (front text.now column) told
 IsToldOf s d last other told = Unit {0}
 
 -- what a request is told that has the same reply always
@@ -168,11 +184,12 @@ abbrev pub told_locations : Reply → Option (List ℕ)
 told_locations (reply.Locations lines) = Some lines.items
 told_locations other = None
 
--- what a request for breakpoints or watches is told, each of them in order; and one for the lines on which there can be some
+-- what a request for breakpoints or watches is told, each of them in order; and one for the lines on which there can be some, or to which the program can go
 abbrev pub AreBreakpointsTold : Setting → Debugger → (is_program : Bool) → List (ℕ × model.Stop) → Request → Reply → Type 0
 AreBreakpointsTold s d is_program stops (request.SetBreakpoints source lines) told = told_breakpoints told ≡ Some (map (told_breakpoint s is_program stops) lines.items)
 AreBreakpointsTold s d is_program stops (request.SetDataBreakpoints targets) told = told_breakpoints told ≡ Some (map (told_watch s d stops) targets.items)
 AreBreakpointsTold s d is_program stops (request.BreakpointLocations source first last) told = told_locations told ≡ Some (told_places s is_program first last)
+AreBreakpointsTold s d is_program stops (request.GotoTargets source line) told = told ≡ reply.Targets (goto_line s is_program line)
 AreBreakpointsTold s d is_program stops other told = Unit {0}
 
 -- ---- by the last answer
@@ -195,6 +212,11 @@ IsStopTold false given text told = told_stop told ≡ Some (reason_of given, sho
 abbrev pub IsMoveTold : Option Answer → Bytes → Reply → Type 0
 IsMoveTold None text told = told ≡ reply.Done
 IsMoveTold (Some given) text told = IsStopTold (is_ended given) given text told
+
+-- what a request to go to a line is told, with the text of its answer
+abbrev pub IsGotoTold : Option Answer → Bytes → Reply → Type 0
+IsGotoTold None text told = told ≡ reply.Done
+IsGotoTold (Some given) text told = told_stop told ≡ Some (goto_reason given, shown_text text)
 
 -- what a request to set a variable is told: its values, or why it was not set; no command is done for one of an outer frame
 abbrev pub IsSetTold : Option Answer → (text values : Bytes) → Reply → Type 0
@@ -241,6 +263,8 @@ IsAnswered last text values request.StepOut told = IsMoveTold last text told
 IsAnswered last text values request.Continue told = IsMoveTold last text told
 IsAnswered last text values request.StepBack told = IsMoveTold last text told
 IsAnswered last text values request.ReverseContinue told = IsMoveTold last text told
+IsAnswered last text values (request.Goto line way) told = IsGotoTold last text told
 IsAnswered last text values (request.SetVariable reference name value) told = IsSetTold last text values told
+IsAnswered last text values (request.SetExpression expression value frame) told = IsSetTold last text values told
 IsAnswered last text values (request.Evaluate expression frame context) told = IsEvaluated context expression.now last text values told
 IsAnswered last text values other told = Unit {0}

@@ -26,17 +26,18 @@ use Rattle.adapter_replies.specs.Pages.{asks_places, indexed_children, named_chi
 use Rattle.adapter_replies.specs.References.{place_now, place_of, range_of, within}
 use Rattle.adapter_replies.specs.Waiting.{shown_lanes, waits}
 
--- a variable, a lane, an element or a range: its name, the text of its values and that of its type, what it is, and what its reference stands for
+-- a variable, a lane, an element or a range: its name, the text of its values and that of its type, what it is, whether it is a constant, and what its reference stands for
 pub record ToldVariable : Type 0 where
   pub name : Bytes
   pub value : Bytes
   pub type : Bytes
   pub kind : VariableKind
+  pub is_constant : Bool
   pub parts : Place
 
 -- a variable of a reply
 abbrev pub variable_view : Variable → ToldVariable
-variable_view v = record { name = string_bytes v.name; value = string_bytes v.value; type = string_bytes v.type_name; kind = v.kind; parts = place_of v.reference }
+variable_view v = record { name = string_bytes v.name; value = string_bytes v.value; type = string_bytes v.type_name; kind = v.kind; is_constant = v.is_constant; parts = place_of v.reference }
 
 -- ---- texts
 
@@ -92,6 +93,7 @@ told_whole v words parts = record {
   value = whole_text v.type v.is_array words;
   type = type_text v.rate v.type v.is_array (length words);
   kind = whole_kind v.is_array (length words);
+  is_constant = v.is_constant;
   parts = if has_parts v then parts else place.Nothing;
 }
 
@@ -111,6 +113,7 @@ told_part lanes v words index = record {
   value = values v.type (part_shown (Some index) words);
   type = type_name v.type;
   kind = part_kind (waits_at lanes v.is_array index);
+  is_constant = v.is_constant;
   parts = place.Nothing;
 }
 
@@ -129,6 +132,7 @@ told_range v count at range = record {
   value = decimal (range_count count range) ++ codes " elements";
   type = type_name v.type;
   kind = kind.Range;
+  is_constant = v.is_constant;
   parts = within (range_of at range);
 }
 

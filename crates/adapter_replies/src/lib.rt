@@ -2,6 +2,7 @@
 #![tactic(auto)]
 
 mod breakpoints;
+mod completions;
 mod exceptions;
 mod expressions;
 mod frames;

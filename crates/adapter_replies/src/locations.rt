@@ -1,7 +1,7 @@
 //! The lines on which a breakpoint can stand.
 ghost use Rattle.std.specs.Prelude.{◌≡◌, ◌+◌, ◌++◌, ◌≤◌, ◌^◌, ◌∷◌, [], IfOk, cond};
 ghost use Rattle.gang_model.specs.Debugger.Debugger.{Debugger, Setting};
-ghost use Rattle.adapter_replies.specs.Locations.{has_place, is_line, line_count, places_among, told_places};
+ghost use Rattle.adapter_replies.specs.Locations.{goto_line, has_place, is_line, line_count, places_among, told_places};
 
 use debug_traits::RecordedMachine;
 use std::alloc::{AllocError, Global};
@@ -24,6 +24,17 @@ pub(crate) fn locations<M: RecordedMachine>(
         places_among(alloc, machine, first, line_count(first, last))
     } else {
         Ok(Vec::new(alloc))
+    }
+}
+
+/// The line to whose times the program can go: the first one from a line on that has a place; another source has none.
+pub(crate) fn goto_line<M: RecordedMachine>(machine: &M, is_program: bool, line: u32) -> Option<u32>
+    ensures { (s : Setting) (d : Debugger) → M.stands machine.now s d → result ≡ goto_line s is_program line }
+{
+    if is_program {
+        machine.line_from(line)
+    } else {
+        None
     }
 }
 

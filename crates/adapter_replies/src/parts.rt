@@ -190,6 +190,7 @@ fn part<M: FramedMachine>(
         value: element_text(alloc, machine, depth, shown, index)?,
         type_name: String::from_str(alloc, type_name(shown.value_type))?,
         kind: part_kind(!shown.is_array && waits(position, index)),
+        is_constant: shown.is_constant,
         reference: 0,
     })
 }
@@ -259,6 +260,7 @@ fn range_shown(
         value: format!(in alloc; "{many} elements")?,
         type_name: String::from_str(alloc, type_name(shown.value_type))?,
         kind: VariableKind::Range,
+        is_constant: shown.is_constant,
         reference: reference_of(range_of(place, range)),
     })
 }

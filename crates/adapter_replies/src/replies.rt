@@ -6,20 +6,22 @@ ghost use Rattle.gang_model.specs.Texts.Text.{text};
 ghost use Rattle.debug_traits.specs.Frames.{found_at};
 ghost use Rattle.debug_answers.specs.Meanings.{AreStops, Means};
 ghost use Rattle.debug_session.specs.Sessions.{is_refused};
+ghost use Rattle.adapter_replies.specs.Completions.{frame_or, front};
 ghost use Rattle.adapter_replies.specs.References.{is_frame, place_of, within};
 ghost use Rattle.adapter_replies.specs.Variables.{told_now};
 ghost use Rattle.adapter_replies.specs.declared.places.Place.TheVariants as place;
 ghost use Rattle.adapter_replies.specs.declared.places.Scope.TheVariants.{Arguments, Locals};
-ghost use Rattle.adapter_replies.specs.Told.{AreBreakpointsTold, AreScopesTold, AreVariablesTold, IsAnswered, IsEvaluated, IsLineTold, IsLookedUp, IsMoveTold, IsNameTold, IsSetTold, IsTextTold, IsToldOf, IsValueTold, MeansLast, fixed_reply, is_ended, is_expression, is_line, is_unnamed, refusal_text, shown_values, told_stop};
+ghost use Rattle.adapter_replies.specs.Told.{AreBreakpointsTold, AreCompletionsToldIn, AreScopesTold, AreVariablesTold, IsAnswered, IsEvaluated, IsGotoTold, IsLineTold, IsLookedUp, IsMoveTold, IsNameTold, IsSetTold, IsTextTold, IsToldOf, IsValueTold, MeansLast, fixed_reply, is_ended, is_expression, is_line, is_unnamed, refusal_text, shown_values, told_stop};
 
 use crate::breakpoints::{breakpoints, watchable, watches};
+use crate::completions::{completions, front_of};
 use crate::exceptions::NO_FAULT;
 use crate::expressions::{expression_reply, shown_in};
 use crate::frames::frames;
-use crate::locations::locations;
+use crate::locations::{goto_line, locations};
 use crate::places::{Place, Scope, depth_of, is_frame, reference_of};
 use crate::scopes::variables;
-use crate::stops::stop_of;
+use crate::stops::{goto_reason, stop_of};
 use crate::texts::{answer_text, value_text, value_text_at};
 use adapter_requests::{Context, Page, Reply, Request, Scopes, Stop, StopReason};
 use debug_answers::{Answer, NumberedStop, Refusal};
@@ -70,11 +72,16 @@ pub fn reply_to<M: ExpressionMachine>(
             let lines = locations(alloc, machine, is_program, *first, *last)?;
             Ok(Reply::Locations(lines))
         }
+        Request::GotoTargets { source: _, line } => {
+            Ok(Reply::Targets(goto_line(machine, is_program, *line)))
+        }
         Request::SetDataBreakpoints { targets } => {
             Ok(Reply::Breakpoints(watches(alloc, machine, stops, targets)?))
         }
         Request::DataBreakpointInfo { name } => watchable(alloc, machine, name),
-        Request::SetVariable { .. } => set(alloc, machine, stops, last),
+        Request::SetVariable { .. } | Request::SetExpression { .. } => {
+            set(alloc, machine, stops, last)
+        }
         Request::Evaluate {
             expression,
             frame,
@@ -89,8 +96,14 @@ pub fn reply_to<M: ExpressionMachine>(
         | Request::Continue
         | Request::StepBack
         | Request::ReverseContinue => moved(alloc, machine, stops, last),
+        Request::Goto { .. } => gone(alloc, machine, stops, last),
         Request::StackTrace => Ok(Reply::Frames(frames(alloc, machine)?)),
         Request::Variables { reference, page } => shown(alloc, machine, *reference, *page),
+        Request::Completions {
+            text,
+            column,
+            frame,
+        } => completed(alloc, machine, *frame, text.as_bytes(), *column),
         Request::Scopes { frame } => scopes(alloc, machine, *frame),
         Request::Threads => Ok(Reply::Threads),
         Request::Initialize => Ok(Reply::Capabilities),
@@ -128,6 +141,47 @@ fn scopes<M: RecordedMachine>(alloc: Global, machine: &M, frame: u64) -> Result<
         Ok(Reply::Scopes(scopes_of(depth)))
     } else {
         refused(alloc, NO_FRAME)
+    }
+}
+
+/// The names that can stand in a text before a column, in the frame of a number or in the top one.
+fn completed<M: FramedMachine>(
+    alloc: Global,
+    machine: &M,
+    frame: Option<u64>,
+    text: &[u8],
+    column: u64,
+) -> Result<Reply, AllocError>
+    ensures { (s : Setting) (d : Debugger) → M.stands machine.now s d
+        → IfOk result (AreCompletionsToldIn s d (frame_or (depth (now s d)) frame) (front text.now column)) }
+{
+    let depth = frame_or(depth_of(machine), frame);
+    completed_at(alloc, machine, depth, front_of(text, column))
+}
+
+/// The names that can stand at the end of a text in the frame at a depth, or a refusal where there is no such frame.
+fn completed_at<M: FramedMachine>(
+    alloc: Global,
+    machine: &M,
+    depth: usize,
+    front: &[u8],
+) -> Result<Reply, AllocError>
+    ensures { (s : Setting) (d : Debugger) → M.stands machine.now s d → IfOk result (AreCompletionsToldIn s d depth front.now) }
+{
+    if !is_frame(depth_of(machine), depth) {
+        return refused(alloc, NO_FRAME);
+    }
+    let names = completions(alloc, machine, depth, front)?;
+    Ok(Reply::Completions(names))
+}
+
+/// The depth of the frame of a number, or of the top one.
+fn frame_or(top: usize, frame: Option<u64>) -> usize
+    ensures { result ≡ frame_or top frame }
+{
+    match frame {
+        None => top,
+        Some(frame) => frame as usize,
     }
 }
 
@@ -223,6 +277,23 @@ fn moved<M: RecordedMachine>(
     }
     let text = answer_text(alloc, &answer, machine, stops)?;
     Ok(told(text, stop_of(&answer)))
+}
+
+/// Where going to a line has led, or why it was refused.
+fn gone<M: RecordedMachine>(
+    alloc: Global,
+    machine: &M,
+    stops: &[NumberedStop],
+    last: Option<Answer<'_>>,
+) -> Result<Reply, AllocError>
+    ensures { (s : Setting) (at d : Debugger) (meant : model.Answer) → M.stands machine.now s at → at.events ≡ d.events → AreStops s stops.now d.stops
+        → MeansLast s d last.entry meant → IfOk result (λ told. IsGotoTold last.entry (text s meant d) told) }
+{
+    let Some(answer) = last else {
+        return Ok(Reply::Done);
+    };
+    let text = answer_text(alloc, &answer, machine, stops)?;
+    Ok(told(text, goto_reason(&answer)))
 }
 
 /// Whether an answer refuses to move since the program has ended.

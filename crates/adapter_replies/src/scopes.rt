@@ -76,7 +76,7 @@ pub(crate) fn variables<M: FramedMachine>(
 }
 
 /// The variables of the frame at a depth that a name finds there.
-fn of_frame<M: FramedMachine>(
+pub(crate) fn of_frame<M: FramedMachine>(
     alloc: Global,
     machine: &M,
     scope: Scope,
@@ -158,7 +158,7 @@ fn variable_of<M: FramedMachine>(
 }
 
 /// The variables of the file that a name finds in the top frame, whose depth this is, of the first so many.
-fn of_file<M: FramedMachine>(
+pub(crate) fn of_file<M: FramedMachine>(
     alloc: Global,
     machine: &M,
     top: usize,
@@ -237,6 +237,7 @@ fn whole<M: FramedMachine>(
         value: whole_value(alloc, machine, depth, shown)?,
         type_name: type_text(alloc, shown)?,
         kind: whole_kind(shown.is_array, shown.count),
+        is_constant: shown.is_constant,
         reference: if has_parts(shown) { reference } else { 0 },
     })
 }

@@ -1,7 +1,7 @@
 //! Why a program stands still.
 ghost use Rattle.std.specs.Prelude.{◌≡◌, option_map};
 ghost use Rattle.adapter_requests.specs.declared.reply.StopReason.TheVariants as reason;
-ghost use Rattle.adapter_replies.specs.Stopped.{anew, is_move, reason_of, stop_behind, stop_view};
+ghost use Rattle.adapter_replies.specs.Stopped.{anew, goto_reason, is_here, is_move, reason_of, stop_behind, stop_view};
 
 use adapter_requests::{Reply, Request, StopReason};
 use debug_answers::Answer;
@@ -30,6 +30,24 @@ pub fn stop_of(answer: &Answer<'_>) -> Option<StopReason>
         | Answer::Silent
         | Answer::Refused(_) => None,
     }
+}
+
+/// Why a program stands still that was to go to a line, by the answer to the command that moved.
+pub(crate) fn goto_reason(answer: &Answer<'_>) -> Option<StopReason>
+    ensures { result ≡ goto_reason answer.now }
+{
+    if is_here(answer) {
+        Some(StopReason::Goto)
+    } else {
+        stop_of(answer)
+    }
+}
+
+/// Whether a goal is reached, or the end.
+fn is_here(answer: &Answer<'_>) -> bool
+    ensures { result ≡ is_here answer.now }
+{
+    matches!(answer, Answer::Here)
 }
 
 /// The reason of a stop at a fault.
@@ -82,5 +100,6 @@ fn is_move(request: &Request<'_>) -> bool
             | Request::Continue
             | Request::StepBack
             | Request::ReverseContinue
+            | Request::Goto { .. }
     )
 }

@@ -5,7 +5,7 @@ mod reply;
 mod request;
 
 pub use reply::{
-    Breakpoint, BreakpointFault, Exception, Frame, Reply, Scopes, Stop, StopReason, Variable,
-    VariableKind,
+    Breakpoint, BreakpointFault, Completion, Exception, Frame, Reply, Scopes, Stop, StopReason,
+    Variable, VariableKind,
 };
-pub use request::{Context, Filter, Launch, Page, Request};
+pub use request::{Context, Filter, Launch, Page, Request, Way};

@@ -68,6 +68,8 @@ pub struct Variable {
     pub value: String,
     pub type_name: String,
     pub kind: VariableKind,
+    /// It cannot be set.
+    pub is_constant: bool,
     /// The reference of its lanes or elements, 0 if it has none.
     pub reference: u64,
 }
@@ -85,6 +87,8 @@ pub enum StopReason {
     Exception { name: FaultName, lane: usize },
     /// The most moves of one command were done.
     Pause,
+    /// At the line to which it was to go, or at the end.
+    Goto,
 }
 
 /// A stop, and what the debugger says of it.
@@ -103,6 +107,15 @@ pub struct Exception {
     pub text: String,
 }
 
+/// A name that can stand in a text, in place of so many bytes from a column on.
+#[derive(Drop)]
+pub struct Completion {
+    pub name: String,
+    /// Columns count from 1.
+    pub start: usize,
+    pub many: usize,
+}
+
 /// What a request is told.
 #[derive(Drop)]
 pub enum Reply {
@@ -112,6 +125,10 @@ pub enum Reply {
     Breakpoints(Vec<Breakpoint>),
     /// The lines on which a breakpoint can stand.
     Locations(Vec<u32>),
+    /// The line to whose times the program can go, if there is one.
+    Targets(Option<u32>),
+    /// The names that can stand in a text.
+    Completions(Vec<Completion>),
     /// The target that can be watched.
     Watchable(String),
     /// The variable cannot be watched.

@@ -51,6 +51,15 @@ pub struct Page {
     pub filter: Filter,
 }
 
+/// Which of the times when a line comes is meant.
+#[derive(Clone, Copy, Debug, PartialEq, Eq)]
+pub enum Way {
+    /// The next time.
+    Forwards,
+    /// The last time before.
+    Backwards,
+}
+
 /// A request, with those of its arguments that mean something here.
 #[derive(Drop)]
 pub enum Request<'a> {
@@ -66,6 +75,16 @@ pub enum Request<'a> {
         source: Option<&'a str>,
         first: u32,
         last: Option<u32>,
+    },
+    /// The times of a line of a source to which the program can go.
+    GotoTargets {
+        source: Option<&'a str>,
+        line: u32,
+    },
+    /// The program goes to a time of a line.
+    Goto {
+        line: u32,
+        way: Way,
     },
     SetExceptionBreakpoints,
     /// Which fault the last stop was at.
@@ -95,6 +114,19 @@ pub enum Request<'a> {
         reference: u64,
         name: &'a str,
         value: &'a str,
+    },
+    /// What an expression names is set, in the frame of this number; in the top one where there is none.
+    SetExpression {
+        expression: &'a str,
+        value: &'a str,
+        frame: Option<u64>,
+    },
+    /// The names that can stand in a text before a column, in the frame of this number; in the top one where there is none.
+    Completions {
+        text: &'a str,
+        /// Columns count from 1.
+        column: u64,
+        frame: Option<u64>,
     },
     /// An expression, in the frame of this number; in the top one where there is none.
     Evaluate {

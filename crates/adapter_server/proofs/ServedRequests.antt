@@ -82,6 +82,8 @@ module _ {M : Type 0} (stands : M → Setting → Debugger → Type 0) (program 
   alone (request.Launch launch) = tt
   alone (request.SetBreakpoints source lines) = tt
   alone (request.BreakpointLocations source first last) = tt
+  alone (request.GotoTargets source line) = tt
+  alone (request.Goto line way) = tt
   alone request.SetExceptionBreakpoints = tt
   alone request.ExceptionInfo = tt
   alone (request.DataBreakpointInfo name) = tt
@@ -92,6 +94,8 @@ module _ {M : Type 0} (stands : M → Setting → Debugger → Type 0) (program 
   alone (request.Scopes frame) = tt
   alone (request.Variables reference page) = tt
   alone (request.SetVariable reference name value) = tt
+  alone (request.SetExpression expression value frame) = tt
+  alone (request.Completions text column frame) = tt
   alone (request.Evaluate expression frame context) = tt
   alone request.Next = tt
   alone request.StepIn = tt

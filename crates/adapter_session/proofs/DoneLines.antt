@@ -13,9 +13,9 @@ use Rattle.adapter_requests.specs.declared.request.Request.{Request}
 use Rattle.adapter_replies.specs.Told.{MeansLast}
 use Rattle.command_lists.specs.Lists.{HasDone, Leads}
 use Rattle.command_lists.proofs.DoneLists.{leads_on}
-use Rattle.adapter_session.specs.Answered.{IsTold, MayTell}
+use Rattle.adapter_session.specs.Answered.{IsToldByLines, MayTell}
 use Rattle.adapter_session.specs.Doing.{Does, DoesLines, MayReplyTo}
-use Rattle.adapter_session.specs.Requested.{command_list, commands_of, lines_of, only, spelled}
+use Rattle.adapter_session.specs.Requested.{command_list, lines_of, only, spelled}
 
 -- where the command of a line leads, or the refusal of one that spells none
 leads_by_command : (s : Setting) (command : Option Command) (d : Debugger) (r : model.Reply) → MayReplyTo s command d r → Leads s (command_list command ++ []) d r.next
@@ -61,12 +61,12 @@ module _ {M : Type 0} (stands : M → Setting → Debugger → Type 0) (s : Sett
 
   -- the lines of a request that were done are its commands that were done
   pub request_done : (program : Bytes) (request : Request) (d : Debugger) (last : Option Answer) (new : Session M) → DoesLines stands s (lines_of program (depth (now s d)) d.stops request) d last new
-      → HasDone stands s (commands_of program s d request) d new
+      → HasDone stands s (spelled (lines_of program (depth (now s d)) d.stops request)) d new
   request_done program request d last new does = has_done (lines_of program (depth (now s d)) d.stops request) d last new does
 
   -- what is told where a session stands after lines, told of the request whose lines they are
   pub request_told : (program : Bytes) (request : Request) (d : Debugger) (told : Reply) (last : Option Answer) (new : Session M) → DoesLines stands s (lines_of program (depth (now s d)) d.stops request) d last new
-      → ((after : Debugger) (meant : model.Answer) → StandsFor stands new s after → MeansLast s after last meant → MayTell s program after last meant request told) → IsTold stands s program request d told new
+      → ((after : Debugger) (meant : model.Answer) → StandsFor stands new s after → MeansLast s after last meant → MayTell s program after last meant request told) → IsToldByLines stands s program request d told new
   request_told program request d told None new does tells =
       record { last = None; does = does; after = d; there = does.1; meant = model.Silent; means = tt; tells = tells d model.Silent does.1 tt }
   request_told program request d told (Some given) new does tells =

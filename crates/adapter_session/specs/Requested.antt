@@ -9,7 +9,9 @@ use Rattle.adapter_requests.specs.declared.request.Context.{Context}
 use Rattle.adapter_requests.specs.declared.request.Context.TheVariants.{Console}
 use Rattle.adapter_requests.specs.declared.request.Request.{Request}
 use Rattle.adapter_requests.specs.declared.request.Request.TheVariants as request
+use Rattle.adapter_requests.specs.declared.request.Way.{Way}
 use Rattle.adapter_replies.specs.References.{is_set_there, place_of}
+use Rattle.adapter_session.specs.Going.{goto_commands, goto_of}
 use Rattle.std.specs.Borrow.{Bor}
 
 -- whether a stop is a breakpoint
@@ -105,6 +107,7 @@ lines_of program top stops request.ReverseContinue = only (codes "reverse-contin
 lines_of program top stops (request.SetBreakpoints source lines) = break_lines (is_program program source) stops lines.items
 lines_of program top stops (request.SetDataBreakpoints targets) = watch_lines stops targets.items
 lines_of program top stops (request.SetVariable reference name value) = set_lines (is_set_there top (place_of reference)) name.now value.now
+lines_of program top stops (request.SetExpression expression value frame) = set_lines (not (is_elsewhere top frame)) expression.now value.now
 lines_of program top stops (request.Evaluate expression frame context) = evaluated (is_console context) (is_elsewhere top frame) expression.now
 lines_of program top stops other = []
 
@@ -117,6 +120,11 @@ command_list (Some command) = command ∷ []
 abbrev pub spelled : List Bytes → List Command
 spelled lines = flat_map (λ line. command_list (command_of line)) lines
 
+-- the commands by which the program goes to a time of a line, or else those that lines spell
+abbrev pub commands_by : Option (ℕ × Way) → Setting → Debugger → (spelled : List Command) → List Command
+commands_by None s d spelled = spelled
+commands_by (Some time) s d spelled = goto_commands s d time
+
 -- the commands that a request is where a debugger stands
 abbrev pub commands_of : (program : Bytes) → Setting → Debugger → Request → List Command
-commands_of program s d request = spelled (lines_of program (depth (now s d)) d.stops request)
+commands_of program s d request = commands_by (goto_of request) s d (spelled (lines_of program (depth (now s d)) d.stops request))

@@ -1,14 +1,15 @@
 //! What a request does to a session, and what it is told.
 ghost use Rattle.std.specs.Prelude.{◌≡◌, IfErr, IfOk};
 ghost use Rattle.gang_model.specs.Debugger.Debugger as model;
-ghost use Rattle.gang_model.specs.Debugger.Debugger.{Debugger, Setting};
+ghost use Rattle.gang_model.specs.Debugger.Debugger.{Debugger, Setting, depth, now};
 ghost use Rattle.debug_session.specs.Sessions.{StandsFor};
 ghost use Rattle.command_lists.specs.Lists.{HasDone};
 ghost use Rattle.adapter_replies.specs.Told.{MeansLast};
-ghost use Rattle.adapter_session.specs.Answered.{IsTold, MayTell, is_source_of};
-ghost use Rattle.adapter_session.specs.Requested.{commands_of};
+ghost use Rattle.adapter_session.specs.Answered.{IsTold, IsToldByLines, MayTell, is_source_of};
+ghost use Rattle.adapter_session.specs.Requested.{commands_of, lines_of, spelled};
 
 use crate::doing::do_lines;
+use crate::going::{go_to, goto_of};
 use crate::lines::{command_lines, is_program};
 use adapter_replies::{depth_of, reply_to};
 use adapter_requests::{Reply, Request};
@@ -34,6 +35,25 @@ pub fn answer_request<M: ExpressionMachine>(
         → IfOk result (λ told. IsTold M.stands s program.now request.now d told session.new) }
     ensures memory { IfErr result (λ _. session.new ≡ session.old) }
 {
+    match goto_of(request) {
+        Some(time) => Ok(go_to(alloc, program, session, request, time)),
+        None => answer_lines(alloc, program, session, request),
+    }
+}
+
+/// Does the lines of a request, and says what it is told.
+fn answer_lines<M: ExpressionMachine>(
+    alloc: Global,
+    program: &str,
+    session: &mut Session<M>,
+    request: &Request<'_>,
+) -> Result<Reply, AllocError>
+    ensures done { (s : Setting) (d : Debugger) → StandsFor M.stands session.old s d
+        → IfOk result (λ _. HasDone M.stands s (spelled (lines_of program.now (depth (now s d)) d.stops request.now)) d session.new) }
+    ensures told { (s : Setting) (d : Debugger) → StandsFor M.stands session.old s d
+        → IfOk result (λ told. IsToldByLines M.stands s program.now request.now d told session.new) }
+    ensures memory { IfErr result (λ _. session.new ≡ session.old) }
+{
     let depth = depth_of(session.machine());
     let lines = command_lines(alloc, program, depth, request, session.stops())?;
     let last = do_lines(session, lines.as_slice());
@@ -41,7 +61,7 @@ pub fn answer_request<M: ExpressionMachine>(
 }
 
 /// What a request is told, or that there is no memory for it.
-fn told<M: ExpressionMachine>(
+pub(crate) fn told<M: ExpressionMachine>(
     alloc: Global,
     program: &str,
     session: &Session<M>,
@@ -69,7 +89,8 @@ fn is_source_of(program: &str, request: &Request<'_>) -> bool
             source,
             first: _,
             last: _,
-        } => is_program(program, *source),
+        }
+        | Request::GotoTargets { source, line: _ } => is_program(program, *source),
         _ => false,
     }
 }

@@ -4,6 +4,7 @@
 mod answering;
 mod beginning;
 mod doing;
+mod going;
 mod lines;
 mod restoring;
 

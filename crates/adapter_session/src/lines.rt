@@ -57,6 +57,11 @@ pub fn command_lines(
             name,
             value,
         } => set_lines(alloc, is_set_there(depth, *reference), name, value),
+        Request::SetExpression {
+            expression,
+            value,
+            frame,
+        } => set_lines(alloc, !is_elsewhere(depth, *frame), expression, value),
         Request::Evaluate {
             expression,
             frame,
@@ -70,6 +75,8 @@ pub fn command_lines(
         Request::Initialize
         | Request::Launch(_)
         | Request::BreakpointLocations { .. }
+        | Request::GotoTargets { .. }
+        | Request::Goto { .. }
         | Request::SetExceptionBreakpoints
         | Request::ExceptionInfo
         | Request::DataBreakpointInfo { .. }
@@ -78,6 +85,7 @@ pub fn command_lines(
         | Request::StackTrace
         | Request::Scopes { .. }
         | Request::Variables { .. }
+        | Request::Completions { .. }
         | Request::Restart
         | Request::Terminate
         | Request::Disconnect

@@ -1,34 +1,28 @@
-use Rattle.std.proofs.Common.{◌∙◌, ap, subst, sym, map, string_bytes}
-use Rattle.debug_answers.specs.Meanings.{AreStops}
-use Rattle.debug_session.specs.Sessions.{bare}
-use Rattle.adapter_session.specs.Doing.{DoesLines}
-use Rattle.adapter_session.specs.Requested.{lines_of}
-use Rattle.adapter_session.proofs.DoneLines.{request_done, request_told}
+use Rattle.std.proofs.Common.{ℕ, Option, IfOk, ◌∙◌, subst, sym}
+use Rattle.gang_model.specs.Debugger.Debugger.{depth, now}
+use Rattle.command_lists.specs.Lists.{HasDone}
+use Rattle.adapter_requests.specs.declared.request.Way.{Way}
+use Rattle.adapter_session.specs.Answered.{IsToldBy}
+use Rattle.adapter_session.specs.Requested.{commands_by, lines_of, spelled}
 use Rattle.adapter_session.proofs.answering.answer_request.Goals as goal
 
-pub returns-clause-done : goal.returns-clause-done
-returns-clause-done g c s d there =
-    let stands = g.M.RecordedMachine.stands in
-    let last = c.do_lines-last.result in
-    let new = c.do_lines-last.new.session in
-    let program = c.args.program.now in
-    let request = c.args.request.now in
-    let deep = c.depth_of-depth.ensures s (bare d) (subst (λ machine. stands machine s (bare d)) (sym c.machine.ensures) there.there) in
-    let are = subst (λ items. AreStops s items d.stops) (sym c.stops.ensures) there.stops in
-    let lines = c.in_ok-lines.ensures s d.stops are ∙ ap (λ n. lines_of program n d.stops request) deep in
-    request_done stands s program request d last new
-    (subst (λ list. DoesLines stands s list d last new) lines (subst (λ list. DoesLines stands s (map string_bytes list) d last new) c.as_slice.ensures.value (c.do_lines-last.ensures s d there)))
+pub returns-in-Some-clause-done : goal.returns-in-Some-clause-done
+returns-in-Some-clause-done g c s d there =
+    let others = spelled (lines_of c.args.program.now (depth (now s d)) d.stops c.args.request.now) in
+    subst (λ (time : Option (ℕ × Way)). HasDone g.M.RecordedMachine.stands s (commands_by time s d others) d c.go_to.new.session) (sym (sym c.goto_of.ensures ∙ c.in-Some.is)) (c.go_to.ensures.done s d there)
 
-pub returns-clause-told : goal.returns-clause-told
-returns-clause-told g c s d there =
-    let stands = g.M.RecordedMachine.stands in
-    let last = c.do_lines-last.result in
-    let new = c.do_lines-last.new.session in
-    let program = c.args.program.now in
-    let request = c.args.request.now in
-    let deep = c.depth_of-depth.ensures s (bare d) (subst (λ machine. stands machine s (bare d)) (sym c.machine.ensures) there.there) in
-    let are = subst (λ items. AreStops s items d.stops) (sym c.stops.ensures) there.stops in
-    let lines = c.in_ok-lines.ensures s d.stops are ∙ ap (λ n. lines_of program n d.stops request) deep in
-    request_told stands s program request d c.told.result last new
-    (subst (λ list. DoesLines stands s list d last new) lines (subst (λ list. DoesLines stands s (map string_bytes list) d last new) c.as_slice.ensures.value (c.do_lines-last.ensures s d there)))
-    (λ after meant stood means. c.told.ensures s after meant stood means)
+pub returns-in-Some-clause-told : goal.returns-in-Some-clause-told
+returns-in-Some-clause-told g c s d there =
+    subst (λ (time : Option (ℕ × Way)). IsToldBy g.M.RecordedMachine.stands time s c.args.program.now c.args.request.now d c.go_to.result c.go_to.new.session) (sym (sym c.goto_of.ensures ∙ c.in-Some.is))
+    (c.go_to.ensures.told s d there)
+
+pub returns-in-None-clause-done : goal.returns-in-None-clause-done
+returns-in-None-clause-done g c s d there =
+    let others = spelled (lines_of c.args.program.now (depth (now s d)) d.stops c.args.request.now) in
+    subst (λ (time : Option (ℕ × Way)). IfOk c.answer_lines.result (λ _. HasDone g.M.RecordedMachine.stands s (commands_by time s d others) d c.answer_lines.new.session)) (sym (sym c.goto_of.ensures ∙ c.in-None.is))
+    (c.answer_lines.ensures.done s d there)
+
+pub returns-in-None-clause-told : goal.returns-in-None-clause-told
+returns-in-None-clause-told g c s d there =
+    subst (λ (time : Option (ℕ × Way)). IfOk c.answer_lines.result (λ told. IsToldBy g.M.RecordedMachine.stands time s c.args.program.now c.args.request.now d told c.answer_lines.new.session)) (sym (sym c.goto_of.ensures ∙ c.in-None.is))
+    (c.answer_lines.ensures.told s d there)
