@@ -2,13 +2,7 @@
 use crate::ends::{CallFault, Ended};
 use crate::runs::session;
 use conditional_stops::{
-    Conditions,
-    CountedStop,
-    Direction,
-    MoveEnd,
-    Verdict,
-    continue_on,
-    judge_condition,
+    Conditions, CountedStop, Direction, MoveEnd, Verdict, continue_on, judge_condition,
 };
 use debug_commands::read_command;
 use ispc_debugger::ProgramSession;
