@@ -13,7 +13,7 @@ DEFINITIONS = "docs/DEFINITIONS.md"
 MOST = 500
 
 # What stands in a path for any name, or is made when the program is built or proved; files of an editor; and a format behind GDB's `print` or `x`.
-MADE_OR_ANY = re.compile(r"\b(NAME|CRATE|DIR|F|PATH)\b|\.\.$|\bout/|^proved\.txt$|^~|\*|^\.vscode/|^(?:p|print|x)/\w+$")
+MADE_OR_ANY = re.compile(r"\b(NAME|CRATE|DIR|F|PATH)\b|\.\.$|\bout/|^proved\.txt$|^~|\*|^\.vscode/|^(?:p|print|display|x)/\w+$")
 CODE = re.compile(r"`([^`\n]+)`")
 LINK = re.compile(r"\]\(([^)#\s]+)[^)]*\)")
 PATH = re.compile(r"(?:[\w.~*+-]*\w[\w.~*+-]*/)+[\w.*+-]*|[\w-]+\.(?:antt|rt|py|md|txt|edit|session)")

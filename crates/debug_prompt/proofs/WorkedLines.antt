@@ -36,9 +36,17 @@ set_row : (s : Setting) (d : Debugger) → at_start s d (codes "set x[2] = 3") �
 unfolding at_start
 set_row s d = refl
 
-hexadecimal_row : (s : Setting) (d : Debugger) → at_start s d (codes "p/x x") ≡ DoPrint (record { name = codes "x"; at = None }) ∷ []
+formatted_row : (s : Setting) (d : Debugger) → at_start s d (codes "p/x x") ≡ []
 unfolding at_start
-hexadecimal_row s d = refl
+formatted_row s d = refl
+
+display_row : (s : Setting) (d : Debugger) → held_after source nothing_kept held_at_start s d (codes "display/t x + 1") ≡ record held_at_start { displays = (1, codes "print/t  x + 1") ∷ []; next = 2 }
+display_row s d = refl
+
+-- `when` alone asks nothing
+when_alone_row : (s : Setting) (d : Debugger) → at_start s d (codes "when") ≡ []
+unfolding at_start
+when_alone_row s d = refl
 
 look_row : (s : Setting) (d : Debugger) → at_start s d (codes "list 4") ≡ []
 unfolding at_start
@@ -127,6 +135,11 @@ goto_here_row s = refl
 set_there_row : is_unset some_events ≡ false
 unfolding some_events
 set_there_row = refl
+
+-- nothing is asked where a value was set
+when_row : (s : Setting) → at_start s some_events (codes "when x > 2") ≡ []
+unfolding at_start some_events
+when_row s = refl
 
 restart_row : (s : Setting) → commands_of source nothing_kept (record some_held { displays = [] }) s (record some_events { events = Step ∷ []; kept = 1 }) (codes "restart 4") ≡ []
 unfolding some_held some_events

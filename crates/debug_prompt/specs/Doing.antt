@@ -16,7 +16,7 @@ use Rattle.prompt_lines.specs.declared.line.Look.TheVariants as look
 use Rattle.prompt_lines.specs.Sources.{Sheet, line_named}
 use Rattle.prompt_lines.specs.Words.{Spelled, argument_of, held_text, is_alone, line_of, moment_of, setting_text}
 use Rattle.debug_prompt.specs.Holding.{Held, nothing_kept}
-use Rattle.debug_prompt.specs.Moments.{all_back, at_first, is_unchanged, is_unset, is_whole, led, steps_on, stops_back, to_moment}
+use Rattle.debug_prompt.specs.Moments.{all_back, at_first, is_unchanged, is_unset, is_whole, led, steps_on, stops_back, to_moment, walked}
 use Rattle.debug_prompt.specs.declared.prompt.Turn.{Turn}
 use Rattle.debug_prompt.specs.declared.prompt.Turn.TheVariants as turn
 
@@ -278,6 +278,18 @@ abbrev pub changes_by : Setting → Debugger → Option (Target × ℕ) → List
 changes_by s d None = []
 changes_by s d (Some named) = if is_unset d then watched_changes s d named.0 named.1 else []
 
+-- whether a command line asks something, all of which is held
+abbrev pub is_asked : (text : List ℕ) → Bool
+is_asked text = not (is_alone text) && nat_lt (length text) 257
+
+-- through the whole run, where single steps lead to each moment of it and back
+abbrev pub walked_if_known : Setting → Debugger → List Command
+walked_if_known s d = if is_whole d && is_unset d then walked s.limit s d else []
+
+-- `when`: through the whole run
+abbrev pub when_by : Setting → Debugger → (text : List ℕ) → List Command
+when_by s d text = if is_asked text then walked_if_known s d else []
+
 -- a breakpoint is made
 abbrev pub broken : (line : Option ℕ) → List Command
 broken None = []
@@ -325,12 +337,12 @@ commands_by kind.Start sheet s d h text = if is_alone text then start_by d h els
 commands_by kind.Clear sheet s d h text = cleared (stop_on s d (line_named sheet text))
 commands_by kind.Temporary sheet s d h text = broken (line_named sheet text)
 commands_by kind.Until sheet s d h text = if is_alone text then done_with s d h (DoNext 1) else until_line s d h (line_named sheet text)
-commands_by kind.Hexadecimal sheet s d h text = in_top h (printed (print_of (command_of text)))
 commands_by kind.Display sheet s d h text = in_top h (if is_alone text then shown h.displays else printed (print_of (command_of text)))
 commands_by kind.Goto sheet s d h text = go_by s d h (step_named text)
 commands_by kind.Restart sheet s d h text = go_by s d h (step_noted h (index_named text))
 commands_by kind.Last sheet s d h text = last_by s d h (watch_of (command_of text))
 commands_by kind.Changes sheet s d h text = changes_by s d (changes_named text)
+commands_by kind.When sheet s d h text = when_by s d text
 commands_by kind sheet s d h text = []
 
 -- the commands that are done for a line, where one is kept
@@ -442,10 +454,14 @@ abbrev pub after_break : Setting → Debugger → Held → (line : Option ℕ) �
 after_break s d h None = h
 after_break s d h (Some n) = with_temporary h (made_number (do_command s (DoBreak n) d).answer)
 
--- a target is to be displayed, if it is shown
+-- whether a command line is to be displayed: of a target if it is shown, and any other if all of it is held
+abbrev pub is_displayed : Setting → Debugger → Held → (text : List ℕ) → Option Target → Bool
+is_displayed s d h text None = nat_lt (length text) 257
+is_displayed s d h text (Some target) = shows s d h target
+
+-- what a command line names is to be displayed
 abbrev pub after_print : Setting → Debugger → Held → (text : List ℕ) → Option Target → Held
-after_print s d h text None = h
-after_print s d h text (Some target) = if shows s d h target then with_display h text else h
+after_print s d h text target = if is_displayed s d h text target then with_display h text else h
 
 -- a frame is selected, if there is one of this number
 abbrev pub selected : Setting → Debugger → Held → (number : Option ℕ) → Held
@@ -500,7 +516,7 @@ repeats kind.Own text = command_repeats (command_of text)
 repeats kind.Finish text = command_repeats (command_of text)
 repeats kind.Print text = not (sets (command_of (setting_text text)))
 repeats kind.Until text = true
-repeats kind.Hexadecimal text = true
+repeats kind.Formatted text = true
 repeats kind.Last text = true
 repeats (kind.Look look.List) text = true
 repeats (kind.Look look.Up) text = true

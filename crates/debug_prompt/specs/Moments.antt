@@ -1,5 +1,5 @@
 -- Moments of the run: how many steps lead to them, and the commands that go there.
-use Rattle.std.specs.Prelude.{ℕ, zero, suc, ◌-◌, ◌==◌, ◌&&◌, Bool, true, false, nat_le, nat_lt, List, [], ◌∷◌, drop, replicate, if◌then◌else◌}
+use Rattle.std.specs.Prelude.{ℕ, zero, suc, ◌-◌, ◌==◌, ◌&&◌, Bool, true, false, nat_le, nat_lt, List, [], ◌∷◌, ◌++◌, drop, replicate, if◌then◌else◌}
 use Rattle.gang_model.specs.Debugger.Debugger.{Answer, AtBreakpoint, AtWatch, Command, Debugger, DoReverseContinue, DoReverseStep, DoStep, DoUndo, Here, HistoryEnd, Setting, do_command, kept_steps}
 
 -- whether a goal is reached, or the end
@@ -56,3 +56,11 @@ is_unchanged d answer = is_history_end answer && is_unset d
 abbrev pub stops_back : ℕ → Setting → Debugger → List Command
 stops_back zero s d = []
 stops_back (suc n) s d = let r = do_command s DoReverseContinue d in DoReverseContinue ∷ (if is_stop r.answer then stops_back n s r.next else [])
+
+-- through the whole run, or so many steps of it: back to its start, on step by step, and to where it stood
+abbrev pub walked : ℕ → Setting → Debugger → List Command
+walked most s d =
+    let back = to_moment 0 s d in
+    let start = led s back d in
+    let on = steps_on most s start in
+    back ++ on ++ to_moment (kept_steps d) s (led s on start)

@@ -16,6 +16,7 @@ use debug_answers::Answer;
 use debug_commands::Command;
 use debug_session::Session;
 use debug_traits::{AnswerWriter, RecordedMachine};
+use frame_expressions::ExpressionMachine;
 use prompt_lines::is_alone;
 use prompt_texts::{Before, Page, show_here, tell_move, tell_not_whole, tell_unknown};
 
@@ -26,7 +27,7 @@ const LARGEST_LIMIT: usize = 65_536;
 const ANEW: &[u8] = b"The program begins anew; what `set var` set is gone.\n";
 
 /// Begins the program, or, where it has begun, takes everything back and begins it anew.
-pub(crate) fn run<M: RecordedMachine, O: AnswerWriter + Drop>(
+pub(crate) fn run<M: ExpressionMachine, O: AnswerWriter + Drop>(
     text: &[u8],
     holding: &mut Holding,
     scene: Scene<'_>,
@@ -45,7 +46,7 @@ pub(crate) fn run<M: RecordedMachine, O: AnswerWriter + Drop>(
 }
 
 /// Begins the program, or begins it anew.
-fn run_alone<M: RecordedMachine, O: AnswerWriter + Drop>(
+fn run_alone<M: ExpressionMachine, O: AnswerWriter + Drop>(
     holding: &mut Holding,
     scene: Scene<'_>,
     session: &mut Session<M>,
@@ -65,7 +66,7 @@ fn run_alone<M: RecordedMachine, O: AnswerWriter + Drop>(
 }
 
 /// Takes everything back, and begins the program as at first.
-fn run_anew<M: RecordedMachine, O: AnswerWriter + Drop>(
+fn run_anew<M: ExpressionMachine, O: AnswerWriter + Drop>(
     holding: &mut Holding,
     scene: Scene<'_>,
     session: &mut Session<M>,
@@ -81,7 +82,7 @@ fn run_anew<M: RecordedMachine, O: AnswerWriter + Drop>(
 }
 
 /// Stops at once at a breakpoint where the program stands already, if there is one, else goes on.
-fn run_from<M: RecordedMachine, O: AnswerWriter + Drop>(
+fn run_from<M: ExpressionMachine, O: AnswerWriter + Drop>(
     at: Option<u32>,
     holding: &mut Holding,
     scene: Scene<'_>,
@@ -104,7 +105,7 @@ fn run_from<M: RecordedMachine, O: AnswerWriter + Drop>(
 }
 
 /// Shows where the program begins: where it has begun, everything is taken back first.
-pub(crate) fn start<M: RecordedMachine, O: AnswerWriter + Drop>(
+pub(crate) fn start<M: ExpressionMachine, O: AnswerWriter + Drop>(
     text: &[u8],
     holding: &mut Holding,
     scene: Scene<'_>,
@@ -123,7 +124,7 @@ pub(crate) fn start<M: RecordedMachine, O: AnswerWriter + Drop>(
 }
 
 /// Shows where the program begins, and takes it back there.
-fn start_alone<M: RecordedMachine, O: AnswerWriter + Drop>(
+fn start_alone<M: ExpressionMachine, O: AnswerWriter + Drop>(
     holding: &mut Holding,
     scene: Scene<'_>,
     session: &mut Session<M>,
@@ -143,7 +144,7 @@ fn start_alone<M: RecordedMachine, O: AnswerWriter + Drop>(
 }
 
 /// Takes everything back, and shows where the program stands then.
-fn start_anew<M: RecordedMachine, O: AnswerWriter + Drop>(
+fn start_anew<M: ExpressionMachine, O: AnswerWriter + Drop>(
     holding: &mut Holding,
     scene: Scene<'_>,
     session: &mut Session<M>,

@@ -17,6 +17,7 @@ use debug_answers::Answer;
 use debug_commands::{Command, read_command};
 use debug_session::Session;
 use debug_traits::{AnswerWriter, RecordedMachine};
+use frame_expressions::ExpressionMachine;
 use prompt_lines::is_alone;
 use prompt_texts::{Before, Page, tell, tell_move, tell_unknown};
 
@@ -25,7 +26,7 @@ const FINISHES_TOP: &[u8] =
     b"`finish` leaves the top frame, number 0: `frame 0` selects it, and `finish` again leaves the next one.\n";
 
 /// Does the command that a command line spells; says of a line that spells none why.
-pub(crate) fn do_spelled<M: RecordedMachine, O: AnswerWriter + Drop>(
+pub(crate) fn do_spelled<M: ExpressionMachine, O: AnswerWriter + Drop>(
     text: &[u8],
     holding: &mut Holding,
     scene: Scene<'_>,
@@ -43,7 +44,7 @@ pub(crate) fn do_spelled<M: RecordedMachine, O: AnswerWriter + Drop>(
 }
 
 /// Goes on until the top frame is left.
-pub(crate) fn finish<M: RecordedMachine, O: AnswerWriter + Drop>(
+pub(crate) fn finish<M: ExpressionMachine, O: AnswerWriter + Drop>(
     text: &[u8],
     holding: &mut Holding,
     scene: Scene<'_>,
@@ -131,7 +132,7 @@ pub(crate) fn break_temporarily<M: RecordedMachine, O: AnswerWriter + Drop>(
 }
 
 /// Goes on to a line, or, where none is named, to the next one of this function.
-pub(crate) fn go_until<M: RecordedMachine, O: AnswerWriter + Drop>(
+pub(crate) fn go_until<M: ExpressionMachine, O: AnswerWriter + Drop>(
     text: &[u8],
     holding: &mut Holding,
     scene: Scene<'_>,
@@ -152,7 +153,7 @@ pub(crate) fn go_until<M: RecordedMachine, O: AnswerWriter + Drop>(
 }
 
 /// Goes on to the line of a breakpoint that a command line spells.
-fn go_to_spelled<M: RecordedMachine, O: AnswerWriter + Drop>(
+fn go_to_spelled<M: ExpressionMachine, O: AnswerWriter + Drop>(
     text: &[u8],
     holding: &mut Holding,
     scene: Scene<'_>,
@@ -171,7 +172,7 @@ fn go_to_spelled<M: RecordedMachine, O: AnswerWriter + Drop>(
 }
 
 /// Makes a breakpoint, goes on to it, and deletes it.
-fn go_to_line<M: RecordedMachine, O: AnswerWriter + Drop>(
+fn go_to_line<M: ExpressionMachine, O: AnswerWriter + Drop>(
     line: u32,
     holding: &mut Holding,
     scene: Scene<'_>,
@@ -190,7 +191,7 @@ fn go_to_line<M: RecordedMachine, O: AnswerWriter + Drop>(
 }
 
 /// Goes on to a breakpoint that has been made, and deletes it.
-fn go_to_stop<M: RecordedMachine, O: AnswerWriter + Drop>(
+fn go_to_stop<M: ExpressionMachine, O: AnswerWriter + Drop>(
     number: u32,
     holding: &mut Holding,
     scene: Scene<'_>,

@@ -37,16 +37,19 @@ pub(crate) fn value_instead<M: ExpressionMachine>(
 pub(crate) fn show_instead<O: AnswerWriter + Drop>(
     value: &ExpressionValue,
     text: &[u8],
-    digits: Digits,
     page: &mut Page<O>,
 ) {
-    show_expression(expression_text(text), digits, value, page);
+    show_expression(
+        expression_text(text).trim_ascii(),
+        Digits::Decimal,
+        value,
+        page,
+    );
 }
 
 /// Shows the value of the expression of a command line in the frame that is selected, or tells why it has none.
 pub(crate) fn print_expression<M: ExpressionMachine, O: AnswerWriter + Drop>(
     text: &[u8],
-    digits: Digits,
     holding: &Holding,
     scene: Scene<'_>,
     session: &Session<M>,
@@ -54,12 +57,24 @@ pub(crate) fn print_expression<M: ExpressionMachine, O: AnswerWriter + Drop>(
 ) {
     if is_alone(text) || text.len() >= HELD {
         tell_unknown(scene.line, page);
-        return;
+    } else {
+        let written = expression_text(text);
+        print_written(written, Digits::Decimal, holding, scene, session, page);
     }
-    let written = expression_text(text);
+}
+
+/// Shows the value of an expression in the frame that is selected, or tells why it has none.
+pub(crate) fn print_written<M: ExpressionMachine, O: AnswerWriter + Drop>(
+    written: &[u8],
+    digits: Digits,
+    holding: &Holding,
+    scene: Scene<'_>,
+    session: &Session<M>,
+    page: &mut Page<O>,
+) {
     let depth = selected_depth(holding, session);
     match value_of_expression(scene.alloc, written, depth, session.machine()) {
-        Ok(value) => show_expression(written, digits, &value, page),
+        Ok(value) => show_expression(written.trim_ascii(), digits, &value, page),
         Err(why) => tell_no_value(
             &why,
             Spelled {

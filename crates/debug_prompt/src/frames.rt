@@ -20,7 +20,7 @@ use gang_types::{Rate, VarId};
 use prompt_lines::{argument, index, is_alone};
 
 /// How many frames there are; a program that has ended counts as one.
-fn depth<M: RecordedMachine>(session: &Session<M>) -> usize
+pub(crate) fn depth<M: RecordedMachine>(session: &Session<M>) -> usize
     ensures { (s : Setting) (d : Debugger) → StandsFor M.stands session.now s d → result ≡ model.depth (now s d) }
 {
     match session.machine().position() {

@@ -1,9 +1,11 @@
 //! A prompt: what people type is done by the debugger's own commands, and shown with the source.
 #![tactic(auto)]
 
+mod asking;
 mod beginning;
 mod doing;
 mod expressions;
+mod forms;
 mod frames;
 mod holding;
 mod listing;

@@ -6,13 +6,14 @@ ghost use Rattle.prompt_lines.specs.declared.line.Kind.TheVariants as kind;
 ghost use Rattle.debug_prompt.specs.Doing as spec;
 ghost use Rattle.debug_prompt.specs.Holding.{held, sheet};
 
+use crate::forms::form_of;
 use crate::frames::{frame_above, frame_below, frame_named, select, selected_depth};
 use crate::holding::Holding;
 use crate::listing::{Lines, Listed, lines_of};
 use crate::moments::show_checkpoints;
 use crate::readings::{delete_of, is_move, line_of, print_of};
 use crate::turning::Scene;
-use debug_commands::{Command, read_command};
+use debug_commands::read_command;
 use debug_session::Session;
 use debug_traits::{AnswerWriter, FramedMachine, RecordedMachine};
 use debug_words::is_blank_line;
@@ -224,8 +225,8 @@ fn show_displays<O: AnswerWriter + Drop>(holding: &Holding, page: &mut Page<O>) 
         page.put(b"nothing is displayed\n");
     }
     for displayed in holding.displays() {
-        if let Some(Command::Print(target)) = read_command(displayed.text.as_slice()) {
-            show_displayed(displayed.number, target, page);
+        if let Some(form) = form_of(displayed.text.as_slice()) {
+            show_displayed(displayed.number, form.digits, form.text.trim_ascii(), page);
         }
     }
 }

@@ -18,6 +18,7 @@ use debug_answers::Answer;
 use debug_commands::Command;
 use debug_session::Session;
 use debug_traits::{AnswerWriter, RecordedMachine};
+use frame_expressions::ExpressionMachine;
 use prompt_lines::is_alone;
 use prompt_texts::{
     Before, Page, show_checkpoint, tell_checkpoint, tell_move, tell_no_such_step, tell_not_whole,
@@ -44,7 +45,7 @@ const FULL: &[u8] =
     b"CheckpointsFull: 64 checkpoints are there; `delete checkpoint N` makes room.\n";
 
 /// Goes to the moment after so many steps.
-pub(crate) fn go_to_step<M: RecordedMachine, O: AnswerWriter + Drop>(
+pub(crate) fn go_to_step<M: ExpressionMachine, O: AnswerWriter + Drop>(
     text: &[u8],
     holding: &mut Holding,
     scene: Scene<'_>,
@@ -62,7 +63,7 @@ pub(crate) fn go_to_step<M: RecordedMachine, O: AnswerWriter + Drop>(
 }
 
 /// Goes to a moment that was noted.
-pub(crate) fn restart<M: RecordedMachine, O: AnswerWriter + Drop>(
+pub(crate) fn restart<M: ExpressionMachine, O: AnswerWriter + Drop>(
     text: &[u8],
     holding: &mut Holding,
     scene: Scene<'_>,
@@ -90,7 +91,7 @@ fn step_noted(holding: &Holding, number: Option<u32>) -> Option<u64>
 }
 
 /// Goes to the moment after so many steps, where their number is known.
-fn go_if_whole<M: RecordedMachine, O: AnswerWriter + Drop>(
+fn go_if_whole<M: ExpressionMachine, O: AnswerWriter + Drop>(
     step: u64,
     holding: &mut Holding,
     scene: Scene<'_>,
@@ -110,7 +111,7 @@ fn go_if_whole<M: RecordedMachine, O: AnswerWriter + Drop>(
 }
 
 /// Goes to the moment after so many steps, and shows what is there.
-fn go_there<M: RecordedMachine, O: AnswerWriter + Drop>(
+fn go_there<M: ExpressionMachine, O: AnswerWriter + Drop>(
     step: u64,
     holding: &Holding,
     scene: Scene<'_>,
@@ -130,7 +131,7 @@ fn go_there<M: RecordedMachine, O: AnswerWriter + Drop>(
 }
 
 /// Moves step by step to the moment after so many steps. Says what the last step came to, where it was made.
-fn move_to<'a, M: RecordedMachine>(step: u64, session: &mut Session<M>) -> Answer<'a>
+pub(crate) fn move_to<'a, M: RecordedMachine>(step: u64, session: &mut Session<M>) -> Answer<'a>
     ensures { (s : Setting) (d : Debugger) → StandsFor M.stands session.old s d → StandsFor M.stands session.new s (moments.led s (moments.to_moment step s d) d) }
 {
     let here = session.machine().kept_steps() as u64;

@@ -18,6 +18,7 @@ use debug_answers::Answer;
 use debug_commands::{Command, Target};
 use debug_session::Session;
 use debug_traits::{AnswerWriter, RecordedMachine};
+use frame_expressions::ExpressionMachine;
 use prompt_texts::{Before, Page, Watched, tell, tell_move, tell_never_changed, tell_usage};
 
 /// What may follow `last`.
@@ -33,7 +34,7 @@ const IS_SET: &[u8] =
     b"Nothing is done: a value was set by `set var`, which going back would take back; `last T` goes to the last change.\n";
 
 /// Goes back to the last change of a target.
-pub(crate) fn go_to_last<M: RecordedMachine, O: AnswerWriter + Drop>(
+pub(crate) fn go_to_last<M: ExpressionMachine, O: AnswerWriter + Drop>(
     text: &[u8],
     holding: &mut Holding,
     scene: Scene<'_>,
@@ -51,7 +52,7 @@ pub(crate) fn go_to_last<M: RecordedMachine, O: AnswerWriter + Drop>(
 }
 
 /// Watches a target, and goes back to its last change.
-fn seek<M: RecordedMachine, O: AnswerWriter + Drop>(
+fn seek<M: ExpressionMachine, O: AnswerWriter + Drop>(
     target: Target<'_>,
     holding: &mut Holding,
     scene: Scene<'_>,
@@ -71,7 +72,7 @@ fn seek<M: RecordedMachine, O: AnswerWriter + Drop>(
 
 /// Goes back to the last change of what has been watched, and the watch goes. Where there is none, the program goes on to where it
 /// stood.
-fn seek_change<M: RecordedMachine, O: AnswerWriter + Drop>(
+fn seek_change<M: ExpressionMachine, O: AnswerWriter + Drop>(
     number: u32,
     target: Target<'_>,
     holding: &mut Holding,
@@ -235,7 +236,7 @@ fn unwatch<M: RecordedMachine>(number: u32, session: &mut Session<M>)
 }
 
 /// Whether no value that was set can be taken back.
-fn is_unset<M: RecordedMachine>(session: &Session<M>) -> bool
+pub(crate) fn is_unset<M: RecordedMachine>(session: &Session<M>) -> bool
     ensures { (s : Setting) (d : Debugger) → StandsFor M.stands session.now s d → result ≡ moments.is_unset d }
 {
     session.machine().kept() == session.machine().kept_steps()

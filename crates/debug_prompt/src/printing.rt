@@ -11,6 +11,7 @@ ghost use Rattle.debug_prompt.specs.Doing as spec;
 ghost use Rattle.debug_prompt.specs.Holding.{held};
 
 use crate::expressions::{print_expression, show_instead, value_instead};
+use crate::forms::{show_form, show_formatted};
 use crate::frames::{find_part, may_set, selected_depth};
 use crate::holding::Holding;
 use crate::readings::{delete_of, is_shown, print_of};
@@ -19,10 +20,8 @@ use debug_commands::{Command, Target, read_command};
 use debug_session::Session;
 use debug_traits::{AnswerWriter, FramedMachine, RecordedMachine};
 use frame_expressions::ExpressionMachine;
-use prompt_lines::{is_alone, setting_line};
-use prompt_texts::{
-    Digits, Page, show_bits, show_value, tell, tell_hexadecimal, tell_refused, tell_unknown,
-};
+use prompt_lines::{HELD, is_alone, setting_line};
+use prompt_texts::{Digits, Page, show_value, tell, tell_refused, tell_unknown};
 
 /// Why a local variable of an outer frame is not set.
 const SETS_TOP: &[u8] =
@@ -60,7 +59,7 @@ fn print_named<M: ExpressionMachine, O: AnswerWriter + Drop>(
 {
     if let Some(value) = value_instead(target.name, text, holding, scene, session) {
         print_silently(target, holding, session);
-        show_instead(&value, text, Digits::Decimal, page);
+        show_instead(&value, text, page);
     } else {
         let _ = print_target(target, holding, scene, session, page);
     }
@@ -95,7 +94,7 @@ fn set_or_print<M: ExpressionMachine, O: AnswerWriter + Drop>(
         Some(Command::Set { target, value }) => {
             set_target(target, value, holding, scene, session, page);
         }
-        _ => print_expression(text, Digits::Decimal, holding, scene, session, page),
+        _ => print_expression(text, holding, scene, session, page),
     }
 }
 
@@ -148,85 +147,20 @@ fn print_at<M: FramedMachine, O: AnswerWriter + Drop>(
 {
     match find_part(target, depth, session.machine()) {
         Ok(shown) => {
-            show_value(target, shown, depth, session.machine(), page);
+            show_value(
+                target,
+                Digits::Decimal,
+                shown,
+                depth,
+                session.machine(),
+                page,
+            );
             true
         }
         Err(refusal) => {
             tell_refused(refusal, scene.line, page);
             false
         }
-    }
-}
-
-/// Prints a target or an expression in hexadecimal digits.
-pub(crate) fn print_hexadecimal<M: ExpressionMachine, O: AnswerWriter + Drop>(
-    text: &[u8],
-    holding: &Holding,
-    scene: Scene<'_>,
-    session: &mut Session<M>,
-    page: &mut Page<O>,
-)
-    ensures { (s : Setting) (d : Debugger) → StandsFor M.stands session.old s d
-        → HasDone M.stands s (spec.in_top (held holding.now) (spec.printed (spec.print_of (command_of text.now)))) d session.new }
-{
-    if let Some(target) = print_of(text) {
-        print_named_bits(target, text, holding, scene, session, page);
-    } else {
-        print_expression(text, Digits::Hexadecimal, holding, scene, session, page);
-    }
-}
-
-/// Prints a target in hexadecimal digits; where its name stands for no variable, what it is as an expression.
-fn print_named_bits<M: ExpressionMachine, O: AnswerWriter + Drop>(
-    target: Target<'_>,
-    text: &[u8],
-    holding: &Holding,
-    scene: Scene<'_>,
-    session: &mut Session<M>,
-    page: &mut Page<O>,
-)
-    ensures { (s : Setting) (d : Debugger) → StandsFor M.stands session.old s d
-        → HasDone M.stands s (spec.in_top (held holding.now) (DoPrint (target_view target.entry) ∷ [])) d session.new }
-{
-    if let Some(value) = value_instead(target.name, text, holding, scene, session) {
-        print_silently(target, holding, session);
-        show_instead(&value, text, Digits::Hexadecimal, page);
-    } else {
-        print_bits(target, holding, scene, session, page);
-    }
-}
-
-/// Prints a target in hexadecimal digits, in the frame that is selected.
-fn print_bits<M: FramedMachine, O: AnswerWriter + Drop>(
-    target: Target<'_>,
-    holding: &Holding,
-    scene: Scene<'_>,
-    session: &mut Session<M>,
-    page: &mut Page<O>,
-)
-    ensures { (s : Setting) (d : Debugger) → StandsFor M.stands session.old s d
-        → HasDone M.stands s (spec.in_top (held holding.now) (DoPrint (target_view target.entry) ∷ [])) d session.new }
-{
-    if holding.is_top() {
-        let answer = session.do_command(Command::Print(target));
-        tell_hexadecimal(&answer, scene.line, session, page);
-    } else {
-        let depth = selected_depth(holding, session);
-        print_bits_at(target, depth, scene, session, page);
-    }
-}
-
-/// Shows a target of the frame at a depth in hexadecimal digits.
-fn print_bits_at<M: FramedMachine, O: AnswerWriter + Drop>(
-    target: Target<'_>,
-    depth: usize,
-    scene: Scene<'_>,
-    session: &Session<M>,
-    page: &mut Page<O>,
-) {
-    match find_part(target, depth, session.machine()) {
-        Ok(shown) => show_bits(target, shown, depth, session.machine(), page),
-        Err(refusal) => tell_refused(refusal, scene.line, page),
     }
 }
 
@@ -284,7 +218,7 @@ fn tell_unset<M: FramedMachine, O: AnswerWriter + Drop>(
 }
 
 /// Prints all that is displayed, or displays a target from now on.
-pub(crate) fn display<M: FramedMachine, O: AnswerWriter + Drop>(
+pub(crate) fn display<M: ExpressionMachine, O: AnswerWriter + Drop>(
     text: &[u8],
     holding: &mut Holding,
     scene: Scene<'_>,
@@ -303,7 +237,7 @@ pub(crate) fn display<M: FramedMachine, O: AnswerWriter + Drop>(
 }
 
 /// Prints all that is displayed, in the frame that is selected.
-fn display_all<M: FramedMachine, O: AnswerWriter + Drop>(
+fn display_all<M: ExpressionMachine, O: AnswerWriter + Drop>(
     holding: &Holding,
     scene: Scene<'_>,
     session: &mut Session<M>,
@@ -319,30 +253,25 @@ fn display_all<M: FramedMachine, O: AnswerWriter + Drop>(
         show_displays(holding.displays(), scene, session, page);
     } else {
         let depth = selected_depth(holding, session);
-        display_all_at(holding, depth, session, page);
+        display_all_at(holding, depth, scene, session, page);
     }
 }
 
 /// Shows all that is displayed, of the frame at a depth. What is not in scope there is left out.
-fn display_all_at<M: FramedMachine, O: AnswerWriter + Drop>(
+fn display_all_at<M: ExpressionMachine, O: AnswerWriter + Drop>(
     holding: &Holding,
     depth: usize,
+    scene: Scene<'_>,
     session: &Session<M>,
     page: &mut Page<O>,
 ) {
     for displayed in holding.displays() {
-        if let Some(target) = print_of(displayed.text.as_slice()) {
-            if let Ok(shown) = find_part(target, depth, session.machine()) {
-                page.put_number(i128::from(displayed.number));
-                page.put(b": ");
-                show_value(target, shown, depth, session.machine(), page);
-            }
-        }
+        show_form(displayed, depth, scene.alloc, session.machine(), page);
     }
 }
 
-/// Prints a target, and displays it from now on.
-fn display_target<M: FramedMachine, O: AnswerWriter + Drop>(
+/// Prints what a command line names, and displays it from now on.
+fn display_target<M: ExpressionMachine, O: AnswerWriter + Drop>(
     text: &[u8],
     holding: &mut Holding,
     scene: Scene<'_>,
@@ -353,12 +282,29 @@ fn display_target<M: FramedMachine, O: AnswerWriter + Drop>(
         → HasDone M.stands s (spec.in_top (held holding.old) (spec.printed (spec.print_of (command_of text.now)))) d session.new
         × (held holding.new ≡ spec.after_print s d (held holding.old) text.now (spec.print_of (command_of text.now))) }
 {
+    if print_new(text, holding, scene, session, page) {
+        holding.add_display(text);
+    }
+}
+
+/// Prints a target, an expression or what is in other digits. Says whether it is to be displayed: a target where it is shown, and anything
+/// else where all of it is held.
+fn print_new<M: ExpressionMachine, O: AnswerWriter + Drop>(
+    text: &[u8],
+    holding: &Holding,
+    scene: Scene<'_>,
+    session: &mut Session<M>,
+    page: &mut Page<O>,
+) -> bool
+    ensures { (s : Setting) (d : Debugger) → StandsFor M.stands session.old s d
+        → HasDone M.stands s (spec.in_top (held holding.now) (spec.printed (spec.print_of (command_of text.now)))) d session.new
+        × (result ≡ spec.is_displayed s d (held holding.now) text.now (spec.print_of (command_of text.now))) }
+{
     if let Some(target) = print_of(text) {
-        if print_target(target, holding, scene, session, page) {
-            holding.add_display(text);
-        }
+        print_target(target, holding, scene, session, page)
     } else {
-        tell_unknown(scene.line, page);
+        show_formatted(text, holding, scene, session, page);
+        text.len() < HELD
     }
 }
 

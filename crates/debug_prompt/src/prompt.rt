@@ -7,13 +7,15 @@ ghost use Rattle.prompt_lines.specs.Readings.{spelled};
 ghost use Rattle.debug_prompt.specs.Doing as spec;
 ghost use Rattle.debug_prompt.specs.Holding.{held, held_at_start, nothing_kept, sheet};
 
+use crate::asking::tell_when;
 use crate::beginning::{run, start};
 use crate::doing::{break_temporarily, clear, do_spelled, finish, go_until, make_break};
+use crate::forms::show_formatted;
 use crate::holding::Holding;
 use crate::looking::Looking;
 use crate::moments::{forget, go_to_step, note_moment, restart};
 use crate::past::{go_to_last, tell_changes};
-use crate::printing::{display, print, print_hexadecimal, set_spelled, undisplay};
+use crate::printing::{display, print, set_spelled, undisplay};
 use crate::readings::{command_repeats, sets};
 use crate::turning::Scene;
 use debug_commands::{Command, read_command};
@@ -152,7 +154,7 @@ fn repeats(line: &PromptLine) -> bool
         Kind::Own | Kind::Finish => command_repeats(read_command(line.text.as_slice())),
         Kind::Print => !sets(line.text.as_slice()),
         Kind::Until
-        | Kind::Hexadecimal
+        | Kind::Formatted
         | Kind::Last
         | Kind::Look(Look::List)
         | Kind::Look(Look::Up)
@@ -168,6 +170,7 @@ fn repeats(line: &PromptLine) -> bool
         | Kind::Undisplay
         | Kind::Goto
         | Kind::Changes
+        | Kind::When
         | Kind::Checkpoint
         | Kind::Restart
         | Kind::Forget
@@ -197,7 +200,7 @@ fn do_meant<M: ExpressionMachine, O: AnswerWriter + Drop>(
         Kind::Start => start(text, holding, scene, session, page),
         Kind::Finish => finish(text, holding, scene, session, page),
         Kind::Print => print(text, holding, scene, session, page),
-        Kind::Hexadecimal => print_hexadecimal(text, holding, scene, session, page),
+        Kind::Formatted => show_formatted(text, holding, scene, session, page),
         Kind::Set => set_spelled(text, holding, scene, session, page),
         Kind::Break => make_break(text, scene, session, page),
         Kind::Clear => clear(text, scene, session, page),
@@ -209,6 +212,7 @@ fn do_meant<M: ExpressionMachine, O: AnswerWriter + Drop>(
         Kind::Restart => restart(text, holding, scene, session, page),
         Kind::Last => go_to_last(text, holding, scene, session, page),
         Kind::Changes => tell_changes(text, scene, session, page),
+        Kind::When => tell_when(text, scene, session, page),
         Kind::Checkpoint => note_moment(text, holding, scene, session, page),
         Kind::Forget => forget(text, holding, scene, page),
         Kind::Look(look) => looking.look(look, text, is_again, holding, scene, session, page),

@@ -9,6 +9,7 @@ ghost use Rattle.debug_prompt.specs.Doing as spec;
 ghost use Rattle.debug_prompt.specs.Given as given;
 ghost use Rattle.debug_prompt.specs.Holding.{entry_of, held};
 
+use crate::forms::show_form_here;
 use crate::holding::{Displayed, Holding};
 use crate::pieces::go_on;
 use crate::readings::{is_move, is_refusal, print_of, stopped_number};
@@ -16,6 +17,7 @@ use debug_answers::Answer;
 use debug_commands::Command;
 use debug_session::Session;
 use debug_traits::{AnswerWriter, RecordedMachine};
+use frame_expressions::ExpressionMachine;
 use prompt_texts::{Before, Page, Source, tell, tell_move};
 use std::alloc::Global;
 
@@ -30,7 +32,7 @@ pub(crate) struct Scene<'a> {
 }
 
 /// Does a command, and what follows a move.
-pub(crate) fn do_own<M: RecordedMachine, O: AnswerWriter + Drop>(
+pub(crate) fn do_own<M: ExpressionMachine, O: AnswerWriter + Drop>(
     command: Command<'_>,
     holding: &mut Holding,
     scene: Scene<'_>,
@@ -63,7 +65,7 @@ pub(crate) fn do_alone<M: RecordedMachine, O: AnswerWriter + Drop>(
 }
 
 /// Moves, and tells where to and what changed; then what follows a move.
-fn do_move<M: RecordedMachine, O: AnswerWriter + Drop>(
+fn do_move<M: ExpressionMachine, O: AnswerWriter + Drop>(
     command: Command<'_>,
     holding: &mut Holding,
     scene: Scene<'_>,
@@ -98,7 +100,7 @@ fn make_moves<'a, M: RecordedMachine, O: AnswerWriter + Drop>(
 }
 
 /// What follows a move: the program has begun, the temporary breakpoint that stopped it goes, and all that is displayed is printed.
-pub(crate) fn follow<M: RecordedMachine, O: AnswerWriter + Drop>(
+pub(crate) fn follow<M: ExpressionMachine, O: AnswerWriter + Drop>(
     answer: &Answer<'_>,
     holding: &mut Holding,
     scene: Scene<'_>,
@@ -117,7 +119,7 @@ pub(crate) fn follow<M: RecordedMachine, O: AnswerWriter + Drop>(
 }
 
 /// What follows a move that was not refused.
-fn follow_done<M: RecordedMachine, O: AnswerWriter + Drop>(
+fn follow_done<M: ExpressionMachine, O: AnswerWriter + Drop>(
     answer: &Answer<'_>,
     holding: &Holding,
     scene: Scene<'_>,
@@ -148,7 +150,7 @@ fn delete_stopped<M: RecordedMachine>(
 }
 
 /// Prints all that is displayed.
-pub(crate) fn show_displays<M: RecordedMachine, O: AnswerWriter + Drop>(
+pub(crate) fn show_displays<M: ExpressionMachine, O: AnswerWriter + Drop>(
     displays: &[Displayed],
     scene: Scene<'_>,
     session: &mut Session<M>,
@@ -163,7 +165,7 @@ pub(crate) fn show_displays<M: RecordedMachine, O: AnswerWriter + Drop>(
 }
 
 /// Prints what is displayed by a number. What is not in scope now is left out.
-fn show_display<M: RecordedMachine, O: AnswerWriter + Drop>(
+fn show_display<M: ExpressionMachine, O: AnswerWriter + Drop>(
     displayed: &Displayed,
     scene: Scene<'_>,
     session: &mut Session<M>,
@@ -175,6 +177,8 @@ fn show_display<M: RecordedMachine, O: AnswerWriter + Drop>(
     if let Some(target) = print_of(displayed.text.as_slice()) {
         let answer = session.do_command(Command::Print(target));
         tell_displayed(displayed.number, &answer, scene, session, page);
+    } else {
+        show_form_here(displayed, scene.alloc, session, page);
     }
 }
 

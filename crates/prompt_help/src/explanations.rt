@@ -60,14 +60,13 @@ const COMMANDS: [Reason; 16] = [
     ),
     Reason(
         &[
-            b"display/x",
-            b"display/d",
-            b"display/t",
             b"display/i",
-            b"display/u",
-            b"display/c",
+            b"display/a",
+            b"display/f",
+            b"display/s",
+            b"display/z",
         ],
-        b"`display T` shows decimal digits after each move; `p/x T` shows hexadecimal ones when it is typed.",
+        b"`display T` shows decimal digits after each move; the letters of other digits are `/x`, `/t`, `/o`, `/u` and `/c`.",
     ),
     Reason(
         &[b"frame/", b"faas", b"select-frame"],
@@ -75,7 +74,7 @@ const COMMANDS: [Reason; 16] = [
     ),
     Reason(
         &[b"rwatch", b"awatch"],
-        b"Only changes are watched, and not reads: `watch T`.",
+        b"Only changes are watched, and not reads: `watch T` stops where T changes, `changes T` lists its changes, and `break N` stops on a line that reads it.",
     ),
     Reason(
         &[b"hbreak", b"thbreak", b"rbreak", b"dprintf"],
@@ -177,23 +176,8 @@ const FURTHER: [Reason; 14] = [
         b"`whatis T` shows the type of a variable, `print T` its values.",
     ),
     Reason(
-        &[
-            b"p/t",
-            b"p/c",
-            b"p/o",
-            b"p/a",
-            b"p/f",
-            b"p/s",
-            b"p/z",
-            b"print/t",
-            b"print/c",
-            b"print/o",
-            b"p/u",
-            b"p/i",
-            b"output/t",
-            b"output/d",
-        ],
-        b"Values are shown in decimal digits by `print T`, and in hexadecimal ones by `p/x T`.",
+        &[b"p/a", b"p/f", b"p/s", b"p/z", b"p/i", b"output/d"],
+        b"Values are shown in decimal digits by `print T`; the letters of other digits are `/x`, `/t`, `/o`, `/u` and `/c`.",
     ),
 ];
 
@@ -299,9 +283,9 @@ const MARKS: [Reason; 2] = [
 const NO_ADDRESS: &[u8] = b"Variables have no addresses: `print T` shows one, `whatis T` its type.";
 
 /// The commands whose text may have a part that nothing is done for.
-const SHOWING: [&[u8]; 15] = [
-    b"print", b"p", b"p/x", b"print/x", b"output", b"inspect", b"display", b"whatis", b"ptype",
-    b"break", b"b", b"br", b"tbreak", b"tb", b"watch",
+const SHOWING: [&[u8]; 19] = [
+    b"print", b"p", b"p/x", b"p/t", b"p/o", b"p/u", b"p/c", b"print/x", b"output", b"inspect",
+    b"display", b"whatis", b"ptype", b"break", b"b", b"br", b"tbreak", b"tb", b"watch",
 ];
 
 /// Whether a line is a setting of how GDB shows things, which changes nothing here.

@@ -77,9 +77,17 @@ const FIRST: [Topic; 16] = [
         text: b"shows a variable T, one lane or element as T[K], or the value of an expression, in the frame that is selected. `print T = V` sets it first.",
     },
     Topic {
-        names: &[b"p/x", b"print/x", b"output/x"],
+        names: &[
+            b"p/x",
+            b"print/x",
+            b"output/x",
+            b"p/t",
+            b"p/o",
+            b"p/u",
+            b"p/c",
+        ],
         usage: b"p/x T",
-        text: b"shows a variable, a lane or an element in hexadecimal digits.",
+        text: b"shows a variable, a lane, an element or an expression in hexadecimal digits, `p/t` in binary and `p/o` in octal ones, `p/u` without a sign, `p/c` as a character. A negative number has the bits of its type.",
     },
     Topic {
         names: &[b"set"],
@@ -87,9 +95,16 @@ const FIRST: [Topic; 16] = [
         text: b"gives a variable, a lane or an element a value: T = V does for all lanes. `set T = V` is the same; `undo` takes it back.",
     },
     Topic {
-        names: &[b"display"],
+        names: &[
+            b"display",
+            b"display/x",
+            b"display/t",
+            b"display/o",
+            b"display/u",
+            b"display/c",
+        ],
         usage: b"display [T]",
-        text: b"shows T now and after each move; without T all that is displayed.",
+        text: b"shows T, or the value of an expression, now and after each move; `display/x` and its like show it as `p/x` does. Without T all that is displayed is shown.",
     },
 ];
 
@@ -178,7 +193,7 @@ const OTHERS: [Topic; 16] = [
 ];
 
 /// The commands that go to moments of the run, and tell of them.
-const MOMENTS: [Topic; 5] = [
+const MOMENTS: [Topic; 6] = [
     Topic {
         names: &[b"goto"],
         usage: b"goto N",
@@ -193,6 +208,11 @@ const MOMENTS: [Topic; 5] = [
         names: &[b"changes"],
         usage: b"changes T [N]",
         text: b"lists its last ten changes, or N, the newest first; the program stands where it stood.",
+    },
+    Topic {
+        names: &[b"when"],
+        usage: b"when [-a] EXPR",
+        text: b"tells the first moment of the run at which EXPR is not 0 in an active lane, with those lanes, and how many such moments there are; -a lists twenty. The program stands where it stood.",
     },
     Topic {
         names: &[b"checkpoint"],

@@ -14,8 +14,17 @@ set_row = refl
 set_var_row : line_of (codes "set var x = 3") ≡ record { kind = kind.Set; text = codes "set var  x = 3" }
 set_var_row = refl
 
-hexadecimal_row : line_of (codes "p/x x") ≡ record { kind = kind.Hexadecimal; text = codes "print  x" }
+hexadecimal_row : line_of (codes "p/x x") ≡ record { kind = kind.Formatted; text = codes "print/x  x" }
 hexadecimal_row = refl
+
+binary_row : line_of (codes "print/t x[1]") ≡ record { kind = kind.Formatted; text = codes "print/t  x[1]" }
+binary_row = refl
+
+display_row : line_of (codes "display/o x + 1") ≡ record { kind = kind.Display; text = codes "print/o  x + 1" }
+display_row = refl
+
+when_row : line_of (codes "when x > 2") ≡ record { kind = kind.When; text = codes "when  x > 2" }
+when_row = refl
 
 own_row : line_of (codes "reverse-next 2") ≡ record { kind = kind.Own; text = codes "reverse-next 2" }
 own_row = refl

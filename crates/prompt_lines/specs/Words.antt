@@ -53,9 +53,6 @@ rows =
     ∷ row (codes "output" ∷ []) kind.Print (codes "print")
     ∷ row (codes "p/d" ∷ []) kind.Print (codes "print")
     ∷ row (codes "print/d" ∷ []) kind.Print (codes "print")
-    ∷ row (codes "p/x" ∷ []) kind.Hexadecimal (codes "print")
-    ∷ row (codes "print/x" ∷ []) kind.Hexadecimal (codes "print")
-    ∷ row (codes "output/x" ∷ []) kind.Hexadecimal (codes "print")
     ∷ row (codes "break" ∷ []) kind.Break (codes "break")
     ∷ row (codes "b" ∷ []) kind.Break (codes "break")
     ∷ row (codes "br" ∷ []) kind.Break (codes "break")
@@ -72,6 +69,7 @@ rows =
     ∷ row (codes "d" ∷ []) kind.Own (codes "delete")
     ∷ row (codes "del" ∷ []) kind.Own (codes "delete")
     ∷ row (codes "display" ∷ []) kind.Display (codes "print")
+    ∷ row (codes "display/d" ∷ []) kind.Display (codes "print")
     ∷ row (codes "info" ∷ codes "b" ∷ []) kind.Own (codes "info breakpoints")
     ∷ row (codes "info" ∷ codes "break" ∷ []) kind.Own (codes "info breakpoints")
     ∷ row (codes "i" ∷ codes "b" ∷ []) kind.Own (codes "info breakpoints")
@@ -83,9 +81,10 @@ rows =
     ∷ row (codes "changes" ∷ []) kind.Changes (codes "watch")
     ∷ row (codes "checkpoint" ∷ []) kind.Checkpoint (codes "checkpoint")
     ∷ row (codes "restart" ∷ []) kind.Restart (codes "goto")
+    ∷ row (codes "when" ∷ []) kind.When (codes "when")
     ∷ []
 
--- all words that people type for what is looked at
+-- all words that people type for what is looked at, and for values in other digits
 abbrev pub looks : List Row
 looks =
     row (codes "backtrace" ∷ codes "full" ∷ []) (kind.Look look.Full) []
@@ -125,6 +124,22 @@ looks =
     ∷ row (codes "help" ∷ []) (kind.Look look.Help) []
     ∷ row (codes "h" ∷ []) (kind.Look look.Help) []
     ∷ row (codes "echo" ∷ []) (kind.Look look.Text) []
+    ∷ row (codes "p/x" ∷ []) kind.Formatted (codes "print/x")
+    ∷ row (codes "print/x" ∷ []) kind.Formatted (codes "print/x")
+    ∷ row (codes "p/t" ∷ []) kind.Formatted (codes "print/t")
+    ∷ row (codes "print/t" ∷ []) kind.Formatted (codes "print/t")
+    ∷ row (codes "p/o" ∷ []) kind.Formatted (codes "print/o")
+    ∷ row (codes "print/o" ∷ []) kind.Formatted (codes "print/o")
+    ∷ row (codes "p/u" ∷ []) kind.Formatted (codes "print/u")
+    ∷ row (codes "print/u" ∷ []) kind.Formatted (codes "print/u")
+    ∷ row (codes "p/c" ∷ []) kind.Formatted (codes "print/c")
+    ∷ row (codes "print/c" ∷ []) kind.Formatted (codes "print/c")
+    ∷ row (codes "output/x" ∷ []) kind.Formatted (codes "print/x")
+    ∷ row (codes "display/x" ∷ []) kind.Display (codes "print/x")
+    ∷ row (codes "display/t" ∷ []) kind.Display (codes "print/t")
+    ∷ row (codes "display/o" ∷ []) kind.Display (codes "print/o")
+    ∷ row (codes "display/u" ∷ []) kind.Display (codes "print/u")
+    ∷ row (codes "display/c" ∷ []) kind.Display (codes "print/c")
     ∷ []
 
 -- a text without the blanks at its beginning
@@ -204,6 +219,10 @@ moment_of word = in_range 0 4611686018427387904 (decimal_number word)
 -- the command line that sets what another, which begins with `print`, names
 abbrev pub setting_text : List ℕ → List ℕ
 setting_text text = held_text (codes "set var" ++ 32 ∷ drop 5 text)
+
+-- the command line that prints what a text names
+abbrev pub printing_text : List ℕ → List ℕ
+printing_text text = held_text (codes "print" ++ 32 ∷ text)
 
 -- the command line of a breakpoint on what a word names
 abbrev pub breaking_text : Word → List ℕ

@@ -8,6 +8,7 @@ mod table;
 
 pub use line::{HELD, Kind, Look, PromptLine, Text};
 pub use reading::{
-    argument, breaking_line, held_line, index, is_alone, moment, read_line, setting_line,
+    argument, breaking_line, held_line, index, is_alone, moment, printing_line, read_line,
+    setting_line,
 };
 pub use sources::line_named;

@@ -67,8 +67,8 @@ pub enum Kind {
     Finish,
     /// A target is printed, or set first.
     Print,
-    /// What is printed is written in hexadecimal digits.
-    Hexadecimal,
+    /// What stands behind `print/` and a letter is shown in the digits of the letter.
+    Formatted,
     /// A target is set.
     Set,
     /// A breakpoint is made.
@@ -89,6 +89,8 @@ pub enum Kind {
     Last,
     /// The last changes of a target are listed.
     Changes,
+    /// The moments of the run are told at which an expression is not 0.
+    When,
     /// The moment is noted.
     Checkpoint,
     /// The program goes to a moment that was noted.

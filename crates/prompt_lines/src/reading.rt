@@ -213,6 +213,13 @@ fn behind_print(text: &[u8]) -> &[u8]
     }
 }
 
+/// The command line that prints what a text names.
+pub fn printing_line(text: &[u8]) -> Text
+    ensures { result.items ≡ spec.printing_text text.now }
+{
+    joined(PRINT, text)
+}
+
 /// The command line of a breakpoint on what a word names.
 pub fn breaking_line(word: &[u8]) -> Text
     ensures { result.items ≡ spec.breaking_text word.now }

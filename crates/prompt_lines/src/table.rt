@@ -10,7 +10,7 @@ pub(crate) struct Row(
 );
 
 /// The words of what is done, mostly by their names in GDB. Of two that a line begins with the first one counts.
-pub(crate) const ROWS: [Row; 57] = [
+pub(crate) const ROWS: [Row; 56] = [
     Row(&[b"set", b"var"], Kind::Set, b"set var"),
     Row(&[b"set", b"variable"], Kind::Set, b"set var"),
     Row(
@@ -42,9 +42,6 @@ pub(crate) const ROWS: [Row; 57] = [
     Row(&[b"output"], Kind::Print, b"print"),
     Row(&[b"p/d"], Kind::Print, b"print"),
     Row(&[b"print/d"], Kind::Print, b"print"),
-    Row(&[b"p/x"], Kind::Hexadecimal, b"print"),
-    Row(&[b"print/x"], Kind::Hexadecimal, b"print"),
-    Row(&[b"output/x"], Kind::Hexadecimal, b"print"),
     Row(&[b"break"], Kind::Break, b"break"),
     Row(&[b"b"], Kind::Break, b"break"),
     Row(&[b"br"], Kind::Break, b"break"),
@@ -61,6 +58,7 @@ pub(crate) const ROWS: [Row; 57] = [
     Row(&[b"d"], Kind::Own, b"delete"),
     Row(&[b"del"], Kind::Own, b"delete"),
     Row(&[b"display"], Kind::Display, b"print"),
+    Row(&[b"display/d"], Kind::Display, b"print"),
     Row(&[b"info", b"b"], Kind::Own, b"info breakpoints"),
     Row(&[b"info", b"break"], Kind::Own, b"info breakpoints"),
     Row(&[b"i", b"b"], Kind::Own, b"info breakpoints"),
@@ -72,10 +70,11 @@ pub(crate) const ROWS: [Row; 57] = [
     Row(&[b"changes"], Kind::Changes, b"watch"),
     Row(&[b"checkpoint"], Kind::Checkpoint, b"checkpoint"),
     Row(&[b"restart"], Kind::Restart, b"goto"),
+    Row(&[b"when"], Kind::When, b"when"),
 ];
 
-/// The words of what is looked at, for a line that begins with none of the others.
-pub(crate) const LOOKS: [Row; 37] = [
+/// The words of what is looked at, and of values in other digits, for a line that begins with none of the others.
+pub(crate) const LOOKS: [Row; 53] = [
     Row(&[b"backtrace", b"full"], Kind::Look(Look::Full), b""),
     Row(&[b"bt", b"full"], Kind::Look(Look::Full), b""),
     Row(&[b"where", b"full"], Kind::Look(Look::Full), b""),
@@ -117,4 +116,20 @@ pub(crate) const LOOKS: [Row; 37] = [
     Row(&[b"help"], Kind::Look(Look::Help), b""),
     Row(&[b"h"], Kind::Look(Look::Help), b""),
     Row(&[b"echo"], Kind::Look(Look::Text), b""),
+    Row(&[b"p/x"], Kind::Formatted, b"print/x"),
+    Row(&[b"print/x"], Kind::Formatted, b"print/x"),
+    Row(&[b"p/t"], Kind::Formatted, b"print/t"),
+    Row(&[b"print/t"], Kind::Formatted, b"print/t"),
+    Row(&[b"p/o"], Kind::Formatted, b"print/o"),
+    Row(&[b"print/o"], Kind::Formatted, b"print/o"),
+    Row(&[b"p/u"], Kind::Formatted, b"print/u"),
+    Row(&[b"print/u"], Kind::Formatted, b"print/u"),
+    Row(&[b"p/c"], Kind::Formatted, b"print/c"),
+    Row(&[b"print/c"], Kind::Formatted, b"print/c"),
+    Row(&[b"output/x"], Kind::Formatted, b"print/x"),
+    Row(&[b"display/x"], Kind::Display, b"print/x"),
+    Row(&[b"display/t"], Kind::Display, b"print/t"),
+    Row(&[b"display/o"], Kind::Display, b"print/o"),
+    Row(&[b"display/u"], Kind::Display, b"print/u"),
+    Row(&[b"display/c"], Kind::Display, b"print/c"),
 ];

@@ -1,2 +1,4 @@
 mod Masking
 mod Putting
+mod Spelling
+mod WorkedForms

@@ -1,22 +1,13 @@
 -- What is put on a page, and what is shown of a word.
 use Rattle.std.specs.Prelude.{◌≡◌, ◌==◌, ◌&&◌, ◌||◌, ℕ, Bool, false, List, [], ◌∷◌, ◌++◌, Option, codes, flat_map, if◌then◌else◌, map, zip}
 use Rattle.std.specs.Io.KnownBytes.{Appends}
-use Rattle.gang_types.specs.declared.types.IntType.{IntType}
 use Rattle.gang_types.specs.Lanes.{Lanes}
 use Rattle.gang_model.specs.Texts.Spellings.{is_between}
-use Rattle.gang_model.specs.Texts.Text.{Bytes, word_text}
+use Rattle.gang_model.specs.Texts.Text.{Bytes}
 
 -- unless the writer has failed by then, it had not failed before, and this text and no other was written behind what was there
 abbrev pub Puts : Bytes → (failed_before failed_then : Bool) → (before then_written : Option Bytes) → Type 0
 Puts text failed_before failed_then before then_written = failed_then ≡ false → (failed_before ≡ false) × Appends before then_written text
-
--- a blank, and the value of a word
-abbrev pub shown_text : IntType → ℕ → Bytes
-shown_text type word = codes " " ++ word_text type word
-
--- a blank and the value for each word
-abbrev pub values_text : IntType → List ℕ → Bytes
-values_text type words = flat_map (shown_text type) words
 
 -- the mark of a lane: `#` where it is active, and `.` where it waits
 abbrev pub mark : Bool → Bytes

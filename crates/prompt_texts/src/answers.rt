@@ -1,6 +1,12 @@
 //! What a command is answered, for people.
+ghost use Rattle.std.specs.Prelude.{◌++◌, decimal};
+ghost use Rattle.gang_model.specs.Texts.Text.{index_text, target_text};
+ghost use Rattle.debug_commands.specs.Views.{target_view};
+ghost use Rattle.prompt_texts.specs.Shown.{Puts};
+
 use crate::causes::tell_refused_here;
 use crate::changes::Before;
+use crate::forms::Digits;
 use crate::frames::put_frames;
 use crate::marked::digits;
 use crate::moments::step_of;
@@ -8,7 +14,7 @@ use crate::page::Page;
 use crate::places::{put_around, put_place};
 use crate::refusals::put_refused;
 use crate::source::Source;
-use crate::values::{put_bits, put_values};
+use crate::values::put_values;
 use debug_answers::{Answer, Stop};
 use debug_commands::Target;
 use debug_session::Session;
@@ -71,12 +77,9 @@ fn put_stop<O: AnswerWriter + Drop>(name: &[u8], number: u32, page: &mut Page<O>
     name.len().saturating_add(digits(number)).saturating_add(1)
 }
 
-fn put_numbered<O: AnswerWriter + Drop>(
-    front: &[u8],
-    number: u32,
-    back: &[u8],
-    page: &mut Page<O>,
-) {
+fn put_numbered<O: AnswerWriter + Drop>(front: &[u8], number: u32, back: &[u8], page: &mut Page<O>)
+    ensures { Puts (front.now ++ decimal number ++ back.now) page.old.has_failed page.new.has_failed (O.written page.old.writer) (O.written page.new.writer) }
+{
     page.put(front);
     page.put_number(i128::from(number));
     page.put(back);
@@ -115,7 +118,7 @@ pub fn tell<M: RecordedMachine, O: AnswerWriter + Drop>(
         Answer::Shows { target, shown } => {
             put_target(*target, page);
             page.put(b" =");
-            put_values(*shown, target.at, session.machine(), page);
+            put_values(Digits::Decimal, *shown, target.at, session.machine(), page);
             page.put(b"\n");
         }
         Answer::BreaksAt { number, line } => {
@@ -156,29 +159,19 @@ fn tell_list<M: RecordedMachine, O: AnswerWriter + Drop>(
     }
 }
 
-/// Writes a target, and what it shows in hexadecimal digits.
-pub fn tell_hexadecimal<M: RecordedMachine, O: AnswerWriter + Drop>(
-    answer: &Answer<'_>,
-    line: &[u8],
-    session: &Session<M>,
-    page: &mut Page<O>,
-) {
-    match answer {
-        Answer::Shows { target, shown } => {
-            put_target(*target, page);
-            page.put(b" =");
-            put_bits(*shown, target.at, session.machine(), page);
-            page.put(b"\n");
-        }
-        Answer::Refused(refusal) => tell_refused_here(*refusal, line, session.machine(), page),
-        _ => {}
-    }
+/// Writes a name, and an index in brackets.
+pub(crate) fn put_target<O: AnswerWriter + Drop>(target: Target<'_>, page: &mut Page<O>)
+    ensures { Puts (target_text (target_view target.entry)) page.old.has_failed page.new.has_failed (O.written page.old.writer) (O.written page.new.writer) }
+{
+    page.put(target.name);
+    put_index(target.at, page);
 }
 
-/// Writes a name, and an index in brackets.
-pub(crate) fn put_target<O: AnswerWriter + Drop>(target: Target<'_>, page: &mut Page<O>) {
-    page.put(target.name);
-    if let Some(index) = target.at {
+/// Writes an index in brackets, where there is one.
+fn put_index<O: AnswerWriter + Drop>(at: Option<u32>, page: &mut Page<O>)
+    ensures { Puts (index_text at) page.old.has_failed page.new.has_failed (O.written page.old.writer) (O.written page.new.writer) }
+{
+    if let Some(index) = at {
         put_numbered(b"[", index, b"]", page);
     }
 }
@@ -210,9 +203,7 @@ pub(crate) fn put_watched<M: RecordedMachine, O: AnswerWriter + Drop>(
     if let Some(named) = machine.file_variable(variable) {
         page.put(named.name);
     }
-    if let Some(index) = at {
-        put_numbered(b"[", index, b"]", page);
-    }
+    put_index(at, page);
     page.put(b"\n");
 }
 
@@ -242,6 +233,6 @@ fn put_variable<M: RecordedMachine, O: AnswerWriter + Drop>(
 ) {
     page.put(name);
     page.put(b" =");
-    put_values(shown, None, machine, page);
+    put_values(Digits::Decimal, shown, None, machine, page);
     page.put(b"\n");
 }

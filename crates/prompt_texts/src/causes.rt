@@ -14,7 +14,7 @@ struct Named<'a> {
 }
 
 /// Writes why a command is refused, with the line and a mark under what it is refused for.
-pub(crate) fn tell_refused_here<M: RecordedMachine, O: AnswerWriter + Drop>(
+pub fn tell_refused_here<M: RecordedMachine, O: AnswerWriter + Drop>(
     refusal: Refusal,
     line: &[u8],
     machine: &M,

@@ -1,10 +1,11 @@
 //! Which variables a move changed.
 use crate::answers::put_target;
+use crate::forms::Digits;
 use crate::moments::step_of;
 use crate::page::Page;
 use crate::places::put_place_alone;
 use crate::source::Source;
-use crate::values::put_value;
+use crate::values::put_word;
 use arrayvec::ArrayVec;
 use debug_commands::Target;
 use debug_session::Session;
@@ -257,7 +258,7 @@ fn word_at<M: RecordedMachine>(shown: Shown, index: usize, machine: &M) -> Words
 /// Writes a blank and the value of each word.
 fn put_all<O: AnswerWriter + Drop>(value_type: IntType, words: &[u64], page: &mut Page<O>) {
     for word in words {
-        put_value(value_type, *word, page);
+        put_word(Digits::Decimal, value_type, *word, page);
     }
 }
 

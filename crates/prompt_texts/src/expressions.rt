@@ -1,26 +1,24 @@
 //! The values of expressions, and why a text has none.
+ghost use Rattle.std.specs.Prelude.{◌<◌};
+ghost use Rattle.gang_types.specs.Masks.{IsGangWidth, lanes_of};
+ghost use Rattle.prompt_texts.specs.Forms as spec;
+ghost use Rattle.prompt_texts.specs.Shown.{Puts};
+
 use crate::answers::fault_text;
+use crate::forms::Digits;
 use crate::page::Page;
 use crate::refusals::put_typed;
-use crate::values::{put_digits, put_value};
+use crate::values::put_word;
 use debug_traits::{AnswerWriter, Fault};
 use frame_expressions::LaneWords;
 use frame_values::{ExpressionValue, NoValue};
 use gang_model::{RefusalNumber, SourceRefusal};
-use gang_types::{IntType, Mask, Place, Rate};
+use gang_types::{IntType, Place, Rate};
 use placed_expressions::ExpressionRefusal;
 use prompt_help::why_no_value;
 
 /// The widest gang.
 const WIDEST: usize = 16;
-
-/// The digits that values are written in.
-#[derive(Clone, Copy, Debug, PartialEq, Eq)]
-pub enum Digits {
-    Decimal,
-    /// The bits, as many as the type has.
-    Hexadecimal,
-}
 
 /// An expression as it was typed: its text is the end of a line.
 #[derive(Clone, Copy)]
@@ -29,65 +27,92 @@ pub struct Spelled<'a> {
     pub text: &'a [u8],
 }
 
-/// Writes a line: an expression, and its value in each lane, lane 0 first, with `.` for a lane that waits. A uniform expression has one value.
+/// Writes a line: an expression as it is typed, and its value in each lane, lane 0 first, with `.` for a lane that waits. A uniform
+/// expression has one value.
 pub fn show_expression<O: AnswerWriter + Drop>(
-    text: &[u8],
+    typed: &[u8],
     digits: Digits,
     value: &ExpressionValue,
     page: &mut Page<O>,
-) {
-    page.put_masked(text.trim_ascii());
+)
+    ensures { IsGangWidth value.now.lanes.width
+        → Puts (spec.expression_line digits typed.now value.now) page.old.has_failed page.new.has_failed (O.written page.old.writer) (O.written page.new.writer) }
+{
+    page.put_masked(typed);
     page.put(b" =");
-    match value.rate {
-        Rate::Varying => put_lanes(value.value_type, digits, &value.lanes, page),
-        Rate::Uniform => put_one(value.value_type, digits, &value.lanes, page),
-    }
+    put_expression(digits, value, page);
     page.put(b"\n");
 }
 
-/// Writes a blank and the value of each lane, or `.` where it waits.
-fn put_lanes<O: AnswerWriter + Drop>(
-    value_type: IntType,
+/// Writes the value of an expression.
+fn put_expression<O: AnswerWriter + Drop>(
     digits: Digits,
-    lanes: &LaneWords,
+    value: &ExpressionValue,
     page: &mut Page<O>,
-) {
-    for lane in 0..lanes.width.min(WIDEST) {
-        if lanes.lanes.has::<WIDEST>(lane) {
-            put_word(value_type, digits, lanes.words[lane], page);
-        } else {
-            page.put(b" .");
-        }
+)
+    ensures { IsGangWidth value.now.lanes.width
+        → Puts (spec.expression_text digits value.now) page.old.has_failed page.new.has_failed (O.written page.old.writer) (O.written page.new.writer) }
+{
+    match value.rate {
+        Rate::Varying => put_lanes(digits, value.value_type, &value.lanes, page),
+        Rate::Uniform => put_one(digits, value.value_type, &value.lanes, page),
     }
 }
 
-/// Writes a blank and the value of the lowest active lane, or `.` where each waits.
-fn put_one<O: AnswerWriter + Drop>(
-    value_type: IntType,
+/// Writes a blank and the word of each lane, or `.` where it waits.
+fn put_lanes<O: AnswerWriter + Drop>(
     digits: Digits,
+    value_type: IntType,
     lanes: &LaneWords,
     page: &mut Page<O>,
-) {
+)
+    ensures { IsGangWidth lanes.now.width
+        → Puts (spec.lanes_text digits value_type (lanes_of lanes.now.width lanes.now.lanes) lanes.now.words lanes.now.width)
+        page.old.has_failed page.new.has_failed (O.written page.old.writer) (O.written page.new.writer) }
+{
+    for lane in 0..lanes.width.min(WIDEST) {
+        put_lane(digits, value_type, lanes, lane, page);
+    }
+}
+
+/// Writes a blank and the word of a lane, or `.` where it waits.
+fn put_lane<O: AnswerWriter + Drop>(
+    digits: Digits,
+    value_type: IntType,
+    lanes: &LaneWords,
+    lane: usize,
+    page: &mut Page<O>,
+)
+    requires { lane < 16 }
+    ensures { IsGangWidth lanes.now.width → lane < lanes.now.width
+        → Puts (spec.lane_text digits value_type (lanes_of lanes.now.width lanes.now.lanes) lanes.now.words lane)
+        page.old.has_failed page.new.has_failed (O.written page.old.writer) (O.written page.new.writer) }
+{
+    if lanes.lanes.has::<WIDEST>(lane) {
+        put_word(digits, value_type, lanes.words[lane], page);
+    } else {
+        page.put(b" .");
+    }
+}
+
+/// Writes a blank and the word of the lowest active lane, or `.` where each waits.
+fn put_one<O: AnswerWriter + Drop>(
+    digits: Digits,
+    value_type: IntType,
+    lanes: &LaneWords,
+    page: &mut Page<O>,
+)
+    ensures { IsGangWidth lanes.now.width
+        → Puts (spec.one_text digits value_type (lanes_of lanes.now.width lanes.now.lanes) lanes.now.words)
+        page.old.has_failed page.new.has_failed (O.written page.old.writer) (O.written page.new.writer) }
+{
     for lane in 0..lanes.width.min(WIDEST) {
         if lanes.lanes.has::<WIDEST>(lane) {
-            put_word(value_type, digits, lanes.words[lane], page);
+            put_lane(digits, value_type, lanes, lane, page);
             return;
         }
     }
     page.put(b" .");
-}
-
-/// Writes a blank and the value of a word.
-fn put_word<O: AnswerWriter + Drop>(
-    value_type: IntType,
-    digits: Digits,
-    word: u64,
-    page: &mut Page<O>,
-) {
-    match digits {
-        Digits::Decimal => put_value(value_type, word, page),
-        Digits::Hexadecimal => put_digits(value_type, word, page),
-    }
 }
 
 /// Writes why a text has no value.
@@ -107,10 +132,23 @@ pub fn tell_no_value<O: AnswerWriter + Drop>(
 
 /// Writes the fault of a value, and its lane.
 fn put_fault<O: AnswerWriter + Drop>(fault: Fault, page: &mut Page<O>) {
+    put_faulty_lane(fault, page);
+    page.put(b"; the expression has no value.\n");
+}
+
+/// Writes a fault, and its lane.
+fn put_faulty_lane<O: AnswerWriter + Drop>(fault: Fault, page: &mut Page<O>) {
     page.put(fault_text(fault.name));
     page.put(b" in lane ");
     page.put_number(fault.lane as i128);
-    page.put(b"; the expression has no value.\n");
+}
+
+/// Writes a line: an expression as it is typed, and the fault that its value has.
+pub fn show_faulty<O: AnswerWriter + Drop>(typed: &[u8], fault: Fault, page: &mut Page<O>) {
+    page.put_masked(typed);
+    page.put(b" has no value: ");
+    put_faulty_lane(fault, page);
+    page.put(b"\n");
 }
 
 /// Writes why a text has no meaning, with a mark under the place.

@@ -1,9 +1,20 @@
 //! The frames, and the variables of each.
+ghost use Rattle.std.specs.Prelude.{◌++◌, codes};
+ghost use Rattle.gang_model.specs.Types.Tree.{Variable};
+ghost use Rattle.gang_model.specs.Debugger.Debugger.{Debugger, Setting, now, part_shown, shown_words};
+ghost use Rattle.gang_model.specs.Texts.Text.{target_text};
+ghost use Rattle.debug_answers.specs.Meanings.{IsInside};
+ghost use Rattle.debug_commands.specs.Views.{target_view};
+ghost use Rattle.debug_traits.specs.Frames.{IsShownAt, state_at};
+ghost use Rattle.prompt_texts.specs.Forms.{values_text};
+ghost use Rattle.prompt_texts.specs.Shown.{Puts};
+
 use crate::answers::put_target;
+use crate::forms::Digits;
 use crate::page::Page;
 use crate::places::{put_around, put_place};
 use crate::source::Source;
-use crate::values::{put_bits_at, put_values_at};
+use crate::values::put_values_at;
 use debug_commands::Target;
 use debug_session::Session;
 use debug_traits::{AnswerWriter, FramedMachine, NamedVariable, RecordedMachine, Shown};
@@ -188,34 +199,25 @@ fn put_variable_at<M: FramedMachine, O: AnswerWriter + Drop>(
     page.put(front);
     page.put(named.name);
     page.put(b" =");
-    put_values_at(named.shown, None, depth, machine, page);
+    put_values_at(Digits::Decimal, named.shown, None, depth, machine, page);
     page.put(b"\n");
 }
 
 /// Writes a target, and its values in the frame at a depth.
 pub fn show_value<M: FramedMachine, O: AnswerWriter + Drop>(
     target: Target<'_>,
+    digits: Digits,
     shown: Shown,
     depth: usize,
     machine: &M,
     page: &mut Page<O>,
-) {
+)
+    ensures { (s : Setting) (d : Debugger) (v : Variable) → M.stands machine.now s d → IsShownAt s d depth v shown → IsInside (target_view target.entry).at shown.count
+        → Puts (target_text (target_view target.entry) ++ codes " =" ++ values_text digits shown.value_type (part_shown (target_view target.entry).at (shown_words (state_at depth (now s d)) v)) ++ codes "\n")
+        page.old.has_failed page.new.has_failed (O.written page.old.writer) (O.written page.new.writer) }
+{
     put_target(target, page);
     page.put(b" =");
-    put_values_at(shown, target.at, depth, machine, page);
-    page.put(b"\n");
-}
-
-/// Writes a target, and its values in the frame at a depth in hexadecimal digits.
-pub fn show_bits<M: FramedMachine, O: AnswerWriter + Drop>(
-    target: Target<'_>,
-    shown: Shown,
-    depth: usize,
-    machine: &M,
-    page: &mut Page<O>,
-) {
-    put_target(target, page);
-    page.put(b" =");
-    put_bits_at(shown, target.at, depth, machine, page);
+    put_values_at(digits, shown, target.at, depth, machine, page);
     page.put(b"\n");
 }

@@ -2,9 +2,11 @@
 #![tactic(auto)]
 
 mod answers;
+mod asked;
 mod causes;
 mod changes;
 mod expressions;
+mod forms;
 mod frames;
 mod help;
 mod looks;
@@ -16,12 +18,14 @@ mod refusals;
 mod source;
 mod values;
 
-pub use answers::{tell, tell_hexadecimal, tell_move};
-pub use causes::tell_refused;
+pub use answers::{tell, tell_move};
+pub use asked::{Asked, show_moment, tell_asked};
+pub use causes::{tell_refused, tell_refused_here};
 pub use changes::{Before, Watched, tell_never_changed};
-pub use expressions::{Digits, Spelled, show_expression, tell_no_value};
+pub use expressions::{Spelled, show_expression, show_faulty, tell_no_value};
+pub use forms::Digits;
 pub use frames::{
-    show_arguments, show_bits, show_frame, show_frames, show_full_frames, show_locals, show_value,
+    show_arguments, show_frame, show_frames, show_full_frames, show_locals, show_value,
 };
 pub use looks::{
     list_lines, show_displayed, show_help, show_here, show_line, show_lists, show_source,

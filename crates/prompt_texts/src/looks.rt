@@ -1,5 +1,6 @@
 //! What is looked at: nothing changes in the debugger.
 use crate::answers::{put_target, put_watched};
+use crate::forms::Digits;
 use crate::help::{put_help, put_topic};
 use crate::moments::step_of;
 use crate::page::Page;
@@ -105,12 +106,30 @@ pub fn show_variables<M: RecordedMachine, O: AnswerWriter + Drop>(
     }
 }
 
-/// Writes a line: a number, and what is displayed by it.
-pub fn show_displayed<O: AnswerWriter + Drop>(number: u32, target: Target<'_>, page: &mut Page<O>) {
+/// Writes a line: a number, and what is displayed by it, with the letter of its digits.
+pub fn show_displayed<O: AnswerWriter + Drop>(
+    number: u32,
+    digits: Digits,
+    typed: &[u8],
+    page: &mut Page<O>,
+) {
     page.put_number(i128::from(number));
     page.put(b": ");
-    put_target(target, page);
+    page.put(letter_text(digits));
+    page.put_masked(typed);
     page.put(b"\n");
+}
+
+/// The letter of digits, behind `/`.
+fn letter_text(digits: Digits) -> &'static [u8] {
+    match digits {
+        Digits::Decimal => b"",
+        Digits::Unsigned => b"/u ",
+        Digits::Hexadecimal => b"/x ",
+        Digits::Octal => b"/o ",
+        Digits::Binary => b"/t ",
+        Digits::Character => b"/c ",
+    }
 }
 
 /// Writes a line for each watch.
