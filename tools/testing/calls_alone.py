@@ -61,6 +61,7 @@ CALLS = {
     "profile_texts::write_profile": 0,
     "profile_texts::write_comparison": 0,
     "conditional_stops::judge_condition": 0,
+    "conditional_stops::ask_breakpoints": 0,
     "conditional_stops::continue_on": 0,
     "source_port::port": 0,
     "adapter_frames::FrameReader::next_message": 0,

@@ -2,9 +2,11 @@
 use crate::ends::{CallFault, Ended};
 use crate::runs::session;
 use conditional_stops::{
-    Conditions, CountedStop, Direction, MoveEnd, Verdict, continue_on, judge_condition,
+    Conditions, CountedStop, Direction, MoveEnd, Verdict, ask_breakpoints, continue_on,
+    judge_condition,
 };
-use debug_commands::read_command;
+use debug_commands::{Command, read_command};
+use debug_traits::RecordedMachine;
 use ispc_debugger::ProgramSession;
 use std::alloc::Global;
 
@@ -17,8 +19,30 @@ pub(crate) fn call(alloc: Global, name: &str) -> Option<Ended> {
         "conditional_stops::judge_condition" => {
             Some(end_of_verdict(judge_condition(alloc, CONDITION, session(alloc)?.machine())))
         }
+        "conditional_stops::ask_breakpoints" => Some(ask(alloc, &mut session(alloc)?)),
         "conditional_stops::continue_on" => Some(go_on(alloc, &mut session(alloc)?)),
         _ => None,
+    }
+}
+
+/// Asks a breakpoint with a condition where the program stands.
+fn ask(alloc: Global, session: &mut ProgramSession<4>) -> Ended {
+    let Some(position) = session.machine().position() else {
+        return Ended::Otherwise;
+    };
+    session.do_command(Command::Break(position.place.line));
+    let mut conditions = Conditions::new();
+    if conditions.set_condition(1, CONDITION).is_err() {
+        return Ended::Otherwise;
+    }
+    match ask_breakpoints(alloc, &mut conditions, session) {
+        Some(
+            CountedStop {
+                verdict: Some(verdict),
+                ..
+            },
+        ) => end_of_verdict(verdict),
+        _ => Ended::Otherwise,
     }
 }
 

@@ -48,8 +48,8 @@ pub(crate) fn ask_all<M: ExpressionMachine>(
     first_of(breakpoint, watch)
 }
 
-/// Asks the breakpoints on the line where the program stands: the first that counts.
-fn ask_breakpoints<M: ExpressionMachine>(
+/// Asks the breakpoints on the line where the program stands: the first that counts. The counts of those that are passed go down.
+pub fn ask_breakpoints<M: ExpressionMachine>(
     alloc: Global,
     conditions: &mut Conditions,
     session: &Session<M>,

@@ -8,6 +8,7 @@ mod reasons;
 mod table;
 mod watching;
 
+pub use asking::ask_breakpoints;
 pub use going::{Direction, MoveEnd, Moved, continue_on};
 pub use judging::{HoldingLanes, Verdict, judge_condition};
 pub use reasons::{CountedStop, Reason};

@@ -6,6 +6,7 @@ use Rattle.gang_model.specs.Debugger.Debugger.{Command, Debugger, Setting}
 use Rattle.debug_answers.specs.declared.answer.Answer.{Answer}
 use Rattle.debug_answers.specs.declared.answer.Answer.TheVariants as answer
 use Rattle.debug_answers.specs.Meanings.{Means}
+use Rattle.debug_prompt.specs.Conditions.{forgotten_stop}
 use Rattle.debug_prompt.specs.Doing as doing
 use Rattle.debug_prompt.specs.Given as given
 use Rattle.debug_prompt.specs.Holding.{Held}
@@ -181,7 +182,9 @@ is_history_end-means s d (answer.Refused r) meant is = sym (ap moments.is_histor
 
 -- whether the program has begun by a move
 pub begun-means : (s : Setting) (d : Debugger) (h : Held) (told : Answer) (meant : model.Answer) → Means s d told meant → given.begun h told ≡ doing.begun h meant
-begun-means s d h told meant means = ap (λ r. if r then h else doing.started h) (is_refusal-means s d told meant means)
+begun-means s d h told meant means =
+    ap (λ r. if r then h else forgotten_stop (given.stopped_number told) (doing.started h)) (is_refusal-means s d told meant means)
+    ∙ ap (λ n. if doing.is_refusal meant then h else forgotten_stop n (doing.started h)) (stopped_number-means s d told meant means)
 
 -- what follows a move
 pub follows-means : (s : Setting) (d : Debugger) (h : Held) (told : Answer) (meant : model.Answer) → Means s d told meant → given.follows h told ≡ doing.follows h meant

@@ -3,4 +3,7 @@ mod DoneCommands
 mod Displays
 mod WorkedLines
 mod PieceLaws
+mod StopNumbers
+mod StopPieces
+mod PlainLines
 mod MomentLaws

@@ -27,7 +27,8 @@ use Rattle.debug_traits.specs.Machines.{line_of_position}
 use Rattle.debug_prompt.specs.Doing.{stop_here}
 use Rattle.debug_prompt.specs.Moments.{is_here}
 use Rattle.debug_prompt.specs.Given as given
-use Rattle.debug_prompt.specs.Pieces.{GoesBy, MeansEnd, NoWatch, at_breakpoint, continued, ends_there, is_watch, watches}
+use Rattle.conditional_stops.specs.Watching.{is_watch, watches}
+use Rattle.debug_prompt.specs.Pieces.{GoesBy, MeansEnd, NoWatch, at_breakpoint, continued, ends_there}
 use Rattle.debug_prompt.proofs.AnswersMean.{is_here-means}
 use Rattle.debug_prompt.proofs.DoneCommands.{sure_reply}
 

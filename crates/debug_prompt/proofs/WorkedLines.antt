@@ -2,16 +2,20 @@
 use Rattle.std.proofs.Common.{◌≡◌, refl, ap}
 use Rattle.std.specs.Prelude.{ℕ, ◌^◌, true, false, List, [], ◌∷◌, pos, Some, None, codes, if◌then◌else◌}
 use Rattle.std.specs.List.{list_any}
-use Rattle.gang_model.specs.Debugger.Debugger.{AtBreakpoint, Command, Debugger, DoBreak, DoDelete, DoPrint, DoReverseStep, DoSet, DoUndo, Ended, Line, NoGoal, Refused, Setting, StepLimit, first_stop, forward, has_ended, now, on_line, reply, unless_refused}
+use Rattle.gang_model.specs.Debugger.Debugger.{AtBreakpoint, Command, Debugger, DoBreak, DoContinue, DoDelete, DoPrint, DoReverseContinue, DoReverseStep, DoSet, DoStep, DoUndo, DoWatch, Ended, Line, NoGoal, Refused, Setting, StepLimit, first_stop, forward, has_ended, now, on_line, reply, unless_refused}
 use Rattle.gang_model.specs.Debugger.Events.{LaneOf, Poke, Step}
 use Rattle.gang_types.specs.declared.places.VarId.TheVariants as id
 use Rattle.debug_answers.specs.declared.stops.Stop.TheVariants as stop
 use Rattle.prompt_lines.specs.declared.line.Kind.TheVariants as kind
 use Rattle.prompt_lines.specs.Sources.{Sheet}
-use Rattle.debug_prompt.specs.Doing.{changes_named, commands_of, follows, held_after, kept_after, step_noted}
+use Rattle.conditional_stops.specs.declared.going.Direction.TheVariants as direction
+use Rattle.conditional_stops.specs.Tables.{Table, nothing}
+use Rattle.debug_prompt.specs.Doing.{begun, changes_named, commands_of, follows, held_after, kept_after, step_noted}
+use Rattle.debug_prompt.specs.Lines.{way_by}
 use Rattle.debug_prompt.specs.Moments.{all_back, at_first, is_unset, is_whole, to_moment}
 use Rattle.debug_prompt.specs.Holding.{Held, held_at_start, nothing_kept}
-use Rattle.debug_prompt.specs.Pieces.{at_breakpoint, continued, is_watch}
+use Rattle.conditional_stops.specs.Watching.{is_watch}
+use Rattle.debug_prompt.specs.Pieces.{at_breakpoint, continued}
 
 -- a source with two functions, of which one calls the other
 source : Sheet
@@ -26,7 +30,7 @@ at_start s d line = commands_of source nothing_kept held_at_start s d line
 
 -- two temporary breakpoints are there, and x is displayed
 some_held : Held
-some_held = record { temporaries = 2 ∷ 5 ∷ []; displays = (1, codes "print  x") ∷ []; next = 2; has_begun = true; frame = 0; checkpoints = (3, 7) ∷ []; next_checkpoint = 4 }
+some_held = record { temporaries = 2 ∷ 5 ∷ []; displays = (1, codes "print  x") ∷ []; next = 2; has_begun = true; frame = 0; checkpoints = (3, 7) ∷ []; next_checkpoint = 4; table = nothing }
 
 temporary_row : (s : Setting) (d : Debugger) → at_start s d (codes "tbreak 7") ≡ DoBreak 7 ∷ []
 unfolding at_start
@@ -90,7 +94,7 @@ refused_row : follows some_held (Refused Ended) ≡ []
 unfolding some_held
 refused_row = refl
 
-undisplay_row : (s : Setting) (d : Debugger) → held_after source nothing_kept some_held s d (codes "undisplay 1") ≡ record { temporaries = 2 ∷ 5 ∷ []; displays = []; next = 2; has_begun = true; frame = 0; checkpoints = (3, 7) ∷ []; next_checkpoint = 4 }
+undisplay_row : (s : Setting) (d : Debugger) → held_after source nothing_kept some_held s d (codes "undisplay 1") ≡ record { temporaries = 2 ∷ 5 ∷ []; displays = []; next = 2; has_begun = true; frame = 0; checkpoints = (3, 7) ∷ []; next_checkpoint = 4; table = nothing }
 unfolding some_held
 undisplay_row s d = refl
 
@@ -172,3 +176,65 @@ watch_row = refl
 -- with no move left the limit is reached
 none_left_row : (s : Setting) (d : Debugger) → has_ended (now s d) ≡ false → continued 0 s d ≡ reply StepLimit d
 none_left_row s d e = ap (λ ended. unless_refused (if ended then Some Ended else None) d (forward 0 s NoGoal)) e
+
+-- ---- conditions and counts
+
+break_if_row : (s : Setting) (d : Debugger) → at_start s d (codes "b 12 if i == 3") ≡ DoBreak 12 ∷ []
+unfolding at_start
+break_if_row s d = refl
+
+watch_if_row : (s : Setting) (d : Debugger) → at_start s d (codes "watch x[2] if x[2] > 4") ≡ DoWatch (record { name = codes "x"; at = Some 2 }) ∷ []
+unfolding at_start
+watch_if_row s d = refl
+
+-- breakpoint 2 has a condition, and two of its stops are to be passed
+some_table : Table
+some_table = record { conditions = (2, codes "i == 3") ∷ []; counts = (2, 2) ∷ [] }
+
+said : Held
+said = record { temporaries = 2 ∷ []; displays = []; next = 1; has_begun = true; frame = 0; checkpoints = []; next_checkpoint = 1; table = some_table }
+
+-- breakpoint 2 is there, and no other
+two_there : Debugger
+two_there = record { events = []; kept = 0; history = 2 ^ 62; stops = (2, Line 5) ∷ []; next = 3 }
+
+condition_row : (s : Setting) → (held_after source nothing_kept held_at_start s two_there (codes "condition 2 i == 3")).table ≡ record { conditions = (2, codes "i == 3") ∷ []; counts = [] }
+unfolding two_there
+condition_row s = refl
+
+no_condition_row : (s : Setting) → (held_after source nothing_kept said s two_there (codes "condition 2")).table ≡ record some_table { conditions = [] }
+unfolding two_there said some_table
+no_condition_row s = refl
+
+not_there_row : (s : Setting) → held_after source nothing_kept held_at_start s two_there (codes "condition 3 i == 3") ≡ held_at_start
+unfolding two_there
+not_there_row s = refl
+
+ignore_row : (s : Setting) → (held_after source nothing_kept held_at_start s two_there (codes "ignore 2 5 ")).table ≡ record { conditions = []; counts = (2, 5) ∷ [] }
+unfolding two_there
+ignore_row s = refl
+
+delete_row : (s : Setting) (d : Debugger) → (held_after source nothing_kept said s d (codes "delete 2")).table ≡ nothing
+unfolding said some_table
+delete_row s d = refl
+
+-- what is said of a temporary breakpoint goes with it
+temporary_gone_row : (begun said (AtBreakpoint 2)).table ≡ nothing
+unfolding said some_table
+temporary_gone_row = refl
+
+other_stays_row : (begun said (AtBreakpoint 3)).table ≡ some_table
+unfolding said
+other_stays_row = refl
+
+-- `continue` goes on to a stop that counts where something is said, and is the command alone where nothing is
+plain_row : way_by held_at_start (Some DoContinue) ≡ None
+plain_row = refl
+
+back_way_row : way_by said (Some DoReverseContinue) ≡ Some direction.Backward
+unfolding said some_table
+back_way_row = refl
+
+step_way_row : way_by said (Some (DoStep 1)) ≡ None
+unfolding said some_table
+step_way_row = refl

@@ -13,8 +13,10 @@ use Rattle.debug_traits.specs.Frames.{found_at, state_at}
 use Rattle.prompt_lines.specs.declared.line.Kind.{Kind}
 use Rattle.prompt_lines.specs.declared.line.Kind.TheVariants as kind
 use Rattle.prompt_lines.specs.declared.line.Look.TheVariants as look
+use Rattle.prompt_lines.specs.Conditions.{before_if, behind_first, condition_in, first_word}
 use Rattle.prompt_lines.specs.Sources.{Sheet, line_named}
 use Rattle.prompt_lines.specs.Words.{Spelled, argument_of, held_text, is_alone, line_of, moment_of, setting_text}
+use Rattle.debug_prompt.specs.Conditions.{after_condition, after_ignore, forgotten_by, forgotten_one, forgotten_stop, made_so}
 use Rattle.debug_prompt.specs.Holding.{Held, nothing_kept}
 use Rattle.debug_prompt.specs.Moments.{all_back, at_first, is_unchanged, is_unset, is_whole, led, steps_on, stops_back, to_moment, walked}
 use Rattle.debug_prompt.specs.declared.prompt.Turn.{Turn}
@@ -295,6 +297,16 @@ abbrev pub broken : (line : Option ℕ) → List Command
 broken None = []
 broken (Some n) = DoBreak n ∷ []
 
+-- a target is watched
+abbrev pub watched : Option Target → List Command
+watched None = []
+watched (Some target) = DoWatch target ∷ []
+
+-- a breakpoint or watch is deleted, or all
+abbrev pub deletes : Option (Option ℕ) → List Command
+deletes None = []
+deletes (Some number) = DoDelete number ∷ []
+
 -- the first breakpoint on the line on which a breakpoint for this line would be
 abbrev pub stop_on : Setting → Debugger → (line : Option ℕ) → Option ℕ
 stop_on s d None = None
@@ -331,11 +343,13 @@ commands_by kind.Own sheet s d h text = own s d h (command_of text)
 commands_by kind.Finish sheet s d h text = in_top h (own s d h (command_of text))
 commands_by kind.Print sheet s d h text = printed_or_set s d h (print_of (command_of text)) (command_of (setting_text text))
 commands_by kind.Set sheet s d h text = set_by s d h (command_of text)
-commands_by kind.Break sheet s d h text = broken (line_named sheet text)
+commands_by kind.Break sheet s d h text = broken (line_named sheet (before_if text))
 commands_by kind.Run sheet s d h text = if is_alone text then run_by s d h else []
 commands_by kind.Start sheet s d h text = if is_alone text then start_by d h else []
 commands_by kind.Clear sheet s d h text = cleared (stop_on s d (line_named sheet text))
-commands_by kind.Temporary sheet s d h text = broken (line_named sheet text)
+commands_by kind.Temporary sheet s d h text = broken (line_named sheet (before_if text))
+commands_by kind.Watch sheet s d h text = watched (watch_of (command_of (before_if text)))
+commands_by kind.Delete sheet s d h text = deletes (delete_of (command_of text))
 commands_by kind.Until sheet s d h text = if is_alone text then done_with s d h (DoNext 1) else until_line s d h (line_named sheet text)
 commands_by kind.Display sheet s d h text = in_top h (if is_alone text then shown h.displays else printed (print_of (command_of text)))
 commands_by kind.Goto sheet s d h text = go_by s d h (step_named text)
@@ -355,9 +369,10 @@ commands_of sheet kept h s d line = commands_by (meant kept line).kind sheet s d
 abbrev pub started : Held → Held
 started h = record h { has_begun = true; frame = 0 }
 
--- a move that was not refused has begun the program, and the top frame is selected
+-- a move that was not refused has begun the program, and the top frame is selected; what was said of the temporary breakpoint that
+-- stopped it is forgotten
 abbrev pub begun : Held → Answer → Held
-begun h answer = if is_refusal answer then h else started h
+begun h answer = if is_refusal answer then h else forgotten_stop (stopped_number answer) (started h)
 
 -- what a command changes
 abbrev pub after_command : Setting → Debugger → Held → Command → Held
@@ -454,6 +469,16 @@ abbrev pub after_break : Setting → Debugger → Held → (line : Option ℕ) �
 after_break s d h None = h
 after_break s d h (Some n) = with_temporary h (made_number (do_command s (DoBreak n) d).answer)
 
+-- a breakpoint that is made has the condition that was named
+abbrev pub after_made : Setting → Debugger → Held → (line : Option ℕ) → (condition : Option (List ℕ)) → Held
+after_made s d h None condition = h
+after_made s d h (Some n) condition = made_so (made_number (do_command s (DoBreak n) d).answer) condition h
+
+-- a watch that is made
+abbrev pub after_watch : Setting → Debugger → Held → Option Target → (condition : Option (List ℕ)) → Held
+after_watch s d h None condition = h
+after_watch s d h (Some target) condition = made_so (watch_number (do_command s (DoWatch target) d).answer) condition h
+
 -- whether a command line is to be displayed: of a target if it is shown, and any other if all of it is held
 abbrev pub is_displayed : Setting → Debugger → Held → (text : List ℕ) → Option Target → Bool
 is_displayed s d h text None = nat_lt (length text) 257
@@ -480,7 +505,13 @@ changed_by kind.Finish sheet s d h text = if h.frame == 0 then after_own s d h (
 changed_by kind.Run sheet s d h text = if is_alone text then after_run_by s d h else h
 changed_by kind.Start sheet s d h text = if is_alone text then after_start d h else h
 changed_by kind.Until sheet s d h text = if is_alone text then after_command s d h (DoNext 1) else after_until s d h (line_named sheet text)
-changed_by kind.Temporary sheet s d h text = after_break s d h (line_named sheet text)
+changed_by kind.Break sheet s d h text = after_made s d h (line_named sheet (before_if text)) (condition_in text)
+changed_by kind.Temporary sheet s d h text = after_made s d (after_break s d h (line_named sheet (before_if text))) (line_named sheet (before_if text)) (condition_in text)
+changed_by kind.Watch sheet s d h text = after_watch s d h (watch_of (command_of (before_if text))) (condition_in text)
+changed_by kind.Clear sheet s d h text = forgotten_one (stop_on s d (line_named sheet text)) h
+changed_by kind.Delete sheet s d h text = forgotten_by (delete_of (command_of text)) h
+changed_by kind.Condition sheet s d h text = after_condition d h (index (first_word text)) (behind_first text)
+changed_by kind.Ignore sheet s d h text = after_ignore d h (index (first_word text)) (index (trimmed (behind_first text)))
 changed_by kind.Display sheet s d h text = if is_alone text then h else after_print s d h text (print_of (command_of text))
 changed_by kind.Undisplay sheet s d h text = after_delete h (delete_of (command_of text))
 changed_by (kind.Look look.Frame) sheet s d h text = selected s d h (frame_named h text)

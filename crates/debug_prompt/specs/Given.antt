@@ -6,6 +6,7 @@ use Rattle.debug_commands.specs.Views.{target_view}
 use Rattle.debug_answers.specs.declared.answer.Answer.{Answer}
 use Rattle.debug_answers.specs.declared.answer.Answer.TheVariants as answer
 use Rattle.debug_traits.specs.declared.machine.Shown.{Shown}
+use Rattle.debug_prompt.specs.Conditions.{forgotten_stop}
 use Rattle.debug_prompt.specs.Doing as doing
 use Rattle.debug_prompt.specs.Holding.{Held}
 
@@ -59,9 +60,10 @@ counted_view (Some named) = Some (target_view named.0, named.1)
 abbrev pub follows : Held → Answer → List Command
 follows h given = if is_refusal given then [] else doing.deleted h.temporaries (stopped_number given) ++ doing.shown h.displays
 
--- a move that was not refused has begun the program, and the top frame is selected
+-- a move that was not refused has begun the program, and the top frame is selected; what was said of the temporary breakpoint that
+-- stopped it is forgotten
 abbrev pub begun : Held → Answer → Held
-begun h given = if is_refusal given then h else doing.started h
+begun h given = if is_refusal given then h else forgotten_stop (stopped_number given) (doing.started h)
 
 -- whether a variable is of the file
 abbrev pub is_of_file : Option Shown → Bool

@@ -2,4 +2,6 @@ pub mod Holding
 pub mod Moments
 pub mod Doing
 pub mod Given
+pub mod Conditions
+pub mod Lines
 pub mod Pieces

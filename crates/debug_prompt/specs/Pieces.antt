@@ -1,14 +1,11 @@
 -- `continue` in pieces: `step N` again and again. A `step` ends where its moves are made before breakpoints and watches are looked
 -- at, so what would end `continue` there is asked for behind each piece.
-use Rattle.std.specs.Prelude.{◌≡◌, ℕ, Bool, true, false, List, Option, Some, None, if◌then◌else◌}
+use Rattle.std.specs.Prelude.{◌≡◌, ℕ, false, List, Option, Some, None, if◌then◌else◌}
 use Rattle.gang_model.specs.Running.State.{State}
 use Rattle.gang_model.specs.Debugger.Debugger as model
 use Rattle.gang_model.specs.Debugger.Debugger.{AtBreakpoint, Debugger, Here, NoGoal, Reply, Setting, differs, first_stop, forward, forward_refusal, has_ended, now, on_line, unless_refused}
 use Rattle.gang_model.specs.Debugger.Positions.{line_now}
 use Rattle.debug_answers.specs.declared.answer.Answer.{Answer}
-use Rattle.debug_answers.specs.declared.stops.NumberedStop.{NumberedStop}
-use Rattle.debug_answers.specs.declared.stops.Stop.{Stop}
-use Rattle.debug_answers.specs.declared.stops.Stop.TheVariants as stop
 use Rattle.debug_answers.specs.Meanings.{Means}
 use Rattle.debug_session.specs.declared.session.Session.{Session}
 use Rattle.debug_session.specs.Sessions.{Replied, StandsFor}
@@ -20,14 +17,6 @@ continued most s d = unless_refused (forward_refusal false (now s d)) d (forward
 -- no move ends by a watch
 abbrev pub NoWatch : List (ℕ × model.Stop) → Type 0
 NoWatch stops = (old new : State) → first_stop (differs old new) stops ≡ None
-
--- whether this is a watch
-abbrev pub watches : Stop → Bool
-watches (stop.Line line) = false
-watches (stop.Watch variable at) = true
-
-abbrev pub is_watch : NumberedStop → Bool
-is_watch entry = watches entry.stop
 
 -- a breakpoint ends `continue`
 abbrev pub at_breakpoint : Option ℕ → Option model.Answer

@@ -24,7 +24,7 @@ use prompt_texts::{Before, Page, show_here, tell_move, tell_not_whole, tell_unkn
 const LARGEST_LIMIT: usize = 65_536;
 
 /// What is said where the program begins anew.
-const ANEW: &[u8] = b"The program begins anew; what `set var` set is gone.\n";
+pub(crate) const ANEW: &[u8] = b"The program begins anew; what `set var` set is gone.\n";
 
 /// Begins the program, or, where it has begun, takes everything back and begins it anew.
 pub(crate) fn run<M: ExpressionMachine, O: AnswerWriter + Drop>(
@@ -170,7 +170,7 @@ pub(crate) fn is_whole<M: RecordedMachine>(session: &Session<M>) -> bool
 }
 
 /// Takes all events back that can be: a breakpoint or a watch stops none of that.
-fn take_all_back<M: RecordedMachine>(session: &mut Session<M>)
+pub(crate) fn take_all_back<M: RecordedMachine>(session: &mut Session<M>)
     ensures { (s : Setting) (d : Debugger) → StandsFor M.stands session.old s d → StandsFor M.stands session.new s (moments.at_first d) }
 {
     repeat(Command::Undo, session.machine().kept() as u64, session);

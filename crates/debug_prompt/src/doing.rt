@@ -1,4 +1,4 @@
-//! Moves and breakpoints, by the kind of a command line.
+//! Moves, by the kind of a command line.
 ghost use Rattle.std.specs.Prelude.{◌≡◌, ◌==◌, Some, if◌then◌else◌};
 ghost use Rattle.gang_model.specs.Debugger.Debugger.{Debugger, Setting, DoNext};
 ghost use Rattle.gang_model.specs.Texts.CommandText.{command_of};
@@ -10,9 +10,9 @@ ghost use Rattle.debug_prompt.specs.Doing as spec;
 ghost use Rattle.debug_prompt.specs.Holding.{held, sheet};
 
 use crate::holding::Holding;
-use crate::pieces::{go_on, stop_on};
+use crate::pieces::go_on;
 use crate::readings::{line_of, made_number};
-use crate::turning::{Scene, do_alone, do_own, follow};
+use crate::turning::{Scene, do_own, follow};
 use debug_answers::Answer;
 use debug_commands::{Command, read_command};
 use debug_session::Session;
@@ -59,75 +59,6 @@ pub(crate) fn finish<M: ExpressionMachine, O: AnswerWriter + Drop>(
         do_spelled(text, holding, scene, session, page);
     } else {
         page.put(FINISHES_TOP);
-    }
-}
-
-/// Makes a breakpoint.
-pub(crate) fn make_break<M: RecordedMachine, O: AnswerWriter + Drop>(
-    text: &[u8],
-    scene: Scene<'_>,
-    session: &mut Session<M>,
-    page: &mut Page<O>,
-)
-    ensures { (s : Setting) (d : Debugger) → StandsFor M.stands session.old s d
-        → HasDone M.stands s (spec.broken (line_named (sheet scene.entry.source) text.now)) d session.new }
-{
-    match line_of(text, scene.source) {
-        Some(line) => do_alone(Command::Break(line), scene, session, page),
-        None => tell_unknown(scene.line, page),
-    }
-}
-
-/// Deletes the first breakpoint on a line.
-pub(crate) fn clear<M: RecordedMachine, O: AnswerWriter + Drop>(
-    text: &[u8],
-    scene: Scene<'_>,
-    session: &mut Session<M>,
-    page: &mut Page<O>,
-)
-    ensures { (s : Setting) (d : Debugger) → StandsFor M.stands session.old s d
-        → HasDone M.stands s (spec.cleared (spec.stop_on s d (line_named (sheet scene.entry.source) text.now))) d session.new }
-{
-    match line_of(text, scene.source) {
-        Some(line) => clear_line(line, scene, session, page),
-        None => tell_unknown(scene.line, page),
-    }
-}
-
-/// Deletes the first breakpoint on a line of this number.
-fn clear_line<M: RecordedMachine, O: AnswerWriter + Drop>(
-    line: u32,
-    scene: Scene<'_>,
-    session: &mut Session<M>,
-    page: &mut Page<O>,
-)
-    ensures { (s : Setting) (d : Debugger) → StandsFor M.stands session.old s d
-        → HasDone M.stands s (spec.cleared (spec.stop_on s d (Some line))) d session.new }
-{
-    match stop_on(line, session) {
-        Some(number) => do_alone(Command::Delete(Some(number)), scene, session, page),
-        None => page.put(b"no breakpoint is on this line; `info breakpoints` lists them\n"),
-    }
-}
-
-/// Makes a breakpoint that goes when it has stopped a move.
-pub(crate) fn break_temporarily<M: RecordedMachine, O: AnswerWriter + Drop>(
-    text: &[u8],
-    holding: &mut Holding,
-    scene: Scene<'_>,
-    session: &mut Session<M>,
-    page: &mut Page<O>,
-)
-    ensures { (s : Setting) (d : Debugger) → StandsFor M.stands session.old s d
-        → HasDone M.stands s (spec.broken (line_named (sheet scene.entry.source) text.now)) d session.new
-        × (held holding.new ≡ spec.after_break s d (held holding.old) (line_named (sheet scene.entry.source) text.now)) }
-{
-    if let Some(line) = line_of(text, scene.source) {
-        let answer = session.do_command(Command::Break(line));
-        holding.add_temporary(made_number(&answer));
-        tell(&answer, scene.line, scene.source, session, page);
-    } else {
-        tell_unknown(scene.line, page);
     }
 }
 

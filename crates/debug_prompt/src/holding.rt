@@ -1,10 +1,12 @@
 //! What a prompt holds from line to line, as far as it decides what is done.
 ghost use Rattle.std.specs.Prelude.{◌≡◌, ◌==◌, [], Some};
 ghost use Rattle.std.specs.List.{list_any};
+ghost use Rattle.debug_prompt.specs.Conditions as conditions;
 ghost use Rattle.debug_prompt.specs.Doing as spec;
 ghost use Rattle.debug_prompt.specs.Holding.{held, held_at_start};
 
 use arrayvec::ArrayVec;
+use conditional_stops::Conditions;
 use prompt_lines::{Text, held_line};
 
 /// How many breakpoints may be temporary.
@@ -55,7 +57,7 @@ impl Default for Checkpoint {
 }
 
 /// The numbers of the last temporary breakpoints, what is displayed, whether the program has begun, which frame is selected,
-/// and the moments that were noted.
+/// the moments that were noted, and the conditions and the counts of breakpoints and watches.
 #[derive(Drop)]
 pub(crate) struct Holding {
     temporaries: ArrayVec<u32, TEMPORARIES>,
@@ -65,6 +67,7 @@ pub(crate) struct Holding {
     frame: usize,
     checkpoints: ArrayVec<Checkpoint, CHECKPOINTS>,
     next_checkpoint: u32,
+    pub(crate) conditions: Conditions,
 }
 
 impl Holding {
@@ -80,6 +83,7 @@ impl Holding {
             frame: 0,
             checkpoints: ArrayVec::new(),
             next_checkpoint: 1,
+            conditions: Conditions::new(),
         }
     }
 
@@ -218,6 +222,61 @@ impl Holding {
         match number {
             None => self.checkpoints.clear(),
             Some(number) => self.checkpoints.retain(|entry| entry.number != number),
+        }
+    }
+
+    /// Gives a breakpoint or watch a condition, where there is room. Says whether there is.
+    pub(crate) fn set_condition(&mut self, number: u32, text: &[u8]) -> bool
+        ensures { held self.new ≡ conditions.conditioned number text.now (held self.old) }
+    {
+        match self.conditions.set_condition(number, text) {
+            Ok(()) => true,
+            Err(_) => false,
+        }
+    }
+
+    /// Takes the condition of a breakpoint or watch away.
+    pub(crate) fn clear_condition(&mut self, number: u32)
+        ensures { held self.new ≡ conditions.replaced number [] (held self.old) }
+    {
+        self.conditions.clear_condition(number);
+    }
+
+    /// Lets so many stops of a breakpoint or watch be passed, where there is room. Says whether there is.
+    pub(crate) fn set_passes(&mut self, number: u32, count: u32) -> bool
+        ensures { held self.new ≡ conditions.counted number count (held self.old) }
+    {
+        match self.conditions.set_passes(number, count) {
+            Ok(()) => true,
+            Err(_) => false,
+        }
+    }
+
+    /// Forgets the condition and the count of a breakpoint or watch.
+    pub(crate) fn forget(&mut self, number: u32)
+        ensures { held self.new ≡ conditions.forgotten number (held self.old) }
+    {
+        self.conditions.forget(number);
+    }
+
+    /// Forgets the condition and the count of the breakpoint that stopped a move, where it is temporary.
+    pub(crate) fn forget_stopped(&mut self, stopped: Option<u32>)
+        ensures { held self.new ≡ conditions.forgotten_stop stopped (held self.old) }
+    {
+        if let Some(number) = stopped {
+            if self.is_temporary(number) {
+                self.forget(number);
+            }
+        }
+    }
+
+    /// Forgets the conditions and the counts of what a line deleted: of one breakpoint or watch, or of all.
+    pub(crate) fn forget_deleted(&mut self, deleted: Option<u32>)
+        ensures { held self.new ≡ conditions.forgotten_by (Some deleted) (held self.old) }
+    {
+        match deleted {
+            None => self.conditions.forget_all(),
+            Some(number) => self.forget(number),
         }
     }
 }

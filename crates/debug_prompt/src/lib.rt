@@ -3,10 +3,12 @@
 
 mod asking;
 mod beginning;
+mod breaking;
 mod doing;
 mod expressions;
 mod forms;
 mod frames;
+mod going;
 mod holding;
 mod listing;
 mod looking;
@@ -16,6 +18,7 @@ mod pieces;
 mod printing;
 mod prompt;
 mod readings;
+mod telling;
 mod turning;
 
 pub use prompt::{Prompt, Turn};

@@ -12,6 +12,7 @@ use crate::holding::Holding;
 use crate::listing::{Lines, Listed, lines_of};
 use crate::moments::show_checkpoints;
 use crate::readings::{delete_of, is_move, line_of, print_of};
+use crate::telling::tell_watch_conditions;
 use crate::turning::Scene;
 use debug_commands::read_command;
 use debug_session::Session;
@@ -70,8 +71,10 @@ impl Looking {
             Look::Down => go_to(frame_below(holding, text), holding, scene, session, page),
             Look::List => self.list(text, is_again, holding, scene, session, page),
             Look::Recording => self.show_recording(text, scene, session, page),
-            Look::Frames | Look::Full | Look::Here | Look::Line | Look::Source | Look::Watches =>
-                look_at_program(look, text, scene, session, page),
+            Look::Frames | Look::Full | Look::Here | Look::Line | Look::Source => look_at_program(
+                look, text, scene, session, page,
+            ),
+            Look::Watches => look_at_watches(holding, session, page),
             Look::Checkpoints => show_checkpoints(holding, page),
             Look::Type | Look::Locals | Look::Arguments | Look::Variables | Look::Displays => {
                 look_at_values(look, text, holding, scene, session, page);
@@ -178,9 +181,18 @@ fn look_at_program<M: FramedMachine, O: AnswerWriter + Drop>(
             None => tell_unknown(scene.line, page),
         },
         Look::Source => show_source(scene.source, page),
-        Look::Watches => show_watches(session, page),
         _ => show_here(scene.source, session, page),
     }
+}
+
+/// Shows the watches, with their conditions and counts.
+fn look_at_watches<M: RecordedMachine, O: AnswerWriter + Drop>(
+    holding: &Holding,
+    session: &Session<M>,
+    page: &mut Page<O>,
+) {
+    show_watches(session, page);
+    tell_watch_conditions(holding, session, page);
 }
 
 /// Shows variables, in the frame that is selected.

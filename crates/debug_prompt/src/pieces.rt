@@ -2,9 +2,10 @@
 ghost use Rattle.std.specs.Prelude.{◌≡◌, ◌≤◌, ◌-◌, ℕ, Some};
 ghost use Rattle.std.specs.List.{list_any};
 ghost use Rattle.gang_model.specs.Debugger.Debugger.{Debugger, DoContinue, Setting};
+ghost use Rattle.conditional_stops.specs.Watching.{is_watch};
 ghost use Rattle.debug_session.specs.Sessions.{Replied, RepliesTo, StandsFor};
 ghost use Rattle.debug_prompt.specs.Doing as spec;
-ghost use Rattle.debug_prompt.specs.Pieces.{GoesBy, MeansEnd, NoWatch, continued, ends_there, is_watch};
+ghost use Rattle.debug_prompt.specs.Pieces.{GoesBy, MeansEnd, NoWatch, continued, ends_there};
 
 use crate::readings::is_here;
 use debug_answers::{Answer, NumberedStop, Stop};

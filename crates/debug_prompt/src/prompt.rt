@@ -1,16 +1,20 @@
 //! The prompt.
 ghost use Rattle.std.specs.Prelude.{◌≡◌};
 ghost use Rattle.gang_model.specs.Debugger.Debugger.{Debugger, Setting};
-ghost use Rattle.command_lists.specs.Lists.{HasDone};
 ghost use Rattle.debug_session.specs.Sessions.{StandsFor};
 ghost use Rattle.prompt_lines.specs.Readings.{spelled};
 ghost use Rattle.debug_prompt.specs.Doing as spec;
 ghost use Rattle.debug_prompt.specs.Holding.{held, held_at_start, nothing_kept, sheet};
+ghost use Rattle.debug_prompt.specs.Lines.{DoesKind, DoesLine};
 
 use crate::asking::tell_when;
-use crate::beginning::{run, start};
-use crate::doing::{break_temporarily, clear, do_spelled, finish, go_until, make_break};
+use crate::beginning::start;
+use crate::breaking::{
+    break_temporarily, change_condition, clear, delete, ignore, make_break, make_watch,
+};
+use crate::doing::{finish, go_until};
 use crate::forms::show_formatted;
+use crate::going::{do_typed, run_to_stop};
 use crate::holding::Holding;
 use crate::looking::Looking;
 use crate::moments::{forget, go_to_step, note_moment, restart};
@@ -72,9 +76,9 @@ impl Prompt {
         show_here(source, session, page);
     }
 
-    /// Does a line, its line feed not included, by a list of the debugger's commands, and shows what they came to. A long
-    /// `continue` shows on a terminal how many moves it has made. Where the writer has failed, the commands are done, and nothing
-    /// is shown any more.
+    /// Does a line, its line feed not included, by the debugger's commands, and shows what they came to. Where conditions or counts
+    /// are there, `continue`, `reverse-continue` and `run` go on to a stop that counts. A long `continue` shows on a terminal how
+    /// many moves it has made. Where the writer has failed, the commands are done, and nothing is shown any more.
     pub fn do_line<M: ExpressionMachine, O: AnswerWriter + Drop>(
         &mut self,
         alloc: Global,
@@ -84,8 +88,7 @@ impl Prompt {
         page: &mut Page<O>,
     ) -> Turn
         ensures done { (s : Setting) (d : Debugger) → StandsFor M.stands session.old s d → s.limit ≡ self.old.most_steps
-            → HasDone M.stands s (spec.commands_of (sheet source.entry) (spelled self.old.kept) (held self.old.holding) s d line.now) d session.new
-            × (held self.new.holding ≡ spec.held_after (sheet source.entry) (spelled self.old.kept) (held self.old.holding) s d line.now) }
+            → DoesLine M.stands (sheet source.entry) (spelled self.old.kept) (held self.old.holding) s d line.now session.new (held self.new.holding) }
         ensures kept { spelled self.new.kept ≡ spec.kept_after (spelled self.old.kept) line.now }
         ensures limit { self.new.most_steps ≡ self.old.most_steps }
         ensures turn { result ≡ spec.turn_of page.new.has_failed (spec.meant (spelled self.old.kept) line.now) }
@@ -174,6 +177,10 @@ fn repeats(line: &PromptLine) -> bool
         | Kind::Checkpoint
         | Kind::Restart
         | Kind::Forget
+        | Kind::Watch
+        | Kind::Delete
+        | Kind::Condition
+        | Kind::Ignore
         | Kind::Look(_) => false,
     }
 }
@@ -189,21 +196,20 @@ fn do_meant<M: ExpressionMachine, O: AnswerWriter + Drop>(
     page: &mut Page<O>,
 )
     ensures { (s : Setting) (d : Debugger) → StandsFor M.stands session.old s d → s.limit ≡ scene.entry.most_steps
-        → HasDone M.stands s (spec.commands_by line.now.kind (sheet scene.entry.source) s d (held holding.old) line.now.text.items) d session.new
-        × (held holding.new ≡ spec.changed_by line.now.kind (sheet scene.entry.source) s d (held holding.old) line.now.text.items) }
+        → DoesKind M.stands line.now.kind (sheet scene.entry.source) s d (held holding.old) line.now.text.items session.new (held holding.new) }
 {
     let text = line.text.as_slice();
     match line.kind {
         Kind::Again => {}
-        Kind::Own => do_spelled(text, holding, scene, session, page),
-        Kind::Run => run(text, holding, scene, session, page),
+        Kind::Own => do_typed(text, holding, scene, session, page),
+        Kind::Run => run_to_stop(text, holding, scene, session, page),
         Kind::Start => start(text, holding, scene, session, page),
         Kind::Finish => finish(text, holding, scene, session, page),
         Kind::Print => print(text, holding, scene, session, page),
         Kind::Formatted => show_formatted(text, holding, scene, session, page),
         Kind::Set => set_spelled(text, holding, scene, session, page),
-        Kind::Break => make_break(text, scene, session, page),
-        Kind::Clear => clear(text, scene, session, page),
+        Kind::Break => make_break(text, holding, scene, session, page),
+        Kind::Clear => clear(text, holding, scene, session, page),
         Kind::Temporary => break_temporarily(text, holding, scene, session, page),
         Kind::Until => go_until(text, holding, scene, session, page),
         Kind::Display => display(text, holding, scene, session, page),
@@ -215,6 +221,10 @@ fn do_meant<M: ExpressionMachine, O: AnswerWriter + Drop>(
         Kind::When => tell_when(text, scene, session, page),
         Kind::Checkpoint => note_moment(text, holding, scene, session, page),
         Kind::Forget => forget(text, holding, scene, page),
+        Kind::Watch => make_watch(text, holding, scene, session, page),
+        Kind::Delete => delete(text, holding, scene, session, page),
+        Kind::Condition => change_condition(text, holding, scene, session, page),
+        Kind::Ignore => ignore(text, holding, scene, session, page),
         Kind::Look(look) => looking.look(look, text, is_again, holding, scene, session, page),
     }
 }

@@ -170,7 +170,7 @@ fn last_len(text: &[u8]) -> usize
 }
 
 /// A text without the blanks at its end.
-fn trimmed(text: &[u8]) -> &[u8]
+pub(crate) fn trimmed(text: &[u8]) -> &[u8]
     ensures { result.now ≡ spec.trimmed text.now }
 {
     &text[..text.len() - blank_len(text)]

@@ -116,6 +116,7 @@ pub(crate) fn follow<M: ExpressionMachine, O: AnswerWriter + Drop>(
     }
     holding.start();
     follow_done(answer, holding, scene, session, page);
+    holding.forget_stopped(stopped_number(answer));
 }
 
 /// What follows a move that was not refused.

@@ -40,11 +40,11 @@ const COMMANDS: [Reason; 16] = [
     ),
     Reason(
         &[b"disable", b"enable"],
-        b"Breakpoints are there or not: `delete N` takes one away, `break N` makes one.",
+        b"Breakpoints are there or not: `delete N` takes one away, `break N` makes one, `ignore N COUNT` passes stops.",
     ),
     Reason(
-        &[b"ignore", b"condition", b"commands"],
-        b"Breakpoints have no conditions, counts or commands: `watch T` stops where a value changes, `tbreak N` once.",
+        &[b"commands"],
+        b"Breakpoints have no commands: `display T` shows a value after each move, and `break N if EXPRESSION` stops only where that holds.",
     ),
     Reason(
         &[b"clear"],
@@ -252,14 +252,10 @@ const SILENT: [&[u8]; 18] = [
 ];
 
 /// What may stand in the text behind a command that shows or stops, and why nothing is done for it.
-const PARTS: [Reason; 3] = [
+const PARTS: [Reason; 2] = [
     Reason(
         &[b"programIndex", b"programCount", b"taskIndex"],
         b"Lanes have no names here: values stand in the order of the lanes, lane 0 first, and `print T[K]` shows that of lane K.",
-    ),
-    Reason(
-        &[b"if"],
-        b"There are no conditions: `break N` and `watch T` stop each time; `print T` then shows a value.",
     ),
     Reason(
         &[b"("],

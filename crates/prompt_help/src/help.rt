@@ -109,7 +109,7 @@ const FIRST: [Topic; 16] = [
 ];
 
 /// The other commands.
-const OTHERS: [Topic; 16] = [
+const OTHERS: [Topic; 18] = [
     Topic {
         names: &[b"undisplay"],
         usage: b"undisplay [N]",
@@ -117,18 +117,28 @@ const OTHERS: [Topic; 16] = [
     },
     Topic {
         names: &[b"break", b"b", b"br"],
-        usage: b"break N",
-        text: b"stops where the program comes to the first line from N on that has a step; N may be FILE:N or a function.",
+        usage: b"break N [if E]",
+        text: b"stops where the program comes to the first line from N on that has a step; N may be FILE:N or a function. With `if E` it stops only where E is not 0 in an active lane.",
     },
     Topic {
         names: &[b"tbreak", b"tb"],
-        usage: b"tbreak N",
+        usage: b"tbreak N [if E]",
         text: b"as `break`, and is deleted when it has stopped a move.",
     },
     Topic {
         names: &[b"watch"],
-        usage: b"watch T",
+        usage: b"watch T [if E]",
         text: b"stops where a variable of the file, a lane or an element of it has changed, also going back.",
+    },
+    Topic {
+        names: &[b"condition"],
+        usage: b"condition N [E]",
+        text: b"lets `continue`, `reverse-continue` and `run` stop at breakpoint or watch N only where E is not 0 in an active lane; without E always.",
+    },
+    Topic {
+        names: &[b"ignore"],
+        usage: b"ignore N COUNT",
+        text: b"passes so many stops of breakpoint or watch N.",
     },
     Topic {
         names: &[b"delete", b"d", b"del"],

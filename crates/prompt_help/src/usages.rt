@@ -22,7 +22,7 @@ const FIRST: [Reason; 16] = [
     ),
     Reason(
         &[b"continue", b"c", b"cont", b"fg"],
-        b"`continue` stands alone, without a count or arguments: an empty line repeats it, and `delete N` takes away a breakpoint that stops it too often.",
+        b"`continue` stands alone, without a count or arguments: an empty line repeats it, and `ignore N COUNT` passes so many stops of a breakpoint.",
     ),
     Reason(
         &[b"until", b"u", b"advance"],
@@ -78,15 +78,15 @@ const OTHERS: [Reason; 16] = [
     ),
     Reason(
         &[b"break", b"b", b"br"],
-        b"A line follows `break`, as `break 12`, `break FILE:12` with the name of this source, or a function of the source, and no condition.",
+        b"A line follows `break`, as `break 12`, `break FILE:12` with the name of this source, or a function of the source; `if EXPRESSION` may stand behind it.",
     ),
     Reason(
         &[b"tbreak", b"tb"],
-        b"A line follows `tbreak`, as `tbreak 12`, `tbreak FILE:12` with the name of this source, or a function of the source, and no condition.",
+        b"A line follows `tbreak`, as `tbreak 12`, `tbreak FILE:12` with the name of this source, or a function of the source; `if EXPRESSION` may stand behind it.",
     ),
     Reason(
         &[b"watch"],
-        b"A variable of the file is watched, or a lane or an element of it by its number, as `watch total` and `watch table[3]`, without a condition.",
+        b"A variable of the file is watched, or a lane or an element of it by its number, as `watch total` and `watch table[3]`, and no other expression; `if EXPRESSION` may stand behind it.",
     ),
     Reason(
         &[b"delete", b"d", b"del"],

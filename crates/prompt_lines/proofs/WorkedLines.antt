@@ -1,8 +1,9 @@
 -- Lines, and what they stand for, computed.
 use Rattle.std.proofs.Common.{◌≡◌, refl}
-use Rattle.std.specs.Prelude.{[], None, Some, codes}
+use Rattle.std.specs.Prelude.{[], ◌++◌, None, Some, codes, replicate}
 use Rattle.prompt_lines.specs.declared.line.Kind.TheVariants as kind
 use Rattle.prompt_lines.specs.declared.line.Look.TheVariants as look
+use Rattle.prompt_lines.specs.Conditions.{before_if, behind_first, condition_in, first_word}
 use Rattle.prompt_lines.specs.Words.{line_of, moment_of}
 
 temporary_row : line_of (codes "tbreak 5") ≡ record { kind = kind.Temporary; text = codes "break  5" }
@@ -59,3 +60,43 @@ longer_row = refl
 
 blank_row : line_of (codes "  ") ≡ record { kind = kind.Again; text = [] }
 blank_row = refl
+
+-- ---- conditions
+
+before_row : before_if (codes "break 12 if i == 3") ≡ codes "break 12 "
+before_row = refl
+
+condition_row : condition_in (codes "break 12 if i == 3") ≡ Some (codes "i == 3")
+condition_row = refl
+
+marked_row : condition_in (codes "watch x[2] if(x[2] > 4)") ≡ Some (codes "(x[2] > 4)")
+marked_row = refl
+
+-- a name that begins or ends with `if`, and an `if` with nothing behind it
+named_row : condition_in (codes "break iffy") ≡ None
+named_row = refl
+
+ended_row : condition_in (codes "break gif x") ≡ None
+ended_row = refl
+
+alone_row : before_if (codes "break 12 if ") ≡ codes "break 12 if "
+alone_row = refl
+
+-- a command line that was cut has no condition
+long_row : condition_in (codes "break 12 if " ++ replicate 245 97) ≡ None
+long_row = refl
+
+numbered_row : line_of (codes "condition 2 i == 3") ≡ record { kind = kind.Condition; text = codes "  2 i == 3" }
+numbered_row = refl
+
+number_row : first_word (codes "  2 i == 3") ≡ codes "2"
+number_row = refl
+
+rest_row : behind_first (codes "  2 i == 3") ≡ codes "i == 3"
+rest_row = refl
+
+nothing_row : behind_first (codes "  2 ") ≡ []
+nothing_row = refl
+
+delete_row : line_of (codes "d 2") ≡ record { kind = kind.Delete; text = codes "delete  2" }
+delete_row = refl

@@ -1,3 +1,4 @@
 pub mod Words
 pub mod Readings
 pub mod Sources
+pub mod Conditions

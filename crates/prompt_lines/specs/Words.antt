@@ -65,9 +65,13 @@ rows =
     ∷ row (codes "undisplay" ∷ []) kind.Undisplay (codes "delete")
     ∷ row (codes "delete" ∷ codes "display" ∷ []) kind.Undisplay (codes "delete")
     ∷ row (codes "delete" ∷ codes "checkpoint" ∷ []) kind.Forget (codes "delete")
-    ∷ row (codes "delete" ∷ codes "breakpoints" ∷ []) kind.Own (codes "delete")
-    ∷ row (codes "d" ∷ []) kind.Own (codes "delete")
-    ∷ row (codes "del" ∷ []) kind.Own (codes "delete")
+    ∷ row (codes "delete" ∷ codes "breakpoints" ∷ []) kind.Delete (codes "delete")
+    ∷ row (codes "delete" ∷ []) kind.Delete (codes "delete")
+    ∷ row (codes "d" ∷ []) kind.Delete (codes "delete")
+    ∷ row (codes "del" ∷ []) kind.Delete (codes "delete")
+    ∷ row (codes "watch" ∷ []) kind.Watch (codes "watch")
+    ∷ row (codes "condition" ∷ []) kind.Condition []
+    ∷ row (codes "ignore" ∷ []) kind.Ignore []
     ∷ row (codes "display" ∷ []) kind.Display (codes "print")
     ∷ row (codes "display/d" ∷ []) kind.Display (codes "print")
     ∷ row (codes "info" ∷ codes "b" ∷ []) kind.Own (codes "info breakpoints")

@@ -1,11 +1,13 @@
 //! The lines that people type at a prompt, and the debugger's own command lines that they stand for.
 #![tactic(auto)]
 
+mod conditions;
 mod line;
 mod reading;
 mod sources;
 mod table;
 
+pub use conditions::{before_condition, condition_in, split_word};
 pub use line::{HELD, Kind, Look, PromptLine, Text};
 pub use reading::{
     argument, breaking_line, held_line, index, is_alone, moment, printing_line, read_line,

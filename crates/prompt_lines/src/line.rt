@@ -97,6 +97,14 @@ pub enum Kind {
     Restart,
     /// A moment is noted no more.
     Forget,
+    /// A variable is watched.
+    Watch,
+    /// Breakpoints and watches are deleted.
+    Delete,
+    /// A breakpoint or watch gets a condition, or has none any more.
+    Condition,
+    /// So many stops of a breakpoint or watch are passed.
+    Ignore,
     Look(Look),
 }
 

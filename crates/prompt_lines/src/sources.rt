@@ -107,7 +107,7 @@ fn begins_function(text: &[u8], place: usize, name: &[u8]) -> bool
 }
 
 /// Whether no name goes on at a place.
-fn begins_word(text: &[u8], place: usize) -> bool
+pub(crate) fn begins_word(text: &[u8], place: usize) -> bool
     requires { place ≤ length text.now }
     ensures { result ≡ spec.begins_word text.now place }
 {
@@ -125,7 +125,7 @@ fn opens(rest: Option<&[u8]>) -> bool
 }
 
 /// Whether a name goes on with a byte.
-fn is_in_name(byte: u8) -> bool
+pub(crate) fn is_in_name(byte: u8) -> bool
     ensures { result ≡ spec.is_in_name byte }
 {
     is_digit(byte) || matches!(byte, b'a'..=b'z' | b'A'..=b'Z' | b'_')

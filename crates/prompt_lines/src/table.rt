@@ -10,7 +10,7 @@ pub(crate) struct Row(
 );
 
 /// The words of what is done, mostly by their names in GDB. Of two that a line begins with the first one counts.
-pub(crate) const ROWS: [Row; 56] = [
+pub(crate) const ROWS: [Row; 60] = [
     Row(&[b"set", b"var"], Kind::Set, b"set var"),
     Row(&[b"set", b"variable"], Kind::Set, b"set var"),
     Row(
@@ -54,9 +54,13 @@ pub(crate) const ROWS: [Row; 56] = [
     Row(&[b"undisplay"], Kind::Undisplay, b"delete"),
     Row(&[b"delete", b"display"], Kind::Undisplay, b"delete"),
     Row(&[b"delete", b"checkpoint"], Kind::Forget, b"delete"),
-    Row(&[b"delete", b"breakpoints"], Kind::Own, b"delete"),
-    Row(&[b"d"], Kind::Own, b"delete"),
-    Row(&[b"del"], Kind::Own, b"delete"),
+    Row(&[b"delete", b"breakpoints"], Kind::Delete, b"delete"),
+    Row(&[b"delete"], Kind::Delete, b"delete"),
+    Row(&[b"d"], Kind::Delete, b"delete"),
+    Row(&[b"del"], Kind::Delete, b"delete"),
+    Row(&[b"watch"], Kind::Watch, b"watch"),
+    Row(&[b"condition"], Kind::Condition, b""),
+    Row(&[b"ignore"], Kind::Ignore, b""),
     Row(&[b"display"], Kind::Display, b"print"),
     Row(&[b"display/d"], Kind::Display, b"print"),
     Row(&[b"info", b"b"], Kind::Own, b"info breakpoints"),

@@ -1,6 +1,6 @@
 use Rattle.std.proofs.Common.{◌≡◌, false, sym, ap, ◌∙◌}
 use Rattle.std.specs.List.{list_any}
-use Rattle.debug_prompt.specs.Pieces.{is_watch}
+use Rattle.conditional_stops.specs.Watching.{is_watch}
 use Rattle.debug_prompt.proofs.PieceLaws.{as_continue, no_watch}
 use Rattle.debug_prompt.proofs.pieces.go_on.Goals as goal
 

@@ -1,0 +1,155 @@
+//! What is told of conditions and counts.
+use crate::holding::Holding;
+use conditional_stops::{CountedStop, HoldingLanes, MoveEnd, Moved, Verdict};
+use debug_answers::Stop;
+use debug_session::Session;
+use debug_traits::{AnswerWriter, RecordedMachine};
+use frame_values::NoValue;
+use prompt_texts::{Page, Spelled, tell_no_value};
+
+/// The widest gang.
+const WIDEST: usize = 16;
+
+/// Tells the condition that a breakpoint or watch has now, or that it has none, or that there was no room for one.
+pub(crate) fn tell_condition<O: AnswerWriter + Drop>(
+    number: u32,
+    text: &[u8],
+    is_taken: bool,
+    page: &mut Page<O>,
+) {
+    put_number(number, page);
+    if !is_taken {
+        page.put(b" stops always: 64 conditions are there; `condition N` takes one away\n");
+    } else if text.is_empty() {
+        page.put(b" stops always\n");
+    } else {
+        page.put(b" stops only if ");
+        page.put_masked(text);
+        page.put(b"\n");
+    }
+}
+
+/// Tells how many stops of a breakpoint or watch are passed, or that there was no room for the count.
+pub(crate) fn tell_passes<O: AnswerWriter + Drop>(
+    number: u32,
+    count: u32,
+    is_taken: bool,
+    page: &mut Page<O>,
+) {
+    put_number(number, page);
+    if is_taken {
+        page.put(b": ");
+        put_counted(count, page);
+        page.put(b" will be passed\n");
+    } else {
+        page.put(b": nothing changes, since 64 counts are there; `ignore N 0` takes one away\n");
+    }
+}
+
+/// Tells that no breakpoint or watch has a number.
+pub(crate) fn tell_no_stop<O: AnswerWriter + Drop>(number: u32, page: &mut Page<O>) {
+    page.put(b"C10 NoSuchNumber: no breakpoint or watch has the number ");
+    put_number(number, page);
+    page.put(b"; `info breakpoints` lists them.\n");
+}
+
+/// Tells the conditions and the counts of all breakpoints and watches.
+pub(crate) fn tell_conditions<M: RecordedMachine, O: AnswerWriter + Drop>(
+    holding: &Holding,
+    session: &Session<M>,
+    page: &mut Page<O>,
+) {
+    for entry in session.stops() {
+        tell_said(entry.number, holding, page);
+    }
+}
+
+/// Tells the conditions and the counts of the watches.
+pub(crate) fn tell_watch_conditions<M: RecordedMachine, O: AnswerWriter + Drop>(
+    holding: &Holding,
+    session: &Session<M>,
+    page: &mut Page<O>,
+) {
+    for entry in session.stops() {
+        if let Stop::Watch { .. } = entry.stop {
+            tell_said(entry.number, holding, page);
+        }
+    }
+}
+
+/// Tells what is said of a breakpoint or watch, if anything is.
+fn tell_said<O: AnswerWriter + Drop>(number: u32, holding: &Holding, page: &mut Page<O>) {
+    if let Some(text) = holding.conditions.condition(number) {
+        tell_condition(number, text, true, page);
+    }
+    let passes = holding.conditions.passes(number);
+    if passes > 0 {
+        tell_passes(number, passes, true, page);
+    }
+}
+
+/// Tells what a move on to a stop that counts came to: the lanes in which the condition holds, or why it has no value, and how many
+/// stops were passed.
+pub(crate) fn tell_moved<O: AnswerWriter + Drop>(
+    moved: &Moved<'_>,
+    holding: &Holding,
+    page: &mut Page<O>,
+) {
+    match &moved.end {
+        MoveEnd::Stopped(counted) => tell_counted(counted, holding, page),
+        MoveEnd::Answered(_) | MoveEnd::MostPassed | MoveEnd::NoMemory => {}
+    }
+    if moved.passed > 0 {
+        put_counted(moved.passed, page);
+        page.put(b" passed on the way\n");
+    }
+}
+
+/// Tells what the condition came to of a stop that counts, where it has one.
+pub(crate) fn tell_counted<O: AnswerWriter + Drop>(
+    counted: &CountedStop,
+    holding: &Holding,
+    page: &mut Page<O>,
+) {
+    let text = holding
+        .conditions
+        .condition(counted.reason.number())
+        .unwrap_or(&[]);
+    match &counted.verdict {
+        Some(Verdict::Holds(lanes)) => tell_lanes(text, *lanes, page),
+        Some(Verdict::NoValue(why)) => tell_fault(text, why, page),
+        Some(Verdict::Fails) | None => {}
+    }
+}
+
+/// Tells in which lanes a condition holds.
+fn tell_lanes<O: AnswerWriter + Drop>(text: &[u8], found: HoldingLanes, page: &mut Page<O>) {
+    page.put_masked(text);
+    page.put(b" holds in lanes");
+    for lane in 0..found.width.min(WIDEST) {
+        if found.lanes.has::<WIDEST>(lane) {
+            page.put(b" ");
+            page.put_number(lane as i128);
+        }
+    }
+    page.put(b"\n");
+}
+
+/// Tells why a condition has no value.
+fn tell_fault<O: AnswerWriter + Drop>(text: &[u8], why: &NoValue, page: &mut Page<O>) {
+    page.put(b"it stops, since its condition has no value here: ");
+    page.put_masked(text);
+    page.put(b"\n");
+    tell_no_value(why, Spelled { line: text, text }, page);
+}
+
+/// Writes the number of a breakpoint or watch.
+fn put_number<O: AnswerWriter + Drop>(number: u32, page: &mut Page<O>) {
+    page.put_number(i128::from(number));
+}
+
+/// Writes a number of stops.
+fn put_counted<O: AnswerWriter + Drop>(count: u32, page: &mut Page<O>) {
+    put_number(count, page);
+    page.put(if count == 1 { b" stop" } else { b" stops" });
+}
