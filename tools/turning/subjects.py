@@ -2,7 +2,7 @@
 
 import tempfile
 
-from testing import adapter_client, desk, explained, front_ends, hostile, pictures, profiles, prompts, run_pages, terminals
+from testing import adapter_client, conditions, desk, explained, front_ends, hostile, pictures, profiles, prompts, run_pages, terminals
 from testing.built import ended
 from testing.calls import side_by_side
 from testing.parts import done
@@ -71,13 +71,13 @@ class Subject:
 
 SUBJECTS = {
     "prompt": Subject(
-        ("debug_prompt", "prompt_texts", "prompt_lines", "prompt_help", "terminal_lines"),
-        of_runs(prompts.runs, terminals.runs),
+        ("debug_prompt", "conditional_stops", "prompt_texts", "prompt_lines", "prompt_help", "terminal_lines"),
+        of_runs(prompts.runs, lambda root: conditions.runs(), terminals.runs),
         of_terminals,
         of_devices("lines at the prompt"),
     ),
     "picture": Subject(("lane_picture",), of_runs(pictures.runs)),
-    "page": Subject(("run_page",), of_runs(run_pages.runs)),
+    "page": Subject(("run_page", "json_texts"), of_runs(run_pages.runs)),
     "profile": Subject(("lane_counts", "lane_profile", "profile_texts"), of_runs(profiles.runs)),
     "adapter": Subject(
         ("adapter_frames", "adapter_messages", "adapter_replies", "adapter_session", "adapter_server"),
