@@ -27,10 +27,10 @@ pub(crate) fn call(alloc: Global, name: &str) -> Option<Ended> {
 
 /// Asks a breakpoint with a condition where the program stands.
 fn ask(alloc: Global, session: &mut ProgramSession<4>) -> Ended {
-    let Some(position) = session.machine().position() else {
+    let Some(line) = line_of(session) else {
         return Ended::Otherwise;
     };
-    session.do_command(Command::Break(position.place.line));
+    session.do_command(Command::Break(line));
     let mut conditions = Conditions::new();
     if conditions.set_condition(1, CONDITION).is_err() {
         return Ended::Otherwise;
@@ -44,6 +44,11 @@ fn ask(alloc: Global, session: &mut ProgramSession<4>) -> Ended {
         ) => end_of_verdict(verdict),
         _ => Ended::Otherwise,
     }
+}
+
+/// The line where the program stands.
+fn line_of(session: &ProgramSession<4>) -> Option<u32> {
+    Some(session.machine().position()?.place.line)
 }
 
 /// Goes on to a breakpoint with a condition, beside a watch of an element that stays as it is before.
