@@ -56,6 +56,8 @@ CALLS = {
     "lane_picture::draw": 3,
     "run_page::write_page": 0,
     "frame_values::value_of_expression": 0,
+    "foreach_forms::forms_of": 0,
+    "lane_counts::Tally::enter": 0,
     "lane_counts::Tally::note": 0,
     "lane_profile::count_run": 0,
     "profile_texts::write_profile": 0,

@@ -2,7 +2,8 @@
 
 The counts are those of JSON, read by Python; the tables and the annotated source are made here anew from the counts of tools/meaning, so each
 byte of them is judged. A step is counted before it is done, where it stands; lanes part at it where some of them do the next step of its
-frame, and others do not. The commands of docs/PROFILE.md give what stands below them, and the loop that it rewrites gives the kernel's results.
+frame, and others do not. A round of a foreach form is the step that begins it, and it is full where all lanes do. The commands of
+docs/PROFILE.md give what stands below them, and the programs that it makes of kernels give these kernels' results.
 """
 
 import functools
@@ -10,6 +11,7 @@ import json
 import re
 
 from meaning.debugging import Debugger
+from meaning.source import Node
 from meaning.values import Fault
 
 from . import examples, meant
@@ -73,6 +75,48 @@ export void go() {
     x = 5 / (programIndex - 2);
 }
 """
+# Each foreach form: in one another, in a called function, in a branch, without a round, and left by `continue`.
+FORMED = """uniform int a[64];
+void fill(uniform int n) {
+    foreach (k = 0 ... n)
+        a[k] = k;
+}
+export void go() {
+    int x = programIndex;
+    foreach (i = 3 ... 14) {
+        if (i > 9) continue;
+        a[i] += i;
+    }
+    foreach_tiled (row = 0 ... 3, column = 0 ... 5) {
+        a[row * 8 + column] = row;
+        foreach_active (lane) {
+            a[lane] += 1;
+        }
+    }
+    foreach (none = 5 ... 5)
+        a[none] = 1;
+    if (programIndex % 3 != 0) {
+        foreach_unique (value in x / 3) {
+            x += value;
+            x += 1;
+        }
+    } else {
+        foreach_active (lane)
+            x -= lane;
+    }
+    for (uniform int turn = 1; turn < 4; ++turn)
+        fill(turn * 5);
+    switch (x & 1) {
+    case 0:
+        foreach (j = 0 ... 2, k = 0 ... 3)
+            a[j + k] += 1;
+        break;
+    default:
+        foreach (j = 0 ... 20)
+            x += 1;
+    }
+}
+"""
 # Tabs, controls, letters of several bytes that a table's column cuts, and bytes that are no text; and a comment that is not closed by its line.
 HOSTILE = b"""export void go() { // \xff\x00\x1b[31m
 \tint x = 1;\t// \t"\\
@@ -86,23 +130,54 @@ ENDLESS = "export void go() {\n    int x = 0;\n    while (true) {\n        x += 
 KEYS = ("steps", "lane_steps", "short_steps", "partings")
 LINES = b" line     steps lane-steps  share      short  parted       lost  source\n"
 FUNCTIONS = b"function             steps lane-steps  share      short  parted       lost   in all  share\n"
+FORM_HEAD = b" line form              rounds       full   full     steps lane-steps  share      short       lost\n"
+FORMS = {"domain": "foreach", "each lane": "foreach_active", "each value": "foreach_unique"}
 FILES = {"mixed.ispc": MIXED.encode(), "held.txt": b"something\n"}
 
 
 # ---- what is wanted
 
-class Counted:
-    """The steps of a run: the line, the functions of the frames and the lanes of each; and how it ends."""
+def share_of(part, whole):
+    return (1000 * part // whole if whole else 1000) / 10
 
-    def __init__(self, source, options, most):
+
+def nodes_in(it):
+    """The nodes of a part of a tree."""
+    if isinstance(it, Node):
+        yield it
+        yield from nodes_in([*vars(it).values()])
+    elif isinstance(it, (list, tuple)):
+        for part in it:
+            yield from nodes_in(part)
+
+
+def forms_in(it):
+    """The foreach forms of a part of a tree, those in another one's body before it."""
+    if isinstance(it, Node):
+        return forms_in([*vars(it).values()]) + ([it] if it.kind in FORMS else [])
+    return [form for part in it for form in forms_in(part)] if isinstance(it, (list, tuple)) else []
+
+
+def word_of(form):
+    return "foreach_tiled" if form.kind == "domain" and form.is_tiled else FORMS[form.kind]
+
+
+class Counted:
+    """The steps of a run from one on: the line, the functions of the frames, the lanes and the task of each; and how it ends."""
+
+    def __init__(self, source, options, most, first=1):
         debugger = Debugger(source, **options)
         self.source, self.width, self.steps, self.end = source, debugger.state.width, [], ["limit"]
+        self.before, self.forms = first - 1, [it for function in debugger.program.functions for it in forms_in(function.body)]
+        for _ in range(self.before):
+            debugger.forward()
         while len(self.steps) < most:
             if not debugger.state.frames:
                 break
             _, place, *_, lanes = debugger.place_text().split()
             names = tuple(it.function.name for it in debugger.state.frames)
-            self.steps.append((int(place.split(":")[0]), names, frozenset(at for at, bit in enumerate(lanes) if bit == "1")))
+            task = debugger.state.top.tasks[0] if debugger.state.top.tasks else None
+            self.steps.append((int(place.split(":")[0]), names, frozenset(at for at, bit in enumerate(lanes) if bit == "1"), task))
             try:
                 debugger.forward()
             except Fault as fault:
@@ -113,8 +188,8 @@ class Counted:
         self.parted = [self.is_parting(at) for at in range(len(self.steps))]
 
     def is_parting(self, at):
-        _, names, lanes = self.steps[at]
-        for _, others, next_lanes in self.steps[at + 1 :]:
+        _, names, lanes, _ = self.steps[at]
+        for _, others, next_lanes, _ in self.steps[at + 1 :]:
             if len(others) <= len(names):
                 return len(others) == len(names) and bool(lanes & next_lanes) and not lanes <= next_lanes
         return False
@@ -124,7 +199,7 @@ class Counted:
         steps, lane_steps = len(rows), sum(len(lanes) for lanes, _ in rows)
         found = dict(zip(KEYS, (steps, lane_steps, sum(len(lanes) < self.width for lanes, _ in rows), sum(parted for _, parted in rows))))
         found["lost"] = steps * self.width - lane_steps
-        found["share"] = (1000 * lane_steps // (steps * self.width) if steps else 1000) / 10
+        found["share"] = share_of(lane_steps, steps * self.width)
         return found
 
     def lines(self):
@@ -132,16 +207,28 @@ class Counted:
 
     def functions(self):
         found = {}
-        for name in dict.fromkeys(it[1][-1] for it in self.steps):
+        standing = self.steps[0][1] if self.steps else ()
+        for name in dict.fromkeys([*standing, *(it[1][-1] for it in self.steps)]):
             own, whole = self.counts(lambda step: step[1][-1] == name), self.counts(lambda step: name in step[1])
             found[name] = own | {f"{key}_with_calls": whole[key] for key in ("steps", "lane_steps", "share")}
+        return found
+
+    def by_form(self):
+        """A row for each form that was come to: its line and word, its rounds, and the counts of the steps inside it."""
+        found = {}
+        for form in self.forms:
+            within = {id(it) for it in nodes_in(form.body)}
+            rounds = [step[2] for step in self.steps if step[3] and step[3].kind == "round" and step[3].statement is form]
+            row = self.counts(lambda step: step[3] and (step[3].kind == "round" and step[3].statement is form or id(step[3].statement) in within))
+            if row["steps"]:
+                found[form.place[0], word_of(form), id(form)] = row | {"rounds": len(rounds), "full": sum(len(it) == self.width for it in rounds)}
         return found
 
     def all(self):
         return self.counts(lambda step: True)
 
     def told_end(self):
-        steps = len(self.steps)
+        steps = self.before + len(self.steps)
         if self.end[0] == "fault":
             return f"step {steps} faults: {self.end[1]} in lane {self.end[2]}\n"
         return f"the program ended after {steps} steps\n" if self.end[0] == "ended" else f"the run was left after {steps} steps\n"
@@ -159,7 +246,7 @@ def columns(row):
 
 
 def dearest(rows, top):
-    return sorted(rows.items(), key=lambda it: -it[1]["lost"])[:top]
+    return sorted((it for it in rows.items() if it[1]["steps"]), key=lambda it: -it[1]["lost"])[:top]
 
 
 def wanted_lines(counted, top):
@@ -172,6 +259,16 @@ def wanted_functions(counted, top):
     whole = lambda row, key="": f"{row['steps' + key]:9}{row['share' + key]:6.1f}%\n"
     rows = [f"{name:16}{columns(row)}{whole(row, '_with_calls')}" for name, row in dearest(counted.functions(), top)]
     return FUNCTIONS + ("".join(rows) + f"{'all':16}{columns(counted.all())}{whole(counted.all())}" + counted.told_end()).encode()
+
+
+def wanted_forms(counted, top):
+    """The table of forms: how many rounds all lanes begin, and the share of these."""
+    text = "".join(
+        f"{line:5} {word:14}{row['rounds']:10}{row['full']:11}{share_of(row['full'], row['rounds']):6.1f}%"
+        f"{row['steps']:10}{row['lane_steps']:11}{row['share']:6.1f}%{row['short_steps']:11}{row['lost']:11}\n"
+        for (line, word, _), row in dearest(counted.by_form(), top)
+    )
+    return FORM_HEAD + (text + counted.told_end()).encode()
 
 
 def wanted_annotated(counted):
@@ -209,13 +306,13 @@ def is_json(wanted):
     return judged
 
 
-def runs_of(name, source, words=(), options=None, data=None, most=10_000_000, widths=WIDTHS):
+def runs_of(name, source, words=(), options=None, data=None, most=10_000_000, widths=WIDTHS, first=1):
     """Each form of a profile of a source, at each width, and the comparison of all."""
     found, counts = [], []
-    words = [f"{name}.ispc", *words] + (["--most", str(most)] if most < 10_000_000 else [])
+    words = [f"{name}.ispc", *words] + (["--most", str(most)] if most < 10_000_000 else []) + (["--from", str(first)] if first > 1 else [])
     data = {f"{name}.ispc": source.encode()} | (data or {})
     for width in widths:
-        counted = Counted(source, (options or {}) | {"width": width}, most)
+        counted = Counted(source, (options or {}) | {"width": width}, most, first)
         counts.append(counted)
         forms = {
             ("--json",): is_json(wanted_json(counted, f"{name}.ispc")),
@@ -223,10 +320,11 @@ def runs_of(name, source, words=(), options=None, data=None, most=10_000_000, wi
             ("--by", "line", "--top", "3"): wanted_lines(counted, 3),
             ("--by", "function"): wanted_functions(counted, 20),
             ("--by=function", "--top=1"): wanted_functions(counted, 1),
+            ("--by", "form"): wanted_forms(counted, 20),
             ("--annotate",): wanted_annotated(counted),
         }
         for form, wanted in forms.items():
-            found.append(Run(f"profile of {name}, {width} lanes {' '.join(form)}".rstrip(), b"", ["profile", *words, "--width", str(width), *form], wanted, b"", data=data))
+            found.append(Run(f"profile of {name}, {width} lanes {' '.join([*form, *words[1:]])}".rstrip(), b"", ["profile", *words, "--width", str(width), *form], wanted, b"", data=data))
     if widths == WIDTHS:
         found.append(Run(f"profile of {name}, compared", b"", ["profile", *words, "--compare"], wanted_comparison(counts), b"", data=data))
     return found
@@ -257,42 +355,47 @@ def kernel_runs(root):
 
 
 @functools.lru_cache(maxsize=None)
-def of_kernel(root, file, width):
-    """The run of the page's kernel, or of the loop that it rewrites."""
-    rows = meant.rows_of((root / "examples/kernels/mandelbrot.input").read_text())
-    return Counted((root / file).read_text(), {"width": width, "rows": rows}, 10_000_000)
+def of_page(root, file, given, width):
+    """The run of a program of the page, with its input."""
+    return Counted((root / file).read_text(), {"width": width, "rows": meant.rows_of((root / given).read_text())}, 10_000_000)
 
 
 def shown_runs(root):
     """The commands of the page. What stands below one is what it gives, or a part of that."""
     blocks = re.findall(r"^```\n(.*?)^```$", (root / PAGE).read_text(), re.M | re.S)
-    data = {it: root / it for it in (KERNEL, REFILLED, "examples/kernels/mandelbrot.input")}
     found = []
     for command, shown in zip(blocks, blocks[1:] + [""]):
         words = command.split()
         if words[:2] != ["rinddecade", "profile"]:
             continue
-        file, width = words[2], int(words[words.index("--width") + 1]) if "--width" in words else 4
+        value = lambda name, usual: words[words.index(name) + 1] if name in words else usual
+        file, given = words[2], value("--input", None)
+        runs = {width: of_page(root, file, given, width) for width in (WIDTHS if "--compare" in words else (int(value("--width", 4)),))}
+        top, counted = int(value("--top", 20)), [*runs.values()][0]
         if "--compare" in words:
-            wanted = wanted_comparison([of_kernel(root, file, it) for it in WIDTHS])
+            wanted = wanted_comparison([*runs.values()])
         elif "--annotate" in words:
-            wanted = wanted_annotated(of_kernel(root, file, width))
+            wanted = wanted_annotated(counted)
         else:
-            wanted = wanted_lines(of_kernel(root, file, width), int(words[words.index("--top") + 1]))
+            wanted = wanted_forms(counted, top) if value("--by", "line") == "form" else wanted_lines(counted, top)
         if not shown.startswith("rinddecade") and shown.encode() not in wanted:
             wanted = shown.encode()
-        found.append(Run(f"{PAGE}: {' '.join(words[2:])}", b"", words[1:], wanted, b"", data=data))
+        found.append(Run(f"{PAGE}: {' '.join(words[2:])}", b"", words[1:], wanted, b"", data={it: root / it for it in (file, given)}))
     return found
 
 
 def result_runs(root):
-    """The rewritten loop gives what the kernel gives."""
-    wanted = (root / "examples/kernels/mandelbrot.expected").read_bytes()
-    turns = re.search(rb"^turns = .*$", wanted, re.M)[0]
-    data = {it: root / it for it in (REFILLED, "examples/kernels/mandelbrot.input")}
-    words = ["debug", REFILLED, "--input", "examples/kernels/mandelbrot.input"]
-    lines = b"break 34\ncontinue\nset print elements 0\nprint turns\n"
-    return [Run(f"results of {REFILLED}, {width} lanes", lines, [*words, "--width", str(width)], has_words(turns), None, data=data) for width in WIDTHS]
+    """A rewritten program gives what its kernel gives: the file's variables, where its entry is left."""
+    found = []
+    for name, kernel in REWRITTEN.items():
+        source, given = f"examples/profiles/{name}.ispc", f"examples/kernels/{kernel}.input"
+        rows = (root / f"examples/kernels/{kernel}.expected").read_bytes().splitlines()
+        lines = [f"break {(root / source).read_text().rstrip().count(chr(10)) + 1}", "continue", "set print elements 0"]
+        text = "".join(f"{it}\n" for it in [*lines, *(f"print {row.split()[0].decode()}" for row in rows if b" = " in row)]).encode()
+        for width in WIDTHS:
+            words = ["debug", source, "--input", given, "--width", str(width)]
+            found.append(Run(f"results of {source}, {width} lanes", text, words, has_words(*(row for row in rows if b" = " in row)), None, data={it: root / it for it in (source, given)}))
+    return found
 
 
 def hostile_runs():
@@ -308,15 +411,40 @@ def hostile_runs():
     ]
 
 
+def coloured_runs():
+    """Shares in the colours of how large they are; without the codes the text is that of `--color never`."""
+    counted = Counted(MIXED, {"width": 8}, 10_000_000)
+    forms = {(): wanted_lines(counted, 20), ("--by", "function"): wanted_functions(counted, 20), ("--by", "form"): wanted_forms(counted, 20), ("--annotate",): wanted_annotated(counted)}
+    forms["--compare",] = wanted_comparison([Counted(MIXED, {"width": width}, 10_000_000) for width in WIDTHS])
+    run = lambda words, form, wanted: Run(f"coloured profile {' '.join([*form, *words])}", b"", ["profile", "mixed.ispc", "--width", "8", *form, *words], wanted, b"", data=FILES)
+    found = [run(["--color", "always"], form, coloured(wanted)) for form, wanted in forms.items()]
+    found += [run(words, form, wanted) for words in (["--color", "never"], ["--color=auto"], []) for form, wanted in forms.items()]
+    wrong = has_words(b"--color takes auto, always or never, and not blue")
+    return [*found, Run("coloured profile of a wrong colour", b"", ["profile", "mixed.ispc", "--color", "blue"], b"", wrong, 2, FILES)]
+
+
+def coloured(text):
+    """A text with the codes of its shares: the column of a share begins behind the digits before it, and a bar has the colour of its share."""
+
+    def painted(found):
+        share = float(found[2])
+        code = b"31" if share < 25 else b"33" if share < 75 else b"32"
+        return b"\x1b[" + code + b"m" + found[0] + b"\x1b[0m"
+
+    return re.sub(rb"( {0,3})(\d{1,3}\.\d)%(  [#.]{8}(?= [ <] {4}))?", painted, text)
+
+
 def wrong_runs():
     several = [["--by", "line", "--annotate"], ["--json", "--compare"], ["--annotate", "--json"], ["--by", "function", "--json"], ["--compare", "--by", "line"]]
     one = b"only one of --by, --annotate, --json and --compare may be given"
-    words = [["--by"], ["--most", "0"], ["--most", "10000001"], ["--most", "x"], ["--top", "0"], ["--top", "65537"], ["--top"], ["--to"], ["--nothing"]]
+    words = [["--by"], ["--from", "0"], ["--from", "10000001"], ["--most", "0"], ["--most", "10000001"], ["--most", "x"], ["--top", "0"], ["--top", "65537"], ["--top"], ["--to"], ["--nothing"]]
     words += [["--json", "--json"], ["--by", "line", "--by", "line"], ["--annotate=yes"], ["--width", "5"], ["second.ispc"], ["--watch", "x"], ["--commands", "a"]]
     found = [Run(f"wrong profile: {' '.join(it)}", b"", ["profile", "mixed.ispc", *it], b"", begins_with(b"error: "), 2, FILES) for it in words]
     found.append(Run("wrong profile: no source", b"", ["profile"], b"", begins_with(b"error: "), 2, FILES))
     found += [Run(f"wrong profile: {' '.join(it)}", b"", ["profile", "mixed.ispc", *it], b"", has_words(one), 2, FILES) for it in several]
-    by = has_words(b"--by takes line or function, and not lanes")
+    far = has_words(b"--from: the run ends before this step, or --steps is less")
+    found += [Run(f"wrong profile: {' '.join(it)}", b"", ["profile", "mixed.ispc", *it], b"", far, 2, FILES) for it in (["--from", "9999"], ["--from", "10000000", "--compare"])]
+    by = has_words(b"--by takes line, function or form, and not lanes")
     return [*found, Run("wrong profile: --by lanes", b"", ["profile", "mixed.ispc", "--by", "lanes"], b"", by, 2, FILES)]
 
 
@@ -340,12 +468,15 @@ def file_runs():
 
 
 PAGE = "docs/PROFILE.md"
-KERNEL, REFILLED = "examples/kernels/mandelbrot.ispc", "examples/profiles/refilled.ispc"
-OPTIONS = ("input", "entry", "width", "most", "top", "by", "annotate", "json", "compare", "to", "force")
+# The programs that the page makes of kernels.
+REWRITTEN = {"refilled": "mandelbrot", "sha256_in_order": "sha256", "utf8_by_bytes": "utf8"}
+OPTIONS = ("input", "entry", "width", "from", "most", "top", "by", "color", "annotate", "json", "compare", "to", "force")
 
 
 def runs(root):
     own = runs_of("mixed", MIXED) + runs_of("empty", EMPTY) + runs_of("endless", ENDLESS, most=50)
     cut = [run for most in (1, 2, 7, 30) for run in runs_of("mixed", MIXED, most=most, widths=(8,))]
+    late = [run for first in (2, 9, 23, 40, 61) for run in runs_of("mixed", MIXED, widths=(8,), first=first)] + runs_of("mixed", MIXED, most=12, first=30)
+    own += runs_of("forms", FORMED) + coloured_runs()
     other = [*shown_runs(root), *result_runs(root), *hostile_runs()]
-    return [*own, *cut, *other, *example_runs(root), *kernel_runs(root), *wrong_runs(), *file_runs()]
+    return [*own, *cut, *late, *other, *example_runs(root), *kernel_runs(root), *wrong_runs(), *file_runs()]

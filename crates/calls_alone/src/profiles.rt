@@ -2,7 +2,10 @@
 use crate::ends::{Ended, end_of};
 use crate::runs::session;
 use crate::samples::SOURCE;
-use gang_types::Mask;
+use foreach_forms::forms_of;
+use frame_expressions::ExpressionMachine;
+use gang_types::{FuncId, Mask, Spot};
+use ispc_debugger::ProgramSession;
 use lane_counts::{Gang, StepAt, Tally};
 use lane_picture::StepsEnd;
 use lane_profile::count_run;
@@ -13,6 +16,8 @@ use tests_devices::PieceWriter;
 /// Makes the call of a name, if there is memory for what it is called on.
 pub(crate) fn call(alloc: Global, name: &str) -> Option<Ended> {
     match name {
+        "foreach_forms::forms_of" => Some(find_forms(alloc, &session(alloc)?)),
+        "lane_counts::Tally::enter" => Some(enter_frame(alloc)),
         "lane_counts::Tally::note" => Some(note_step(alloc)),
         "lane_profile::count_run" => Some(end_of(&count_run(alloc, &mut session(alloc)?, 100))),
         "profile_texts::write_profile" => Some(write_table(alloc, &tally(alloc)?)),
@@ -21,16 +26,30 @@ pub(crate) fn call(alloc: Global, name: &str) -> Option<Ended> {
     }
 }
 
+/// Finds the foreach forms of a program.
+fn find_forms(alloc: Global, session: &ProgramSession<4>) -> Ended {
+    end_of(&forms_of(alloc, session.machine().program()))
+}
+
+/// Puts one frame below the steps that are counted.
+fn enter_frame(alloc: Global) -> Ended {
+    end_of(&Tally::new(alloc, Vec::new(alloc)).enter(alloc, b"go"))
+}
+
 /// Counts one step.
 fn note_step(alloc: Global) -> Ended {
     let at = StepAt {
         line: 4,
+        spot: Spot {
+            function: FuncId(0),
+            number: 1,
+        },
         function: b"go",
         depth: 1,
         gang: Gang::Four,
         lanes: Mask::none(),
     };
-    end_of(&Tally::new(alloc).note(alloc, at))
+    end_of(&Tally::new(alloc, Vec::new(alloc)).note(alloc, at))
 }
 
 /// The counts of the run, if there is memory for them.
@@ -47,7 +66,9 @@ fn write_table(alloc: Global, tally: &Tally) -> Ended {
         title: b"it.ispc",
         source: SOURCE,
         width: 4,
+        first_number: 1,
         most_rows: 100,
+        has_colours: true,
     };
     let mut writer = PieceWriter::new(512, 512);
     end_of(&write_profile(
@@ -66,6 +87,7 @@ fn compare(alloc: Global, tally: &Tally) -> Ended {
         four: tally,
         eight: tally,
         sixteen: tally,
+        has_colours: false,
     };
     let mut writer = PieceWriter::new(512, 512);
     end_of(&write_comparison(alloc, compared, SOURCE, &mut writer))

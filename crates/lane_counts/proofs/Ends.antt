@@ -1,12 +1,13 @@
 -- A tally before the first step, and behind the last one.
 use Rattle.std.proofs.Common.{◌≡◌, refl, ap, ◌∙◌, ℕ, zero, suc, ◌+◌, Bool, true, List, [], arith}
 use Rattle.std.specs.Prelude.{◌==◌}
+use Rattle.foreach_forms.specs.declared.forms.Form.{Form}
 use Rattle.lane_counts.specs.declared.counts.Counts.{Counts}
 use Rattle.lane_counts.specs.declared.tally.Tally.{Tally}
 use Rattle.lane_counts.specs.Counted.{counts_at, none}
-use Rattle.lane_counts.specs.Pending.{pending}
+use Rattle.lane_counts.specs.Formed.{is_inside, is_round}
 use Rattle.lane_counts.specs.Steps.{Stand, at_line, each, in_function, lane_steps, partings, short_steps, steps}
-use Rattle.lane_counts.specs.Tallies.{all_with, counts_of, line_with, own_with, with_later}
+use Rattle.lane_counts.specs.Tallies.{IsBegun, all_with, counts_of, inside_with, line_with, own_with, rounds_with, unparted_of, unparted_with, with_later}
 use Rattle.lane_counts.proofs.Noting.{same_counts}
 use Rattle.lane_counts.proofs.Parting.{nothing_left}
 
@@ -19,25 +20,43 @@ to_none : (c : Counts) (decided : ℕ) (chosen : Stand → Bool) → decided ≡
 to_none c decided chosen h =
     same_counts (c.steps + 0) (c.lane_steps + 0) (c.short_steps + 0) (c.partings + decided + 0) c.steps c.lane_steps c.short_steps c.partings (omega arith) (omega arith) (omega arith) (omega (arith, h))
 
+from_unparted : (chosen : Stand → Bool) (stands : List Stand) → unparted_with none chosen stands ≡ unparted_of chosen stands
+from_unparted chosen stands =
+    same_counts (0 + steps chosen stands) (0 + lane_steps chosen stands) (0 + short_steps chosen stands) 0
+    (steps chosen stands) (lane_steps chosen stands) (short_steps chosen stands) 0 (omega arith) (omega arith) (omega arith) refl
+
+to_unparted : (c : Counts) (chosen : Stand → Bool) → unparted_with c chosen [] ≡ c
+to_unparted c chosen =
+    same_counts (c.steps + 0) (c.lane_steps + 0) (c.short_steps + 0) c.partings c.steps c.lane_steps c.short_steps c.partings (omega arith) (omega arith) (omega arith) refl
+
 at_nothing : (line : ℕ) → counts_at [] line ≡ none
 at_nothing zero = refl
 at_nothing (suc line) = refl
 
+begun_at : (rows : List Counts) (number : ℕ) → rows ≡ [] → counts_at rows number ≡ none
+begun_at rows number is = ap (λ r. counts_at r number) is ∙ at_nothing number
+
+begun_from : (c : Counts) (decided : ℕ) (chosen : Stand → Bool) (stands : List Stand) → c ≡ none → decided ≡ 0 → with_later c decided chosen stands ≡ counts_of chosen stands
+begun_from c decided chosen stands is quiet = ap (λ x. with_later x decided chosen stands) is ∙ ap (λ n. with_later none n chosen stands) quiet ∙ from_none chosen stands
+
 module _ (tally : Tally) where
-  pub line_begun : tally.lines.rows.items ≡ [] → tally.frames.lasts.items ≡ [] → (line : ℕ) (stands : List Stand) → line_with tally line stands ≡ counts_of (at_line line) stands
-  line_begun rows lasts line stands =
-      ap (λ c. with_later c (pending (λ last. last.line == line) 0 tally.frames.lasts.items stands) (at_line line) stands) (ap (λ r. counts_at r line) rows ∙ at_nothing line)
-      ∙ ap (λ l. with_later none (pending (λ last. last.line == line) 0 l stands) (at_line line) stands) lasts ∙ from_none (at_line line) stands
+  module _ (begun : IsBegun tally) where
+    pub line_begun : (line : ℕ) (stands : List Stand) → line_with tally line stands ≡ counts_of (at_line line) stands
+    line_begun line stands = begun_from _ _ (at_line line) stands (begun_at tally.lines.rows.items line begun.lines) (begun.frames _ stands)
 
-  pub own_begun : tally.own.rows.items ≡ [] → tally.frames.lasts.items ≡ [] → (number : ℕ) (name : List ℕ) (stands : List Stand) → own_with tally number name stands ≡ counts_of (in_function name) stands
-  own_begun rows lasts number name stands =
-      ap (λ c. with_later c (pending (λ last. last.function == number) 0 tally.frames.lasts.items stands) (in_function name) stands) (ap (λ r. counts_at r number) rows ∙ at_nothing number)
-      ∙ ap (λ l. with_later none (pending (λ last. last.function == number) 0 l stands) (in_function name) stands) lasts ∙ from_none (in_function name) stands
+    pub own_begun : (number : ℕ) (name : List ℕ) (stands : List Stand) → own_with tally number name stands ≡ counts_of (in_function name) stands
+    own_begun number name stands = begun_from _ _ (in_function name) stands (begun_at tally.own.rows.items number begun.own) (begun.frames _ stands)
 
-  pub all_begun : tally.all ≡ none → tally.frames.lasts.items ≡ [] → (stands : List Stand) → all_with tally stands ≡ counts_of each stands
-  all_begun is lasts stands =
-      ap (λ c. with_later c (pending (λ last. true) 0 tally.frames.lasts.items stands) each stands) is
-      ∙ ap (λ l. with_later none (pending (λ last. true) 0 l stands) each stands) lasts ∙ from_none each stands
+    pub all_begun : (stands : List Stand) → all_with tally stands ≡ counts_of each stands
+    all_begun stands = begun_from _ _ each stands begun.all (begun.frames (λ last. true) stands)
+
+    pub rounds_begun : (number : ℕ) (form : Form) (stands : List Stand) → rounds_with tally number form stands ≡ unparted_of (λ stand. is_round form stand.spot) stands
+    rounds_begun number form stands =
+        ap (λ c. unparted_with c (λ stand. is_round form stand.spot) stands) (begun_at tally.forms.rounds.rows.items number begun.rounds) ∙ from_unparted (λ stand. is_round form stand.spot) stands
+
+    pub inside_begun : (number : ℕ) (form : Form) (stands : List Stand) → inside_with tally number form stands ≡ unparted_of (λ stand. is_inside form stand.spot) stands
+    inside_begun number form stands =
+        ap (λ c. unparted_with c (λ stand. is_inside form stand.spot) stands) (begun_at tally.forms.inside.rows.items number begun.inside) ∙ from_unparted (λ stand. is_inside form stand.spot) stands
 
   pub line_done : (line : ℕ) → line_with tally line [] ≡ counts_at tally.lines.rows.items line
   line_done line = to_none (counts_at tally.lines.rows.items line) _ (at_line line) (nothing_left (λ last. last.line == line) 0 tally.frames.lasts.items)
@@ -47,3 +66,9 @@ module _ (tally : Tally) where
 
   pub all_done : all_with tally [] ≡ tally.all
   all_done = to_none tally.all _ each (nothing_left (λ last. true) 0 tally.frames.lasts.items)
+
+  pub rounds_done : (number : ℕ) (form : Form) → rounds_with tally number form [] ≡ counts_at tally.forms.rounds.rows.items number
+  rounds_done number form = to_unparted (counts_at tally.forms.rounds.rows.items number) (λ stand. is_round form stand.spot)
+
+  pub inside_done : (number : ℕ) (form : Form) → inside_with tally number form [] ≡ counts_at tally.forms.inside.rows.items number
+  inside_done number form = to_unparted (counts_at tally.forms.inside.rows.items number) (λ stand. is_inside form stand.spot)

@@ -1,8 +1,8 @@
 -- What a step makes of counts.
-use Rattle.std.proofs.Common.{◌≡◌, refl, sym, ap, ◌∙◌, ℕ, zero, suc, ◌+◌, ◌≤◌, Bool, true, false, List, ◌∷◌, length, Option, Some, None, arith}
+use Rattle.std.proofs.Common.{◌≡◌, refl, sym, ap, ◌∙◌, ℕ, ◌+◌, ◌≤◌, Bool, true, false, List, ◌∷◌, length, Option, Some, None, arith}
 use Rattle.std.specs.Prelude.{◌&&◌, ◌==◌, nat_lt, if◌then◌else◌}
 use Rattle.std.specs.Option.{is_some}
-use Rattle.gang_types.specs.Lanes.{lanes_from}
+use Rattle.gang_types.specs.LaneLaws.{length-lanes_from}
 use Rattle.gang_types.specs.Masks.{lanes_of, lanes_of_word}
 use Rattle.gang_types.specs.declared.masks.Mask.{Mask}
 use Rattle.lane_counts.specs.declared.counts.Counts.{Counts}
@@ -10,15 +10,11 @@ use Rattle.lane_counts.specs.declared.frames.LastStep.{LastStep}
 use Rattle.lane_counts.specs.Counted.{IsFew, hits, noted}
 use Rattle.lane_counts.specs.Steps.{Stand, active, depth, next_in_frame, one_if, parts}
 use Rattle.lane_counts.specs.Pending.{hit}
-use Rattle.lane_counts.specs.Tallies.{with_later}
-
-length_from : (k n : ℕ) (test : ℕ → Bool) → length (lanes_from k n test) ≡ n
-length_from k zero test = refl
-length_from k (suc n) test = ap suc (length_from (suc k) n test)
+use Rattle.lane_counts.specs.Tallies.{unparted_with, with_later}
 
 pub lanes_length : (w : ℕ) (mask : Mask) → length (lanes_of w mask) ≡ w
 unfolding lanes_of_word
-lanes_length w mask = length_from 0 w _
+lanes_length w mask = length-lanes_from 0 w _
 
 abbrev pub counts : (a b c d : ℕ) → Counts
 counts a b c d = record { steps = a; lane_steps = b; short_steps = c; partings = d }
@@ -43,6 +39,20 @@ with_noted chosen c new is_counted lanes width parted old_decided new_decided st
     ap (λ b. one_if (b && parts stand.lanes (next_in_frame (depth stand) later))) here in
     same_counts _ _ _ _ _ _ _ _ (omega (arith, steps_here)) (omega (arith, lanes_here)) (omega (arith, short_here)) (omega (arith, part_here, decides))
     ∙ ap (λ n. with_later n new_decided chosen later) (sym is)
+
+-- the same without partings
+pub with_unparted : (chosen : Stand → Bool) (c new : Counts) (is_counted : Bool) (lanes width : ℕ) (stand : Stand) (later : List Stand)
+    → new ≡ noted is_counted lanes width 0 c → chosen stand ≡ is_counted → active stand.lanes ≡ lanes → length stand.lanes ≡ width
+    → unparted_with c chosen (stand ∷ later) ≡ unparted_with new chosen later
+with_unparted chosen c new is_counted lanes width stand later is here does wide =
+    let steps_here : one_if (chosen stand) ≡ one_if is_counted = ap one_if here in
+    let lanes_here : (if chosen stand then active stand.lanes else 0) ≡ (if is_counted then lanes else 0) =
+    ap (λ b. if b then active stand.lanes else 0) here ∙ ap (λ n. if is_counted then n else 0) does in
+    let short_here : one_if (chosen stand && nat_lt (active stand.lanes) (length stand.lanes)) ≡ one_if (is_counted && nat_lt lanes width) =
+    ap (λ b. one_if (b && nat_lt (active stand.lanes) (length stand.lanes))) here ∙ ap (λ n. one_if (is_counted && nat_lt n (length stand.lanes))) does
+    ∙ ap (λ n. one_if (is_counted && nat_lt lanes n)) wide in
+    same_counts _ _ _ _ _ _ _ _ (omega (arith, steps_here)) (omega (arith, lanes_here)) (omega (arith, short_here)) (omega arith)
+    ∙ ap (λ n. unparted_with n chosen later) (sym is)
 
 pub one_few : (b : Bool) → one_if b ≤ 1
 one_few true = omega arith

@@ -1,11 +1,13 @@
 -- Partings that the steps to come decide.
-use Rattle.std.proofs.Common.{◌≡◌, refl, ap, ◌∙◌, ℕ, zero, suc, ◌+◌, ◌<◌, ◌≤◌, Bool, true, false, List, [], ◌∷◌, ◌++◌, length, take, Option, Some, None, arith}
-use Rattle.std.specs.Prelude.{◌&&◌}
+use Rattle.std.proofs.Common.{◌≡◌, refl, ap, ◌∙◌, ℕ, zero, suc, ◌+◌, ◌<◌, ◌≤◌, Bool, false, List, [], ◌∷◌, ◌++◌, length, take, Option, Some, None, arith}
+use Rattle.std.specs.Prelude.{◌&&◌, nat_lt}
+use Rattle.std.proofs.lemmas.Bool.{and_right}
+use Rattle.std.proofs.Math.Bool.{and-false}
 use Rattle.std.proofs.lemmas.Bool.Decides.{nat_tests}
-use Rattle.gang_types.specs.Lanes.{and, lanes_from}
+use Rattle.gang_types.specs.Lanes.{Lanes, and, lanes_from}
 use Rattle.lane_counts.specs.declared.frames.LastStep.{LastStep}
-use Rattle.lane_counts.specs.Steps.{Stand, depth, next_in_frame, one_if, parts}
-use Rattle.lane_counts.specs.Pending.{last_at, last_lanes, parting_of, pending}
+use Rattle.lane_counts.specs.Steps.{Stand, active, depth, next_in_frame, one_if, parts}
+use Rattle.lane_counts.specs.Pending.{IsQuiet, last_at, last_lanes, parting_of, pending}
 
 -- ---- the lanes of two sets
 
@@ -22,10 +24,6 @@ module _ (f g : ℕ → Bool) where
   shorter_next k (suc v) (suc w) h = ap (λ lanes. (f k && g k) ∷ lanes) (shorter_next (suc k) v w (omega (arith, h)))
 
 -- ---- the next step in a frame
-
-and_false : (b : Bool) → (b && false) ≡ false
-and_false true = refl
-and_false false = refl
 
 pub below : (deep : ℕ) (stand : Stand) (later : List Stand) → deep < depth stand → next_in_frame deep (stand ∷ later) ≡ next_in_frame deep later
 below deep stand later h = grind (arith, nat_tests)
@@ -45,7 +43,7 @@ module _ (mine : LastStep → Bool) where
   -- a frame that has been left
   is_left : (deep : ℕ) (last : Option LastStep) (stand : Stand) (later : List Stand) → depth stand < deep → parting_of mine deep last (stand ∷ later) ≡ 0
   is_left deep None stand later h = refl
-  is_left deep (Some last) stand later h = ap (λ next. one_if (mine last && parts (last_lanes last) next)) (above deep stand later h) ∙ ap one_if (and_false (mine last))
+  is_left deep (Some last) stand later h = ap (λ next. one_if (mine last && parts (last_lanes last) next)) (above deep stand later h) ∙ ap one_if (and-false (mine last))
 
   are_left : (deep : ℕ) (lasts : List (Option LastStep)) (stand : Stand) (later : List Stand) → depth stand < deep → pending mine deep lasts (stand ∷ later) ≡ 0
   are_left deep [] stand later h = refl
@@ -76,8 +74,25 @@ module _ (mine : LastStep → Bool) where
   -- where no step follows, no lanes part
   none_left : (deep : ℕ) (last : Option LastStep) → parting_of mine deep last [] ≡ 0
   none_left deep None = refl
-  none_left deep (Some last) = ap one_if (and_false (mine last))
+  none_left deep (Some last) = ap one_if (and-false (mine last))
 
   pub nothing_left : (deep : ℕ) (lasts : List (Option LastStep)) → pending mine deep lasts [] ≡ 0
   nothing_left deep [] = refl
   nothing_left deep (last ∷ lasts) = omega (arith, none_left deep last, nothing_left (suc deep) lasts)
+
+-- ---- frames that stand where the counting begins
+
+no_parts : (lanes : Lanes) (next : Option Stand) → active lanes ≡ 0 → parts lanes next ≡ false
+no_parts lanes None e = refl
+no_parts lanes (Some next) e =
+    let none : nat_lt (active (and lanes next.lanes)) (active lanes) ≡ false = grind (arith, nat_tests, e) in
+    and_right (nat_lt 0 (active (and lanes next.lanes))) (nat_lt (active (and lanes next.lanes)) (active lanes)) none
+
+pub quiet_none : (lasts : List (Option LastStep)) → IsQuiet lasts → IsQuiet (lasts ++ None ∷ [])
+quiet_none lasts quiet mine later = omega (arith, behind mine 0 lasts None later, quiet mine later)
+
+pub quiet_step : (lasts : List (Option LastStep)) (last : LastStep) → active (last_lanes last) ≡ 0 → IsQuiet lasts → IsQuiet (lasts ++ Some last ∷ [])
+quiet_step lasts last none quiet mine later =
+    let parts_none : parts (last_lanes last) (next_in_frame (0 + length lasts) later) ≡ false = no_parts (last_lanes last) (next_in_frame (0 + length lasts) later) none in
+    let none_there : one_if (mine last && parts (last_lanes last) (next_in_frame (0 + length lasts) later)) ≡ 0 = ap one_if (and_right (mine last) (parts (last_lanes last) (next_in_frame (0 + length lasts) later)) parts_none) in
+    omega (arith, behind mine 0 lasts (Some last) later, quiet mine later, none_there)

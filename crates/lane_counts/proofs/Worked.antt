@@ -1,7 +1,12 @@
 -- What is counted of some steps, worked out.
 use Rattle.std.specs.Prelude.{◌≡◌, refl, ℕ, true, false, List, [], ◌∷◌, codes}
 use Rattle.gang_types.specs.Lanes.{Lanes}
+use Rattle.gang_types.specs.declared.places.Spot.{Spot}
+use Rattle.foreach_forms.specs.declared.forms.Form.{Form}
+use Rattle.foreach_forms.specs.declared.forms.Word.TheVariants as word
+use Rattle.lane_counts.specs.Formed.{is_inside, is_round}
 use Rattle.lane_counts.specs.Steps.{Stand, at_line, each, lane_steps, partings, short_steps, steps}
+use Rattle.lane_counts.specs.Tallies.{unparted_of}
 
 abbrev go : List ℕ
 go = codes "go"
@@ -9,8 +14,11 @@ go = codes "go"
 abbrev f : List ℕ
 f = codes "f"
 
+abbrev step_of : ℕ → ℕ → Spot
+step_of function number = record { function = record { 0 = function }; number = number }
+
 abbrev at : ℕ → List (List ℕ) → Lanes → Stand
-at line functions lanes = record { line = line; functions = functions; lanes = lanes }
+at line functions lanes = record { line = line; spot = step_of 0 line; functions = functions; lanes = lanes }
 
 abbrev all : Lanes
 all = true ∷ true ∷ true ∷ true ∷ []
@@ -69,3 +77,16 @@ left = at 2 (f ∷ go ∷ []) all ∷ at 9 (go ∷ []) first_two ∷ []
 
 leaving_parts_nothing : partings each left ≡ 0
 leaving_parts_nothing = refl
+
+-- of a form whose head is step 3 and whose rounds are step 6, the first is not inside, and nor is what follows; a step of another function is none of it
+abbrev form_of : ℕ → Form
+form_of function = record { line = 3; function = function; head = 3; rounds = 6; word = word.ForEach }
+
+its_rounds : unparted_of (λ stand. is_round (form_of 0) stand.spot) branches ≡ record { steps = 1; lane_steps = 2; short_steps = 1; partings = 0 }
+its_rounds = refl
+
+inside_it : unparted_of (λ stand. is_inside (form_of 0) stand.spot) branches ≡ record { steps = 2; lane_steps = 4; short_steps = 2; partings = 0 }
+inside_it = refl
+
+inside_another : unparted_of (λ stand. is_inside (form_of 1) stand.spot) branches ≡ record { steps = 0; lane_steps = 0; short_steps = 0; partings = 0 }
+inside_another = refl

@@ -1,4 +1,5 @@
 pub mod Steps
+pub mod Formed
 pub mod Counted
 pub mod Pending
 pub mod Naming

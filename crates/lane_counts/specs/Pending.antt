@@ -1,5 +1,5 @@
 -- Partings that the steps to come decide.
-use Rattle.std.specs.Prelude.{ℕ, suc, Bool, false, ◌&&◌, ◌+◌, ◌==◌, List, [], ◌∷◌, Option, Some, None, slice_index_or}
+use Rattle.std.specs.Prelude.{◌≡◌, ℕ, suc, Bool, false, ◌&&◌, ◌+◌, ◌==◌, List, [], ◌∷◌, Option, Some, None, slice_index_or}
 use Rattle.std.specs.List.{list_any}
 use Rattle.gang_types.specs.Masks.{lanes_of}
 use Rattle.gang_types.specs.Lanes.{Lanes}
@@ -27,6 +27,10 @@ parting_of mine deep (Some last) later = one_if (mine last && parts (last_lanes 
 abbrev pub pending : (mine : LastStep → Bool) → (deep : ℕ) → List (Option LastStep) → List Stand → ℕ
 pending mine deep [] later = 0
 pending mine deep (last ∷ lasts) later = parting_of mine deep last later + pending mine (suc deep) lasts later
+
+-- at none of these last steps the lanes part, whatever comes
+abbrev pub IsQuiet : List (Option LastStep) → Type 0
+IsQuiet lasts = (mine : LastStep → Bool) (later : List Stand) → pending mine 0 lasts later ≡ 0
 
 -- the last step of the frame that is so many above the first of these
 abbrev pub last_at : List (Option LastStep) → ℕ → Option LastStep

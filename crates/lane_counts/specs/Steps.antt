@@ -1,10 +1,12 @@
 -- What is counted of the steps of a run.
 use Rattle.std.specs.Prelude.{ℕ, Bool, true, false, ◌&&◌, ◌+◌, ◌==◌, nat_lt, List, [], ◌∷◌, length, Option, Some, None, if◌then◌else◌, bytes_eq, count_by}
 use Rattle.gang_types.specs.Lanes.{Lanes, and}
+use Rattle.gang_types.specs.declared.places.Spot.{Spot}
 
--- where a step stands: its line, the names of the functions of all frames, the top one's first, and the lanes that do it
+-- where a step stands: its line, which step of the program it is, the names of the functions of all frames, the top one's first, and the lanes that do it
 pub record Stand : Type 0 where
   pub line : ℕ
+  pub spot : Spot
   pub functions : List (List ℕ)
   pub lanes : Lanes
 

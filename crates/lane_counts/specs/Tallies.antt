@@ -1,18 +1,24 @@
 -- What a tally has counted, and what it comes to with the steps to come.
-use Rattle.std.specs.Prelude.{◌≡◌, ℕ, Bool, true, ◌+◌, ◌*◌, ◌==◌, List, ◌∷◌}
+use Rattle.std.specs.Prelude.{◌≡◌, ℕ, Bool, true, ◌+◌, ◌*◌, ◌==◌, List, [], ◌∷◌}
 use Rattle.gang_types.specs.Masks.{lanes_of}
+use Rattle.foreach_forms.specs.declared.forms.Form.{Form}
 use Rattle.lane_counts.specs.declared.counts.Counts.{Counts}
 use Rattle.lane_counts.specs.declared.tally.StepAt.{StepAt}
 use Rattle.lane_counts.specs.declared.tally.Tally.{Tally}
 use Rattle.lane_counts.specs.Steps.{Stand, at_line, depth, each, in_function, lane_steps, partings, short_steps, steps}
-use Rattle.lane_counts.specs.Counted.{AreFew, IsFew, counts_at}
+use Rattle.lane_counts.specs.Counted.{AreFew, IsFew, counts_at, none}
+use Rattle.lane_counts.specs.Formed.{is_inside, is_round}
 use Rattle.lane_counts.specs.Naming.{AreDistinct}
-use Rattle.lane_counts.specs.Pending.{pending, width_of}
+use Rattle.lane_counts.specs.Pending.{IsQuiet, pending, width_of}
 
 -- what is counted of the steps that are chosen
 abbrev pub counts_of : (Stand → Bool) → List Stand → Counts
 counts_of chosen stands =
     record { steps = steps chosen stands; lane_steps = lane_steps chosen stands; short_steps = short_steps chosen stands; partings = partings chosen stands }
+
+-- the same without partings
+abbrev pub unparted_of : (Stand → Bool) → List Stand → Counts
+unparted_of chosen stands = record { steps = steps chosen stands; lane_steps = lane_steps chosen stands; short_steps = short_steps chosen stands; partings = 0 }
 
 -- counts with those of later steps that are chosen, and with partings that these decide
 abbrev pub with_later : Counts → (decided : ℕ) → (Stand → Bool) → List Stand → Counts
@@ -21,6 +27,15 @@ with_later c decided chosen later = record {
   lane_steps = c.lane_steps + lane_steps chosen later;
   short_steps = c.short_steps + short_steps chosen later;
   partings = c.partings + decided + partings chosen later;
+}
+
+-- counts with those of later steps that are chosen, without their partings
+abbrev pub unparted_with : Counts → (Stand → Bool) → List Stand → Counts
+unparted_with c chosen later = record {
+  steps = c.steps + steps chosen later;
+  lane_steps = c.lane_steps + lane_steps chosen later;
+  short_steps = c.short_steps + short_steps chosen later;
+  partings = c.partings;
 }
 
 -- what a tally has of a line, with later steps
@@ -36,9 +51,18 @@ own_with tally number name later =
 abbrev pub all_with : Tally → List Stand → Counts
 all_with tally later = with_later tally.all (pending (λ last. true) 0 tally.frames.lasts.items later) each later
 
+-- what it has of the rounds of the form of a number, with later steps
+abbrev pub rounds_with : Tally → (number : ℕ) → Form → List Stand → Counts
+rounds_with tally number form later = unparted_with (counts_at tally.forms.rounds.rows.items number) (λ stand. is_round form stand.spot) later
+
+-- what it has of the steps inside the form of a number, with later steps
+abbrev pub inside_with : Tally → (number : ℕ) → Form → List Stand → Counts
+inside_with tally number form later = unparted_with (counts_at tally.forms.inside.rows.items number) (λ stand. is_inside form stand.spot) later
+
 -- a step stands where it is told
 pub record IsAt (at : StepAt) (stand : Stand) : Type 0 where
   pub line : stand.line ≡ at.line
+  pub spot : stand.spot ≡ at.spot
   pub function : (below : List (List ℕ)) × (stand.functions ≡ at.function.now ∷ below)
   pub deep : depth stand ≡ at.depth
   pub lanes : stand.lanes ≡ lanes_of (width_of at.gang) at.lanes
@@ -50,3 +74,15 @@ pub record IsSound (tally : Tally) : Type 0 where
   pub own : AreFew (16 * tally.all.steps) tally.own.rows.items
   pub names : AreDistinct tally.names
   pub whole : AreFew (16 * tally.all.steps) tally.whole.rows.items
+  pub rounds : AreFew (16 * tally.all.steps) tally.forms.rounds.rows.items
+  pub inside : AreFew (16 * tally.all.steps) tally.forms.inside.rows.items
+
+-- nothing has been counted
+pub record IsBegun (tally : Tally) : Type 0 where
+  pub sound : IsSound tally
+  pub all : tally.all ≡ none
+  pub lines : tally.lines.rows.items ≡ []
+  pub own : tally.own.rows.items ≡ []
+  pub rounds : tally.forms.rounds.rows.items ≡ []
+  pub inside : tally.forms.inside.rows.items ≡ []
+  pub frames : IsQuiet tally.frames.lasts.items

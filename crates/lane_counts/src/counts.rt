@@ -1,5 +1,5 @@
 //! What is counted of some steps.
-ghost use Rattle.std.specs.Prelude.{◌≡◌, ◌≤◌, ◌^◌, true};
+ghost use Rattle.std.specs.Prelude.{◌≡◌, ◌≤◌, ◌^◌, ◌-◌, true};
 ghost use Rattle.lane_counts.specs.Counted.{IsFew, none, noted, with_parting, with_step};
 ghost use Rattle.lane_counts.specs.Steps.{one_if};
 
@@ -27,6 +27,13 @@ impl Counts {
             short_steps: 0,
             partings: 0,
         }
+    }
+
+    /// How many of the steps all lanes of the gang do.
+    pub fn full_steps(self) -> u64
+        ensures { result ≡ self.steps - self.short_steps }
+    {
+        self.steps.saturating_sub(self.short_steps)
     }
 
     /// The counts with a step that so many lanes of the gang do, and with a parting if it decides one.

@@ -2,7 +2,7 @@
 ghost use Rattle.std.specs.Prelude.{◌≡◌, ℕ, ◌&&◌, ◌+◌, Bool, List, ◌∷◌, Some, IfOk, [], nat_lt};
 ghost use Rattle.gang_types.specs.Lanes.{and};
 ghost use Rattle.gang_types.specs.Masks.{lanes_of};
-ghost use Rattle.lane_counts.specs.Pending.{has_function, is_of, last_at, last_lanes, parting_of, pending, width_of};
+ghost use Rattle.lane_counts.specs.Pending.{IsQuiet, has_function, is_of, last_at, last_lanes, parting_of, pending, width_of};
 ghost use Rattle.lane_counts.specs.Steps.{Stand, active, depth as depth_of};
 
 use crate::gang::Gang;
@@ -63,6 +63,27 @@ impl Frames {
         Frames {
             lasts: Vec::new(alloc),
         }
+    }
+
+    /// Puts a frame of a function above the others, none of whose steps was counted.
+    ///
+    /// # Errors
+    ///
+    /// Out of memory.
+    pub(crate) fn enter(&mut self, function: usize) -> Result<(), AllocError>
+        requires { IsQuiet self.old.lasts.items }
+        ensures { IfOk result (λ _. IsQuiet self.new.lasts.items) }
+    {
+        if self.lasts.is_empty() {
+            self.lasts.push(None)?;
+        }
+        self.lasts.push(Some(LastStep {
+            line: 0,
+            function,
+            gang: Gang::Four,
+            lanes: Mask::none(),
+        }))?;
+        Ok(())
     }
 
     /// Whether the last step of some frame is one of a function.

@@ -2,6 +2,7 @@
 #![tactic(auto)]
 
 mod counts;
+mod forms;
 mod frames;
 mod gang;
 mod names;
@@ -9,6 +10,7 @@ mod table;
 mod tally;
 
 pub use counts::Counts;
+pub use forms::FormCounts;
 pub use gang::Gang;
 pub use names::Names;
 pub use tally::{StepAt, Tally};

@@ -56,7 +56,7 @@ impl Names {
     }
 
     /// The number of a name, if it has one.
-    fn find(&self, name: &[u8]) -> Option<usize>
+    pub fn find(&self, name: &[u8]) -> Option<usize>
         ensures { MatchOption result ((number : ℕ) → name_at self.now number ≡ Some name.now → ⊥) (λ number. name_at self.now number ≡ Some name.now) }
     {
         for (number, known) in self.names.iter().enumerate() {

@@ -1,10 +1,14 @@
 //! Counts by numbers, as lines.
-ghost use Rattle.std.specs.Prelude.{◌≡◌, ℕ, ◌<◌, ◌≤◌, ◌^◌, ◌==◌, ◌&&◌, nat_lt, IfOk, [], vec_len};
+ghost use Rattle.std.specs.Prelude.{◌≡◌, ℕ, ◌<◌, ◌≤◌, ◌^◌, ◌==◌, ◌&&◌, nat_lt, IfOk, [], length, slice_get, vec_len};
 ghost use Rattle.lane_counts.specs.Counted.{AreFew, AreSameBut, counts_at, hits, noted, with_partings, with_parting, with_step};
+ghost use Rattle.lane_counts.specs.Formed as formed;
 ghost use Rattle.lane_counts.specs.Pending.{has_function};
 
 use crate::counts::Counts;
+use crate::forms::{Part, has_part};
 use crate::frames::Frames;
+use foreach_forms::Form;
+use gang_types::Spot;
 use std::alloc::{AllocError, Global};
 
 /// Counts by numbers. It has as many as the greatest number that was counted asks for.
@@ -69,6 +73,32 @@ impl Table {
     {
         for number in 0..count {
             if frames.has(number) {
+                self.add_step(number, lanes, width)?;
+            }
+        }
+        Ok(())
+    }
+
+    /// Counts a step at the number of each form that it is such a part of.
+    ///
+    /// # Errors
+    ///
+    /// Out of memory.
+    pub(crate) fn add_forms(
+        &mut self,
+        forms: &[Form],
+        part: Part,
+        spot: Spot,
+        lanes: usize,
+        width: usize,
+    ) -> Result<(), AllocError>
+        requires few { AreFew (2 ^ 39) self.old.rows.items }
+        requires lanes { lanes ≤ 16 }
+        ensures { IfOk result (λ _. (k : ℕ) → counts_at self.new.rows.items k
+            ≡ noted (nat_lt k (length forms.now) && formed.has_part part (slice_get forms.now k) spot) lanes width 0 (counts_at self.old.rows.items k)) }
+    {
+        for number in 0..forms.len() {
+            if has_part(forms, number, part, spot) {
                 self.add_step(number, lanes, width)?;
             }
         }

@@ -1,56 +1,61 @@
 //! The counts of a run, step by step.
-ghost use Rattle.std.specs.Prelude.{◌≡◌, ℕ, ◌+◌, ◌<◌, ◌^◌, ◌==◌, Bool, List, ◌∷◌, Some, IfOk, []};
+ghost use Rattle.std.specs.Prelude.{◌≡◌, ℕ, ◌+◌, ◌<◌, ◌^◌, ◌==◌, Bool, List, ◌∷◌, Some, IfOk, [], slice_get};
+ghost use Rattle.foreach_forms.specs.declared.forms.Form.{Form};
 ghost use Rattle.gang_types.specs.Masks.{lanes_of};
 ghost use Rattle.lane_counts.specs.Counted.{hits, none};
-ghost use Rattle.lane_counts.specs.Naming.{AreDistinct, Extends, name_at};
+ghost use Rattle.lane_counts.specs.Naming.{AreDistinct, Extends, HasName, name_at};
 ghost use Rattle.lane_counts.specs.declared.names.Names.{Names};
-ghost use Rattle.lane_counts.specs.Pending.{hit, parting_of, width_of};
+ghost use Rattle.lane_counts.specs.Pending.{IsQuiet, hit, parting_of, width_of};
 ghost use Rattle.lane_counts.specs.Steps.{Stand, depth as depth_of};
-ghost use Rattle.lane_counts.specs.Tallies.{IsAt, IsSound, all_with, line_with, own_with};
+ghost use Rattle.lane_counts.specs.Tallies.{IsAt, IsBegun, IsSound, all_with, inside_with, line_with, own_with, rounds_with};
 
 use crate::counts::Counts;
+use crate::forms::FormCounts;
 use crate::frames::{Frames, LastStep};
 use crate::gang::Gang;
 use crate::names::Names;
 use crate::table::Table;
-use gang_types::Mask;
+use foreach_forms::Form;
+use gang_types::{Mask, Spot};
 use std::alloc::{AllocError, Global};
 
-/// Where a step stands: its line, the name of its function, how many frames there are, and the lanes of the gang that do it.
+/// Where a step stands: its line, which step of the program it is, the name of its function, how many frames there are, and the lanes of the
+/// gang that do it.
 #[derive(Clone, Copy)]
 pub struct StepAt<'a> {
     pub line: usize,
+    pub spot: Spot,
     pub function: &'a [u8],
     pub depth: usize,
     pub gang: Gang,
     pub lanes: Mask,
 }
 
-/// What is counted of the steps of a run: of all, of each line, and of each function, its own steps and those done while a frame of it
-/// stands.
+/// What is counted of the steps of a run: of all, of each line, of each function, its own steps and those done while a frame of it stands,
+/// and of each foreach form.
 #[derive(Drop)]
 pub struct Tally {
     all: Counts,
     lines: Table,
     own: Table,
     whole: Table,
+    forms: FormCounts,
     names: Names,
     frames: Frames,
 }
 
 impl Tally {
-    pub fn new(alloc: Global) -> Self
-        ensures sound { IsSound result }
-        ensures none { result.all ≡ none }
-        ensures lines { result.lines.rows.items ≡ [] }
-        ensures own { result.own.rows.items ≡ [] }
-        ensures frames { result.frames.lasts.items ≡ [] }
+    /// Nothing is counted. The forms are those whose steps are to be counted.
+    pub fn new(alloc: Global, forms: Vec<Form>) -> Self
+        ensures begun { IsBegun result }
+        ensures forms { result.forms.forms ≡ forms }
     {
         Tally {
             all: Counts::none(),
             lines: Table::new(alloc),
             own: Table::new(alloc),
             whole: Table::new(alloc),
+            forms: FormCounts::new(alloc, forms),
             names: Names::new(alloc),
             frames: Frames::new(alloc),
         }
@@ -91,6 +96,27 @@ impl Tally {
         self.whole.rows()
     }
 
+    /// What is counted of the steps inside each foreach form.
+    pub fn forms(&self) -> &FormCounts
+        ensures { result.now ≡ self.now.forms }
+    {
+        &self.forms
+    }
+
+    /// Puts a frame of a function above the others before any step is counted: it stands where the counting begins.
+    ///
+    /// # Errors
+    ///
+    /// Out of memory.
+    pub fn enter(&mut self, alloc: Global, function: &[u8]) -> Result<(), AllocError>
+        requires { IsBegun self.old }
+        ensures begun { IfOk result (λ _. IsBegun self.new) }
+        ensures forms { self.new.forms.forms ≡ self.old.forms.forms }
+    {
+        let number = self.names.number_of(alloc, function)?;
+        self.frames.enter(number)
+    }
+
     /// Counts a step before it is done.
     ///
     /// # Errors
@@ -106,6 +132,12 @@ impl Tally {
         ensures kept { IfOk result (λ _. Extends self.old.names self.new.names) }
         ensures all { IfOk result (λ _. (stand : Stand) (later : List Stand) → IsAt at.entry stand
             → all_with self.old (stand ∷ later) ≡ all_with self.new later) }
+        ensures rounds { IfOk result (λ _. (k : ℕ) (form : Form) → slice_get self.old.forms.forms.items k ≡ Some form → (stand : Stand) (later : List Stand) → IsAt at.entry stand
+            → rounds_with self.old k form (stand ∷ later) ≡ rounds_with self.new k form later) }
+        ensures inside { IfOk result (λ _. (k : ℕ) (form : Form) → slice_get self.old.forms.forms.items k ≡ Some form → (stand : Stand) (later : List Stand) → IsAt at.entry stand
+            → inside_with self.old k form (stand ∷ later) ≡ inside_with self.new k form later) }
+        ensures forms { self.new.forms.forms ≡ self.old.forms.forms }
+        ensures named { IfOk result (λ _. HasName self.new.names at.entry.function.now) }
         ensures sound { IfOk result (λ _. IsSound self.new) }
         ensures steps { IfOk result (λ _. self.new.all.steps ≡ self.old.all.steps + 1) }
     {
@@ -123,6 +155,7 @@ impl Tally {
         self.own.add(function, function_of(parted), lanes, width)?;
         self.whole
             .add_each(self.names.count(), &self.frames, lanes, width)?;
+        self.forms.note(at.spot, lanes, width)?;
         self.all = self.all.noted(parted.is_some(), lanes, width);
         Ok(())
     }

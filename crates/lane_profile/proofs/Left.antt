@@ -11,8 +11,16 @@ use Rattle.lane_picture.specs.Seen.{state_after}
 use Rattle.lane_picture.specs.Tries.{CameTo}
 use Rattle.lane_picture.proofs.SeenColumns.{after_more}
 use Rattle.lane_picture.proofs.Trying.{ended_over}
+use Rattle.gang_model.specs.Texts.Text.{Bytes}
+use Rattle.lane_counts.specs.declared.names.Names.{Names}
+use Rattle.lane_counts.specs.Naming.{Extends, HasName}
 use Rattle.lane_counts.specs.Steps.{Stand}
+use Rattle.lane_profile.specs.Counted.{IsNamed}
 use Rattle.lane_profile.specs.Stands.{stand_of, stands_of, states_tried, tried_at}
+
+-- a name that is known stays known
+pub named_by : (names final : Names) (functions below : List Bytes) (name : Bytes) → functions ≡ name ∷ below → HasName names name → Extends names final → IsNamed final functions
+named_by names final functions below name is has extends = subst (IsNamed final) (sym is) (has.0, extends has.0 name has.1)
 
 module _ (p : Program) (most : ℕ) (first : State) where
   -- where the steps stand that are left after so many

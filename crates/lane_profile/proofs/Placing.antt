@@ -1,18 +1,25 @@
 -- Where a step stands, by the position of the machine.
-use Rattle.std.proofs.Common.{◌≡◌, refl, sym, ap, ◌∙◌, ℕ, suc, true, false, List, [], ◌∷◌, length, map, Option, Some, None, arith}
-use Rattle.std.specs.Prelude.{◌==◌, decimal, max, slice_get, unwrap_or}
+use Rattle.std.proofs.Common.{◌≡◌, refl, sym, ap, ◌∙◌, ℕ, suc, ◌≤◌, true, false, List, [], ◌∷◌, length, map, Option, Some, None, arith}
+use Rattle.std.specs.Prelude.{◌==◌, decimal, if◌then◌else◌, max, nat_lt, slice_get, unwrap_or}
+use Rattle.std.proofs.lemmas.Bool.Decides.{nat_tests}
 use Rattle.std.proofs.lemmas.List.{length-map}
 use Rattle.gang_types.specs.Lanes.{Lanes}
+use Rattle.gang_types.specs.declared.places.Spot.{Spot}
+use Rattle.gang_types.specs.declared.masks.Mask.{Mask}
 use Rattle.gang_types.specs.Masks.{lanes_of}
 use Rattle.gang_model.specs.Types.Tree.{Function, Program, Standing}
 use Rattle.gang_model.specs.Running.State.{Frame, State}
-use Rattle.gang_model.specs.Debugger.Positions.{frame_lanes, frame_spot, line_now, standing_at, top_lanes}
-use Rattle.gang_model.specs.Debugger.Debugger.{depth}
+use Rattle.gang_model.specs.Debugger.Positions.{call_at, frame_lanes, frame_spot, line_now, spot_in, spot_now, standing_at, top_lanes, top_spot}
+use Rattle.gang_model.specs.Debugger.Debugger.{depth, has_ended}
 use Rattle.gang_model.specs.Texts.Text.{Bytes, bits, frames_text, line_and_column, standing_text, where_text}
 use Rattle.debug_traits.specs.declared.machine.Position.{Position}
+use Rattle.debug_traits.specs.Frames.{spot_at}
 use Rattle.debug_traits.specs.Machines.{depth_of, line_of_position, position_text}
 use Rattle.adapter_replies.proofs.PlaceTexts.{bits_no_blank, column_no_blank, decimal_no_blank, words_same}
-use Rattle.lane_profile.specs.Counted.{IsPlaced}
+use Rattle.lane_counts.specs.declared.tally.StepAt.{StepAt}
+use Rattle.lane_counts.specs.Pending.{width_of}
+use Rattle.lane_counts.specs.Steps.{Stand, depth as deep_of}
+use Rattle.lane_counts.specs.Tallies.{IsAt}
 use Rattle.lane_profile.specs.Stands.{name_of, stand_of}
 
 -- ---- the function and the lanes, by the text of a place
@@ -42,6 +49,13 @@ told_by_standing (Some standing) (Some f) deep lanes position e =
 
 -- ---- a step of a state
 
+-- a step stands at a position
+pub record IsPlaced (position : Position) (stand : Stand) : Type 0 where
+  pub line : stand.line ≡ position.place.line
+  pub function : (below : List Bytes) × (stand.functions ≡ position.function.now ∷ below)
+  pub deep : deep_of stand ≡ position.depth
+  pub lanes : stand.lanes ≡ lanes_of position.width position.lanes
+
 one_or_more : (n : ℕ) → suc n ≡ max 1 (suc n)
 one_or_more n = omega arith
 
@@ -63,3 +77,33 @@ module _ (p : Program) (position : Position) where
   pub placed : (state : State) → where_text p state ≡ position_text (Some position) → line_now p state ≡ line_of_position (Some position) → depth state ≡ depth_of (Some position)
       → IsPlaced position (stand_of p state)
   placed state text line deep = placed_frames state state.frames refl text line deep
+
+  -- ---- which step it is
+
+  -- at the depth of the top frame, or past it, stands the top frame
+  pub spot_top : (state : State) (deep : ℕ) → length state.frames ≤ deep → spot_at p deep state ≡ spot_now p state
+  spot_top state deep few =
+      let past : nat_lt deep (length state.frames) ≡ false = grind (arith, nat_tests) in
+      ap (λ b. if b then call_at (suc deep) state.frames else spot_now p state) past
+
+  some_spot : (frames : List Frame) → (length frames == 0) ≡ false → top_spot p frames ≡ None → ⊥
+  some_spot [] goes none = cc goes
+  some_spot (frame ∷ frames) goes none = cc none
+
+  pub no_spot : (state : State) → has_ended state ≡ false → spot_now p state ≡ None → ⊥
+  no_spot state goes none = some_spot state.frames goes none
+
+  pub within : (frames : List Frame) (deep : ℕ) → max 1 (length frames) ≡ deep → length frames ≤ deep
+  within frames deep is = omega (arith, is)
+
+  -- the step of a machine stands where the state's does
+  pub is_at : (state : State) (spot : Spot) (at : StepAt) → IsPlaced position (stand_of p state) → depth state ≡ position.depth → spot_at p position.depth state ≡ Some spot
+      → at ≡ record { line = position.place.line; spot = spot; function = position.function; depth = position.depth; gang = at.gang; lanes = position.lanes } → width_of at.gang ≡ position.width → IsAt at (stand_of p state)
+  is_at state spot at placed deep is same wide =
+      let here : spot_now p state ≡ Some spot = sym (spot_top state position.depth (within state.frames position.depth deep)) ∙ is in record {
+        line = placed.line ∙ sym (ap (λ (a : StepAt). a.line) same);
+        spot = ap (λ o. unwrap_or o (spot_in 0 0)) here ∙ sym (ap (λ (a : StepAt). a.spot) same);
+        function = (placed.function.0, placed.function.1 ∙ ap (λ (a : StepAt). a.function.now ∷ placed.function.0) (sym same));
+        deep = placed.deep ∙ sym (ap (λ (a : StepAt). a.depth) same);
+        lanes = placed.lanes ∙ ap (λ w. lanes_of w position.lanes) (sym wide) ∙ ap (λ (m : Mask). lanes_of (width_of at.gang) m) (sym (ap (λ (a : StepAt). a.lanes) same));
+      }

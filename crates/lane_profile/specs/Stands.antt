@@ -3,7 +3,7 @@ use Rattle.std.specs.Prelude.{ℕ, zero, suc, List, [], ◌∷◌, map, Option, 
 use Rattle.gang_model.specs.Types.Tree.{Function, Program}
 use Rattle.gang_model.specs.Running.State.{State}
 use Rattle.gang_model.specs.Running.Step.{Stepped, Goes, Fails, Over, step}
-use Rattle.gang_model.specs.Debugger.Positions.{lanes_now, line_now}
+use Rattle.gang_model.specs.Debugger.Positions.{lanes_now, line_now, spot_in, spot_now}
 use Rattle.gang_model.specs.Texts.Text.{Bytes}
 use Rattle.lane_counts.specs.Steps.{Stand}
 
@@ -27,6 +27,7 @@ name_of (Some f) = f.name
 abbrev pub stand_of : Program → State → Stand
 stand_of p state = record {
   line = unwrap_or (line_now p state) 0;
+  spot = unwrap_or (spot_now p state) (spot_in 0 0);
   functions = map (λ frame. name_of (slice_get p.functions frame.function)) state.frames;
   lanes = lanes_now state;
 }

@@ -1,17 +1,15 @@
 //! A run, step by step, with its counts.
-ghost use Rattle.std.specs.Prelude.{◌≡◌, ℕ, ◌+◌, ◌<◌, ◌≤◌, ◌^◌, List, ◌∷◌, Some, IfOk, OnErr};
-ghost use Rattle.gang_types.specs.Masks.{IsGangWidth};
+ghost use Rattle.std.specs.Prelude.{◌≡◌, ◌≤◌, IfOk, OnErr};
+ghost use Rattle.foreach_forms.specs.Forms.{forms_of};
 ghost use Rattle.gang_model.specs.Debugger.Debugger.{Debugger, Setting, now};
 ghost use Rattle.debug_session.specs.Sessions.{StandsFor};
-ghost use Rattle.lane_counts.specs.Naming.{AreDistinct, Extends, name_at};
-ghost use Rattle.lane_counts.specs.declared.names.Names.{Names};
-ghost use Rattle.lane_counts.specs.Steps.{Stand};
-ghost use Rattle.lane_counts.specs.Tallies.{IsSound, all_with, line_with, own_with};
+ghost use Rattle.lane_counts.specs.Tallies.{IsBegun};
 ghost use Rattle.lane_picture.specs.Tries.{HasBegun, HasRun};
-ghost use Rattle.lane_profile.specs.Counted.{HasCounted, IsPlaced};
+ghost use Rattle.lane_profile.specs.Counted.{HasCounted, IsNext};
 
 use debug_session::Session;
-use debug_traits::{Position, RecordedMachine};
+use foreach_forms::forms_of;
+use frame_expressions::ExpressionMachine;
 use lane_counts::{Gang, StepAt, Tally};
 use lane_picture::{StepsEnd, end_after, try_step};
 use std::alloc::{AllocError, Global};
@@ -21,7 +19,7 @@ use std::alloc::{AllocError, Global};
 /// # Errors
 ///
 /// Out of memory. A step that could not be counted was not tried.
-pub fn count_run<M: RecordedMachine>(
+pub fn count_run<M: ExpressionMachine>(
     alloc: Global,
     session: &mut Session<M>,
     most_steps: u32,
@@ -33,12 +31,12 @@ pub fn count_run<M: RecordedMachine>(
     ensures memory { OnErr result ((s : Setting) (d : Debugger) → StandsFor M.stands session.old s d
         → HasBegun M.stands s most_steps d session.new) }
 {
-    let mut tally = Tally::new(alloc);
+    let mut tally = begun_at(alloc, session.machine())?;
     for _count in 0..most_steps {
-        let Some(position) = session.machine().position() else {
+        let Some(at) = next_step(session.machine()) else {
             return Ok((tally, StepsEnd::Ended));
         };
-        note(alloc, position, &mut tally)?;
+        tally.note(alloc, at)?;
         if let Some(end) = try_step(session) {
             return Ok((tally, end));
         }
@@ -47,27 +45,40 @@ pub fn count_run<M: RecordedMachine>(
     Ok((tally, end))
 }
 
-/// Counts the step of a position.
-fn note(alloc: Global, position: Position<'_>, tally: &mut Tally) -> Result<(), AllocError>
-    requires width { IsGangWidth position.width }
-    requires sound { IsSound tally.old }
-    requires few { tally.old.all.steps < 2 ^ 32 }
-    ensures lines { IfOk result (λ _. (line : ℕ) (stand : Stand) (later : List Stand) → IsPlaced position.entry stand
-        → line_with tally.old line (stand ∷ later) ≡ line_with tally.new line later) }
-    ensures own { IfOk result (λ _. (final : Names) (number : ℕ) (name : List ℕ) → Extends tally.new.names final → AreDistinct final → name_at final number ≡ Some name
-        → (stand : Stand) (later : List Stand) → IsPlaced position.entry stand → own_with tally.old number name (stand ∷ later) ≡ own_with tally.new number name later) }
-    ensures kept { IfOk result (λ _. Extends tally.old.names tally.new.names) }
-    ensures all { IfOk result (λ _. (stand : Stand) (later : List Stand) → IsPlaced position.entry stand
-        → all_with tally.old (stand ∷ later) ≡ all_with tally.new later) }
-    ensures sound { IfOk result (λ _. IsSound tally.new) }
-    ensures steps { IfOk result (λ _. tally.new.all.steps ≡ tally.old.all.steps + 1) }
+/// A tally of the program's foreach forms before its first step, with the frames below the top one.
+fn begun_at<M: ExpressionMachine>(alloc: Global, machine: &M) -> Result<Tally, AllocError>
+    ensures begun { IfOk result IsBegun }
+    ensures forms { IfOk result (λ tally. (s : Setting) (d : Debugger) → M.stands machine.now s d → tally.forms.forms.items ≡ forms_of s.program) }
 {
-    let at = StepAt {
+    let mut tally = Tally::new(alloc, forms_of(alloc, machine.program())?);
+    for depth in 1..depth_of(machine) {
+        if let Some(call) = machine.call(depth) {
+            tally.enter(alloc, call.function)?;
+        }
+    }
+    Ok(tally)
+}
+
+/// How many frames there are.
+fn depth_of<M: ExpressionMachine>(machine: &M) -> usize {
+    match machine.position() {
+        Some(position) => position.depth,
+        None => 0,
+    }
+}
+
+/// Where the next step stands, unless the program has ended.
+fn next_step<M: ExpressionMachine>(machine: &M) -> Option<StepAt<'_>>
+    ensures { (s : Setting) (d : Debugger) → M.stands machine.now s d → IsNext s.program (now s d) result }
+{
+    let position = machine.position()?;
+    let spot = machine.spot(position.depth)?;
+    Some(StepAt {
         line: position.place.line as usize,
+        spot,
         function: position.function,
         depth: position.depth,
         gang: Gang::of(position.width),
         lanes: position.lanes,
-    };
-    tally.note(alloc, at)
+    })
 }

@@ -1,6 +1,7 @@
 //! The source with its counts.
 ghost use Rattle.std.specs.Prelude.{◌≡◌, false, is_err};
 
+use crate::colours::{ink, plain};
 use crate::parts::Part::{Right, Share, Shown, Text};
 use crate::parts::write_parts;
 use crate::profile::Subject;
@@ -29,7 +30,7 @@ pub(crate) fn write_annotated<O: AnswerWriter>(
     for (index, line) in lines.iter().enumerate() {
         let number = index.saturating_add(1);
         match tally.lines().get(number) {
-            Some(counts) if counts.steps > 0 => write_front(*counts, subject.width, writer)?,
+            Some(counts) if counts.steps > 0 => write_front(*counts, subject, writer)?,
             _ => writer.write_all(b"                             ")?,
         }
         let parts = [
@@ -40,25 +41,27 @@ pub(crate) fn write_annotated<O: AnswerWriter>(
         ];
         write_parts(writer, &parts)?;
     }
-    write_end(tally, end, writer)
+    write_end(tally, end, subject, writer)
 }
 
 /// Writes what stands before a line that has steps.
 fn write_front<O: AnswerWriter>(
     counts: Counts,
-    width: usize,
+    subject: &Subject<'_>,
     writer: &mut O,
 ) -> Result<(), WriteFault>
     requires works { O.has_failed writer.old ≡ false }
     ensures failed { O.has_failed writer.new ≡ is_err result }
 {
-    let share = share(counts, width);
+    let share = share(counts, subject.width);
     let mark: &[u8] = if counts.partings > 0 { b" <" } else { b"  " };
     let parts = [
         Right(counts.steps, 10),
+        Text(ink(share, subject.has_colours)),
         Share(share),
         Text(b"  "),
         Text(bar(share)),
+        Text(plain(subject.has_colours)),
         Text(mark),
     ];
     write_parts(writer, &parts)

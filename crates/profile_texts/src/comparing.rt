@@ -1,6 +1,7 @@
 //! Runs of one program by gangs of different widths, side by side.
 ghost use Rattle.std.specs.Prelude.{◌≡◌, false, is_err, IfOk, OnErr};
 
+use crate::colours::{ink, plain};
 use crate::lines::{front_of, line_at, lines_of};
 use crate::parts::Part::{Right, Share, Shown, Text};
 use crate::parts::write_parts;
@@ -12,12 +13,13 @@ use std::alloc::{AllocError, Global};
 /// The most bytes of a line of the source.
 const MOST_SHOWN: usize = 40;
 
-/// The counts of the same run by gangs of 4, 8 and 16 lanes.
+/// The counts of the same run by gangs of 4, 8 and 16 lanes, and whether shares have colours.
 #[derive(Clone, Copy)]
 pub struct Compared<'a> {
     pub four: &'a Tally,
     pub eight: &'a Tally,
     pub sixteen: &'a Tally,
+    pub has_colours: bool,
 }
 
 /// Writes for each line the steps and the share of the lanes at each width, in the order of the source.
@@ -58,7 +60,7 @@ fn write_rows<O: AnswerWriter>(
         ];
         if counts.iter().any(|counts| counts.steps > 0) {
             write_parts(writer, &[Right(number as u64, 5)])?;
-            write_widths(counts, writer)?;
+            write_widths(counts, compared.has_colours, writer)?;
             let text = front_of(line_at(lines, number), MOST_SHOWN);
             write_parts(writer, &[Text(b"  "), Shown(text), Text(b"\n")])?;
         }
@@ -69,7 +71,7 @@ fn write_rows<O: AnswerWriter>(
         compared.eight.all(),
         compared.sixteen.all(),
     ];
-    write_widths(all, writer)?;
+    write_widths(all, compared.has_colours, writer)?;
     writer.write_all(b"\n")
 }
 
@@ -81,19 +83,24 @@ fn counts_at(tally: &Tally, line: usize) -> Counts {
 }
 
 /// Writes the steps and the share at each width.
-fn write_widths<O: AnswerWriter>(counts: [Counts; 3], writer: &mut O) -> Result<(), WriteFault>
+fn write_widths<O: AnswerWriter>(
+    counts: [Counts; 3],
+    has_colours: bool,
+    writer: &mut O,
+) -> Result<(), WriteFault>
     requires works { O.has_failed writer.old ≡ false }
     ensures failed { O.has_failed writer.new ≡ is_err result }
 {
     let [four, eight, sixteen] = counts;
-    write_column(four, 4, writer)?;
-    write_column(eight, 8, writer)?;
-    write_column(sixteen, 16, writer)
+    write_column(four, 4, has_colours, writer)?;
+    write_column(eight, 8, has_colours, writer)?;
+    write_column(sixteen, 16, has_colours, writer)
 }
 
 fn write_column<O: AnswerWriter>(
     counts: Counts,
     width: usize,
+    has_colours: bool,
     writer: &mut O,
 ) -> Result<(), WriteFault>
     requires works { O.has_failed writer.old ≡ false }
@@ -102,6 +109,12 @@ fn write_column<O: AnswerWriter>(
     if counts.steps == 0 {
         return writer.write_all(b"         -      -");
     }
-    let parts = [Right(counts.steps, 10), Share(share(counts, width))];
+    let share = share(counts, width);
+    let parts = [
+        Right(counts.steps, 10),
+        Text(ink(share, has_colours)),
+        Share(share),
+        Text(plain(has_colours)),
+    ];
     write_parts(writer, &parts)
 }

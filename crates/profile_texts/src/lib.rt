@@ -2,7 +2,9 @@
 #![tactic(auto)]
 
 mod annotated;
+mod colours;
 mod comparing;
+mod formed;
 mod json;
 mod lines;
 mod parts;

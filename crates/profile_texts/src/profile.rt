@@ -2,6 +2,7 @@
 ghost use Rattle.std.specs.Prelude.{◌≡◌, false, is_err, IfOk, OnErr};
 
 use crate::annotated::write_annotated;
+use crate::formed::write_forms;
 use crate::json::write_json;
 use crate::lines::lines_of;
 use crate::rows::dearest_first;
@@ -18,19 +19,24 @@ pub enum Form {
     Lines,
     /// A table of functions.
     Functions,
+    /// A table of foreach forms.
+    Forms,
     /// The source, with the counts of each line before it.
     Annotated,
     /// JSON.
     Json,
 }
 
-/// What is profiled: the source with its name, how many lanes a gang has, and how many rows a table has at most.
+/// What is profiled: the source with its name, how many lanes a gang has, the number of the first step that is counted, how many rows a
+/// table has at most, and whether shares have colours, as on a terminal.
 #[derive(Clone, Copy, Debug)]
 pub struct Subject<'a> {
     pub title: &'a [u8],
     pub source: &'a [u8],
     pub width: usize,
+    pub first_number: u32,
     pub most_rows: usize,
+    pub has_colours: bool,
 }
 
 /// Writes what the counts of a run tell, and how the run ended.
@@ -53,9 +59,11 @@ pub fn write_profile<O: AnswerWriter>(
     let lines = lines_of(alloc, subject.source)?;
     let by_line = dearest_first(alloc, tally.lines(), subject.width)?;
     let by_function = dearest_first(alloc, tally.own(), subject.width)?;
+    let by_form = dearest_first(alloc, tally.forms().inside(), subject.width)?;
     let written = match form {
         Form::Lines => write_lines(&by_line, &lines, tally, end, subject, writer),
         Form::Functions => write_functions(&by_function, tally, end, subject, writer),
+        Form::Forms => write_forms(&by_form, tally, end, subject, writer),
         Form::Annotated => write_annotated(&lines, tally, end, subject, writer),
         Form::Json => write_json(tally, end, subject, writer),
     };

@@ -1,6 +1,6 @@
 //! Shares of the lanes.
 ghost use Rattle.std.specs.Prelude.{◌≡◌, ◌<◌, ◌^◌, ◌≤◌};
-ghost use Rattle.profile_texts.specs.Shares.{lost, share};
+ghost use Rattle.profile_texts.specs.Shares.{lost, share, share_of};
 
 use lane_counts::Counts;
 
@@ -17,10 +17,17 @@ pub(crate) fn share(counts: Counts, width: usize) -> u64
     ensures { counts.steps < 2 ^ 48 → counts.lane_steps < 2 ^ 53 → width ≤ 16 → result ≡ share counts.steps counts.lane_steps width }
 {
     let slots = counts.steps.saturating_mul(width as u64);
-    let thousandths = counts.lane_steps.saturating_mul(1000);
-    if slots == 0 {
+    share_of(counts.lane_steps, slots)
+}
+
+/// The share that a part is of a whole, in thousandths, rounded down; all of it where the whole is nothing.
+pub(crate) fn share_of(part: u64, whole: u64) -> u64
+    ensures { part < 2 ^ 53 → result ≡ share_of part whole }
+{
+    let thousandths = part.saturating_mul(1000);
+    if whole == 0 {
         1000
     } else {
-        thousandths / slots
+        thousandths / whole
     }
 }

@@ -1,6 +1,7 @@
 //! Tables of lines and of functions.
 ghost use Rattle.std.specs.Prelude.{◌≡◌, false, is_err};
 
+use crate::colours::{ink, plain};
 use crate::lines::{front_of, line_at};
 use crate::parts::Part::{Left, Number, Right, Share, Shown, Text};
 use crate::parts::write_parts;
@@ -34,33 +35,36 @@ pub(crate) fn write_lines<O: AnswerWriter>(
     for (index, row) in rows.iter().enumerate() {
         if index < subject.most_rows {
             write_parts(writer, &[Right(row.number as u64, 5)])?;
-            write_counts(row.counts, subject.width, writer)?;
+            write_counts(row.counts, subject, writer)?;
             let text = front_of(line_at(lines, row.number), MOST_SHOWN);
             write_parts(writer, &[Text(b"  "), Shown(text), Text(b"\n")])?;
         }
     }
     writer.write_all(b"  all")?;
-    write_counts(tally.all(), subject.width, writer)?;
+    write_counts(tally.all(), subject, writer)?;
     writer.write_all(b"\n")?;
-    write_end(tally, end, writer)
+    write_end(tally, end, subject, writer)
 }
 
 /// Writes the columns of some counts.
 pub(crate) fn write_counts<O: AnswerWriter>(
     counts: Counts,
-    width: usize,
+    subject: &Subject<'_>,
     writer: &mut O,
 ) -> Result<(), WriteFault>
     requires works { O.has_failed writer.old ≡ false }
     ensures failed { O.has_failed writer.new ≡ is_err result }
 {
+    let share = share(counts, subject.width);
     let parts = [
         Right(counts.steps, 10),
         Right(counts.lane_steps, 11),
-        Share(share(counts, width)),
+        Text(ink(share, subject.has_colours)),
+        Share(share),
+        Text(plain(subject.has_colours)),
         Right(counts.short_steps, 11),
         Right(counts.partings, 8),
-        Right(lost(counts, width), 11),
+        Right(lost(counts, subject.width), 11),
     ];
     write_parts(writer, &parts)
 }
@@ -86,67 +90,82 @@ pub(crate) fn write_functions<O: AnswerWriter>(
                 None => row.counts,
             };
             write_parts(writer, &[Left(tally.names().name(row.number), NAME_ROOM)])?;
-            write_counts(row.counts, subject.width, writer)?;
-            write_whole(whole, subject.width, writer)?;
+            write_counts(row.counts, subject, writer)?;
+            write_whole(whole, subject, writer)?;
         }
     }
     write_parts(writer, &[Left(b"all", NAME_ROOM)])?;
-    write_counts(tally.all(), subject.width, writer)?;
-    write_whole(tally.all(), subject.width, writer)?;
-    write_end(tally, end, writer)
+    write_counts(tally.all(), subject, writer)?;
+    write_whole(tally.all(), subject, writer)?;
+    write_end(tally, end, subject, writer)
 }
 
 /// Writes the columns of what a function takes with what it calls.
 fn write_whole<O: AnswerWriter>(
     counts: Counts,
-    width: usize,
+    subject: &Subject<'_>,
     writer: &mut O,
 ) -> Result<(), WriteFault>
     requires works { O.has_failed writer.old ≡ false }
     ensures failed { O.has_failed writer.new ≡ is_err result }
 {
+    let share = share(counts, subject.width);
     let parts = [
         Right(counts.steps, 9),
-        Share(share(counts, width)),
+        Text(ink(share, subject.has_colours)),
+        Share(share),
+        Text(plain(subject.has_colours)),
         Text(b"\n"),
     ];
     write_parts(writer, &parts)
+}
+
+/// How many steps were done or tried, those before the first one that is counted among them.
+fn steps_done(tally: &Tally, subject: &Subject<'_>) -> u64 {
+    let before = u64::from(subject.first_number.saturating_sub(1));
+    before.saturating_add(tally.all().steps)
 }
 
 /// Writes how a run ended.
 pub(crate) fn write_end<O: AnswerWriter>(
     tally: &Tally,
     end: StepsEnd,
+    subject: &Subject<'_>,
     writer: &mut O,
 ) -> Result<(), WriteFault>
     requires works { O.has_failed writer.old ≡ false }
     ensures failed { O.has_failed writer.new ≡ is_err result }
 {
-    let steps = Number(tally.all().steps);
+    let steps = steps_done(tally, subject);
     match end {
         StepsEnd::Ended => {
-            let parts = [Text(b"the program ended after "), steps, Text(b" steps\n")];
+            let parts = [
+                Text(b"the program ended after "),
+                Number(steps),
+                Text(b" steps\n"),
+            ];
             write_parts(writer, &parts)
         }
-        StepsEnd::AtFault(fault) => write_fault(fault, tally, writer),
+        StepsEnd::AtFault(fault) => write_fault(fault, steps, writer),
         StepsEnd::StepLimit => {
-            let parts = [Text(b"the run was left after "), steps, Text(b" steps\n")];
+            let parts = [
+                Text(b"the run was left after "),
+                Number(steps),
+                Text(b" steps\n"),
+            ];
             write_parts(writer, &parts)
         }
     }
 }
 
-fn write_fault<O: AnswerWriter>(
-    fault: Fault,
-    tally: &Tally,
-    writer: &mut O,
-) -> Result<(), WriteFault>
+/// Writes the fault of a step, by its number.
+fn write_fault<O: AnswerWriter>(fault: Fault, step: u64, writer: &mut O) -> Result<(), WriteFault>
     requires works { O.has_failed writer.old ≡ false }
     ensures failed { O.has_failed writer.new ≡ is_err result }
 {
     let parts = [
         Text(b"step "),
-        Number(tally.all().steps),
+        Number(step),
         Text(b" faults: "),
         Text(fault_words(fault.name)),
         Text(b" in lane "),

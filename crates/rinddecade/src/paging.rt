@@ -76,7 +76,7 @@ fn page_wide<const W: usize>(
     }
 }
 
-/// Does the steps before the first one that is shown: whether the run gets so far.
+/// Does the steps before the first one that is told of: whether the run gets so far.
 pub(crate) fn goes_to_first<const W: usize>(from: u32, session: &mut ProgramSession<W>) -> bool {
     if from <= 1 {
         return true;

@@ -4,8 +4,10 @@ ghost use Rattle.ispc_options.specs.Ranges.{AreInRange};
 ghost use Rattle.ispc_debugger.specs.Runs.{lanes_of};
 
 use crate::files::{read_texts, reason};
+use crate::paging::{NOT_SO_FAR, goes_to_first};
 use crate::porting::holds_something;
 use crate::refusing::{Texts, refuse, refuse_because, refuse_file, refuse_program, write_fault};
+use crate::terminal::has_colours;
 use debug_streams::StreamWriter;
 use debug_traits::WriteFault;
 use desk_options::{Profile, Program};
@@ -18,7 +20,7 @@ use lane_profile::count_run;
 use profile_texts::{Compared, Form, Subject, write_comparison, write_profile};
 use std::alloc::AllocError;
 use std::fs;
-use std::io::{LineWriter, Write};
+use std::io::{IsTerminal, LineWriter, Write};
 use std::process::ExitCode;
 
 const OVER_SOURCE: &[u8] = b"the profile would be written over what it is made from: ";
@@ -27,7 +29,7 @@ const OVER_OTHER: &[u8] = b"only --force writes over a file that holds something
 
 const ONE_FORM: &[u8] = b"only one of --by, --annotate, --json and --compare may be given";
 
-const NO_ROWS: &[u8] = b"--by takes line or function, and not ";
+const NO_ROWS: &[u8] = b"--by takes line, function or form, and not ";
 
 /// What is shown.
 #[derive(Clone, Copy, Debug, PartialEq, Eq)]
@@ -53,6 +55,11 @@ pub(crate) fn profile_run(rt: &HostRuntime, profile: &Profile<'_>) -> ExitCode
         Ok(shown) => shown,
         Err(status) => return status,
     };
+    let is_terminal = profile.to.is_none() && rt.stdout().is_terminal();
+    let is_coloured = match has_colours(rt, profile.color, is_terminal) {
+        Ok(is_coloured) => is_coloured,
+        Err(status) => return status,
+    };
     if let Err(status) = refuse_writing_over(rt, profile) {
         return status;
     }
@@ -66,7 +73,7 @@ pub(crate) fn profile_run(rt: &HostRuntime, profile: &Profile<'_>) -> ExitCode
         Shown::Widths => count_widths(rt, profile, texts),
     };
     match counted {
-        Ok(counted) => write_counted(rt, profile, texts, &counted),
+        Ok(counted) => write_counted(rt, profile, is_coloured, texts, &counted),
         Err(status) => status,
     }
 }
@@ -114,6 +121,7 @@ fn shown_as(rt: &HostRuntime, profile: &Profile<'_>) -> Result<Shown, ExitCode> 
         (None, false, false, false) => Ok(Shown::Run(Form::Lines)),
         (Some("line"), false, false, false) => Ok(Shown::Run(Form::Lines)),
         (Some("function"), false, false, false) => Ok(Shown::Run(Form::Functions)),
+        (Some("form"), false, false, false) => Ok(Shown::Run(Form::Forms)),
         (Some(other), false, false, false) => Err(refuse_because(rt, NO_ROWS, other.as_bytes())),
         (None, true, false, false) => Ok(Shown::Run(Form::Annotated)),
         (None, false, true, false) => Ok(Shown::Run(Form::Json)),
@@ -158,16 +166,16 @@ fn count(
         },
     };
     match program.options.width {
-        Width::Four => count_wide::<4>(rt, &program, profile.most, texts),
-        Width::Eight => count_wide::<8>(rt, &program, profile.most, texts),
-        Width::Sixteen => count_wide::<16>(rt, &program, profile.most, texts),
+        Width::Four => count_wide::<4>(rt, &program, profile, texts),
+        Width::Eight => count_wide::<8>(rt, &program, profile, texts),
+        Width::Sixteen => count_wide::<16>(rt, &program, profile, texts),
     }
 }
 
 fn count_wide<const W: usize>(
     rt: &HostRuntime,
     program: &Program<'_>,
-    most: u32,
+    profile: &Profile<'_>,
     texts: Texts<'_>,
 ) -> Result<(Tally, StepsEnd), ExitCode>
     requires width { W ≡ lanes_of program.now.options.width }
@@ -176,10 +184,15 @@ fn count_wide<const W: usize>(
     let (source, input) = (texts.source.text, texts.input.text);
     match open_session::<W>(rt.alloc(), source, input, &program.options) {
         Err(refusal) => Err(refuse_program(rt, &refusal, program, texts)),
-        Ok(mut session) => match count_run(rt.alloc(), &mut session, most) {
-            Ok(counted) => Ok(counted),
-            Err(_) => Err(refuse(rt, &Refusal::Memory)),
-        },
+        Ok(mut session) => {
+            if !goes_to_first::<W>(profile.from, &mut session) {
+                return Err(refuse_because(rt, NOT_SO_FAR, b""));
+            }
+            match count_run(rt.alloc(), &mut session, profile.most) {
+                Ok(counted) => Ok(counted),
+                Err(_) => Err(refuse(rt, &Refusal::Memory)),
+            }
+        }
     }
 }
 
@@ -187,14 +200,15 @@ fn count_wide<const W: usize>(
 fn write_counted(
     rt: &HostRuntime,
     profile: &Profile<'_>,
+    is_coloured: bool,
     texts: Texts<'_>,
     counted: &Counted,
 ) -> ExitCode {
     let Some(path) = profile.to else {
-        return write_on(rt, profile, texts, counted, rt.stdout());
+        return write_on(rt, profile, is_coloured, texts, counted, rt.stdout());
     };
     match fs::create(rt, path) {
-        Ok(file) => write_on(rt, profile, texts, counted, file),
+        Ok(file) => write_on(rt, profile, is_coloured, texts, counted, file),
         Err(fault) => refuse_file(rt, b"cannot write ", path, reason(fault.kind())),
     }
 }
@@ -203,6 +217,7 @@ fn write_counted(
 fn write_on<O: Write + Drop>(
     rt: &HostRuntime,
     profile: &Profile<'_>,
+    is_coloured: bool,
     texts: Texts<'_>,
     counted: &Counted,
     file: O,
@@ -217,7 +232,9 @@ fn write_on<O: Write + Drop>(
                 title: texts.source.name,
                 source: texts.source.text,
                 width: width_of(profile.program.options.width),
+                first_number: profile.from,
                 most_rows: profile.top as usize,
+                has_colours: is_coloured,
             };
             write_profile(rt.alloc(), *form, tally, *end, &subject, &mut writer)
         }
@@ -226,6 +243,7 @@ fn write_on<O: Write + Drop>(
                 four,
                 eight,
                 sixteen,
+                has_colours: is_coloured,
             };
             write_comparison(rt.alloc(), compared, texts.source.text, &mut writer)
         }

@@ -23,18 +23,7 @@ impl Screen {
     /// What standard output is, by the words of the call and the environment.
     pub(crate) fn of(rt: &HostRuntime, debugged: &Debugged<'_>) -> Result<Self, ExitCode> {
         let is_terminal = rt.stdout().is_terminal();
-        let has_colours = match debugged.color {
-            Some("always") => true,
-            Some("never") => false,
-            None | Some("auto") => is_terminal && wants_colours(rt),
-            Some(other) => {
-                return Err(refuse_because(
-                    rt,
-                    b"--color takes auto, always or never, and not ",
-                    other.as_bytes(),
-                ));
-            }
-        };
+        let has_colours = has_colours(rt, debugged.color, is_terminal)?;
         let height = if is_terminal && rt.stdin().is_terminal() {
             height(rt)
         } else {
@@ -45,6 +34,24 @@ impl Screen {
             is_terminal,
             height,
         })
+    }
+}
+
+/// Whether a text has colours, by the words of the call and the environment; or the status where the words ask for something else.
+pub(crate) fn has_colours(
+    rt: &HostRuntime,
+    color: Option<&str>,
+    is_terminal: bool,
+) -> Result<bool, ExitCode> {
+    match color {
+        Some("always") => Ok(true),
+        Some("never") => Ok(false),
+        None | Some("auto") => Ok(is_terminal && wants_colours(rt)),
+        Some(other) => Err(refuse_because(
+            rt,
+            b"--color takes auto, always or never, and not ",
+            other.as_bytes(),
+        )),
     }
 }
 

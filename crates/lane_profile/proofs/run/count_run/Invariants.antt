@@ -1,12 +1,18 @@
 -- as many steps were tried and done as rounds were made, and what the tally has comes with the steps that are left to what is to be counted
 use Rattle.std.proofs.Common.{◌≡◌, ℕ, ◌≤◌, List, Some}
+use Rattle.std.specs.List.{All}
+use Rattle.std.specs.Prelude.{slice_get}
+use Rattle.foreach_forms.specs.declared.forms.Form.{Form}
+use Rattle.foreach_forms.specs.Forms.{forms_of}
 use Rattle.gang_model.specs.Debugger.Debugger.{Debugger, Setting, now}
 use Rattle.debug_session.specs.Sessions.{StandsFor}
 use Rattle.lane_counts.specs.declared.names.Names.{Names}
+use Rattle.lane_counts.specs.Formed.{is_inside, is_round}
 use Rattle.lane_counts.specs.Naming.{AreDistinct, Extends, name_at}
 use Rattle.lane_counts.specs.Steps.{at_line, each, in_function}
-use Rattle.lane_counts.specs.Tallies.{IsSound, all_with, counts_of, line_with, own_with}
+use Rattle.lane_counts.specs.Tallies.{IsSound, all_with, counts_of, inside_with, line_with, own_with, rounds_with, unparted_of}
 use Rattle.lane_picture.proofs.Counting.{SoFar}
+use Rattle.lane_profile.specs.Counted.{IsNamed}
 use Rattle.lane_profile.specs.Stands.{stands_of}
 use Rattle.lane_profile.proofs.Left.{stands_left}
 use Rattle.lane_profile.proofs.run.count_run.Given as goal
@@ -16,11 +22,18 @@ invariant-loop-count g l = record {
   sound : IsSound l.tally;
   steps : l.tally.all.steps ≡ l._count;
   so_far : (s : Setting) (d : Debugger) → StandsFor g.M.RecordedMachine.stands l.initial.session s d → SoFar g.M.RecordedMachine.stands s l.most_steps d l._count l.session;
+  forms : (s : Setting) (d : Debugger) → StandsFor g.M.RecordedMachine.stands l.initial.session s d → l.tally.forms.forms.items ≡ forms_of s.program;
   lines : (s : Setting) (d : Debugger) → StandsFor g.M.RecordedMachine.stands l.initial.session s d → 1 ≤ s.limit → (line : ℕ)
       → line_with l.tally line (stands_left s.program l.most_steps (now s d) l._count) ≡ counts_of (at_line line) (stands_of s.program l.most_steps (now s d));
   own : (s : Setting) (d : Debugger) → StandsFor g.M.RecordedMachine.stands l.initial.session s d → 1 ≤ s.limit → (final : Names) (number : ℕ) (name : List ℕ)
       → Extends l.tally.names final → AreDistinct final → name_at final number ≡ Some name
       → own_with l.tally number name (stands_left s.program l.most_steps (now s d) l._count) ≡ counts_of (in_function name) (stands_of s.program l.most_steps (now s d));
+  named : (s : Setting) (d : Debugger) → StandsFor g.M.RecordedMachine.stands l.initial.session s d → 1 ≤ s.limit → (final : Names) → Extends l.tally.names final
+      → All (λ stand. IsNamed final stand.functions) (stands_left s.program l.most_steps (now s d) l._count) → All (λ stand. IsNamed final stand.functions) (stands_of s.program l.most_steps (now s d));
   all : (s : Setting) (d : Debugger) → StandsFor g.M.RecordedMachine.stands l.initial.session s d → 1 ≤ s.limit
       → all_with l.tally (stands_left s.program l.most_steps (now s d) l._count) ≡ counts_of each (stands_of s.program l.most_steps (now s d));
+  rounds : (s : Setting) (d : Debugger) → StandsFor g.M.RecordedMachine.stands l.initial.session s d → 1 ≤ s.limit → (number : ℕ) (form : Form) → slice_get (forms_of s.program) number ≡ Some form
+      → rounds_with l.tally number form (stands_left s.program l.most_steps (now s d) l._count) ≡ unparted_of (λ stand. is_round form stand.spot) (stands_of s.program l.most_steps (now s d));
+  inside : (s : Setting) (d : Debugger) → StandsFor g.M.RecordedMachine.stands l.initial.session s d → 1 ≤ s.limit → (number : ℕ) (form : Form) → slice_get (forms_of s.program) number ≡ Some form
+      → inside_with l.tally number form (stands_left s.program l.most_steps (now s d) l._count) ≡ unparted_of (λ stand. is_inside form stand.spot) (stands_of s.program l.most_steps (now s d));
 }

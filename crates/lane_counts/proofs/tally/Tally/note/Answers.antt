@@ -1,13 +1,16 @@
 use Rattle.std.proofs.Common.{◌≡◌, ◌∙◌, ap, sym, arith, ◌+◌, ◌*◌, ◌≤◌, true, Bool, ◌∷◌, length, Some, refl}
-use Rattle.std.specs.Prelude.{◌==◌, ◌&&◌, nat_lt}
+use Rattle.std.specs.Prelude.{◌==◌, ◌&&◌, nat_lt, slice_get}
 use Rattle.lane_counts.specs.declared.counts.Counts.{Counts}
 use Rattle.lane_counts.specs.declared.frames.LastStep.{LastStep}
 use Rattle.lane_counts.specs.Counted.{counts_at, hits}
 use Rattle.lane_counts.specs.Pending.{has_function, pending, width_of}
+use Rattle.lane_counts.specs.declared.forms.Part.TheVariants as part
+use Rattle.lane_counts.specs.Formed.{has_part, is_inside, is_round}
 use Rattle.lane_counts.specs.Naming.{name_at}
 use Rattle.lane_counts.specs.Steps.{active, at_line, each, in_function, is_first, next_in_frame, one_if, parts}
+use Rattle.lane_counts.proofs.Numbered.{part_of}
 use Rattle.lane_counts.proofs.Named.{numbered, some_same}
-use Rattle.lane_counts.proofs.Noting.{few_noted, hit_some, hits_few, lanes_length, one_few, with_noted}
+use Rattle.lane_counts.proofs.Noting.{few_noted, hit_some, hits_few, lanes_length, one_few, with_noted, with_unparted}
 use Rattle.lane_counts.proofs.tally.Tally.note.Goals as goal
 
 pub returns-clause-lines : goal.returns-clause-lines
@@ -54,6 +57,23 @@ returns-clause-all c stand later at =
     (ap length at.lanes ∙ lanes_length (width_of c.args.at.gang) c.args.at.lanes ∙ sym c.width-width.ensures.value)
     (omega (arith, put, parted, next, deep, ap one_if c.is_some.ensures, hit_some c.parted_from-parted.result))
 
+pub returns-clause-rounds : goal.returns-clause-rounds
+returns-clause-rounds c k form there stand later at =
+    with_unparted (λ stand. is_round form stand.spot) _ _ (nat_lt k (length c.args.self.now.forms.forms.items) && has_part part.Rounds (slice_get c.args.self.now.forms.forms.items k) c.args.at.spot)
+    c.count-lanes.result c.width-width.result stand later (c.in_ok-note.ensures.rounds k)
+    (ap (is_round form) at.spot ∙ sym (part_of part.Rounds c.args.self.now.forms.forms.items k form c.args.at.spot there)) (ap active at.lanes ∙ sym c.count-lanes.ensures.value)
+    (ap length at.lanes ∙ lanes_length (width_of c.args.at.gang) c.args.at.lanes ∙ sym c.width-width.ensures.value)
+
+pub returns-clause-inside : goal.returns-clause-inside
+returns-clause-inside c k form there stand later at =
+    with_unparted (λ stand. is_inside form stand.spot) _ _ (nat_lt k (length c.args.self.now.forms.forms.items) && has_part part.Inside (slice_get c.args.self.now.forms.forms.items k) c.args.at.spot)
+    c.count-lanes.result c.width-width.result stand later (c.in_ok-note.ensures.inside k)
+    (ap (is_inside form) at.spot ∙ sym (part_of part.Inside c.args.self.now.forms.forms.items k form c.args.at.spot there)) (ap active at.lanes ∙ sym c.count-lanes.ensures.value)
+    (ap length at.lanes ∙ lanes_length (width_of c.args.at.gang) c.args.at.lanes ∙ sym c.width-width.ensures.value)
+
+pub returns-clause-named : goal.returns-clause-named
+returns-clause-named c = (c.in_ok-function.function, c.in_ok-function.ensures.named)
+
 pub returns-clause-sound : goal.returns-clause-sound
 returns-clause-sound c =
     let old = 16 * c.args.self.now.all.steps in
@@ -66,6 +86,12 @@ returns-clause-sound c =
       own = λ k. few_noted (counts_at c.args.self.now.own.rows.items k) (counts_at c.add-2.new.self.rows.items k) old new (c.in_ok-function.function == k) c.count-lanes.result c.width-width.result _
           (c.in_ok-add-2.ensures k) c.count-lanes.ensures.within (hits_few c.function_of.result k) more (c.requires.sound.own k);
       names = c.in_ok-function.ensures.distinct;
+      rounds = λ k. few_noted (counts_at c.args.self.now.forms.rounds.rows.items k) (counts_at c.note.new.self.rounds.rows.items k) old new
+          (nat_lt k (length c.args.self.now.forms.forms.items) && has_part part.Rounds (slice_get c.args.self.now.forms.forms.items k) c.args.at.spot) c.count-lanes.result
+          c.width-width.result 0 (c.in_ok-note.ensures.rounds k) c.count-lanes.ensures.within (omega arith) more (c.requires.sound.rounds k);
+      inside = λ k. few_noted (counts_at c.args.self.now.forms.inside.rows.items k) (counts_at c.note.new.self.inside.rows.items k) old new
+          (nat_lt k (length c.args.self.now.forms.forms.items) && has_part part.Inside (slice_get c.args.self.now.forms.forms.items k) c.args.at.spot) c.count-lanes.result
+          c.width-width.result 0 (c.in_ok-note.ensures.inside k) c.count-lanes.ensures.within (omega arith) more (c.requires.sound.inside k);
       whole = λ k. few_noted (counts_at c.args.self.now.whole.rows.items k) (counts_at c.add_each.new.self.rows.items k) old new (nat_lt k c.count.result && has_function k c.put.new.self.lasts.items) c.count-lanes.result
           c.width-width.result 0 (c.in_ok-add_each.ensures k) c.count-lanes.ensures.within (omega arith) more (c.requires.sound.whole k);
     }
