@@ -31,7 +31,7 @@ TYPED = {
     "rinddecade debug ": {"go.ispc", "go.input", "sub"},
     "rinddecade debug --input go.in": {"go.input"},
     "rinddecade debug --entry ": set(),
-    "rinddecade picture --f": {"--force"},
+    "rinddecade picture --f": {"--force", "--from"},
     "rinddecade picture --to g": {"go.ispc", "go.input"},
     "rinddecade port go.is": {"go.ispc"},
     "rinddecade page --el": {"--elements"},
