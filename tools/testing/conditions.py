@@ -294,7 +294,7 @@ LONG = b"""uniform int total = 0;
 export void go() {
     int x = 0;
     uniform int i = 0;
-    while (i < 50000) {
+    while (i < 20000) {
         x = i + programIndex;
         total += 1;
         total += 1;
@@ -307,7 +307,7 @@ export void go() {
     }
 }
 """
-PIECE, PIECES, CLEARED = 10_000, 5, "\r                \r"
+PIECE, PIECES, CLEARED = 10_000, 2, "\r                \r"
 
 
 def results(program):
