@@ -50,9 +50,13 @@ class Kernel:
     def session(self):
         return self.run("", self.file("commands").read_bytes(), self.file("transcript").read_bytes())
 
+    def names(self):
+        """The names of its variables of the file."""
+        return OF_THE_FILE.findall(self.file("ispc").read_text(encoding="utf-8"))
+
     def there_and_back(self, width):
         """From its start to its end, back, and forward again, with all variables of the file shown behind each move."""
-        names = OF_THE_FILE.findall(self.file("ispc").read_text(encoding="utf-8"))
+        names = self.names()
         lines = [line for move in MOVES for line in (move, *(f"print {name}" for name in names))]
         judge = lambda output: self.wrong(output.decode().splitlines(), len(names))
         return self.run(f" at {width} lanes", "".join(f"{it}\n" for it in lines).encode(), judge, ["--width", str(width)])

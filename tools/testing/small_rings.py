@@ -35,6 +35,8 @@ MARK = b"----"
 PLACE = re.compile(rb"^(?:[^\n]*: |[^\n]*:\n)?\w+ at \S+?:\d+:\d+,[^\n]*?\bstep (\d+),\s+lanes|the program has ended after (\d+) step", re.M)
 NOT_DONE, NOT_THERE, RUN_IS_OVER = b"Nothing is done", b"is never reached", (b"the program has ended", b"nothing of this step is done")
 MEMORY = b"memory\n"
+# What copies there are, which is another over another record.
+COPIES_TOLD = re.compile(rb"^copies of moments of the run: .*\n", re.M)
 MEMORY_WANTED = re.compile(rb"\bmemory\b", re.I)
 # How often `goto` goes to a step that is there, and how many answers differ from the one before, at least: so the programs do something.
 LEAST_FOUND, LEAST_ANSWERS = 500, 5_000
@@ -113,7 +115,12 @@ def blocks(status, output, errors):
     """What is shown for each line of a run that has ended so."""
     if (status, errors) != (0, b""):
         return [b"status %d, " % status + errors]
-    return output.split(MARK + b"\n")[:-1]
+    return without_copies(output).split(MARK + b"\n")[:-1]
+
+
+def without_copies(output):
+    """What is shown, but for the copies that are kept."""
+    return COPIES_TOLD.sub(b"", output)
 
 
 def is_found(line, block):
@@ -195,9 +202,10 @@ KINDS = (SAME, ENDS, ASKED, NOT_SET)
 
 def how_it_goes_on(typed, end, whole, without):
     """How a run with a refused allocation goes on: as a whole run does, or as one without a line, by what is shown for each."""
-    if end == whole:
+    one, other = (without_copies(it[1]) for it in (end, whole))
+    if (end[0], one, end[2]) == (whole[0], other, whole[2]):
         return SAME
-    if (end[0], end[2]) == (2, MEMORY) and whole[1].startswith(end[1]):
+    if (end[0], end[2]) == (2, MEMORY) and other.startswith(one):
         return ENDS
     given, wanted = blocks(*end), blocks(*whole)
     at = first_other(given, wanted)

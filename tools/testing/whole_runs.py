@@ -9,6 +9,7 @@ import re
 import subprocess
 import tempfile
 
+from . import kernels
 from .calls import go_on, side_by_side
 from .tried import SECONDS, Result
 
@@ -34,6 +35,28 @@ export void go() {
 """
 SHOWN = ("turns", "sum", "kept")
 LOOK = "look"
+MOST = ["--steps", "10000000"]
+# Five steps a turn. The eighth turn spoils the divisor, and the division behind the last one faults.
+TURNS, SPOILED = 1_000_000, 7
+SPOILT = f"""uniform int divisor = 5;
+uniform int total;
+export void go() {{
+    uniform int i = 0;
+    while (i < {TURNS}) {{
+        if (i == {SPOILED}) {{ divisor = 0; }}
+        total += i;
+        total ^= 3;
+        i += 1;
+    }}
+    total = total / divisor;
+}}
+"""
+# Before the turns there is one step; then a spoiled divisor, and the question that ends the loop.
+FAULT = (11, 5 * TURNS + 3)
+SPOILS = (6, 1 + 5 * SPOILED + 2)
+# At four lanes its run is the longest of the kernels.
+LONGEST = "sudoku"
+STEP = re.compile(rb"^(?:.*: )?\w+ at \S+?:(\d+):\d+,(?: depth \d+,)? step (\d+), lanes", re.M)
 PLACE = re.compile(rb"^(?:.*: )?(\w+) at \S+?:(\d+):(\d+),(?: (?:step|depth) \d+,)* lanes ([#.]+)$", re.M)
 
 
@@ -53,9 +76,9 @@ def script(moves):
     return [*forward, *look, *look, *back]
 
 
-def told(program, lines, folder, width):
-    pathlib.Path(folder, "long.ispc").write_bytes(SOURCE)
-    words = [program, "debug", "long.ispc", "--width", str(width)]
+def told(program, lines, folder, width, source=SOURCE, words=()):
+    pathlib.Path(folder, "long.ispc").write_bytes(source)
+    words = [program, "debug", "long.ispc", "--width", str(width), *words]
     return subprocess.run(words, input="\n".join(lines).encode() + b"\n", capture_output=True, cwd=folder, timeout=float(SECONDS)).stdout
 
 
@@ -89,6 +112,38 @@ def to_the_start(program):
     return Result("from a fault to the first step and back to it", not why, why)
 
 
+def in_three_commands(program):
+    """From the fault at the end of 5,000,000 steps back to the statement that spoiled the value."""
+    with tempfile.TemporaryDirectory(prefix="whole-") as folder:
+        go_on()
+        text = told(program, ["run", "last divisor", "print i"], folder, 4, SPOILT.encode(), MOST)
+    places = [tuple(map(int, it)) for it in STEP.findall(text)]
+    why = [] if places[1:] == [FAULT, SPOILS] else [f"places {places}, and behind the first {[FAULT, SPOILS]} are wanted"]
+    why += [f"{it} is not said" for it in ("F1 DivideByZero", "divisor = 5 -> 0 by this statement", f"i = {SPOILED}") if it.encode() not in text]
+    return Result("from a fault behind 5,000,000 steps to what spoiled the value, in three commands", not why, why)
+
+
+def from_end_to_start(program, kernel):
+    """A kernel's run of 1,500,000 steps is taken back from its end to its start, in one piece and to its middle, and made again."""
+    names = kernel.names()
+    look = [f"echo {LOOK}", *(f"print {it}" for it in names)]
+    way = ["continue", "reverse-continue", "goto 700000", "continue", "goto 700000", "goto 0", "continue"]
+    with tempfile.TemporaryDirectory(prefix="whole-") as folder:
+        go_on()
+        words = ["--input", str(kernel.file("input")), *MOST]
+        text = told(program, [*look, *(line for it in way for line in (it, *look))], folder, 4, kernel.file("ispc").read_bytes(), words)
+    lines = text.splitlines()
+    shown = [lines[at + 1 : at + 1 + len(names)] for at, line in enumerate(lines) if line == LOOK.encode()]
+    if len(shown) != 1 + len(way):
+        return Result(f"{kernel.name} from its end to its start", False, [f"{len(shown)} looks, and {1 + len(way)} are wanted"])
+    start, end, back, middle, *others = shown
+    why = [wrong for name, values in kernel.results.items() for wrong in kernel.wrong_value(name, values, [it.decode() for it in end])]
+    why += [] if others == [end, middle, start, end] and back == start and middle not in (start, end) else ["what is shown on one way is not what is shown on another"]
+    return Result(f"{kernel.name} from its end to its start, to its middle and forward again", not why, why)
+
+
 def results(root, program):
-    """A result for each plan, and one from the end of a run to its start."""
-    return [*side_by_side(lambda seed: there_and_back(program, seed), SEEDS), to_the_start(program)]
+    """A result for each plan, one from the end of a run to its start, one of a fault, and one of a kernel."""
+    longest = next(it for it in kernels.kernels(root) if it.name == LONGEST)
+    others = [lambda: to_the_start(program), lambda: in_three_commands(program), lambda: from_end_to_start(program, longest)]
+    return [*side_by_side(lambda seed: there_and_back(program, seed), SEEDS), *side_by_side(lambda one: one(), others)]

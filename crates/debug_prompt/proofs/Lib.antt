@@ -7,3 +7,4 @@ mod StopNumbers
 mod StopPieces
 mod PlainLines
 mod MomentLaws
+mod StepsBack

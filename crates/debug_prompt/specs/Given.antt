@@ -41,6 +41,11 @@ abbrev pub is_here : Answer → Bool
 is_here answer.Here = true
 is_here given = false
 
+-- whether a step was taken back
+abbrev pub is_undone_step : Answer → Bool
+is_undone_step answer.UndoneStep = true
+is_undone_step given = false
+
 -- whether a target is shown
 abbrev pub is_shown : Answer → Bool
 is_shown (answer.Shows target shown) = true

@@ -4,11 +4,13 @@
 mod asking;
 mod beginning;
 mod breaking;
+mod copies_told;
 mod doing;
 mod expressions;
 mod forms;
 mod frames;
 mod going;
+mod going_back;
 mod holding;
 mod listing;
 mod looking;

@@ -6,6 +6,7 @@ ghost use Rattle.prompt_lines.specs.declared.line.Kind.TheVariants as kind;
 ghost use Rattle.debug_prompt.specs.Doing as spec;
 ghost use Rattle.debug_prompt.specs.Holding.{held, sheet};
 
+use crate::copies_told::tell_copies;
 use crate::forms::form_of;
 use crate::frames::{frame_above, frame_below, frame_named, select, selected_depth};
 use crate::holding::Holding;
@@ -24,6 +25,7 @@ use prompt_texts::{
     show_help, show_here, show_line, show_lists, show_locals, show_recording, show_source,
     show_text, show_type, show_variables, show_watches, tell_unknown,
 };
+use whole_runs::TellsCopies;
 
 /// From which line on and up to which one the source was listed last, and whether the history was ever full.
 #[derive(Drop)]
@@ -52,7 +54,7 @@ impl Looking {
     }
 
     /// Shows what is looked at, and selects a frame. A look that repeats by an empty line names no line.
-    pub(crate) fn look<M: FramedMachine, O: AnswerWriter + Drop>(
+    pub(crate) fn look<M: FramedMachine + TellsCopies, O: AnswerWriter + Drop>(
         &mut self,
         look: Look,
         text: &[u8],
@@ -107,8 +109,8 @@ impl Looking {
         self.listed = Some(listed);
     }
 
-    /// Shows how much can be taken back.
-    fn show_recording<M: RecordedMachine, O: AnswerWriter + Drop>(
+    /// Shows how much can be taken back, and what copies are kept for it.
+    fn show_recording<M: RecordedMachine + TellsCopies, O: AnswerWriter + Drop>(
         &self,
         text: &[u8],
         scene: Scene<'_>,
@@ -117,6 +119,7 @@ impl Looking {
     ) {
         if is_blank_line(text) {
             show_recording(self.was_full, session, page);
+            tell_copies(session.machine().kept_copies(), page);
         } else {
             tell_unknown(scene.line, page);
         }

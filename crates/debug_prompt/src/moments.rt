@@ -11,6 +11,7 @@ ghost use Rattle.debug_prompt.specs.Moments as moments;
 ghost use Rattle.debug_prompt.specs.Holding.{held};
 
 use crate::beginning::is_whole;
+use crate::going_back::take_steps_back;
 use crate::holding::Holding;
 use crate::readings::{delete_of, index_named, is_here, is_refusal, step_named};
 use crate::turning::{Scene, show_displays};
@@ -136,7 +137,7 @@ pub(crate) fn move_to<'a, M: RecordedMachine>(step: u64, session: &mut Session<M
 {
     let here = session.machine().kept_steps() as u64;
     if step <= here {
-        repeat(Command::ReverseStep(1), here - step, session);
+        take_steps_back(here - step, session);
         return Answer::Here;
     }
     match step_on(step - here, session) {

@@ -30,6 +30,7 @@ use prompt_lines::{Kind, Look, PromptLine, Text, read_line};
 use prompt_texts::{Page, Source, show_here};
 use std::alloc::Global;
 use std::mem::replace;
+use whole_runs::TellsCopies;
 
 /// What a line led to.
 #[derive(Clone, Copy, Debug, PartialEq, Eq)]
@@ -79,7 +80,7 @@ impl Prompt {
     /// Does a line, its line feed not included, by the debugger's commands, and shows what they came to. Where conditions or counts
     /// are there, `continue`, `reverse-continue` and `run` go on to a stop that counts. A long `continue` shows on a terminal how
     /// many moves it has made. Where the writer has failed, the commands are done, and nothing is shown any more.
-    pub fn do_line<M: ExpressionMachine, O: AnswerWriter + Drop>(
+    pub fn do_line<M: ExpressionMachine + TellsCopies, O: AnswerWriter + Drop>(
         &mut self,
         alloc: Global,
         line: &[u8],
@@ -186,7 +187,7 @@ fn repeats(line: &PromptLine) -> bool
 }
 
 /// Does a command line, by its kind.
-fn do_meant<M: ExpressionMachine, O: AnswerWriter + Drop>(
+fn do_meant<M: ExpressionMachine + TellsCopies, O: AnswerWriter + Drop>(
     line: &PromptLine,
     is_again: bool,
     holding: &mut Holding,

@@ -238,6 +238,13 @@ pub(crate) fn is_here(answer: &Answer<'_>) -> bool
     matches!(answer, Answer::Here)
 }
 
+/// Whether a step was taken back.
+pub(crate) fn is_undone_step(answer: &Answer<'_>) -> bool
+    ensures { result ≡ given.is_undone_step answer.now }
+{
+    matches!(answer, Answer::UndoneStep)
+}
+
 /// Whether a target is shown.
 pub(crate) fn is_shown(answer: &Answer<'_>) -> bool
     ensures { result ≡ given.is_shown answer.now }

@@ -1,4 +1,5 @@
 pub mod Copies
+pub mod Costs
 pub mod Histories
 pub mod Notes
 pub mod NotesViews

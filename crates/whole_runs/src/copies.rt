@@ -57,6 +57,7 @@ impl CopyPlan {
     }
 
     /// Counts an event that happened: whether a copy is due after it.
+    #[inline(always)]
     pub(crate) fn count_event(&mut self) -> bool
         ensures { self.new.most ≡ self.old.most }
     {
@@ -66,13 +67,6 @@ impl CopyPlan {
             self.since = 0;
         }
         is_due
-    }
-
-    /// Counts an event that was taken back.
-    pub(crate) fn count_back(&mut self)
-        ensures { self.new.most ≡ self.old.most }
-    {
-        self.since = self.since.saturating_sub(1);
     }
 
     /// Which of so many copies goes: every second one, from the oldest on, and then the distance between two new ones is double.
@@ -109,6 +103,7 @@ impl Copies {
     }
 
     /// Counts an event: whether a copy is due after it.
+    #[inline(always)]
     pub(crate) fn is_due(&mut self) -> bool
         ensures { self.new.all ≡ self.old.all }
     {

@@ -5,6 +5,7 @@ mod copies;
 mod copies_over;
 mod expressions;
 mod framed;
+mod kept_copies;
 mod machine;
 mod notes;
 mod redoing;
@@ -12,5 +13,6 @@ mod whole_run;
 
 pub use copies::{CopiedMoment, Copies, CopyPlan};
 pub use copies_over::CopiesOver;
+pub use kept_copies::{KeptCopies, TellsCopies};
 pub use notes::{NotedPoke, Notes};
 pub use whole_run::{WHOLE_RUN, WholeRun};

@@ -1,5 +1,5 @@
 //! What a debugger asks of a machine, of a run that can be taken back to its start.
-ghost use Rattle.std.specs.Prelude.{◌≡◌, ◌<◌, ◌≤◌, true, is_err, length, slice_get, slice_index, suc, IfSome};
+ghost use Rattle.std.specs.Prelude.{◌≡◌, ◌<◌, ◌≤◌, ◌+◌, true, is_err, length, max, slice_get, slice_index, suc, IfSome};
 ghost use Rattle.undo_log.specs.History.{steps_in};
 ghost use Rattle.gang_types.specs.Masks.{IsGangWidth};
 ghost use Rattle.gang_model.specs.Types.Tree.{Variable};
@@ -7,6 +7,7 @@ ghost use Rattle.gang_model.specs.Debugger.Positions.{line_now};
 ghost use Rattle.gang_model.specs.Debugger.Debugger.{Debugger, Setting, depth, kept_steps, least_from, now, shown_words, step_lines};
 ghost use Rattle.gang_model.specs.Texts.Text.{where_text};
 ghost use Rattle.debug_traits.specs.Machines.{Finds, FindsInFile, IsPart, IsShown, Limits, LimitsWords, PokesOrNot, PokesWords, ShowsNamed, ShowsNext, Steps, StepsWords, Undoes, UndoesWords, call_text, depth_of, file_variables, line_of_position, listed, listed_parameters, position_line, position_text};
+ghost use Rattle.whole_runs.specs.Costs.{steps_again};
 ghost use Rattle.whole_runs.specs.Runs.{StandsWhole, inner_debugger};
 ghost use Rattle.whole_runs.specs.Histories.{history_of};
 
@@ -43,7 +44,14 @@ impl<M: CopiesOver + PokesSurely> RecordedMachine for WholeRun<M> {
         end
     }
 
-    fn undo(&mut self) -> Result<Undone, NoHistory> {
+    fn undo(&mut self) -> Result<Undone, NoHistory>
+        ensures undo { (s : Setting) (d : Debugger) → StandsWhole M.stands M.copies self.old s d → Undoes (StandsWhole M.stands M.copies) s d result self.new }
+        ensures run { Unit {0} }
+        ensures words { UndoesWords (history_of self.old) result (history_of self.new) }
+        ensures moves { self.new.moves ≡ suc self.old.moves }
+        // The machine itself moves once for it, or does again the steps behind the newest copy that is left, or behind the start.
+        ensures cost { M.moves self.new.inner ≤ M.moves self.old.inner + max 1 (steps_again self.new.notes.pokes self.new.notes.steps self.new.copies) }
+    {
         self.moves.count_one();
         let event = self.notes.forget_last()?;
         self.is_stale = true;

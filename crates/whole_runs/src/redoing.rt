@@ -1,10 +1,11 @@
 //! Events that are done again.
-ghost use Rattle.std.specs.Prelude.{◌≡◌, ◌⊎◌, ◌≤◌, ◌-◌, ◌∷◌, ℕ, true, All, filter, IfSome, List, [], Some, drop, length, slice_get, take};
+ghost use Rattle.std.specs.Prelude.{◌≡◌, ◌⊎◌, ◌≤◌, ◌+◌, ◌-◌, ◌∷◌, ℕ, true, All, filter, IfSome, List, [], Some, drop, length, max, option_copied, slice_get, take};
 ghost use Rattle.gang_model.specs.Debugger.Events.{Event};
 ghost use Rattle.gang_model.specs.Debugger.Debugger.{Debugger, Setting};
 ghost use Rattle.debug_traits.specs.Beginnings.{StandsAt, with_events};
 ghost use Rattle.whole_runs.specs.Notes.{AreNoted, CanPoke, HaveGone, noted, poke_of, steps_first, steps_on};
 ghost use Rattle.whole_runs.specs.Copies.{is_within};
+ghost use Rattle.whole_runs.specs.Costs.{steps_again, steps_behind, steps_left};
 ghost use Rattle.whole_runs.specs.Runs.{CanHaveAll, IsCopied, KeepsCopies};
 
 use crate::copies::{CopiedMoment, Copies};
@@ -17,6 +18,7 @@ pub(crate) fn redo_steps<M: BeginsAgain>(machine: &mut M, steps: u64)
     ensures redone { (s : Setting) (d : Debugger) (older : List Event) → StandsAt M.stands machine.old s d older → HaveGone s steps older
         → StandsAt M.stands machine.new s d (steps_on steps older) }
     ensures copies { KeepsCopies M.can_have M.copies machine.old machine.new }
+    ensures cost { M.moves machine.new ≡ M.moves machine.old + steps }
 {
     for _done in 0..steps {
         machine.step();
@@ -28,6 +30,7 @@ pub(crate) fn redo_left<M: BeginsAgain>(machine: &mut M, steps: u64, done: u64)
     ensures redone { (s : Setting) (d : Debugger) (older : List Event) → done ≤ steps → StandsAt M.stands machine.old s d (steps_on done older) → HaveGone s steps older
         → StandsAt M.stands machine.new s d (steps_on steps older) }
     ensures copies { KeepsCopies M.can_have M.copies machine.old machine.new }
+    ensures cost { M.moves machine.new ≡ M.moves machine.old + (steps - done) }
 {
     redo_steps(machine, steps - done.min(steps));
 }
@@ -37,6 +40,7 @@ pub(crate) fn redo_poke<M: BeginsAgain + PokesSurely>(machine: &mut M, note: &No
     ensures redone { (s : Setting) (d : Debugger) (older : List Event) → StandsAt M.stands machine.old s d older → CanPoke s older note.now
         → StandsAt M.stands machine.new s d (poke_of note.now ∷ older) }
     ensures copies { KeepsCopies M.can_have M.copies machine.old machine.new }
+    ensures cost { M.moves machine.new ≡ M.moves machine.old }
 {
     let _ = machine.poke(note.shown, note.at, note.word);
 }
@@ -46,6 +50,7 @@ pub(crate) fn redo_pokes<M: BeginsAgain + PokesSurely>(machine: &mut M, notes: &
     ensures redone { (s : Setting) (d : Debugger) (older : List Event) → StandsAt M.stands machine.old s d older → AreNoted s older notes.now
         → StandsAt M.stands machine.new s d (noted older notes.now) }
     ensures copies { KeepsCopies M.can_have M.copies machine.old machine.new }
+    ensures cost { M.moves machine.new ≡ M.moves machine.old + steps_left notes.now 0 0 }
 {
     for note in notes {
         redo_steps(machine, note.steps);
@@ -64,6 +69,7 @@ pub(crate) fn redo_rest<M: BeginsAgain + PokesSurely>(
     ensures redone { (s : Setting) (d : Debugger) (older : List Event) → done ≤ steps_first pokes.now steps → StandsAt M.stands machine.old s d (steps_on done older)
         → AreNoted s older pokes.now → HaveGone s steps (noted older pokes.now) → StandsAt M.stands machine.new s d (steps_on steps (noted older pokes.now)) }
     ensures copies { KeepsCopies M.can_have M.copies machine.old machine.new }
+    ensures cost { M.moves machine.new ≡ M.moves machine.old + steps_left pokes.now steps done }
 {
     match pokes.split_first() {
         None => redo_left(machine, steps, done),
@@ -91,6 +97,7 @@ pub(crate) fn redo_from<M: BeginsAgain + PokesSurely>(
         → AreNoted s older notes.now.pokes.items → HaveGone s notes.now.steps (noted older notes.now.pokes.items)
         → StandsAt M.stands machine.new s d (steps_on notes.now.steps (noted older notes.now.pokes.items)) }
     ensures copies { KeepsCopies M.can_have M.copies machine.old machine.new }
+    ensures cost { M.moves machine.new ≡ M.moves machine.old + steps_left (drop pokes notes.now.pokes.items) notes.now.steps done }
 {
     machine.begin_again(words);
     let rest = &notes.pokes[pokes.min(notes.pokes.len())..];
@@ -110,6 +117,7 @@ pub(crate) fn redo_nearest<M: BeginsAgain + PokesSurely>(
         → M.copies machine.old start.now s (with_events older 0 0 d) → AreNoted s older notes.now.pokes.items → HaveGone s notes.now.steps (noted older notes.now.pokes.items)
         → StandsAt M.stands machine.new s d (steps_on notes.now.steps (noted older notes.now.pokes.items)) }
     ensures copies { KeepsCopies M.can_have M.copies machine.old machine.new }
+    ensures cost { M.moves machine.new ≡ M.moves machine.old + steps_again notes.now.pokes.items notes.now.steps copies.now.all.items }
 {
     match newest(copies, notes) {
         Some(copy) => redo_from(machine, notes, copy.pokes, copy.steps, &copy.words),
@@ -121,6 +129,7 @@ pub(crate) fn redo_nearest<M: BeginsAgain + PokesSurely>(
 fn newest<'a>(copies: &'a Copies, notes: &Notes) -> Option<&'a CopiedMoment>
     ensures one { IfSome result (λ copy. (k : ℕ) × (slice_get copies.now.all.items k ≡ Some copy.now)) }
     ensures within { IfSome result (λ copy. is_within notes.now.pokes.items notes.now.steps copy.now.pokes copy.now.steps ≡ true) }
+    ensures behind { steps_behind notes.now.pokes.items notes.now.steps (option_copied result) ≡ steps_again notes.now.pokes.items notes.now.steps copies.now.all.items }
 {
     let copy = copies.all.last()?;
     copy.is_within(notes).then_some(copy)
@@ -143,6 +152,8 @@ pub(crate) fn take_last_back<M: BeginsAgain + PokesSurely>(
         → StandsAt M.stands machine.new s d (steps_on notes.now.steps (noted older notes.now.pokes.items)) }
     ensures copies { (copies.new.all.items ≡ copies.old.all.items)
         ⊎ (copies.new.all.items ≡ filter (λ c. is_within notes.now.pokes.items notes.now.steps c.pokes c.steps) copies.old.all.items) }
+    // It moves once, or does again what is behind the newest copy that is left.
+    ensures cost { M.moves machine.new ≤ M.moves machine.old + max 1 (steps_again notes.now.pokes.items notes.now.steps copies.new.all.items) }
 {
     if machine.kept() > 0 {
         let _ = machine.undo();

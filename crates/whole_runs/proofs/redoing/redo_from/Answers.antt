@@ -1,8 +1,9 @@
-use Rattle.std.proofs.Common.{◌≡◌, ◌≤◌, drop, subst, sym, take, ap, arith, ◌∙◌}
-use Rattle.std.proofs.lemmas.List.{take-append-drop, take_rest}
+use Rattle.std.proofs.Common.{◌≡◌, ◌≤◌, drop, length, min, subst, sym, take, ap, arith, ◌∙◌}
+use Rattle.std.proofs.lemmas.List.{drop_min, take-append-drop, take_rest}
 use Rattle.debug_traits.specs.Beginnings.{StandsAt, with_events}
 use Rattle.whole_runs.specs.Notes.{AreNoted, HaveGone, noted, steps_first, steps_on}
 use Rattle.whole_runs.proofs.DoneAgain.{are_rest, kept_on, noted_append}
+use Rattle.whole_runs.specs.Costs.{steps_left}
 use Rattle.whole_runs.proofs.redoing.redo_from.Goals as goal
 
 pub returns-clause-redone : goal.returns-clause-redone
@@ -30,3 +31,14 @@ returns-clause-copies g c = kept_on g.M.BeginsAgain.can_have g.M.BeginsAgain.cop
   λ words h. g.met.M.BeginsAgain.can_have_so _ _ words c.begin_again.ensures.run h,
   λ words s d h. g.met.M.BeginsAgain.copies_so _ _ words s d c.begin_again.ensures.run h,
 ) c.redo_rest.ensures.copies
+
+pub returns-clause-cost : goal.returns-clause-cost
+returns-clause-cost g c =
+    let all = c.args.notes.now.pokes.items in
+    let p = c.args.pokes in
+    let place : c.min.result ≡ min p (length all) = c.min.ensures ∙ ap (min p) c.len.ensures in
+    let value = take_rest c.deref.result.now c.min.result ∙ ap (drop c.min.result) c.deref.ensures.value ∙ ap (λ n. drop n all) place ∙ drop_min p all in
+    let is = ap (λ pokes. steps_left pokes c.args.notes.now.steps c.args.done) value in
+    let moved = c.redo_rest.ensures.cost in
+    let begun = c.begin_again.ensures.moves in
+    omega (arith, is, moved, begun)

@@ -10,3 +10,6 @@ returns-clause-copies g c = (
   λ words h. g.met.M.BeginsAgain.can_have_so _ _ words c.poke.ensures.run h,
   λ words s d h. g.met.M.BeginsAgain.copies_so _ _ words s d c.poke.ensures.run h,
 )
+
+pub returns-clause-cost : goal.returns-clause-cost
+returns-clause-cost g c = c.poke.ensures.moves

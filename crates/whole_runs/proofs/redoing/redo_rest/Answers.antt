@@ -1,7 +1,9 @@
-use Rattle.std.proofs.Common.{◌≤◌, ◌∷◌, subst, sym}
+use Rattle.std.proofs.Common.{◌≤◌, ◌∷◌, ap, arith, subst, sym}
 use Rattle.debug_traits.specs.Beginnings.{StandsAt}
 use Rattle.whole_runs.specs.Notes.{AreNoted, HaveGone, noted, poke_of, steps_first, steps_on}
 use Rattle.whole_runs.proofs.DoneAgain.{kept_on, no_notes}
+use Rattle.whole_runs.specs.Costs.{steps_left}
+use Rattle.whole_runs.proofs.StepCosts.{left_split}
 use Rattle.whole_runs.proofs.redoing.redo_rest.Goals as goal
 
 pub returns-in-None-clause-redone : goal.returns-in-None-clause-redone
@@ -31,3 +33,19 @@ pub returns-in-Some-clause-copies : goal.returns-in-Some-clause-copies
 returns-in-Some-clause-copies g c =
     let on = kept_on g.M.BeginsAgain.can_have g.M.BeginsAgain.copies in
     on _ _ _ (on _ _ _ c.redo_left-in-Some.ensures.copies c.redo_poke.ensures.copies) (on _ _ _ c.redo_pokes.ensures.copies c.redo_steps.ensures.copies)
+
+pub returns-in-None-clause-cost : goal.returns-in-None-clause-cost
+returns-in-None-clause-cost g c =
+    let none = ap (λ pokes. steps_left pokes c.args.steps c.args.done) (no_notes c.args.pokes.now c.in-None.ensures.cases) in
+    let all = c.redo_left.ensures.cost in
+    omega (arith, none, all)
+
+pub returns-in-Some-clause-cost : goal.returns-in-Some-clause-cost
+returns-in-Some-clause-cost g c =
+    let is = ap (λ pokes. steps_left pokes c.args.steps c.args.done) c.in-Some.ensures.cases.0 in
+    let both = left_split c.in-Some.rest.now c.args.steps in
+    let first = c.redo_left-in-Some.ensures.cost in
+    let poke = c.redo_poke.ensures.cost in
+    let pokes = c.redo_pokes.ensures.cost in
+    let last = c.redo_steps.ensures.cost in
+    omega (arith, is, both, first, poke, pokes, last)

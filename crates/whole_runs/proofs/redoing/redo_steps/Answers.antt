@@ -8,6 +8,7 @@ pub loop-done-init : goal.loop-done-init
 loop-done-init g c = record {
   redone = λ s d older there gone. there;
   copies = kept_still g.M.BeginsAgain.can_have g.M.BeginsAgain.copies _;
+  cost = omega arith;
 }
 
 pub loop-done-preserved : goal.loop-done-preserved
@@ -22,9 +23,13 @@ loop-done-preserved g c =
         λ words h. g.met.M.BeginsAgain.can_have_so _ _ words c.step.ensures.run h,
         λ words s d h. g.met.M.BeginsAgain.copies_so _ _ words s d c.step.ensures.run h,
       );
+      cost = let before = c.loop-done.invariant.cost in let one = c.step.ensures.moves in omega (arith, before, one);
     }
 
 pub returns-clause-redone : goal.returns-clause-redone
 returns-clause-redone g c s d older there gone =
     let same : c.loop-done._done ≡ c.args.steps = omega arith in
     subst (λ n. StandsAt g.M.RecordedMachine.stands c.loop-done.machine s d (steps_on n older)) same (c.loop-done.invariant.redone s d older there gone)
+
+pub returns-clause-cost : goal.returns-clause-cost
+returns-clause-cost g c = let all = c.loop-done.invariant.cost in omega (arith, all, c.loop-done-test.false)

@@ -49,3 +49,9 @@ returns-clause-back g c s d older events there is copied begins are gone =
 
 pub returns-clause-copies : goal.returns-clause-copies
 returns-clause-copies g c = inr c.drop_past.ensures
+
+pub returns-then-kept-gt0-clause-cost : goal.returns-then-kept-gt0-clause-cost
+returns-then-kept-gt0-clause-cost g c = let one = c.undo.ensures.moves in grind (arith, one)
+
+pub returns-clause-cost : goal.returns-clause-cost
+returns-clause-cost g c = let moved = c.redo_nearest.ensures.cost in grind (arith, moved)

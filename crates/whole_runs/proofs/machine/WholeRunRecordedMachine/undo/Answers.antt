@@ -72,3 +72,6 @@ returns-clause-words g c =
     let after = whole_of c.take_last_back.new.machine new m.start.items c.take_last_back.new.copies.all.items true c.count_one.new.self.count in
     subst (λ run. UndoesWords (history_of run) (Ok c.in_ok-event.event) (history_of after)) c.self.view_is
     (undo_words (noted_of m.notes) new c.in_ok-event.event c.in_ok-event.ensures.limit c.in_ok-event.ensures.forgets)
+
+pub returns-in_err-event-clause-cost : goal.returns-in_err-event-clause-cost
+returns-in_err-event-clause-cost g c = grind arith
