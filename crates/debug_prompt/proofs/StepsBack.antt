@@ -86,20 +86,19 @@ undone_step s left d some few told = go d.events refl
           omega (arith, few, fewer),
         )
 
+-- none of no events is a step
+none_of_none : (k : ℕ) → 0 < length (filter is_step (take k [])) → ⊥
+none_of_none zero h = omega (arith, h)
+none_of_none (suc k) h = omega (arith, h)
+
 -- a value that is taken back is a part of the next of them
 pub undone_poke : (s : Setting) (left : ℕ) (d : Debugger) → 0 < left → left ≤ kept_steps d → is_undone_step (undone d.events) ≡ false
     → (led s (replicate left (DoReverseStep 1)) d ≡ led s (replicate left (DoReverseStep 1)) (taken_back d)) × (left ≤ kept_steps (taken_back d))
 undone_poke s left d some few told = go d.events refl
   where
-    none : (d.events ≡ []) → 0 < kept_steps d → ⊥
-    none is steps = no d.kept (subst (λ es. 0 < length (filter is_step (take d.kept es))) is steps)
-      where
-        no : (k : ℕ) → 0 < length (filter is_step (take k [])) → ⊥
-        no zero h = omega (arith, h)
-        no (suc k) h = omega (arith, h)
     go : (events : List Event) → d.events ≡ events
         → (led s (replicate left (DoReverseStep 1)) d ≡ led s (replicate left (DoReverseStep 1)) (taken_back d)) × (left ≤ kept_steps (taken_back d))
-    go [] is = absurd (none is (omega (arith, some, few)))
+    go [] is = absurd (none_of_none d.kept (subst (λ es. 0 < length (filter is_step (take d.kept es))) is (omega (arith, some, few))))
     go (Step ∷ events) is = absurd (true≢false (sym (ap (λ es. is_undone_step (undone es)) is) ∙ told))
     go (Poke what word ∷ events) is =
         let steps : 0 < kept_steps d = omega (arith, some, few) in

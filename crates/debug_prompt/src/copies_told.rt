@@ -9,10 +9,7 @@ const WORD_BYTES: usize = 8;
 /// Writes how many copies of other moments than the start there are, how many there can be, and what they take with that of the start.
 pub(crate) fn tell_copies<O: AnswerWriter + Drop>(kept: KeptCopies, page: &mut Page<O>) {
     let copies = kept.count.saturating_add(1);
-    let bytes = kept
-        .words
-        .saturating_mul(WORD_BYTES)
-        .saturating_mul(copies);
+    let bytes = kept.words.saturating_mul(WORD_BYTES).saturating_mul(copies);
     page.put(b"copies of moments of the run: ");
     page.put_number(kept.count as i128);
     page.put(b" of ");

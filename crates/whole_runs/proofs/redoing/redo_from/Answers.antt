@@ -36,7 +36,7 @@ pub returns-clause-cost : goal.returns-clause-cost
 returns-clause-cost g c =
     let all = c.args.notes.now.pokes.items in
     let p = c.args.pokes in
-    let place : c.min.result ≡ min p (length all) = c.min.ensures ∙ ap (min p) c.len.ensures in
+    let place : c.min.result ≡ min p (length all) = omega (arith, c.min.ensures, c.len.ensures) in
     let value = take_rest c.deref.result.now c.min.result ∙ ap (drop c.min.result) c.deref.ensures.value ∙ ap (λ n. drop n all) place ∙ drop_min p all in
     let is = ap (λ pokes. steps_left pokes c.args.notes.now.steps c.args.done) value in
     let moved = c.redo_rest.ensures.cost in

@@ -26,11 +26,11 @@ returns-in-Some-clause-cost g c =
     let within = c.in-Some.ensures.within in
     let here = ap (λ b. if b then steps_left (drop copy.pokes notes.pokes.items) notes.steps copy.steps else steps_left notes.pokes.items notes.steps 0) within in
     let behind = c.in-Some.ensures.behind in
-    let moved = c.redo_from-in-Some.ensures.cost in
+    let moved = c.redo_from.ensures.cost in
     omega (arith, here, behind, moved)
 
 pub returns-in-None-clause-cost : goal.returns-in-None-clause-cost
 returns-in-None-clause-cost g c =
     let behind = c.in-None.ensures.behind in
-    let moved = c.redo_from.ensures.cost in
+    let moved = c.redo_from-in-None.ensures.cost in
     omega (arith, behind, moved)

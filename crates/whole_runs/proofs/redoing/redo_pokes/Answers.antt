@@ -1,4 +1,4 @@
-use Rattle.std.proofs.Common.{refl, sym, subst, ◌∙◌, ◌∷◌, get_or, None, false}
+use Rattle.std.proofs.Common.{refl, sym, subst, arith, ◌∙◌, ◌∷◌, get_or, None, false}
 use Rattle.debug_traits.specs.Beginnings.{StandsAt}
 use Rattle.gang_types.specs.declared.places.VarId.TheVariants.{File}
 use Rattle.gang_types.specs.declared.types.IntType.TheVariants.{Bool}

@@ -1,4 +1,4 @@
-use Rattle.std.proofs.Common.{Bool, subst, inl, inr, refl}
+use Rattle.std.proofs.Common.{Bool, arith, subst, inl, inr, refl}
 use Rattle.std.specs.Prelude.{filter}
 use Rattle.std.proofs.lemmas.List.Elements.{All-filter, All-same}
 use Rattle.debug_traits.specs.Beginnings.{StandsAt}

@@ -1,5 +1,5 @@
 use Rattle.std.proofs.lemmas.Result.{err_from_is_err_and}
-use Rattle.std.proofs.Common.{◌∙◌, Bool, ap, drop, subst, sym, inl, inr, true}
+use Rattle.std.proofs.Common.{◌∙◌, arith, Bool, ap, drop, subst, sym, inl, inr, true}
 use Rattle.std.specs.Prelude.{All, Ok, filter}
 use Rattle.std.proofs.lemmas.List.Elements.{All-filter, All-same}
 use Rattle.debug_traits.specs.Beginnings.{with_events}
