@@ -5,7 +5,7 @@ use Rattle.std.proofs.lemmas.Bool.{true≢false}
 use Rattle.std.proofs.lemmas.Bool.Decides.{nat_tests}
 use Rattle.gang_model.specs.Debugger.Events.{Event, Step, Poke}
 use Rattle.gang_model.specs.Debugger.Debugger as model
-use Rattle.gang_model.specs.Debugger.Debugger.{Debugger, DoReverseStep, DoUndo, Moves, NoHistory, Reply, Setting, UndoneStep, backward, backward_refusal, do_command, is_step, kept_steps, now, outermost_refusal, refused, reply, stepped_back, taken_back, undone, unless_refused}
+use Rattle.gang_model.specs.Debugger.Debugger.{Debugger, DoReverseStep, DoUndo, Moves, NoHistory, Setting, UndoneStep, backward, do_command, is_step, kept_steps, now, outermost_refusal, refused, reply, stepped_back, taken_back, undone, unless_refused}
 use Rattle.debug_answers.specs.declared.answer.Answer.{Answer}
 use Rattle.debug_answers.specs.declared.answer.Answer.TheVariants as answer
 use Rattle.debug_answers.specs.Meanings.{Means}
@@ -65,8 +65,8 @@ fewer_steps : (d : Debugger) (events : List Event) (kept : ℕ) → d.events ≡
 fewer_steps d events kept is some =
     let less : d.kept - 1 ≡ kept = omega (arith, some) in
     let here : kept_steps d ≡ suc (length (filter is_step (take kept events))) = ap (λ es. length (filter is_step (take d.kept es))) is ∙ ap (λ n. length (filter is_step (take n (Step ∷ events)))) some in
-    let then : kept_steps (taken_back d) ≡ length (filter is_step (take kept events)) = ap (λ es. length (filter is_step (take (d.kept - 1) es))) (ap (drop 1) is) ∙ ap (λ n. length (filter is_step (take n events))) less in
-    here ∙ ap suc (sym then)
+    let after : kept_steps (taken_back d) ≡ length (filter is_step (take kept events)) = ap (λ es. length (filter is_step (take (d.kept - 1) es))) (ap (drop 1) is) ∙ ap (λ n. length (filter is_step (take n events))) less in
+    here ∙ ap suc (sym after)
 
 -- a step that is taken back is one of the single steps
 pub undone_step : (s : Setting) (left : ℕ) (d : Debugger) → 0 < left → left ≤ kept_steps d → is_undone_step (undone d.events) ≡ true
@@ -105,8 +105,8 @@ undone_poke s left d some few told = go d.events refl
         let kept = some_kept d steps in
         let more : d.kept ≡ (d.kept - 1) + 1 = omega (arith, kept) in
         let same = steps_by_poke d what word events (d.kept - 1) is more in
-        let then : 0 < kept_steps (taken_back d) = omega (arith, steps, same) in
-        let on = back_one s d steps kept ∙ sym (back_by_poke d what word events is) ∙ sym (back_one s (taken_back d) then (some_kept (taken_back d) then)) in (
+        let more_left : 0 < kept_steps (taken_back d) = omega (arith, steps, same) in
+        let on = back_one s d steps kept ∙ sym (back_by_poke d what word events is) ∙ sym (back_one s (taken_back d) more_left (some_kept (taken_back d) more_left)) in (
           led_again s (DoReverseStep 1) left d some ∙ ap (led s (replicate (left - 1) (DoReverseStep 1))) on ∙ sym (led_again s (DoReverseStep 1) left (taken_back d) some),
           omega (arith, few, same),
         )

@@ -1,5 +1,5 @@
-use Rattle.std.proofs.Common.{◌≡◌, ◌<◌, ◌≤◌, true, false, refl, sym, subst, ap, ◌∙◌, arith}
-use Rattle.gang_model.specs.Debugger.Debugger.{DoUndo, Reply, reply, taken_back, undone}
+use Rattle.std.proofs.Common.{◌≡◌, ◌<◌, true, false, refl, sym, subst, ap, ◌∙◌, arith}
+use Rattle.gang_model.specs.Debugger.Debugger.{DoUndo, Reply, undone}
 use Rattle.debug_session.specs.Sessions.{StandsFor}
 use Rattle.debug_prompt.proofs.DoneCommands.{sure_reply}
 use Rattle.debug_prompt.proofs.StepsBack.{is_undone_step, is_undone_step-means, some_kept, undo_is, undone_poke, undone_step}

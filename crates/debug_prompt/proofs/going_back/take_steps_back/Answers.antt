@@ -1,7 +1,6 @@
-use Rattle.std.proofs.Common.{◌≡◌, ◌<◌, ◌≤◌, ◌+◌, ◌-◌, refl, sym, subst, ap, ◌∙◌, arith, replicate}
-use Rattle.gang_model.specs.Debugger.Debugger.{DoReverseStep, kept_steps, taken_back}
+use Rattle.std.proofs.Common.{◌≡◌, ◌<◌, ◌≤◌, refl, sym, subst, ◌∙◌, arith}
+use Rattle.gang_model.specs.Debugger.Debugger.{DoReverseStep, taken_back}
 use Rattle.debug_session.specs.Sessions.{StandsFor, bare}
-use Rattle.debug_prompt.specs.Moments.{led}
 use Rattle.debug_prompt.proofs.MomentLaws.{led_never}
 use Rattle.debug_prompt.proofs.StepsBack.{none_left, some_kept}
 use Rattle.debug_prompt.proofs.going_back.take_steps_back.Goals as goal
@@ -9,14 +8,14 @@ use Rattle.debug_prompt.proofs.going_back.take_steps_back.Goals as goal
 pub loop-taken-init : goal.loop-taken-init
 loop-taken-init g c s d st few = (d, st, refl, few, omega arith)
 
-pub take_event_back-requires : goal.take_event_back-requires
-take_event_back-requires g c = omega (arith, c.if-left-eq0.false)
+pub take_event_back-left-requires : goal.take_event_back-left-requires
+take_event_back-left-requires g c = omega (arith, c.if-left-eq0.false)
 
 pub loop-taken-preserved : goal.loop-taken-preserved
 loop-taken-preserved g c s d st few =
     let (e, there, same, less, count) = c.loop-taken.invariant s d st few in
     let some : 0 < c.loop-taken.left = omega (arith, c.if-left-eq0.false) in
-    let (back, on, fewer) = c.take_event_back.ensures s e there less in
+    let (back, on, fewer) = c.take_event_back-left.ensures s e there less in
     let kept = some_kept e (omega (arith, some, less)) in
     (taken_back e, back, same ∙ on, fewer, omega (arith, count, kept))
 
