@@ -42,12 +42,12 @@ _rinddecade() {
             ;;
         page)
             case "$before" in
+                --most|--entry|--history|--steps|--from|--each|--around|--elements) return ;;
                 --input|--commands|--to) _rinddecade_files; return ;;
-                --entry|--history|--steps|--from|--most|--elements) return ;;
                 --width) COMPREPLY=($(compgen -W "4 8 16" -- "$word")); return ;;
             esac
             case "$word" in
-                -*) COMPREPLY=($(compgen -W "--input --entry --width --history --steps --commands --from --most --elements --to --force -h --help" -- "$word")) ;;
+                -*) COMPREPLY=($(compgen -W "--most --input --entry --width --history --steps --commands --from --each --around --elements --to --force -h --help" -- "$word")) ;;
                 *) _rinddecade_files ;;
             esac
             ;;

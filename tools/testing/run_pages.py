@@ -1,7 +1,9 @@
 """Pages of runs: what `rinddecade page` writes of examples and kernels is, moment by moment, what tools/meaning works out.
 
 Compared are place, function, depth, lanes, open calls, the values of all variables of all frames and of the file with their types and how many
-words each has, also at the end, and that of each change something changed. The viewer round the record is the one of crates/page_viewer, and nothing of a source ends the record.
+words each has, also at the end, and that of each change something changed. A page with one step of several has those steps, each near a step that was
+asked for, and the last one. The viewer round the record is the one of crates/page_viewer, and nothing of a source ends the record. Of a page that is cut
+standard error has what it takes.
 """
 
 import json
@@ -12,12 +14,15 @@ from meaning.debugging import Debugger
 from meaning.values import Fault
 
 from . import examples, meant, viewer
-from .tried import Run
+from .tried import Result, Run
 
 MOST_ELEMENTS = 1024
 WIDTHS = (4, 8, 16)
 
 STORED = "state_machine"
+
+# How many steps on each side of a step that is asked for a page has.
+REACH = 1000
 
 # How many steps of a kernel are compared.
 MOST_OF_KERNEL = 600
@@ -121,6 +126,30 @@ export void go() {
 """
 
 
+# A loop that is long enough for steps that are left out, with a call in each turn, and a foreach form that other numbers of lanes do.
+LOOP = """uniform int seen[16];
+uniform unsigned int64 turns;
+int deep(uniform int n, int x) {
+    int y = x * 3;
+    if (n > 0) {
+        y = deep(n - 1, x + n);
+    }
+    return y;
+}
+export void go() {
+    int x = programIndex;
+    for (uniform int at = 0; at < 200; at++) {
+        x = deep(at % 3, x);
+        x = x % 101;
+        foreach (i = 0 ... at % 7) {
+            seen[i] += at;
+        }
+        turns = turns - at;
+    }
+}
+"""
+
+
 # ---- what is wanted
 
 def words_of(state, variable):
@@ -162,22 +191,45 @@ def moment_of(debugger, most_words):
     return debugger.place_text(), calls, values, [(depth, it.name, *shape_of(state, it)) for depth, it, state in seen]
 
 
-def wanted_of(source, options, first, most, most_words=MOST_ELEMENTS):
-    """The moments of a run from a step on, and how it ends."""
+def wanted_of(source, options, first, most, most_words=MOST_ELEMENTS, each=1, around=()):
+    """The moments of a run from a step on that are told, and how it ends."""
+    moments, end, _ = wanted_steps(source, options, first, most, most_words, each, around)
+    return moments, end
+
+
+def wanted_steps(source, options, first, most, most_words, each, around):
+    """The same, with how many steps were done before each."""
     debugger = Debugger(source, **options)
-    moments, steps = [], 0
+    for _ in range(first - 1):
+        debugger.forward()
+    moments, told, done = [], [], 0
     while True:
-        if steps >= first - 1:
-            moments.append(moment_of(debugger, most_words))
-        if not debugger.state.frames:
-            return moments, ["ended"]
-        if len(moments) > most:
-            return moments, ["limit"]
+        is_told = done % each == 0 or any(abs(first + done - it) <= REACH for it in around)
+        end = ["ended"] if not debugger.state.frames else ["limit"] if done == most * each else None
+        moment = moment_of(debugger, most_words) if is_told or end else None
+        try:
+            if not end:
+                debugger.forward()
+        except Fault as fault:
+            end, moment = ["fault", *fault.name.split(), fault.lane], moment or moment_of(debugger, most_words)
+        if moment:
+            moments.append(moment)
+            told.append(done)
+        if end:
+            return moments, end, told
+        done += 1
+
+
+def steps_left(source, options, done):
+    """How many steps a run has behind so many."""
+    debugger, left = Debugger(source, **options), -done
+    while debugger.state.frames:
         try:
             debugger.forward()
-        except Fault as fault:
-            return moments, ["fault", *fault.name.split(), fault.lane]
-        steps += 1
+        except Fault:
+            break
+        left += 1
+    return left
 
 
 # ---- what is there
@@ -213,9 +265,9 @@ def moments_in(record):
         yield place, [[*call[:2], record["functions"][call[2]]] for call in calls], there, shapes, wrong
 
 
-def is_page_of(source, options, first, most, most_words):
+def is_page_of(source, options, first, most, most_words, each=1, around=()):
     """Whether a page has the record of a run as tools/meaning has it."""
-    wanted, end = wanted_of(source, options, first, most, most_words)
+    wanted, end, steps = wanted_steps(source, options, first, most, most_words, each, around)
     width = options["width"]
 
     def judged(text):
@@ -225,6 +277,7 @@ def is_page_of(source, options, first, most, most_words):
         why += [] if record["end"] == end else [f"the end is {record['end']}, and {end} is wanted"]
         told = [record["width"], record["first"], record["most_words"]]
         why += [] if told == [width, first, most_words] else [f"width, first number and most words are {told}, and {[width, first, most_words]} is wanted"]
+        why += [] if record["steps"] == steps else [f"{len(record['steps'])} steps, from {record['steps'][:9]}, and {len(steps)} are wanted, from {steps[:9]}"]
         came = list(moments_in(record))
         why += [] if len(came) == len(wanted) else [f"{len(came)} moments, and {len(wanted)} are wanted"]
         for at, (one, other) in enumerate(zip(came, wanted)):
@@ -266,16 +319,37 @@ def stored(root):
     return Run(f"stored page of {STORED}", b"", words, (root / f"examples/{STORED}.html").read_bytes(), b"", data=data)
 
 
-def run_of(name, source, words=(), options=None, data=None, first=1, most=100_000, most_words=MOST_ELEMENTS):
+class PageRun(Run):
+    """A run whose page is cut: standard error has where it ends, how many steps the run has behind that, and what the page takes."""
+
+    NOTE = re.compile(rb"note: the page ends at step (\d+), and the run goes on for (\d+) more\n"
+                      rb"note: the page takes (\d+) bytes, about (\d+) for each of its (\d+) moments; "
+                      rb"--most N bounds them, --from N begins later, --each N has one step of N\n")
+
+    def judged(self, status, output, errors):
+        found, result = self.NOTE.fullmatch(errors), super().judged(status, output, errors)
+        if not found:
+            return Result(self.name, False, [*result.why, f"standard error: {errors.decode(errors='replace')}"])
+        moments = len(record_of(output.decode(errors="replace"))["moments"])
+        wanted = [self.last, self.left, len(output), len(output) // moments, moments]
+        came = [int(it) for it in found.groups()]
+        why = [] if came == wanted else [f"the note has {came}, and {wanted} is wanted"]
+        return Result(self.name, result.passed and not why, [*result.why, *why])
+
+
+def run_of(name, source, words=(), options=None, data=None, first=1, most=100_000, most_words=MOST_ELEMENTS, each=1, around=()):
     options = {"width": 4} | (options or {})
     said = ["page", f"{name}.ispc", *words, "--width", str(options["width"])]
     said += (["--from", str(first)] if first > 1 else []) + (["--most", str(most)] if most < 100_000 else [])
     said += ["--elements", str(most_words)] if most_words != MOST_ELEMENTS else []
+    said += (["--each", str(each)] if each > 1 else []) + (["--around", ",".join(map(str, around))] if around else [])
     text = source if isinstance(source, bytes) else source.encode()
-    judged = is_page_of(text.decode(errors="replace"), options, first, most, most_words)
-    title = f"page of {name}, {options['width']} lanes, from {first}, {most_words} words"
-    run = Run(title, b"", said, judged, b"", data={f"{name}.ispc": text} | (data or {}))
-    run.wanted = (options, first, most)
+    judged = is_page_of(text.decode(errors="replace"), options, first, most, most_words, each, around)
+    title = f"page of {name}, {options['width']} lanes, from {first}, {most_words} words" + (f", one of {each}" if each > 1 else "")
+    left = steps_left(text.decode(errors="replace"), options, first - 1 + most * each) if most < 100_000 else 0
+    kind, errors = (PageRun, None) if left > 0 else (Run, b"")
+    run = kind(title, b"", said, judged, errors, data={f"{name}.ispc": text} | (data or {}))
+    run.wanted, run.last, run.left = (options, first, most), first + most * each, left
     return run
 
 
@@ -308,11 +382,25 @@ def kernel_runs(root):
     return made
 
 
+# Width, one of how many steps, steps that are asked for, and the first one.
+SOME = [(4, 100, (), 1), (8, 1000, (2500,), 1), (16, 450, (1, 3000), 7), (4, 999, (10_000_000, 1500), 1200)]
+
+
+def no_places():
+    """Runs whose `--around` names no steps."""
+    data = {"calls.ispc": CALLS.encode()}
+    said = "error: --around takes numbers of steps, 16 at most, with commas between them, and not {}\n"
+    return [Run(f"page around {text[:20]!r}", b"", ["page", "calls.ispc", "--each", "2", f"--around={text}"], b"", said.format(text).encode(), 2, data)
+            for text in ("x", "1,", ",2", "-3", "4 5", "4294967296", ",".join("7" * 17))]
+
+
 def runs(root):
     hostile = Run("page of a hostile source", b"", ["page", "hostile.ispc"], is_whole_page(root), b"", data={"hostile.ispc": HOSTILE})
     sources = (("hostile", HOSTILE), ("calls", CALLS), ("types", TYPES))
     own = [run_of(name, text, options={"width": width}) for name, text in sources for width in WIDTHS]
     own += [run_of("types", TYPES, options={"width": width}, most_words=most_words) for width in (8, 16) for most_words in (1, 3, 9)]
     cut = [run_of("calls", CALLS, first=first, most=most) for first, most in ((1, 1), (3, 5), (12, 100))]
+    some = [run_of("loop", LOOP, options={"width": width}, each=each, around=around, first=first) for width, each, around, first in SOME]
+    some += [run_of("loop", LOOP, most=20, each=30), run_of("calls", CALLS, each=4, around=(1,)), run_of("calls", CALLS, each=1000), run_of("types", TYPES, options={"width": 16}, each=7)]
     late = Run("page from behind the end", b"", ["page", "calls.ispc", "--from", "50"], b"", None, 2, {"calls.ispc": CALLS.encode()})
-    return [stored(root), *example_runs(root), *kernel_runs(root), *own, *cut, hostile, late]
+    return [stored(root), *example_runs(root), *kernel_runs(root), *own, *cut, *some, *no_places(), hostile, late]

@@ -92,12 +92,13 @@ def calls_text(calls):
     return " ".join(f"< {name} {line}" for line, _, name in reversed(calls))
 
 
-def why_not_shown(browser, file, wanted):
-    """What a page shows at moments all over its run that is not as wanted."""
+def why_not_shown(browser, file, wanted, steps=None):
+    """What a page shows at moments all over its run that is not as wanted; where it has but some moments, so many steps were done before each."""
     browser.open(file.as_uri())
     why = []
-    for number in spread(len(wanted)):
-        place, calls, variables, _ = wanted[number - 1]
+    for at_moment in spread(len(wanted)):
+        number = steps[at_moment - 1] + 1 if steps else at_moment
+        place, calls, variables, _ = wanted[at_moment - 1]
         shown = json.loads(browser.value(SHOWN % (number, number)))
         own = {(depth, name): values for depth, name, values in variables}
         for what, came, meant_value in [
@@ -223,6 +224,69 @@ def clicks(browser, lines, wanted):
     return why
 
 
+# ---- some of the moments
+
+def left_out(browser, file, steps):
+    """What a page with some of the moments does, each with so many steps before it, that it is not to do: the first ones are far apart."""
+    browser.open(file.as_uri())
+    why = []
+    apart = steps[1]
+    text = f"the next moment is {apart} steps on; {apart - 1} between are left out, and what they change is told as one"
+    came = browser.value("[$('gap').textContent, $('said').textContent.endsWith(gap_text(0))]")
+    why += [] if came == [text, True] else [f"the first moment tells {came}"]
+    browser.key("ArrowRight")
+    came = browser.value("[$('step').value, $('of').textContent, rounds.length]")
+    wanted = [str(apart + 1), f"of {steps[-1] + 1}", 0]
+    why += [] if came == wanted else [f"Right goes to {came}, and {wanted} is wanted"]
+    whole = next(at for at, step in enumerate(steps) if at and step == steps[at - 1] + 1)
+    came = browser.value(f"(go({whole - 1}), $('gap').textContent)")
+    why += [] if came == "" else [f"where no step is left out the page tells {came}"]
+    browser.value("go(0)")
+    browser.key("g", "g")
+    for digit in str(apart):
+        browser.key(digit, digit)
+    browser.key("Enter")
+    came = browser.value("[$('step').value, $('told').textContent]")
+    why += [] if came == ["1", f"Step {apart} is left out; this is the moment before it."] else [f"g {apart} Enter: {came}"]
+    browser.value("(go(2), who(moments[2][CHANGES][0][0], moments[2][CHANGES][0][1]))")
+    came = browser.value("[here.at, $('told').textContent]")
+    ends = f"got its value in the {steps[2] - steps[1]} steps from here to the next moment. ] goes to after it."
+    why += [] if came[0] == 1 and came[1].endswith(ends) else [f"who wrote it: {came}"]
+    browser.value("go(2)")
+    browser.key("m", "m")
+    browser.value("new Promise(done => setTimeout(done, 400))")
+    came, wanted = browser.value("location.hash"), f"#{steps[2] + 1},marks={steps[2] + 1}"
+    why += [] if came == wanted else [f"the address is {came}, and {wanted} is wanted"]
+    return why + browser.faults()
+
+
+# ---- how a page looks
+
+def looks(browser, file):
+    """What is not so of a page of a run that ends with a fault: the fault is big, a narrow window stacks, paper has all of it, and nothing else may run."""
+    browser.open(file.as_uri())
+    big = browser.value("(go(LAST), [$('fault').hidden, getComputedStyle($('fault').firstChild).fontSize, $('fault').textContent])")
+    wanted = [False, "19px", "F1 DivideByZero in lane 2The right side of / or % is 0 in this lane. Nothing of this step was done."]
+    why = [] if big == wanted else [f"the fault is told as {big}"]
+    why += [] if browser.value("(go(0), $('fault').hidden)") else ["the fault is told at the first moment"]
+    live = browser.value("[$('said').getAttribute('aria-live'), (go(3), $('said').textContent.startsWith('step 4, at '))]")
+    why += [] if live == ["polite", True] else [f"a screen reader is told {live}"]
+    beside = "$('source').getBoundingClientRect().right <= $('values').getBoundingClientRect().left + 1"
+    why += [] if browser.value(beside) else ["in a wide window the values are not beside the source"]
+    browser.call("Emulation.setDeviceMetricsOverride", width=420, height=800, deviceScaleFactor=1, mobile=False)
+    why += [] if browser.value("$('source').getBoundingClientRect().bottom <= $('values').getBoundingClientRect().top + 1") else ["a narrow window does not stack"]
+    browser.call("Emulation.clearDeviceMetricsOverride")
+    browser.call("Emulation.setEmulatedMedia", media="print")
+    printed = browser.value("[getComputedStyle($('source')).overflowY, getComputedStyle($('values')).overflowY, getComputedStyle($('play')).display]")
+    why += [] if printed == ["visible", "visible", "none"] else [f"on paper: {printed}"]
+    browser.call("Emulation.setEmulatedMedia", media="")
+    why += browser.faults()
+    policy = browser.value("document.querySelector('meta[http-equiv]').content")
+    why += [] if policy.startswith("default-src 'none'; script-src 'sha256-") and "unsafe" not in policy else [f"the policy is {policy}"]
+    ran = browser.value("(() => { const it = document.createElement('script'); it.textContent = 'window.ran = 1'; document.body.append(it); return window.ran === undefined; })()")
+    return why + ([] if ran else ["another script runs"])
+
+
 # ---- bands
 
 def lanes_of_rounds(count, width=4):
@@ -298,6 +362,12 @@ def results(root, program, browser, folder):
     file = written(program, folder, "calls", run_pages.CALLS.encode(), [], {})
     why = keys(browser, file, run_pages.wanted_of(run_pages.CALLS, {"width": 4}, 1, 100_000)[0])
     yield Result("keys and clicks", not why, why)
+    why = looks(browser, file)
+    yield Result("the fault, narrow windows, paper and the policy", not why, why)
+    file = written(program, folder, "loop", run_pages.LOOP.encode(), ["--each", "100", "--around", "1500"], {})
+    wanted, _, steps = run_pages.wanted_steps(run_pages.LOOP, {"width": 4}, 1, 100_000, run_pages.MOST_ELEMENTS, 100, (1500,))
+    why = why_not_shown(browser, file, wanted, steps) + left_out(browser, file, steps)
+    yield Result("one step of a hundred", not why, why)
     file = written(program, folder, "rounds", ROUNDS.encode(), [], {})
     why = bands(browser, file)
     yield Result("rounds, calls and strips", not why, why)

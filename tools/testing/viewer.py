@@ -1,6 +1,7 @@
 """The viewer of a page: crates/page_viewer has the text of its page.html, cut into parts.
 
-`tools/page_viewer --write` writes the parts. The page's policy names the checksums of its script and of its styles.
+`tools/page_viewer --write` writes the parts. The page's policy names the checksums of its script and of its styles. It tells why a step faults as
+`explain` does.
 """
 
 import base64
@@ -9,7 +10,7 @@ import hashlib
 import pathlib
 import re
 
-from .explained import literal
+from .explained import entries, literal
 from .tried import Result
 
 PAGE = "crates/page_viewer/page.html"
@@ -69,6 +70,14 @@ def files(root):
     }
 
 
+def faults_told(root):
+    """What the page says of faults that `explain` does not say so, without its marks of code."""
+    text = (root / PAGE).read_text(encoding="utf-8")
+    there = dict(re.findall(r'^  (F\d): "(.*)",$', text, re.M))
+    wanted = {number: " ".join(lines.split("\n\n")[0].replace("`", "").split()) for number, _, lines in entries(root) if number[0] == "F"}
+    return [f"{it}: {there.get(it)}, and {wanted.get(it)} is wanted" for it in sorted({*there, *wanted}) if there.get(it) != wanted.get(it)]
+
+
 def check(root):
     """A result for each file: it is what would be written; and one for the page's lines."""
     results = []
@@ -79,4 +88,5 @@ def check(root):
         results.append(Result(path, not why, why and [*why[:20], "`tools/page_viewer --write` writes it anew"]))
     lines = (root / PAGE).read_text(encoding="utf-8").splitlines()
     long = [f"line {at} has {len(line)} characters" for at, line in enumerate(lines, 1) if len(line) > LONGEST]
-    return [*results, Result(PAGE, not long, long)]
+    faults = faults_told(root)
+    return [*results, Result(PAGE, not long, long), Result(f"faults in {PAGE}", not faults, faults)]

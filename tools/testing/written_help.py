@@ -35,6 +35,7 @@ TYPED = {
     "rinddecade picture --to g": {"go.ispc", "go.input"},
     "rinddecade port go.is": {"go.ispc"},
     "rinddecade page --el": {"--elements"},
+    "rinddecade page --a": {"--around"},
     "rinddecade explain S1": {"S1", "S10", "S11", "S12", "S13"},
     "ispc_cli --la": {"--lane-pure"},
     "ispc_cli --width ": {"4", "8", "16"},

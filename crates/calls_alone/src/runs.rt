@@ -86,6 +86,8 @@ fn write_run(alloc: Global, session: &mut ProgramSession<4>) -> Ended {
         first_number: 1,
         most_steps: 100,
         most_words: 100,
+        each: 1,
+        around: &[],
     };
     let viewer = run_page::Viewer {
         front: &[b"<"],

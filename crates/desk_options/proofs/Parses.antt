@@ -86,20 +86,21 @@ module _ (widths : Bor (List (Bor Text))) (are : AreWidths widths) (old : Comman
   page_passed : app_of old ≡ verb_command widths Page → ArePagePassed (found_of m)
   page_passed app =
       let rules = rules_of widths Page in
-      let width = value_passed _ rules refl refl refl old app m p 3 (option_or (codes "width") (parser.Names widths) (codes "4")) (omega arith) (λ d. refl) refl refl (parser.Names widths) refl refl refl (omega arith) in
+      let width = value_passed _ rules refl refl refl old app m p 4 (option_or (codes "width") (parser.Names widths) (codes "4")) (omega arith) (λ d. refl) refl refl (parser.Names widths) refl refl refl (omega arith) in
       let w = which_width width.0
       (sym (ap (list_any (λ n. bytes_eq n width.0)) are) ∙ (sym (list_any-map (λ n. bytes_eq n width.0) (λ (s : Bor Text). s.now) widths.now) ∙ width.3)) in
-      let force = flag_passed _ rules refl refl refl old app m p 11 (flag (codes "force")) (omega arith) (λ d. refl) refl refl parser.Bool refl refl in
+      let force = flag_passed _ rules refl refl refl old app m p 13 (flag (codes "force")) (omega arith) (λ d. refl) refl refl parser.Bool refl refl in
       record {
         program = record {
-          source = required_given _ rules refl refl refl old app m p 0 (wanted (codes "source")) (omega arith) (λ d. refl) refl refl refl refl refl;
+          source = required_given _ rules refl refl refl old app m p 1 (wanted (codes "source")) (omega arith) (λ d. refl) refl refl refl refl refl;
           width = (w.0, width.1 ∙ ap Some w.1);
-          history = number_passed _ rules refl refl refl old app m p 4 (codes "history") 65536 (codes "65536") (omega arith) (λ d. refl) refl refl;
-          steps = number_passed _ rules refl refl refl old app m p 5 (codes "steps") 10000000 (codes "1000000") (omega arith) (λ d. refl) refl refl;
+          history = number_passed _ rules refl refl refl old app m p 5 (codes "history") 65536 (codes "65536") (omega arith) (λ d. refl) refl refl;
+          steps = number_passed _ rules refl refl refl old app m p 6 (codes "steps") 10000000 (codes "1000000") (omega arith) (λ d. refl) refl refl;
         };
-        from = number_passed _ rules refl refl refl old app m p 7 (codes "from") 10000000 (codes "1") (omega arith) (λ d. refl) refl refl;
-        most = number_passed _ rules refl refl refl old app m p 8 (codes "most") 1000000 (codes "100000") (omega arith) (λ d. refl) refl refl;
-        elements = number_passed _ rules refl refl refl old app m p 9 (codes "elements") 65536 (codes "1024") (omega arith) (λ d. refl) refl refl;
+        from = number_passed _ rules refl refl refl old app m p 8 (codes "from") 10000000 (codes "1") (omega arith) (λ d. refl) refl refl;
+        most = number_passed _ rules refl refl refl old app m p 0 (codes "most") 1000000 (codes "100000") (omega arith) (λ d. refl) refl refl;
+        each = number_passed _ rules refl refl refl old app m p 9 (codes "each") 1000000 (codes "1") (omega arith) (λ d. refl) refl refl;
+        elements = number_passed _ rules refl refl refl old app m p 11 (codes "elements") 65536 (codes "1024") (omega arith) (λ d. refl) refl refl;
         flag = force.0;
         force = which_flags _ force.1;
       }

@@ -23,7 +23,7 @@ unfolding clap_on_literals
 each_option_of_picture = refl
 
 each_option_of_page : faults
-    (codes "page" ∷ codes "--from" ∷ codes "2" ∷ codes "--most=1" ∷ codes "--elements" ∷ codes "7" ∷ codes "--to" ∷ codes "a.html" ∷ codes "--force" ∷ codes "--commands"
+    (codes "page" ∷ codes "--from" ∷ codes "2" ∷ codes "--most=1" ∷ codes "--elements" ∷ codes "7" ∷ codes "--each=9" ∷ codes "--around" ∷ codes "3,4" ∷ codes "--to" ∷ codes "a.html" ∷ codes "--force" ∷ codes "--commands"
     ∷ codes "a.txt" ∷ codes "a.ispc" ∷ []) ≡ []
 unfolding clap_on_literals
 each_option_of_page = refl

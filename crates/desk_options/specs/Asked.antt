@@ -62,6 +62,8 @@ pub record HasPage (value : Text → Option Text) (page : RunPage) : Type 0 wher
   pub commands : value (codes "commands") ≡ text_of page.commands
   pub from : option_map number_of (value (codes "from")) ≡ Some page.from
   pub most : option_map number_of (value (codes "most")) ≡ Some page.most
+  pub each : option_map number_of (value (codes "each")) ≡ Some page.each
+  pub around : value (codes "around") ≡ text_of page.around
   pub elements : option_map number_of (value (codes "elements")) ≡ Some page.elements
   pub to : value (codes "to") ≡ text_of page.to
   pub force : IsTrue page.force ↔ (value (codes "force") ≡ Some (codes "true"))

@@ -44,11 +44,16 @@ picture_rules = option (codes "commands")
     ∷ flag (codes "force")
     ∷ []
 
--- what only a page has
+-- what only a page has: first what bounds it
+abbrev pub bound_rules : List Rule
+bound_rules = option_or (codes "most") (up_to 1000000) (codes "100000") ∷ []
+
+-- and the others
 abbrev pub page_rules : List Rule
 page_rules = option (codes "commands")
     ∷ option_or (codes "from") (up_to 10000000) (codes "1")
-    ∷ option_or (codes "most") (up_to 1000000) (codes "100000")
+    ∷ option_or (codes "each") (up_to 1000000) (codes "1")
+    ∷ option (codes "around")
     ∷ option_or (codes "elements") (up_to 65536) (codes "1024")
     ∷ option (codes "to")
     ∷ flag (codes "force")
@@ -75,7 +80,7 @@ port_rules = wanted (codes "source") ∷ option (codes "to") ∷ flag (codes "fo
 abbrev pub rules_of : Bor (List (Bor Text)) → VerbName → List Rule
 rules_of widths Debug = program_rules widths ++ debug_rules
 rules_of widths Picture = program_rules widths ++ picture_rules
-rules_of widths Page = program_rules widths ++ page_rules
+rules_of widths Page = bound_rules ++ (program_rules widths ++ page_rules)
 rules_of widths Profile = program_rules widths ++ profile_rules
 rules_of widths Adapter = []
 rules_of widths Explain = several (codes "name") ∷ []

@@ -31,6 +31,7 @@ pub record ArePagePassed (found : Found) : Type 0 where
   pub program : ArePassed found
   pub from : HasNumber 10000000 found (codes "from")
   pub most : HasNumber 1000000 found (codes "most")
+  pub each : HasNumber 1000000 found (codes "each")
   pub elements : HasNumber 65536 found (codes "elements")
   pub flag : one_text found (codes "force") ≡ first_value found (codes "force")
   pub force : IfSome (first_value found (codes "force"))

@@ -22,6 +22,8 @@ pub record IsPageInRange (page : RunPage) : Type 0 where
   pub most_from : page.from ≤ 10000000
   pub least_most : 1 ≤ page.most
   pub most_most : page.most ≤ 1000000
+  pub least_each : 1 ≤ page.each
+  pub most_each : page.each ≤ 1000000
   pub least_elements : 1 ≤ page.elements
   pub most_elements : page.elements ≤ 65536
 

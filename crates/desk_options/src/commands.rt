@@ -3,7 +3,7 @@ ghost use Rattle.std.specs.Prelude.{◌≡◌, IfOk, [], codes, false};
 ghost use Rattle.clap.specs.Words.{app_of, new_app, rule_of};
 ghost use Rattle.clap.specs.declared.builder.command.Command.TheViews.{out-Command};
 ghost use Rattle.ispc_options.specs.Asked.{AreWidths, flag, option, option_or, up_to, valued};
-ghost use Rattle.desk_options.specs.Commands.{all_verbs, command_of, debug_rules, page_rules, picture_rules, profile_rules, program_rules};
+ghost use Rattle.desk_options.specs.Commands.{all_verbs, bound_rules, command_of, debug_rules, page_rules, picture_rules, profile_rules, program_rules};
 ghost use Rattle.desk_options.specs.Commands.{several, verb_command, wanted, with_rules};
 
 use crate::names::VerbName;
@@ -112,7 +112,10 @@ fn page_command<'a>(alloc: Global) -> Result<Command<'a>, AllocError>
 {
     with_page(
         alloc,
-        with_program(alloc, named(alloc, "rinddecade page", PAGE_ABOUT))?,
+        with_program(
+            alloc,
+            with_bound(alloc, named(alloc, "rinddecade page", PAGE_ABOUT))?,
+        )?,
     )
 }
 
@@ -223,7 +226,16 @@ fn with_picture<'a>(alloc: Global, command: Command<'a>) -> Result<Command<'a>, 
         ))
 }
 
-/// A command with the options that only a page has.
+/// A command with the option that bounds a page, which stands first in its help.
+fn with_bound<'a>(alloc: Global, command: Command<'a>) -> Result<Command<'a>, AllocError>
+    ensures { IfOk result (λ parser. app_of parser ≡ with_rules (app_of command.entry) bound_rules) }
+{
+    command.arg(option_or(alloc, "most", "N", up_to(MOST_RECORDED), "100000").help(
+        "how many steps the page has at most, up to 1000000; each takes some hundred bytes of memory and of the file",
+    ))
+}
+
+/// A command with the other options that only a page has.
 fn with_page<'a>(alloc: Global, command: Command<'a>) -> Result<Command<'a>, AllocError>
     ensures { IfOk result (λ parser. app_of parser ≡ with_rules (app_of command.entry) page_rules) }
 {
@@ -234,8 +246,11 @@ fn with_page<'a>(alloc: Global, command: Command<'a>) -> Result<Command<'a>, All
         .arg(option_or(alloc, "from", "N", up_to(MOST_STEPS), "1").help(
             "the step that the page begins with",
         ))?
-        .arg(option_or(alloc, "most", "N", up_to(MOST_RECORDED), "100000").help(
-            "how many steps the page has at most, up to 1000000; each takes some hundred bytes of memory and of the file",
+        .arg(option_or(alloc, "each", "N", up_to(MOST_RECORDED), "1").help(
+            "one of how many steps the page has, up to 1000000",
+        ))?
+        .arg(option(alloc, "around", "N,..").help(
+            "steps, 16 at most, around which the page has each step with --each, 1000 before and behind",
         ))?
         .arg(option_or(alloc, "elements", "N", up_to(MOST_ELEMENTS), "1024").help(
             "how many elements of an array are shown at most, up to 65536",

@@ -18,12 +18,15 @@ pub(crate) fn page_of<'a>(matches: &ArgMatches<'a>) -> Option<RunPage<'a>>
     let program = program_of(matches)?;
     let from = number_within(matches, "from", MOST_STEPS)?;
     let most = number_within(matches, "most", MOST_RECORDED)?;
+    let each = number_within(matches, "each", MOST_RECORDED)?;
     let elements = number_within(matches, "elements", MOST_ELEMENTS)?;
     Some(RunPage {
         program,
         commands: matches.get_str("commands"),
         from,
         most,
+        each,
+        around: matches.get_str("around"),
         elements,
         to: matches.get_str("to"),
         force: matches.get_flag("force"),

@@ -32,13 +32,16 @@ pub struct Picture<'a> {
 }
 
 /// The page of a program's run: the file of commands that come first, the number of the step that the record begins with, how many
-/// steps it has at most and how many elements of an array, the file that is written, and whether it is written over whatever it holds.
+/// steps it has at most, one of how many it has, the places round which it has each, how many elements of an array it has, the file that
+/// is written, and whether it is written over whatever it holds.
 #[derive(Clone, Copy, Debug, PartialEq, Eq)]
 pub struct RunPage<'a> {
     pub program: Program<'a>,
     pub commands: Option<&'a str>,
     pub from: u32,
     pub most: u32,
+    pub each: u32,
+    pub around: Option<&'a str>,
     pub elements: u32,
     pub to: Option<&'a str>,
     pub force: bool,

@@ -14,7 +14,7 @@ fn front_0() -> &'static [u8] {
 <meta name=\"generator\" content=\"rinddecade page\">
 <meta name=\"viewport\" content=\"width=device-width, initial-scale=1\">
 <meta http-equiv=\"Content-Security-Policy\"
- content=\"default-src 'none'; script-src 'sha256-m4gVR3B3ut6s6GiwYM7r7cx54dgZ6YhOsyurMxICICw='; style-src 'sha256-jPIcAm5JSnOol/p7ZPnD6n2ll17lfzWfIwbTyyJYBxQ='; base-uri 'none'; form-action 'none'\">
+ content=\"default-src 'none'; script-src 'sha256-eC9epFeq72ji3GYvULE3LwLpsqLTDfbtFBSprs1zcrM='; style-src 'sha256-CEff1ZkjtsFfEv3VEwQ20U2REKKZdjrAoYQS1Gr3hEM='; base-uri 'none'; form-action 'none'\">
 <title>A run, step by step</title>
 <style>
 :root {
@@ -50,7 +50,7 @@ button:hover, button[aria-pressed=true] { border-color: var(--pick); color: var(
 :focus-visible { outline: 2px solid var(--pick); outline-offset: 1px }
 #step { width: 6.5em } #search { width: 11em }
 #place, #calls, #round, #source, table, #end { font-family: ui-monospace, monospace }
-#place { font-weight: 600 } #calls, #round, #end { color: var(--faint) } #end { margin-left: auto }
+#place { font-weight: 600 } #calls, #round, #gap, #end { color: var(--faint) } #end { margin-left: auto }
 "
 }
 
@@ -143,7 +143,7 @@ fn front_3() -> &'static [u8] {
 <button id=\"help\" title=\"?\">keys</button>
 <span id=\"end\"></span>
 </div>
-<div><output id=\"place\"></output><span id=\"calls\"></span><span id=\"round\"></span><span id=\"marks\"></span></div>
+<div><output id=\"place\"></output><span id=\"calls\"></span><span id=\"round\"></span><span id=\"gap\"></span><span id=\"marks\"></span></div>
 <div id=\"fault\" role=\"alert\" hidden></div>
 </header>
 <section id=\"source\" aria-label=\"source\"></section>

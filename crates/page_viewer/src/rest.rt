@@ -29,12 +29,17 @@ fn rest_0() -> &'static [u8] {
 // A moment is where the program stood at first, or after a step. `moments` has a list for each: line, column, function, depth and lanes
 // (lane 0 is the lowest bit), all 0 where the program has ended; what has changed since the moment before; and, where other calls are
 // open than then, how many of those stay and the new ones. A change is [variable, part, value, value ..], of parts one after another, or
-// [variable] where it is no longer there.
+// [variable] where it is no longer there. `steps` has for each moment how many steps were done before it: where the page has but some of a
+// run's moments, it leaves some out, and what has changed since the moment before is what all the steps between have made another.
 const $ = id => document.getElementById(id);
 const run = JSON.parse($(\"record\").textContent);
-const { moments, variables, functions, width, first } = run;
+const { moments, variables, functions, width, first, steps } = run;
 const lines = run.source.replace(/\\n$/, \"\").split(\"\\n\").map(text => text.replace(/\\r$/, \"\"));
 const LAST = moments.length - 1;
+const is_sampled = steps[LAST] !== LAST;
+const UNIT = is_sampled ? \"moment\" : \"step\";
+// How many steps stand between a moment and the next one.
+const gap = at => at < LAST ? steps[at + 1] - steps[at] : 1;
 const [LINE, COLUMN, FUNCTION, DEPTH, LANES, CHANGES, KEPT, CALLS] = [0, 1, 2, 3, 4, 5, 6, 7];
 const [OF_DEPTH, NAME, TYPE, KIND, COUNT] = [0, 1, 2, 3, 4];
 const has = (lanes, lane) => (lanes >> lane & 1) === 1;
@@ -64,6 +69,11 @@ function change(values, changes) {
       words.forEach((word, index) => own[part + index] = word);
     }
   }
+"
+}
+
+fn rest_1() -> &'static [u8] {
+    b"\
 }
 
 const copied = values => values.map(own => own && own.slice());
@@ -76,11 +86,6 @@ function values_at(at) {
   }
   while (made.at < at) change(made.values, moments[++made.at][CHANGES]);
   return made.values;
-"
-}
-
-fn rest_1() -> &'static [u8] {
-    b"\
 }
 
 {
@@ -155,7 +160,7 @@ function find_rounds() {
 fn rest_2() -> &'static [u8] {
     b"\
 }
-find_rounds();
+if (!is_sampled) find_rounds(); // Of rounds of which some moments are left out, nothing is known.
 const round_levels = rounds.reduce((most, round) => Math.max(most, round.level + 1), 0);
 
 function round_text(at) {
@@ -206,12 +211,12 @@ function changes_of(variable, part) {
   return found;
 }
 
-// For each lane the line where it was active last, in the frames that are there.
+// For each lane the line where it was active last, in the frames that are there, as far back as no step is left out.
 const FAR = 5000;
 function stands(at) {
   const found = all_lanes.map(() => 0);
   let left = width;
-  for (let i = at; i >= 0 && left > 0 && at - i < FAR; i--) {
+  for (let i = at; i >= 0 && left > 0 && steps[at] - steps[i] === at - i && at - i < FAR; i--) {
     if (moments[i][DEPTH] > moments[at][DEPTH]) continue;
     for (const lane of all_lanes) {
       if (found[lane] === 0 && has(moments[i][LANES], lane)) {
@@ -225,19 +230,21 @@ function stands(at) {
 
 // ---- where the reader is
 const here = { at: 0, from: 0, to: Math.max(1, LAST), pick: null, marks: [], timer: null, heat: false, found: [] };
-const number_of = at => at + first;
-
-const HINT = \"A click on a line goes to its next step, a click on a value to the step that wrote it; ? lists the keys.\";
-
-function tell(text) {
-  $(\"told\").textContent = text || HINT;
-}
-
+const number_of = at => first + steps[at];
 "
 }
 
 fn rest_3() -> &'static [u8] {
     b"\
+// The moment with this number; where it is left out the last one before it.
+const at_number = number => Math.max(0, rank(steps, number - first + 1) - 1);
+
+const HINT = `A click on a line goes to its next ${UNIT}, a click on a value to the step that wrote it; ? lists the keys.`;
+
+function tell(text) {
+  $(\"told\").textContent = text || HINT;
+}
+
 function go(at, text = \"\") {
   if (at === undefined || Number.isNaN(at)) return tell(\"There is none.\");
   here.at = Math.max(0, Math.min(LAST, Math.round(at)));
@@ -264,9 +271,15 @@ function beside(step, depth) {
   for (let at = here.at + step; at >= 0 && at <= LAST; at += step) if (moments[at][DEPTH] <= depth) return at;
 }
 
+function go_number(number) {
+  if (Number.isNaN(number)) return go(undefined);
+  const at = at_number(number);
+  go(at, number > number_of(at) && at < LAST ? `Step ${number} is left out; this is the moment before it.` : \"\");
+}
+
 function go_line(line, back) {
   const times = times_of[line - 1] ?? [];
-  if (times.length === 0) return tell(`No step of this run is on line ${line}.`);
+  if (times.length === 0) return tell(`No ${UNIT} of this page is on line ${line}.`);
   go(back ? before_in(times, here.at) : after_in(times, here.at) ?? times[0]);
 }
 
@@ -295,6 +308,11 @@ function strip_of(variable) {
   });
   for (const part of [...open.keys()]) close(part, LAST + 1);
   return found;
+"
+}
+
+fn rest_4() -> &'static [u8] {
+    b"\
 }
 
 // Goes to the step that gave a value.
@@ -305,12 +323,8 @@ function who(variable, part) {
     show();
     return tell(`${here.pick.name} has had this value from the start of this record.`);
   }
-  go(at - 1, `${here.pick.name} got its value by line ${moments[at - 1][LINE]}, the step that is next here. ] goes to after it.`);
-"
-}
-
-fn rest_4() -> &'static [u8] {
-    b"\
+  const by = gap(at - 1) > 1 ? `in the ${gap(at - 1)} steps from here to the next moment` : `by line ${moments[at - 1][LINE]}, the step that is next here`;
+  go(at - 1, `${here.pick.name} got its value ${by}. ] goes to after it.`);
 }
 
 function go_change(step) {
@@ -338,7 +352,7 @@ const rows = lines.map((text, index) => {
   row.style.setProperty(\"--share\", share.toFixed(3));
   if (times_of[index].length) {
     const own = all_lanes.filter(lane => has(lanes_on[index], lane)).join(\" \");
-    row.title = `${times_of[index].length} steps, by lanes ${own}, on average ${percents} of all lanes`;
+    row.title = `${times_of[index].length} ${UNIT}s, by lanes ${own}, on average ${percents} of all lanes`;
   }
   row.tabIndex = -1;
   row.dataset.line = index + 1;
@@ -357,6 +371,11 @@ function show_source(moment) {
     for (const lane of all_lanes) set_class(row.children[2].children[lane], dot_class(lane, line, moment, places, bad));
   });
   keep_in_sight(rows[moment[LINE] - 1]);
+"
+}
+
+fn rest_5() -> &'static [u8] {
+    b"\
 }
 
 // Scrolls the source where a line is not in sight with some lines around it.
@@ -367,11 +386,6 @@ function keep_in_sight(row) {
   if (own && (own.top < box.top + AROUND || own.bottom > box.bottom - AROUND)) {
     $(\"source\").scrollTop += own.top - box.top - Math.max(AROUND, box.height / 3);
   }
-"
-}
-
-fn rest_5() -> &'static [u8] {
-    b"\
 }
 
 function dot_class(lane, line, moment, places, bad) {
@@ -430,13 +444,13 @@ function new_table(title, is_of_arrays) {
   }
   table.createTBody();
   return table;
-}
-
 "
 }
 
 fn rest_6() -> &'static [u8] {
     b"\
+}
+
 function new_cell(variable, part, row) {
   const cell = row.insertCell();
   cell.title = name_of(variable, part);
@@ -508,12 +522,13 @@ fn rest_7() -> &'static [u8] {
 }
 
 // ---- what is told of a moment
+// Why a step faults, as explain says it.
 const WHY = {
   F1: \"The right side of / or % is 0 in this lane.\",
-  F2: \"An index of this lane is outside the array, or outside the part of it that was passed.\",
-  F3: \"The lane that is asked for is none of the gang's.\",
+  F2: \"An index of this lane is outside the array, or outside the part of it that was passed; or a packed call has come to the array's end.\",
+  F3: \"A call across lanes names a lane that is not there: less than 0, or not below the number of lanes.\",
   F4: \"The condition of an assert is false in this lane.\",
-  F5: \"There would be more calls, one inside another, than may be.\",
+  F5: \"A function is called while 64 calls are not left yet, the entry being one of them.\",
 };
 
 function place_text(moment) {
@@ -533,6 +548,11 @@ function show_fault() {
     const why = `${WHY[run.end[1]]} Nothing of this step was done.`;
     $(\"fault\").append(element(\"strong\", \"\", `${run.end[1]} ${run.end[2]} in lane ${run.end[3]}`), element(\"span\", \"\", why));
   }
+}
+
+function gap_text(at) {
+  if (gap(at) === 1) return \"\";
+  return `the next moment is ${gap(at)} steps on; ${gap(at) - 1} between are left out, and what they change is told as one`;
 }
 
 function changed_text(moment) {
@@ -557,25 +577,26 @@ function show() {
   $(\"place\").textContent = place_text(moment);
   $(\"calls\").textContent = calls_at[here.at].slice().reverse().map(([line, , f]) => `< ${functions[f]} ${line}`).join(\" \");
   $(\"round\").textContent = round_text(here.at);
+  $(\"gap\").textContent = gap_text(here.at);
   show_fault();
   show_source(moment);
   show_values(moment);
   show_marks();
   draw();
-  $(\"said\").textContent = `step ${number_of(here.at)}, ${place_text(moment)}. ${changed_text(moment)}`;
+  $(\"said\").textContent = `step ${number_of(here.at)}, ${place_text(moment)}. ${changed_text(moment)} ${gap_text(here.at)}`;
   keep_address();
+"
+}
+
+fn rest_8() -> &'static [u8] {
+    b"\
 }
 
 // ---- the time line
 const canvas = $(\"time\");
 const ink = canvas.getContext(\"2d\");
 const layer = document.createElement(\"canvas\");
-"
-}
-
-fn rest_8() -> &'static [u8] {
-    b"\
-const HIGH = { lines: 46, round: 7, call: 12, calls: 48, plot: 38, strip: 48 };
+const HIGH = { lines: 46, round: 7, call: 12, calls: 48, plot: 38, strip: 48, steps: 12 };
 const LEFT = 64;
 const lane_high = width > 8 ? 4 : width > 4 ? 6 : 8;
 let layer_key = \"\";
@@ -595,6 +616,7 @@ function bands() {
   add(\"lanes\", Math.max(1, width) * lane_high);
   if (here.pick) add(\"plot\", HIGH.plot);
   if (here.pick?.strip.length) add(\"parts\", Math.min(HIGH.strip, Math.max(12, 6 * strip_parts())));
+  add(\"steps\", HIGH.steps);
   return { found, high: top };
 }
 
@@ -695,13 +717,30 @@ const DRAWS = {
   plot(to, look, band) {
     draw_plot(to, look, band);
   },
-};
-
+  // The numbers of steps; a line over them where none is left out.
+  steps(to, look, band, sum, count) {
+    to.fillStyle = look.getPropertyValue(\"--faint\");
+    const places = Math.max(1, Math.floor(count / 110));
+    for (let i = 0; i < places; i++) {
+      const at = Math.ceil(here.from + (here.to - here.from) * i / places);
+      if (at <= LAST) to.fillText(String(number_of(at)), x_of(at) + 2, band.top + band.high - 2);
+      if (at <= LAST) to.fillRect(x_of(at), band.top, 1, band.high);
+    }
+    if (is_sampled) for (const [from, end] of whole_parts) draw_span(to, from, end, band.top, 2);
+  },
 "
 }
 
 fn rest_10() -> &'static [u8] {
     b"\
+};
+
+// The parts of a time line in which no step is left out, from one moment to another.
+const whole_parts = [];
+for (let at = 0, from = 0; at < LAST; at++) {
+  if (gap(at) > 1) from = at + 1; else if (at + 1 === LAST || gap(at + 1) > 1) whole_parts.push([from, at + 1]);
+}
+
 // Fills the part of a time line from one moment up to another, and tells how wide it is there.
 function draw_span(to, from, end, top, high) {
   const [left, right] = [x_of(Math.max(here.from, from)), x_of(Math.min(here.to, end))];
@@ -794,9 +833,10 @@ function set_address() {
 function read_address(hash) {
   known_address = hash;
   const [, at, marks] = /^#(\\d+)?(?:,marks=([\\d,]+))?/.exec(hash) ?? [];
-  const inside = number => number >= 0 && number <= LAST;
-  here.marks = (marks ?? \"\").split(\",\").filter(it => it).map(it => Number(it) - first).filter(inside).sort((one, other) => one - other);
-  go(at === undefined ? 0 : Number(at) - first);
+  const inside = number => number >= first && number <= number_of(LAST);
+  const own = (marks ?? \"\").split(\",\").filter(it => it).map(Number).filter(inside).map(at_number);
+  here.marks = [...new Set(own)].sort((one, other) => one - other);
+  if (at === undefined) go(0); else go_number(Number(at));
 }
 
 function toggle_mark() {
@@ -821,15 +861,15 @@ function heat() {
 }
 
 const KEYS = [
-  [\"ArrowRight\", \"Right\", \"a step forward\", () => go(here.at + 1)],
-  [\"ArrowLeft\", \"Left\", \"a step back\", () => go(here.at - 1)],
-  [\"ArrowDown\", \"Down\", \"the next step on this line\", () => go_line(moments[here.at][LINE], false)],
-  [\"ArrowUp\", \"Up\", \"the step before on this line\", () => go_line(moments[here.at][LINE], true)],
-  [\"PageDown\", \"Page Down\", \"a hundred steps forward\", () => go(here.at + 100)],
-  [\"PageUp\", \"Page Up\", \"a hundred steps back\", () => go(here.at - 100)],
+  [\"ArrowRight\", \"Right\", `a ${UNIT} forward`, () => go(here.at + 1)],
+  [\"ArrowLeft\", \"Left\", `a ${UNIT} back`, () => go(here.at - 1)],
+  [\"ArrowDown\", \"Down\", `the next ${UNIT} on this line`, () => go_line(moments[here.at][LINE], false)],
+  [\"ArrowUp\", \"Up\", `the ${UNIT} before on this line`, () => go_line(moments[here.at][LINE], true)],
+  [\"PageDown\", \"Page Down\", `a hundred ${UNIT}s forward`, () => go(here.at + 100)],
+  [\"PageUp\", \"Page Up\", `a hundred ${UNIT}s back`, () => go(here.at - 100)],
   [\"Home\", \"Home\", \"the first moment\", () => go(0)],
   [\"End\", \"End\", \"the last moment\", () => go(LAST)],
-  [\"n\", \"n\", \"over a call: the next step in this function or below\", () => go(beside(1, moments[here.at][DEPTH]))],
+  [\"n\", \"n\", `over a call: the next ${UNIT} in this function or below`, () => go(beside(1, moments[here.at][DEPTH]))],
   [\"p\", \"p\", \"the same, back\", () => go(beside(-1, moments[here.at][DEPTH]))],
   [\"o\", \"o\", \"out of this call\", () => go(beside(1, moments[here.at][DEPTH] - 1))],
   [\"i\", \"i\", \"back to before this call\", () => go(beside(-1, moments[here.at][DEPTH] - 1))],
@@ -890,8 +930,8 @@ function field_key(event) {
   if (event.key === \"Escape\") document.activeElement.blur();
   if (event.key !== \"Enter\") return;
   if (event.target === $(\"step\")) {
-    go(Number($(\"step\").value) - first);
     $(\"step\").blur();
+    go_number(Number($(\"step\").value));
   } else {
     go_found(event.shiftKey);
   }
@@ -949,7 +989,7 @@ matchMedia(\"(prefers-color-scheme: dark)\").addEventListener(\"change\", draw);
 // ---- the start
 $(\"name\").textContent = run.name;
 document.title = `${run.name}: a run, step by step`;
-$(\"end\").textContent = end_text();
+$(\"end\").textContent = end_text() + (is_sampled ? `, ${moments.length} of the moments` : \"\");
 $(\"source\").append(...rows);
 $(\"source\").classList.toggle(\"many\", width > 8);
 for (const [, name, text] of KEYS) {

@@ -4,12 +4,14 @@
 ghost use Rattle.desk_options.specs.Ranges.{IsInRange};
 
 mod advice;
+mod counting;
 mod debugging;
 mod drawing;
 mod explaining;
 mod files;
 mod overwriting;
 mod paging;
+mod places;
 mod porting;
 mod profiling;
 mod refusing;

@@ -10,7 +10,7 @@ use Rattle.gang_model.specs.Debugger.Debugger.{Debugger, Setting, now}
 use Rattle.gang_model.specs.Texts.Text.{Bytes, where_text}
 use Rattle.debug_traits.specs.declared.machine.Position.{Position}
 use Rattle.debug_traits.specs.Machines.{position_line}
-use Rattle.lane_picture.specs.Seen.{next_state, state_after}
+use Rattle.lane_picture.specs.Seen.{state_after}
 use Rattle.run_page.specs.declared.moments.Call.{Call}
 use Rattle.run_page.specs.declared.moments.Moment.{Moment}
 use Rattle.run_page.specs.declared.moments.Stand.{Stand}
@@ -97,12 +97,12 @@ module _ (p : Program) where
     calls = subst (λ calls. AreCalls new calls (open_calls p state)) (sym (calls_kept before all more moment has.order has.inside)) (calls_stay old new grows (calls_at before all moment) (open_calls p state) has.calls);
   }
 
-  have_stay : (old new : List Bytes) → GrowsNames old new → (before all more : List Call) (state : State) (moments : List Moment) → HaveCalls p old before all state moments → HaveCalls p new before (all ++ more) state moments
-  have_stay old new grows before all more state [] have = tt
-  have_stay old new grows before all more state (moment ∷ moments) have = (
-    has_stays old new grows before all more state moment have.0,
-    subst (λ before. HaveCalls p new before (all ++ more) (next_state p state) moments) (sym (calls_kept before all more moment have.0.order have.0.inside))
-        (have_stay old new grows (calls_at before all moment) all more (next_state p state) moments have.1),
+  have_stay : (old new : List Bytes) → GrowsNames old new → (before all more : List Call) (first : State) (moments : List Moment) → HaveCalls p old before all first moments → HaveCalls p new before (all ++ more) first moments
+  have_stay old new grows before all more first [] have = tt
+  have_stay old new grows before all more first (moment ∷ moments) have = (
+    has_stays old new grows before all more (state_after p moment.taken first) moment have.0,
+    subst (λ before. HaveCalls p new before (all ++ more) first moments) (sym (calls_kept before all more moment have.0.order have.0.inside))
+        (have_stay old new grows (calls_at before all moment) all more first moments have.1),
   )
 
   -- the calls of the last moment
@@ -110,18 +110,18 @@ module _ (p : Program) where
   last_calls before all [] = before
   last_calls before all (moment ∷ moments) = last_calls (calls_at before all moment) all moments
 
-  last_stay : (names : List Bytes) (before all more : List Call) (state : State) (moments : List Moment) → HaveCalls p names before all state moments → last_calls before (all ++ more) moments ≡ last_calls before all moments
+  last_stay : (names : List Bytes) (before all more : List Call) (first : State) (moments : List Moment) → HaveCalls p names before all first moments → last_calls before (all ++ more) moments ≡ last_calls before all moments
   unfolding last_calls
-  last_stay names before all more state [] have = refl
-  last_stay names before all more state (moment ∷ moments) have =
+  last_stay names before all more first [] have = refl
+  last_stay names before all more first (moment ∷ moments) have =
       ap (λ before. last_calls before (all ++ more) moments) (calls_kept before all more moment have.0.order have.0.inside)
-      ∙ last_stay names (calls_at before all moment) all more (next_state p state) moments have.1
+      ∙ last_stay names (calls_at before all moment) all more first moments have.1
 
-  with_calls : (names : List Bytes) (before all : List Call) (state : State) (moments : List Moment) (moment : Moment) → HaveCalls p names before all state moments
-      → HasCalls p names (last_calls before all moments) all (state_after p (length moments) state) moment → HaveCalls p names before all state (moments ++ moment ∷ [])
+  with_calls : (names : List Bytes) (before all : List Call) (first : State) (moments : List Moment) (moment : Moment) → HaveCalls p names before all first moments
+      → HasCalls p names (last_calls before all moments) all (state_after p moment.taken first) moment → HaveCalls p names before all first (moments ++ moment ∷ [])
   unfolding last_calls
-  with_calls names before all state [] moment have has = (has, tt)
-  with_calls names before all state (first ∷ moments) moment have has = (have.0, with_calls names (calls_at before all first) all (next_state p state) moments moment have.1 has)
+  with_calls names before all first [] moment have has = (has, tt)
+  with_calls names before all first (one ∷ moments) moment have has = (have.0, with_calls names (calls_at before all one) all first moments moment have.1 has)
 
   last_with : (before all : List Call) (moments : List Moment) (moment : Moment) → last_calls before all (moments ++ moment ∷ []) ≡ calls_at (last_calls before all moments) all moment
   unfolding last_calls
@@ -140,19 +140,19 @@ no_calls p first kept calls none empty = record {
   last = ap (last_calls p [] kept.calls.items) none ∙ sym empty;
 }
 
-pub calls_more : (s : Setting) (e : Debugger) (first : State) (taken : ℕ) (old new : Record) (old_calls new_calls : List Call) → length old.moments.items ≡ taken → now s e ≡ state_after s.program taken first
-    → NotesCalls s e old_calls old new new_calls → CallsSoFar s.program first old old_calls → CallsSoFar s.program first new new_calls
-calls_more s e first taken old new old_calls new_calls each stood notes so =
+pub calls_more : (s : Setting) (e : Debugger) (first : State) (taken : ℕ) (old new : Record) (old_calls new_calls : List Call) → now s e ≡ state_after s.program taken first
+    → NotesCalls s e taken old_calls old new new_calls → CallsSoFar s.program first old old_calls → CallsSoFar s.program first new new_calls
+calls_more s e first taken old new old_calls new_calls stood notes so =
     let p = s.program in
     let names = names_view new.functions.items in
     let all = new.calls.items in
     let moments = old.moments.items in
-    let reached : now s e ≡ state_after p (length moments) first = stood ∙ ap (λ n. state_after p n first) (sym each) in
+    let reached : now s e ≡ state_after p notes.moment.taken first = stood ∙ ap (λ n. state_after p n first) (sym notes.taken_is) in
     let stay : HaveCalls p names [] all first moments =
     subst (λ all. HaveCalls p names [] all first moments) (sym notes.all) (have_stay p (names_view old.functions.items) names notes.names [] old.calls.items notes.more first moments so.have) in
     let last : last_calls p [] all moments ≡ old_calls =
     ap (λ all. last_calls p [] all moments) notes.all ∙ last_stay p (names_view old.functions.items) [] old.calls.items notes.more first moments so.have ∙ so.last in
-    let has : HasCalls p names (last_calls p [] all moments) all (state_after p (length moments) first) notes.moment =
+    let has : HasCalls p names (last_calls p [] all moments) all (state_after p notes.moment.taken first) notes.moment =
     subst (λ state. HasCalls p names (last_calls p [] all moments) all state notes.moment) reached (subst (λ before. HasCalls p names before all (now s e) notes.moment) (sym last) notes.has) in
     record {
       have = subst (HaveCalls p names [] all first) (sym notes.behind) (with_calls p names [] all first moments notes.moment stay has);
@@ -160,17 +160,18 @@ calls_more s e first taken old new old_calls new_calls each stood notes so =
     }
 
 -- what a moment that is noted has
-pub calls_noted : (s : Setting) (d : Debugger) (before : List Call) (old new : Record) (calls : List Call) (moment : Moment) (middle : List Bytes) → new.moments.items ≡ old.moments.items ++ moment ∷ []
+pub calls_noted : (s : Setting) (d : Debugger) (taken : ℕ) (before : List Call) (old new : Record) (calls : List Call) (moment : Moment) (middle : List Bytes) → new.moments.items ≡ old.moments.items ++ moment ∷ [] → moment.taken ≡ taken
     → GrowsNames (names_view old.functions.items) middle → GrowsNames middle (names_view new.functions.items) → StandsNamed middle (where_text s.program (now s d)) moment.stand
     → AreCalls (names_view new.functions.items) calls (open_calls s.program (now s d)) → take moment.kept_calls before ≡ take moment.kept_calls calls → new.calls.items ≡ old.calls.items ++ drop moment.kept_calls calls
-    → moment.first_call ≡ length old.calls.items → moment.end_of_calls ≡ length new.calls.items → NotesCalls s d before old new calls
-calls_noted s d before old new calls moment middle behind first second stands are same all from to =
+    → moment.first_call ≡ length old.calls.items → moment.end_of_calls ≡ length new.calls.items → NotesCalls s d taken before old new calls
+calls_noted s d taken before old new calls moment middle behind is first second stands are same all from to =
     let names = names_view new.functions.items in
     let own = own_calls before calls old.calls.items new.calls.items moment same all from to in
     let long : length new.calls.items ≡ length old.calls.items + length (drop moment.kept_calls calls) = ap length all ∙ length-append old.calls.items (drop moment.kept_calls calls) in
     record {
       moment = moment;
       behind = behind;
+      taken_is = is;
       has = record {
         stand = stand_stays middle names second (where_text s.program (now s d)) moment.stand stands;
         order = omega (arith, from, to, long);

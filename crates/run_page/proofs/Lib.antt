@@ -2,9 +2,11 @@ pub mod Adding
 pub mod CallsKept
 pub mod ChangeRows
 pub mod Differing
+pub mod Ending
 pub mod MomentTexts
 pub mod MomentsNoted
 pub mod NewWords
+pub mod NotedSoFar
 pub mod Numbers
 pub mod Places
 mod PlainRecord
@@ -12,4 +14,5 @@ pub mod RecordKept
 pub mod RowsRead
 pub mod Seeing
 pub mod Telling
-mod WorkedRows
+pub mod WorkedRows
+mod WorkedWholes

@@ -16,6 +16,7 @@ use Rattle.run_page.specs.declared.moments.Stand.{Stand}
 use Rattle.run_page.specs.declared.page.Subject.{Subject}
 use Rattle.run_page.specs.declared.record.Record.{Record}
 use Rattle.run_page.specs.declared.variables.Variable.{Variable}
+use Rattle.run_page.specs.Moments.{steps_of}
 use Rattle.run_page.specs.Recording.{changes_of}
 use Rattle.run_page.specs.RecordText.{ChangeRow, Gone, Words, call_count, call_text, calls_text, change_rows, end_text, fault_name, fault_number, has_same_calls, head_text, kind_name, moment_text, moment_texts, record_text, row_text, stand_text, type_name, type_or_plain, value_text, variable_text}
 
@@ -77,6 +78,7 @@ module _ (kept : Record) where
       (head_text subject kept ∷ end_text ended
       ∷ codes ",\n\"functions\":" ∷ list_text (map function_text kept.functions.items)
       ∷ codes ",\n\"variables\":" ∷ list_text (map variable_text kept.variables.items)
+      ∷ codes ",\n\"steps\":" ∷ list_text (map decimal (steps_of kept.moments.items))
       ∷ codes ",\n\"moments\":" ∷ list_text (moment_texts kept 0 kept.moments.items)
       ∷ codes "}" ∷ []) (
         plain_head,
@@ -90,7 +92,13 @@ module _ (kept : Record) where
                 refl,
                 (
                   plain_list (map variable_text kept.variables.items) (are_plain variable_text plain_variable kept.variables.items),
-                  (refl, (plain_list (moment_texts kept 0 kept.moments.items) (plain_moments 0 kept.moments.items), (refl, tt))),
+                  (
+                    refl,
+                    (
+                      plain_list (map decimal (steps_of kept.moments.items)) (are_plain decimal plain_decimal (steps_of kept.moments.items)),
+                      (refl, (plain_list (moment_texts kept 0 kept.moments.items) (plain_moments 0 kept.moments.items), (refl, tt))),
+                    ),
+                  ),
                 ),
               ),
             ),

@@ -7,7 +7,7 @@ use Rattle.std.proofs.Math.Seq.{drop-append_seam, take-length}
 use Rattle.gang_model.specs.Types.Tree.{Program}
 use Rattle.gang_model.specs.Running.State.{State}
 use Rattle.gang_model.specs.Debugger.Debugger.{Debugger, Setting, now}
-use Rattle.lane_picture.specs.Seen.{next_state, state_after}
+use Rattle.lane_picture.specs.Seen.{state_after}
 use Rattle.run_page.specs.declared.moments.Moment.{Moment}
 use Rattle.run_page.specs.declared.record.Record.{Record}
 use Rattle.run_page.specs.declared.views.Change.{Change}
@@ -71,30 +71,31 @@ module _ (p : Program) (most : ℕ) where
         tell = subst (TellDifferences p most before state new) (sym kept) (tell_stays old new grows before state (changes_of changes moment) has.tell);
       }
 
-  have_stay : (old new : List Sight) → Grows old new → (changes more : List Change) (before : Option State) (state : State) (moments : List Moment)
-      → HaveChanges p most old changes before state moments → HaveChanges p most new (changes ++ more) before state moments
-  have_stay old new grows changes more before state [] have = tt
-  have_stay old new grows changes more before state (moment ∷ moments) have =
-      (has_stays old new grows changes more before state moment have.0, have_stay old new grows changes more (Some state) (next_state p state) moments have.1)
+  have_stay : (old new : List Sight) → Grows old new → (changes more : List Change) (before : Option State) (first : State) (moments : List Moment)
+      → HaveChanges p most old changes before first moments → HaveChanges p most new (changes ++ more) before first moments
+  have_stay old new grows changes more before first [] have = tt
+  have_stay old new grows changes more before first (moment ∷ moments) have =
+      let state = state_after p moment.taken first in
+      (has_stays old new grows changes more before state moment have.0, have_stay old new grows changes more (Some state) first moments have.1)
 
   -- where the program stood at the last moment
-  pub last_state : (before : Option State) → State → List Moment → Option State
-  last_state before state [] = before
-  last_state before state (moment ∷ moments) = last_state (Some state) (next_state p state) moments
+  pub last_state : (before : Option State) → (first : State) → List Moment → Option State
+  last_state before first [] = before
+  last_state before first (moment ∷ moments) = last_state (Some (state_after p moment.taken first)) first moments
 
   -- one moment more
-  with_changes : (sights : List Sight) (changes : List Change) (before : Option State) (state : State) (moments : List Moment) (moment : Moment)
-      → HaveChanges p most sights changes before state moments → HasChanges p most sights changes (last_state before state moments) (state_after p (length moments) state) moment
-      → HaveChanges p most sights changes before state (moments ++ moment ∷ [])
+  with_changes : (sights : List Sight) (changes : List Change) (before : Option State) (first : State) (moments : List Moment) (moment : Moment)
+      → HaveChanges p most sights changes before first moments → HasChanges p most sights changes (last_state before first moments) (state_after p moment.taken first) moment
+      → HaveChanges p most sights changes before first (moments ++ moment ∷ [])
   unfolding last_state
-  with_changes sights changes before state [] moment have has = (has, tt)
-  with_changes sights changes before state (first ∷ moments) moment have has =
-      (have.0, with_changes sights changes (Some state) (next_state p state) moments moment have.1 has)
+  with_changes sights changes before first [] moment have has = (has, tt)
+  with_changes sights changes before first (one ∷ moments) moment have has =
+      (have.0, with_changes sights changes (Some (state_after p one.taken first)) first moments moment have.1 has)
 
-  last_with : (before : Option State) (state : State) (moments : List Moment) (moment : Moment) → last_state before state (moments ++ moment ∷ []) ≡ Some (state_after p (length moments) state)
+  last_with : (before : Option State) (first : State) (moments : List Moment) (moment : Moment) → last_state before first (moments ++ moment ∷ []) ≡ Some (state_after p moment.taken first)
   unfolding last_state
-  last_with before state [] moment = refl
-  last_with before state (first ∷ moments) moment = last_with (Some state) (next_state p state) moments moment
+  last_with before first [] moment = refl
+  last_with before first (one ∷ moments) moment = last_with (Some (state_after p one.taken first)) first moments moment
 
 -- the changes of the moments so far, and the rows of the last one
 pub record KeptSoFar (p : Program) (most : ℕ) (first : State) (kept : Record) (rows : List Row) : Type 0 where
@@ -110,12 +111,11 @@ none_kept p most first kept rows none no_rows = record {
 }
 
 -- with the one of where the run stands now
-pub kept_more : (s : Setting) (e : Debugger) (most : ℕ) (first : State) (taken : ℕ) (old new : Record) (old_rows new_rows : List Row)
-    → length old.moments.items ≡ taken → now s e ≡ state_after s.program taken first
-    → NotesChanges s e most (last_state s.program most None first old.moments.items) old new new_rows → KeptSoFar s.program most first old old_rows → KeptSoFar s.program most first new new_rows
-kept_more s e most first taken old new old_rows new_rows each stood notes so =
+pub kept_more : (s : Setting) (e : Debugger) (most : ℕ) (first : State) (taken : ℕ) (old new : Record) (old_rows new_rows : List Row) → now s e ≡ state_after s.program taken first
+    → NotesChanges s e taken most (last_state s.program most None first old.moments.items) old new new_rows → KeptSoFar s.program most first old old_rows → KeptSoFar s.program most first new new_rows
+kept_more s e most first taken old new old_rows new_rows stood notes so =
     let p = s.program in
-    let reached : now s e ≡ state_after p (length old.moments.items) first = stood ∙ ap (λ n. state_after p n first) (sym each) in
+    let reached : now s e ≡ state_after p notes.moment.taken first = stood ∙ ap (λ n. state_after p n first) (sym notes.taken_is) in
     let before = last_state p most None first old.moments.items in
     let stay : HaveChanges p most (sights_of new) new.changes.items None first old.moments.items =
     subst (λ changes. HaveChanges p most (sights_of new) changes None first old.moments.items) (sym notes.changes)

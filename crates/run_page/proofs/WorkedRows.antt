@@ -23,10 +23,10 @@ use Rattle.run_page.proofs.Places.{at_place}
 
 -- ---- the program: uniform int n; uniform int a[3]; void deeper(uniform int k) {} export void go() { int y; deeper(n); }
 
-abbrev variable : (name : List ℕ) → VarId → Rate → Variable
+abbrev pub variable : (name : List ℕ) → VarId → Rate → Variable
 variable name id rate = record { name = name; id = id; type = Int32; rate = rate; is_array = false; is_parameter = false; is_constant = false }
 
-abbrev n : Variable
+abbrev pub n : Variable
 n = variable (codes "n") (File 0) Uniform
 
 abbrev a : Variable
@@ -41,7 +41,7 @@ k = record (variable (codes "k") (Local 0) Uniform) { is_parameter = true }
 abbrev on : (line : ℕ) → List Variable → Standing
 on line scope = record { place = record { line = line; col = 5 }; scope = scope }
 
-abbrev program : Program
+abbrev pub program : Program
 program = record {
   functions = record { name = codes "go"; result = Uniform; result_type = Int32; body = Empty; standings = on 5 (y ∷ []) ∷ on 6 (y ∷ []) ∷ [] }
       ∷ record { name = codes "deeper"; result = Uniform; result_type = Int32; body = Empty; standings = on 3 (k ∷ []) ∷ [] } ∷ [];
@@ -58,7 +58,7 @@ deeper = record { function = 1; lanes = true ∷ true ∷ false ∷ true ∷ [];
 abbrev in_go : State
 in_go = record { memory = (File 0, 7 ∷ []) ∷ (File 1, 4 ∷ 5 ∷ 6 ∷ []) ∷ []; frames = go (0 ∷ 1 ∷ 2 ∷ 3 ∷ []) ∷ [] }
 
-abbrev in_deeper : State
+abbrev pub in_deeper : State
 in_deeper = record { memory = (File 0, 7 ∷ []) ∷ (File 1, 4 ∷ 5 ∷ 6 ∷ []) ∷ []; frames = deeper ∷ go (0 ∷ 1 ∷ 2 ∷ 3 ∷ []) ∷ [] }
 
 abbrev ended : State
@@ -118,7 +118,7 @@ words_before v sees =
     ap (λ (b : Bool). if b then elements (view_of (seen_in 1 in_go) v.id) (seen_in 1 in_go) else words_in (seen_in 1 in_go) v.id) (sym (ap (λ s. s.shown.is_array) sees.same))
     ∙ ap (words_in (seen_in 1 in_go)) (sym (ap (λ s. s.shown.id) sees.same))
 
-same_word : (a b : ℕ) → Some a ≡ Some b → a ≡ b
+pub same_word : (a b : ℕ) → Some a ≡ Some b → a ≡ b
 same_word a b is = cc is
 
 lane_differs : Differs program 8 (Some in_go) later (HasWord (sight_of 1 in_go y) 2 9)
@@ -153,7 +153,7 @@ abbrev call : Call
 call = record { place = record { line = 5; col = 7 }; function = 0 }
 
 abbrev moment : (kept first past : ℕ) → Moment
-moment kept first past = record { stand = None; kept_calls = kept; first_call = first; end_of_calls = past; first_change = 0; end_of_changes = 0 }
+moment kept first past = record { taken = 0; stand = None; kept_calls = kept; first_call = first; end_of_calls = past; first_change = 0; end_of_changes = 0 }
 
 call_comes : calls_text (call ∷ []) 0 (moment 0 0 1) ≡ codes ",0,[[5,7,0]]"
 unfolding digits

@@ -1,5 +1,5 @@
 -- Where each moment of a record stands, by the names of functions, and the calls that are open then.
-use Rattle.std.specs.Prelude.{◌≡◌, ℕ, suc, zero, ◌-◌, ◌≤◌, List, [], ◌∷◌, ◌++◌, codes, drop, length, slice_get, take, Option, Some, None}
+use Rattle.std.specs.Prelude.{◌≡◌, ◌⊎◌, ℕ, suc, zero, ◌-◌, ◌≤◌, All, Contains, List, [], ◌∷◌, ◌++◌, codes, drop, length, slice_get, take, Option, Some, None}
 use Rattle.std.specs.List.{AllZip}
 use Rattle.gang_model.specs.Types.Tree.{Program}
 use Rattle.gang_model.specs.Running.State.{Frame, State}
@@ -7,7 +7,7 @@ use Rattle.gang_model.specs.Debugger.Debugger.{Debugger, Setting, now}
 use Rattle.gang_model.specs.Texts.Text.{Bytes, where_text}
 use Rattle.debug_traits.specs.declared.machine.Position.{Position}
 use Rattle.debug_traits.specs.Machines.{call_text, position_line, position_text}
-use Rattle.lane_picture.specs.Seen.{next_state}
+use Rattle.lane_picture.specs.Seen.{state_after}
 use Rattle.run_page.specs.declared.moments.Call.{Call}
 use Rattle.run_page.specs.declared.moments.Moment.{Moment}
 use Rattle.run_page.specs.declared.moments.Stand.{Stand}
@@ -65,23 +65,43 @@ pub record HasCalls (p : Program) (names : List Bytes) (before all : List Call) 
   pub inside : moment.end_of_calls ≤ length all
   pub calls : AreCalls names (calls_at before all moment) (open_calls p state)
 
--- moments stand where a program does and after each of its steps, with the calls that are open there
-abbrev pub HaveCalls : Program → (names : List Bytes) → (before all : List Call) → State → List Moment → Type 0
-HaveCalls p names before all state [] = Unit {0}
-HaveCalls p names before all state (moment ∷ moments) =
-    HasCalls p names before all state moment × HaveCalls p names (calls_at before all moment) all (next_state p state) moments
+-- each moment stands where the program does after as many steps as were done before it, with the calls that are open there
+abbrev pub HaveCalls : Program → (names : List Bytes) → (before all : List Call) → (first : State) → List Moment → Type 0
+HaveCalls p names before all first [] = Unit {0}
+HaveCalls p names before all first (moment ∷ moments) =
+    HasCalls p names before all (state_after p moment.taken first) moment × HaveCalls p names (calls_at before all moment) all first moments
 
 -- a record has the places and the open calls of a run that begins where a debugger stands
 abbrev pub HasCallsOf : Setting → Debugger → Record → Type 0
 HasCallsOf s d record' = HaveCalls s.program (names_view record'.functions.items) [] record'.calls.items (now s d) record'.moments.items
 
+-- ---- how wide the gang is
+
+-- so many lanes a gang has whose place is told by a text
+abbrev pub TellsWidth : (text : Bytes) → (width : ℕ) → Type 0
+TellsWidth text width = (position : Position) × (text ≡ position_text (Some position)) × (width ≡ position.width)
+
+-- a moment tells that the gang is so wide; or there is none that does, since the program has ended at each
+abbrev pub IsWidthOf : Program → (first : State) → List Moment → (width : ℕ) → Type 0
+IsWidthOf p first moments width = ((moment : Moment) × Contains moments moment × TellsWidth (where_text p (state_after p moment.taken first)) width)
+    ⊎ ((width ≡ 0) × All (λ moment. where_text p (state_after p moment.taken first) ≡ codes "ended") moments)
+
+-- a record has the width of the gang of a run that begins where a debugger stands
+abbrev pub HasWidthOf : Setting → Debugger → Record → Type 0
+HasWidthOf s d record' = IsWidthOf s.program (now s d) record'.moments.items record'.width
+
+-- a text tells how wide the gang is; or it tells that the program has ended, and what was known of the width still is
+abbrev pub NotesWidth : (text : Bytes) → (old new : ℕ) → Type 0
+NotesWidth text old new = TellsWidth text new ⊎ ((text ≡ codes "ended") × (new ≡ old))
+
 -- ---- one moment more
 
--- A moment was put behind others that stands where a machine does, with the calls that are open there; those that the moment before had are these.
--- More functions may have numbers, and more calls may stand behind those of the other moments.
-pub record NotesCalls (s : Setting) (d : Debugger) (before : List Call) (old new : Record) (calls : List Call) : Type 0 where
+-- A moment was put behind others, with so many steps done before it, that stands where a debugger does, with the calls that are open there; those that
+-- the moment before had are these. More functions may have numbers, and more calls may stand behind those of the other moments.
+pub record NotesCalls (s : Setting) (d : Debugger) (taken : ℕ) (before : List Call) (old new : Record) (calls : List Call) : Type 0 where
   pub moment : Moment
   pub behind : new.moments.items ≡ old.moments.items ++ moment ∷ []
+  pub taken_is : moment.taken ≡ taken
   pub has : HasCalls s.program (names_view new.functions.items) before new.calls.items (now s d) moment
   pub names : GrowsNames (names_view old.functions.items) (names_view new.functions.items)
   pub more : List Call

@@ -3,6 +3,7 @@ pub mod ChangeTexts
 pub mod Changes
 pub mod Moments
 pub mod Names
+pub mod Noting
 pub mod Pages
 pub mod RecordText
 pub mod Recording

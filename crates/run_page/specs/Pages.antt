@@ -16,9 +16,7 @@ use Rattle.run_page.specs.declared.page.PageEnd.TheVariants as end
 use Rattle.run_page.specs.declared.page.Subject.{Subject}
 use Rattle.run_page.specs.declared.page.Viewer.{Viewer}
 use Rattle.run_page.specs.declared.record.Record.{Record}
-use Rattle.run_page.specs.Calls.{HasCallsOf}
-use Rattle.run_page.specs.Moments.{AreMoments, moments_of}
-use Rattle.run_page.specs.Recording.{IsRecordOf}
+use Rattle.run_page.specs.Noting.{HasRecord}
 use Rattle.run_page.specs.RecordText.{record_text}
 
 -- whether the writer failed
@@ -50,14 +48,11 @@ parts_text parts = concat (map (λ part. part.now) parts)
 abbrev pub page_text : Viewer → Subject → StepsEnd → Record → Bytes
 page_text viewer subject ended kept = parts_text viewer.front.now ++ (record_text subject ended kept ++ parts_text viewer.rest.now)
 
--- What was written is a page of a run and nothing else: that of a record which has a moment for each step that was done and one for the
--- end, and of each moment where the program stands, the open calls, and the changes since the one before; and the page tells how the run ends.
-pub record IsPageOf (s : Setting) (d : Debugger) (viewer : Viewer) (subject : Subject) (old new : Option Bytes) : Type 0 where
+-- What was written is a page of a run and nothing else: that of a record of the run, with so many moments; and the page tells how the run ends.
+pub record IsPageOf (s : Setting) (d : Debugger) (viewer : Viewer) (subject : Subject) (moments : ℕ) (old new : Option Bytes) : Type 0 where
   pub kept : Record
   pub ended : StepsEnd
   pub text : Appends old new (page_text viewer subject ended kept)
   pub ends : end_view ended ≡ run_end s.program subject.most_steps (now s d)
-  pub each : length kept.moments.items ≡ moments_of (steps_taken s.program subject.most_steps (now s d)) (end_view ended)
-  pub stand : AreMoments s.program (now s d) kept.moments.items
-  pub calls : HasCallsOf s d kept
-  pub changes : IsRecordOf s d subject.most_words kept
+  pub has : HasRecord s d subject (steps_taken s.program subject.most_steps (now s d)) (end_view ended) kept
+  pub count : moments ≡ length kept.moments.items

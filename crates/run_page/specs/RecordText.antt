@@ -21,6 +21,7 @@ use Rattle.run_page.specs.declared.record.Record.{Record}
 use Rattle.run_page.specs.declared.variables.Variable.{Variable}
 use Rattle.run_page.specs.declared.views.Change.{Change}
 use Rattle.run_page.specs.declared.views.Change.TheVariants as change
+use Rattle.run_page.specs.Moments.{steps_of}
 use Rattle.run_page.specs.Recording.{changes_of}
 
 -- ---- how a run ended
@@ -155,5 +156,6 @@ record_text subject ended kept = concat (
     head_text subject kept ∷ end_text ended
     ∷ codes ",\n\"functions\":" ∷ list_text (map (λ name. string_text name.items) kept.functions.items)
     ∷ codes ",\n\"variables\":" ∷ list_text (map variable_text kept.variables.items)
+    ∷ codes ",\n\"steps\":" ∷ list_text (map decimal (steps_of kept.moments.items))
     ∷ codes ",\n\"moments\":" ∷ list_text (moment_texts kept 0 kept.moments.items)
     ∷ codes "}" ∷ [])

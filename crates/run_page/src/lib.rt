@@ -3,6 +3,7 @@
 
 mod calls;
 mod changes;
+mod choosing;
 mod comparing;
 mod moments;
 mod names;
@@ -14,4 +15,4 @@ mod variables;
 mod views;
 mod writing;
 
-pub use page::{PageEnd, Subject, Viewer, write_page};
+pub use page::{PageEnd, Subject, Viewer, Written, write_page};

@@ -17,10 +17,12 @@ pub(crate) struct Call {
     pub(crate) function: usize,
 }
 
-/// A moment: where the program stands, unless it has ended; how many of the calls of the moment before are there still, counted from
-/// the entry's; and where the calls and the changes begin and end that it adds.
+/// A moment: how many steps were done before it, of those that were tried; where the program stands, unless it has ended; how many of
+/// the calls of the moment before are there still, counted from the entry's; and where the calls and the changes begin and end that it
+/// adds.
 #[derive(Clone, Copy, Debug)]
 pub(crate) struct Moment {
+    pub(crate) taken: usize,
     pub(crate) stand: Option<Stand>,
     pub(crate) kept_calls: usize,
     pub(crate) first_call: usize,

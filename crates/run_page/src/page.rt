@@ -27,6 +27,10 @@ pub struct Subject<'a> {
     pub most_steps: u32,
     /// The most elements of an array that are shown.
     pub most_words: u32,
+    /// One of so many moments is told; each where it is 0 or 1.
+    pub each: u32,
+    /// The numbers of steps near which each moment is told.
+    pub around: &'a [u32],
 }
 
 /// The viewer of a page: what stands before the record and what stands behind it, each in parts.
@@ -49,8 +53,15 @@ pub enum PageEnd {
     WriteFault,
 }
 
+/// What was written of a run: how many moments were noted, and how the writing ended.
+#[derive(Clone, Copy, Debug, PartialEq, Eq)]
+pub struct Written {
+    pub moments: usize,
+    pub end: PageEnd,
+}
+
 /// Does one step after another, up to the end of the program, a fault or the most steps, and then writes a page of them: the viewer
-/// round a record in which each moment can be seen.
+/// round a record in which each moment that is told can be seen.
 ///
 /// # Errors
 ///
@@ -61,26 +72,28 @@ pub fn write_page<M: FramedMachine, O: AnswerWriter>(
     subject: &Subject<'_>,
     viewer: &Viewer<'_>,
     writer: &mut O,
-) -> Result<PageEnd, AllocError>
+) -> Result<Written, AllocError>
     requires works { O.has_failed writer.old ≡ false }
-    ensures written { IfOk result (λ end. (s : Setting) (d : Debugger) → StandsFor M.stands session.old s d
-        → HasWritten M.stands s subject.now.most_steps d end session.new) }
-    ensures page { IfOk result (λ end. has_failed end ≡ false → (s : Setting) (d : Debugger) → StandsFor M.stands session.old s d → 1 ≤ s.limit
-        → IsPageOf s d viewer.now subject.now (O.written writer.old) (O.written writer.new)) }
-    ensures failed { IfOk result (λ end. O.has_failed writer.new ≡ has_failed end) }
+    ensures written { IfOk result (λ page. (s : Setting) (d : Debugger) → StandsFor M.stands session.old s d
+        → HasWritten M.stands s subject.now.most_steps d page.end session.new) }
+    ensures page { IfOk result (λ page. has_failed page.end ≡ false → (s : Setting) (d : Debugger) → StandsFor M.stands session.old s d → 1 ≤ s.limit
+        → IsPageOf s d viewer.now subject.now page.moments (O.written writer.old) (O.written writer.new)) }
+    ensures failed { IfOk result (λ page. O.has_failed writer.new ≡ has_failed page.end) }
     ensures memory { OnErr result ((s : Setting) (d : Debugger) → StandsFor M.stands session.old s d
         → HasBegun M.stands s subject.now.most_steps d session.new) }
     ensures unwritten { OnErr result (writer.new ≡ writer.old) }
 {
-    let (record, end) = note_run(
-        alloc,
-        session,
-        subject.most_steps,
-        subject.most_words as usize,
-    )?;
+    let (record, end) = note_run(alloc, session, subject)?;
+    let moments = record.moments.len();
     match write_whole_page(&record, end, subject, viewer, writer) {
-        Ok(()) => Ok(told(end)),
-        Err(_) => Ok(PageEnd::WriteFault),
+        Ok(()) => Ok(Written {
+            moments,
+            end: told(end),
+        }),
+        Err(_) => Ok(Written {
+            moments,
+            end: PageEnd::WriteFault,
+        }),
     }
 }
 

@@ -26,6 +26,7 @@ impl Record {
         ensures functions { result.functions.items ≡ [] }
         ensures changes { result.changes.items ≡ [] }
         ensures calls { result.calls.items ≡ [] }
+        ensures width { result.width ≡ 0 }
     {
         Record {
             width: 0,

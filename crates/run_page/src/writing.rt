@@ -1,8 +1,9 @@
 //! The record as JSON.
-ghost use Rattle.std.specs.Prelude.{◌≡◌, ◌∷◌, [], codes, false, is_err, IfOk, map, slice_range};
+ghost use Rattle.std.specs.Prelude.{◌≡◌, ◌∷◌, [], codes, decimal, false, is_err, IfOk, map, slice_range};
 ghost use Rattle.std.specs.List.{concat};
 ghost use Rattle.std.specs.Io.KnownBytes.{Appends};
 ghost use Rattle.json_texts.specs.Json.{list_text, string_text};
+ghost use Rattle.run_page.specs.Moments.{steps_of};
 ghost use Rattle.run_page.specs.RecordText as spec;
 ghost use Rattle.run_page.specs.RecordText.{call_text, calls_text, end_text, fault_name, fault_number, has_same_calls, head_text, kind_name, moment_text, moment_texts, record_text, stand_text, variable_text};
 
@@ -41,6 +42,8 @@ pub(crate) fn write_record<O: AnswerWriter>(
     write_functions(kept.functions.as_slice(), writer)?;
     writer.write_all(b",\n\"variables\":")?;
     write_variables(kept.variables.as_slice(), writer)?;
+    writer.write_all(b",\n\"steps\":")?;
+    write_steps(kept.moments.as_slice(), writer)?;
     writer.write_all(b",\n\"moments\":")?;
     write_moments(kept, kept.moments.as_slice(), writer)?;
     writer.write_all(b"}")
@@ -206,6 +209,20 @@ fn type_name(value_type: IntType) -> &'static [u8]
         IntType::Uint32 => b"uint32",
         IntType::Uint64 => b"uint64",
     }
+}
+
+/// Writes how many steps were done before each of moments.
+fn write_steps<O: AnswerWriter>(moments: &[Moment], writer: &mut O) -> Result<(), WriteFault>
+    requires works { O.has_failed writer.old ≡ false }
+    ensures written { IfOk result (λ _. Appends (O.written writer.old) (O.written writer.new) (list_text (map decimal (steps_of moments.now)))) }
+    ensures failed { O.has_failed writer.new ≡ is_err result }
+{
+    writer.write_all(b"[")?;
+    for (number, moment) in moments.iter().enumerate() {
+        write_comma(number, writer)?;
+        write_part(writer, Number(moment.taken))?;
+    }
+    writer.write_all(b"]")
 }
 
 /// Writes moments, of which the first one has no calls before it.

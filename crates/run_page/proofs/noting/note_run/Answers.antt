@@ -1,186 +1,118 @@
-use Rattle.std.proofs.Common.{◌≡◌, ◌∷◌, [], true, false, Some, None, ap, sym, subst, arith, length, length-append, map}
-use Rattle.gang_model.specs.Debugger.Debugger.{has_ended, now}
-use Rattle.debug_session.proofs.Ending.{ended_by}
-use Rattle.debug_session.specs.Sessions.{bare}
-use Rattle.lane_picture.proofs.Counting.{none_tried, one_more, run_full, run_over, run_stopped}
-use Rattle.run_page.specs.Moments.{AreMoments}
-use Rattle.run_page.specs.Recording.{sights_of}
-use Rattle.run_page.specs.Rows.{sight_view}
-use Rattle.run_page.proofs.Numbers.{distinct_none}
-use Rattle.run_page.proofs.CallsKept.{calls_more, no_calls}
-use Rattle.run_page.proofs.RecordKept.{kept_more, none_kept}
-use Rattle.run_page.proofs.MomentsNoted.{each_behind, each_full, each_stopped, moments_more, on_err}
+use Rattle.std.proofs.Common.{◌≡◌, ◌∙◌, [], ◌∷◌, ◌++◌, ◌≤◌, true, false, not, ap, sym, subst, arith}
+use Rattle.gang_model.specs.Debugger.Debugger.{Debugger, Setting, has_ended, now}
+use Rattle.debug_session.specs.Sessions.{StandsFor, bare}
+use Rattle.lane_picture.proofs.Counting.{none_tried, run_full}
+use Rattle.lane_picture.specs.Seen.{state_after}
+use Rattle.lane_picture.specs.Tries.{end_view}
+use Rattle.run_page.proofs.Ending.{Ends, ends, goes_on}
+use Rattle.run_page.proofs.MomentsNoted.{done_full, on_err, one_if, told_before, told_last, told_next}
+use Rattle.run_page.proofs.NotedSoFar.{NotedSoFar, may_note, none_noted, whole_noted}
 use Rattle.run_page.proofs.noting.note_run.Goals as goal
 
-pub loop-count-init : goal.loop-count-init
-loop-count-init g c = record {
-  each = ap length c.new-record.ensures.moments;
-  distinct = distinct_none (sights_of c.new-record.result) (ap (map sight_view) c.new-record.ensures.variables);
-  kept = λ s d st limit. none_kept s.program c.args.most_words (now s d) c.new-record.result c.new-told.result.rows.items c.new-record.ensures.moments c.new-told.ensures.rows;
-  calls = λ s d st limit. no_calls s.program (now s d) c.new-record.result c.new-told.result.calls.items c.new-record.ensures.moments c.new-told.ensures.calls;
-  so_far = λ s d st. none_tried g.M.RecordedMachine.stands s c.args.most_steps d c.args.session.now st;
-  stand = λ s d st limit. subst (AreMoments s.program (now s d)) (sym c.new-record.ensures.moments) tt;
+pub loop-taken-init : goal.loop-taken-init
+loop-taken-init g c = record {
+  so_far = λ s d st. none_tried g.M.RecordedMachine.stands s c.args.subject.now.most_steps d c.args.session.now st;
+  noted = λ s d st limit. none_noted s.program c.args.subject.now.most_words (now s d) c.new-record.result c.new-told.result.rows.items c.new-told.result.calls.items
+      c.new-record.ensures.moments c.new-record.ensures.variables c.new-record.ensures.width c.new-told.ensures.rows c.new-told.ensures.calls;
 }
 
-pub returns-in_default-clause-noted : goal.returns-in_default-clause-noted
-returns-in_default-clause-noted g c s d st =
+pub loop-taken-preserved : goal.loop-taken-preserved
+loop-taken-preserved g c =
     let stands = g.M.RecordedMachine.stands in
-    let so = c.loop-count.invariant.so_far s d st in
-    let e = so.done.after in
-    let here = subst (λ m. stands m s (bare e)) (sym c.machine.ensures) so.done.there.there in
-    let there = subst (λ m. stands m s (bare e)) (sym c.machine-in-loop-count.ensures) so.done.there.there in
-    let ended : has_ended (now s e) ≡ true = sym (ended_by s.program (now s e).frames None (c.in_default.ensures.place s (bare e) there)) in
-    let noted = c.in_ok-note_moment.ensures.moment in
-    let old = c.loop-count.record.moments.items in
-    let new = c.note_moment.new.noted.moments.items in
+    let subject = c.args.subject.now in
+    let taken = c.loop-taken.taken in
+    let wanted = c.is_told-is_told.result in
+    let more = c.in_ok-note_if.ensures in
     record {
-      run = run_over stands s c.args.most_steps d c.loop-count._count c.loop-count.session so (omega arith) ended;
-      each = λ limit. each_behind old new noted.0 c.loop-count._count noted.1 c.loop-count.invariant.each;
-      stand = λ limit.
-          moments_more s.program (now s d) (now s e) c.loop-count._count noted.0 old new c.loop-count.invariant.each (so.stood limit) (noted.2 s (bare e) here) noted.1
-          (c.loop-count.invariant.stand s d st limit);
-    }
-
-pub loop-count-preserved : goal.loop-count-preserved
-loop-count-preserved g c =
-    let stands = g.M.RecordedMachine.stands in
-    let noted = c.in_ok-note_moment.ensures.moment in
-    let old = c.loop-count.record.moments.items in
-    let new = c.note_moment.new.noted.moments.items in
-    record {
-      each = omega (arith, ap length noted.1, length-append old (noted.0 ∷ []), c.loop-count.invariant.each);
-      distinct = c.in_ok-note_moment.ensures.distinct c.loop-count.invariant.distinct;
-      kept = λ s d st limit.
-          let so = c.loop-count.invariant.so_far s d st in
-          let e = so.done.after in
-          let here = subst (λ m. stands m s (bare e)) (sym c.machine.ensures) so.done.there.there in
-          let kept = c.loop-count.invariant.kept s d st limit in
-          kept_more s (bare e) c.args.most_words (now s d) c.loop-count._count c.loop-count.record c.note_moment.new.noted c.loop-count.told.rows.items c.note_moment.new.told.rows.items c.loop-count.invariant.each (so.stood limit)
-          (c.in_ok-note_moment.ensures.changes s (bare e) _ here c.loop-count.invariant.distinct kept.last) kept;
-      calls = λ s d st limit.
-          let so = c.loop-count.invariant.so_far s d st in
-          let e = so.done.after in
-          let here = subst (λ m. stands m s (bare e)) (sym c.machine.ensures) so.done.there.there in
-          calls_more s (bare e) (now s d) c.loop-count._count c.loop-count.record c.note_moment.new.noted c.loop-count.told.calls.items c.note_moment.new.told.calls.items c.loop-count.invariant.each (so.stood limit)
-          (c.in_ok-note_moment.ensures.calls s (bare e) here) (c.loop-count.invariant.calls s d st limit);
       so_far = λ s d st.
-          let so = c.loop-count.invariant.so_far s d st in
-          let e = so.done.after in
-          let there = subst (λ m. stands m s (bare e)) (sym c.machine-in-loop-count.ensures) so.done.there.there in
-          let goes : has_ended (now s e) ≡ false = sym (ended_by s.program (now s e).frames (Some c.in-Some._position) (c.in-Some.ensures.place s (bare e) there)) in
-          one_more stands s c.args.most_steps d c.loop-count._count c.loop-count.session so (omega arith) c.try_step.new.session goes
-          (c.in_default-try_step.ensures s e so.done.there);
-      stand = λ s d st limit.
-          let so = c.loop-count.invariant.so_far s d st in
-          let e = so.done.after in
-          let here = subst (λ m. stands m s (bare e)) (sym c.machine.ensures) so.done.there.there in
-          moments_more s.program (now s d) (now s e) c.loop-count._count noted.0 old new c.loop-count.invariant.each (so.stood limit) (noted.2 s (bare e) here) noted.1
-          (c.loop-count.invariant.stand s d st limit);
+          let so = c.loop-taken.invariant.so_far s d st in
+          goes_on stands s subject.most_steps d taken c.loop-taken.session c.try_next.new.session so c.loop-taken-test.true (c.in_default.ensures s so.done.after so.done.there);
+      noted = λ s d st limit.
+          let so = c.loop-taken.invariant.so_far s d st in
+          let e = bare so.done.after in
+          let here = subst (λ m. stands m s e) (sym c.machine.ensures) so.done.there.there in
+          let old = c.loop-taken.record in
+          let new = c.note_if.new.noted in
+          let rows = c.note_if.new.told.rows.items in
+          let calls = c.note_if.new.told.calls.items in
+          let all = may_note s e subject.most_words (now s d) taken (told_before subject taken) old new c.loop-taken.told.rows.items rows c.loop-taken.told.calls.items calls (so.stood limit) wanted
+          (c.loop-taken.invariant.noted s d st limit) more.distinct (λ is. more.moment is s e here) (λ is before. λ apart are. more.changes is s e before here apart are) (λ is. more.calls is s e here)
+          (λ is. more.width is s e here) (λ is. let both = more.skipped is in (both.0, ap (λ told. told.rows.items) both.1, ap (λ told. told.calls.items) both.1)) in
+          subst (λ steps. NotedSoFar s.program subject.most_words (now s d) steps new rows calls) (ap (λ b. told_before subject taken ++ one_if b taken) c.is_told-is_told.ensures ∙ sym (told_next subject taken)) all;
     }
 
-pub returns-in-Some-try_step-clause-noted : goal.returns-in-Some-try_step-clause-noted
-returns-in-Some-try_step-clause-noted g c s d st =
+pub returns-in-Some-clause-noted : goal.returns-in-Some-clause-noted
+returns-in-Some-clause-noted g c s d st =
     let stands = g.M.RecordedMachine.stands in
-    let so = c.loop-count.invariant.so_far s d st in
-    let e = so.done.after in
-    let here = subst (λ m. stands m s (bare e)) (sym c.machine.ensures) so.done.there.there in
-    let there = subst (λ m. stands m s (bare e)) (sym c.machine-in-loop-count.ensures) so.done.there.there in
-    let goes : has_ended (now s e) ≡ false = sym (ended_by s.program (now s e).frames (Some c.in-Some._position) (c.in-Some.ensures.place s (bare e) there)) in
-    let noted = c.in_ok-note_moment.ensures.moment in
-    let old = c.loop-count.record.moments.items in
-    let new = c.note_moment.new.noted.moments.items in
-    let tried = c.in-Some-try_step.ensures s e so.done.there in
-    let run = run_stopped stands s c.args.most_steps d c.loop-count._count c.loop-count.session so (omega arith) c.try_step.new.session goes c.in-Some-try_step.end tried in
+    let subject = c.args.subject.now in
+    let taken = c.loop-taken.taken in
+    let wanted = c.is_told-is_told.result in
+    let how = c.in-Some.end in
+    let so = c.loop-taken.invariant.so_far s d st in
+    let more = c.in_ok-note_if.ensures in
+    let last = c.in_ok-note_if-2.ensures in
+    let old = c.loop-taken.record in
+    let middle = c.note_if.new.noted in
+    let new = c.note_if-in-Some.new.noted in
+    let rows = c.note_if.new.told.rows.items in
+    let calls = c.note_if.new.told.calls.items in
+    let end_rows = c.note_if-in-Some.new.told.rows.items in
+    let end_calls = c.note_if-in-Some.new.told.calls.items in
+    let ended : Ends stands s subject.most_steps d taken how c.try_next.new.session =
+    ends stands s subject.most_steps d taken c.loop-taken.session c.try_next.new.session so c.loop-taken-test.true how (c.in-Some.ensures s so.done.after so.done.there) in
     record {
-      run = run;
-      each = λ limit. each_stopped old new noted.0 c.loop-count._count noted.1 c.loop-count.invariant.each s e tried.done.after c.in-Some-try_step.end (tried.comes limit goes);
-      stand = λ limit.
-          moments_more s.program (now s d) (now s e) c.loop-count._count noted.0 old new c.loop-count.invariant.each (so.stood limit) (noted.2 s (bare e) here) noted.1
-          (c.loop-count.invariant.stand s d st limit);
+      run = ended.run;
+      has = λ limit.
+          let e = bare so.done.after in
+          let f = bare ended.here in
+          let here = subst (λ m. stands m s e) (sym c.machine.ensures) so.done.there.there in
+          let there = subst (λ m. stands m s f) (sym c.machine-in-Some.ensures) ended.there.there in
+          let first = may_note s e subject.most_words (now s d) taken (told_before subject taken) old middle c.loop-taken.told.rows.items rows c.loop-taken.told.calls.items calls (so.stood limit) wanted
+          (c.loop-taken.invariant.noted s d st limit) more.distinct (λ is. more.moment is s e here) (λ is before. λ apart are. more.changes is s e before here apart are) (λ is. more.calls is s e here)
+          (λ is. more.width is s e here) (λ is. let both = more.skipped is in (both.0, ap (λ told. told.rows.items) both.1, ap (λ told. told.calls.items) both.1)) in
+          let second = may_note s f subject.most_words (now s d) taken (told_before subject taken ++ one_if wanted taken) middle new rows end_rows calls end_calls (ended.stood limit) (not wanted)
+          first last.distinct (λ is. last.moment is s f there) (λ is before. λ apart are. last.changes is s f before there apart are) (λ is. last.calls is s f there)
+          (λ is. last.width is s f there) (λ is. let both = last.skipped is in (both.0, ap (λ told. told.rows.items) both.1, ap (λ told. told.calls.items) both.1)) in
+          whole_noted s d subject ended.run.begun.taken taken (end_view how) ((told_before subject taken ++ one_if wanted taken) ++ one_if (not wanted) taken) new end_rows end_calls second (told_last subject taken wanted) (ended.done limit);
     }
-
-pub returns-in_err-note_moment-clause-memory : goal.returns-in_err-note_moment-clause-memory
-returns-in_err-note_moment-clause-memory g c = on_err c.from_residual.result (λ s d st.
-    let so = c.loop-count.invariant.so_far s d st in
-    record { taken = c.loop-count._count; few = omega arith; done = so.done })
-
-pub returns-in_err-note_moment-2-clause-memory : goal.returns-in_err-note_moment-2-clause-memory
-returns-in_err-note_moment-2-clause-memory g c = on_err c.from_residual-in_err-note_moment-2.result (λ s d st.
-    let so = c.loop-count.invariant.so_far s d st in
-    record { taken = c.loop-count._count; few = omega (arith, c.loop-count-test.false); done = so.done })
 
 pub returns-clause-noted : goal.returns-clause-noted
 returns-clause-noted g c s d st =
     let stands = g.M.RecordedMachine.stands in
-    let so = c.loop-count.invariant.so_far s d st in
-    let e = so.done.after in
-    let here = subst (λ m. stands m s (bare e)) (sym c.machine-2.ensures) so.done.there.there in
-    let there = subst (λ m. stands m s (bare e)) (sym c.machine-3.ensures) so.done.there.there in
-    let noted = c.in_ok-note_moment-2.ensures.moment in
-    let old = c.loop-count.record.moments.items in
-    let new = c.note_moment-2.new.noted.moments.items in
-    let ends = c.end_after-end.ensures s e there in
+    let subject = c.args.subject.now in
+    let taken = c.loop-taken.taken in
+    let so = c.loop-taken.invariant.so_far s d st in
+    let more = c.in_ok-note_if-3.ensures in
+    let e = bare so.done.after in
+    let all : taken ≡ subject.most_steps = omega (arith, c.loop-taken-test.false) in
+    let here = subst (λ m. stands m s e) (sym c.machine-2.ensures) so.done.there.there in
+    let there = subst (λ m. stands m s e) (sym c.machine-3.ensures) so.done.there.there in
+    let is = c.end_after-end.ensures s so.done.after there in
+    let new = c.note_if-2.new.noted in
+    let rows = c.note_if-2.new.told.rows.items in
+    let calls = c.note_if-2.new.told.calls.items in
     record {
-      run = run_full stands s c.args.most_steps d c.loop-count._count c.loop-count.session so c.end_after-end.result (omega (arith, c.loop-count-test.false)) ends;
-      each = λ limit. each_full old new noted.0 c.loop-count._count noted.1 c.loop-count.invariant.each _ (has_ended (now s e)) ends;
-      stand = λ limit.
-          moments_more s.program (now s d) (now s e) c.loop-count._count noted.0 old new c.loop-count.invariant.each (so.stood limit) (noted.2 s (bare e) here) noted.1
-          (c.loop-count.invariant.stand s d st limit);
+      run = run_full stands s subject.most_steps d taken c.loop-taken.session so c.end_after-end.result all is;
+      has = λ limit.
+          let stood : now s e ≡ state_after s.program subject.most_steps (now s d) = so.stood limit ∙ ap (λ n. state_after s.program n (now s d)) all in
+          let noted = may_note s e subject.most_words (now s d) subject.most_steps (told_before subject taken) c.loop-taken.record new c.loop-taken.told.rows.items rows c.loop-taken.told.calls.items calls stood true
+          (c.loop-taken.invariant.noted s d st limit) more.distinct (λ is. more.moment is s e here) (λ is before. λ apart are. more.changes is s e before here apart are) (λ is. more.calls is s e here)
+          (λ is. more.width is s e here) (λ is. let both = more.skipped is in (both.0, ap (λ told. told.rows.items) both.1, ap (λ told. told.calls.items) both.1)) in
+          whole_noted s d subject taken subject.most_steps (end_view c.end_after-end.result) (told_before subject taken ++ one_if true subject.most_steps) new rows calls noted
+          (ap (λ n. told_before subject n ++ subject.most_steps ∷ []) all) (done_full taken (end_view c.end_after-end.result) (has_ended (now s e)) is ∙ all);
     }
 
-pub returns-in_default-clause-changes : goal.returns-in_default-clause-changes
-returns-in_default-clause-changes g c s d st limit =
-    let stands = g.M.RecordedMachine.stands in
-    let so = c.loop-count.invariant.so_far s d st in
-    let e = so.done.after in
-    let here = subst (λ m. stands m s (bare e)) (sym c.machine.ensures) so.done.there.there in
-    let kept = c.loop-count.invariant.kept s d st limit in
-    (kept_more s (bare e) c.args.most_words (now s d) c.loop-count._count c.loop-count.record c.note_moment.new.noted c.loop-count.told.rows.items c.note_moment.new.told.rows.items c.loop-count.invariant.each (so.stood limit)
-    (c.in_ok-note_moment.ensures.changes s (bare e) _ here c.loop-count.invariant.distinct kept.last) kept).have
+pub returns-in_err-note_if-clause-memory : goal.returns-in_err-note_if-clause-memory
+returns-in_err-note_if-clause-memory g c = on_err c.from_residual.result (λ s d st.
+    let so = c.loop-taken.invariant.so_far s d st in
+    record { taken = c.loop-taken.taken; few = omega arith; done = so.done })
 
-pub returns-in-Some-try_step-clause-changes : goal.returns-in-Some-try_step-clause-changes
-returns-in-Some-try_step-clause-changes g c s d st limit =
-    let stands = g.M.RecordedMachine.stands in
-    let so = c.loop-count.invariant.so_far s d st in
-    let e = so.done.after in
-    let here = subst (λ m. stands m s (bare e)) (sym c.machine.ensures) so.done.there.there in
-    let kept = c.loop-count.invariant.kept s d st limit in
-    (kept_more s (bare e) c.args.most_words (now s d) c.loop-count._count c.loop-count.record c.note_moment.new.noted c.loop-count.told.rows.items c.note_moment.new.told.rows.items c.loop-count.invariant.each (so.stood limit)
-    (c.in_ok-note_moment.ensures.changes s (bare e) _ here c.loop-count.invariant.distinct kept.last) kept).have
+pub returns-in_err-note_if-2-clause-memory : goal.returns-in_err-note_if-2-clause-memory
+returns-in_err-note_if-2-clause-memory g c = on_err c.from_residual-in_err-note_if-2.result (λ s d st.
+    let so = c.loop-taken.invariant.so_far s d st in
+    (ends g.M.RecordedMachine.stands s c.args.subject.now.most_steps d c.loop-taken.taken c.loop-taken.session c.try_next.new.session so c.loop-taken-test.true c.in-Some.end (c.in-Some.ensures s so.done.after so.done.there)).run.begun)
 
-pub returns-clause-changes : goal.returns-clause-changes
-returns-clause-changes g c s d st limit =
-    let stands = g.M.RecordedMachine.stands in
-    let so = c.loop-count.invariant.so_far s d st in
-    let e = so.done.after in
-    let here = subst (λ m. stands m s (bare e)) (sym c.machine-2.ensures) so.done.there.there in
-    let kept = c.loop-count.invariant.kept s d st limit in
-    (kept_more s (bare e) c.args.most_words (now s d) c.loop-count._count c.loop-count.record c.note_moment-2.new.noted c.loop-count.told.rows.items c.note_moment-2.new.told.rows.items c.loop-count.invariant.each (so.stood limit)
-    (c.in_ok-note_moment-2.ensures.changes s (bare e) _ here c.loop-count.invariant.distinct kept.last) kept).have
-
-pub returns-in_default-clause-calls : goal.returns-in_default-clause-calls
-returns-in_default-clause-calls g c s d st limit =
-    let stands = g.M.RecordedMachine.stands in
-    let so = c.loop-count.invariant.so_far s d st in
-    let e = so.done.after in
-    let here = subst (λ m. stands m s (bare e)) (sym c.machine.ensures) so.done.there.there in
-    (calls_more s (bare e) (now s d) c.loop-count._count c.loop-count.record c.note_moment.new.noted c.loop-count.told.calls.items c.note_moment.new.told.calls.items c.loop-count.invariant.each (so.stood limit)
-    (c.in_ok-note_moment.ensures.calls s (bare e) here) (c.loop-count.invariant.calls s d st limit)).have
-
-pub returns-in-Some-try_step-clause-calls : goal.returns-in-Some-try_step-clause-calls
-returns-in-Some-try_step-clause-calls g c s d st limit =
-    let stands = g.M.RecordedMachine.stands in
-    let so = c.loop-count.invariant.so_far s d st in
-    let e = so.done.after in
-    let here = subst (λ m. stands m s (bare e)) (sym c.machine.ensures) so.done.there.there in
-    (calls_more s (bare e) (now s d) c.loop-count._count c.loop-count.record c.note_moment.new.noted c.loop-count.told.calls.items c.note_moment.new.told.calls.items c.loop-count.invariant.each (so.stood limit)
-    (c.in_ok-note_moment.ensures.calls s (bare e) here) (c.loop-count.invariant.calls s d st limit)).have
-
-pub returns-clause-calls : goal.returns-clause-calls
-returns-clause-calls g c s d st limit =
-    let stands = g.M.RecordedMachine.stands in
-    let so = c.loop-count.invariant.so_far s d st in
-    let e = so.done.after in
-    let here = subst (λ m. stands m s (bare e)) (sym c.machine-2.ensures) so.done.there.there in
-    (calls_more s (bare e) (now s d) c.loop-count._count c.loop-count.record c.note_moment-2.new.noted c.loop-count.told.calls.items c.note_moment-2.new.told.calls.items c.loop-count.invariant.each (so.stood limit)
-    (c.in_ok-note_moment-2.ensures.calls s (bare e) here) (c.loop-count.invariant.calls s d st limit)).have
+pub returns-in_err-note_if-3-clause-memory : goal.returns-in_err-note_if-3-clause-memory
+returns-in_err-note_if-3-clause-memory g c = on_err c.from_residual-in_err-note_if-3.result (λ s d st.
+    let so = c.loop-taken.invariant.so_far s d st in
+    record { taken = c.loop-taken.taken; few = omega (arith, c.loop-taken-test.false); done = so.done })

@@ -1,6 +1,6 @@
-use Rattle.std.proofs.Common.{◌∙◌, ap}
+use Rattle.std.proofs.Common.{◌≡◌, length, rules, subst}
 use Rattle.lane_picture.specs.Tries.{end_view}
-use Rattle.run_page.specs.Moments.{moments_of}
+use Rattle.run_page.specs.Noting.{HasRecord}
 use Rattle.run_page.specs.declared.page.PageEnd.TheVariants.{WriteFault}
 use Rattle.run_page.proofs.Telling.{written}
 use Rattle.run_page.proofs.page.write_page.Goals as goal
@@ -18,15 +18,14 @@ returns-in-Ok-clause-page g c works s d st limit =
     let kept = c.in_ok-record.record in
     let ended = c.in_ok-record.end in
     let noted = c.in_ok-record.ensures.noted s d st in
+    let count : c.len-moments.result ≡ length kept.moments.items = search rules in
     record {
       kept = kept;
       ended = ended;
       text = c.in-Ok.ensures.written;
       ends = noted.run.ends limit;
-      each = noted.each limit ∙ ap (λ taken. moments_of taken (end_view ended)) (noted.run.whole limit);
-      stand = noted.stand limit;
-      calls = c.in_ok-record.ensures.calls s d st limit;
-      changes = c.in_ok-record.ensures.changes s d st limit;
+      has = subst (λ tried. HasRecord s d c.args.subject.now tried (end_view ended) kept) (noted.run.whole limit) (noted.has limit);
+      count = count;
     }
 
 pub returns-clause-page : goal.returns-clause-page
