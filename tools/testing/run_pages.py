@@ -21,6 +21,9 @@ WIDTHS = (4, 8, 16)
 
 STORED = "state_machine"
 
+# Where the record stands in a page.
+RECORD = re.compile(r'<script type="application/json" id="record">(.*?)</script>', re.S)
+
 # How many steps on each side of a step that is asked for a page has.
 REACH = 1000
 
@@ -236,7 +239,7 @@ def steps_left(source, options, done):
 
 def record_of(page):
     """The record of a page."""
-    return json.loads(re.search(r'<script type="application/json" id="record">(.*?)</script>', page, re.S)[1])
+    return json.loads(RECORD.search(page)[1])
 
 
 def told_value(record, variable, value):
@@ -320,7 +323,7 @@ def stored(root):
 
 
 class PageRun(Run):
-    """A run whose page is cut: standard error has where it ends, how many steps the run has behind that, and what the page takes."""
+    """A run whose page is cut: standard error has where it ends, how many steps the run has behind that, and what the page takes, the viewer not counted for a moment."""
 
     NOTE = re.compile(rb"note: the page ends at step (\d+), and the run goes on for (\d+) more\n"
                       rb"note: the page takes (\d+) bytes, about (\d+) for each of its (\d+) moments; "
@@ -330,8 +333,9 @@ class PageRun(Run):
         found, result = self.NOTE.fullmatch(errors), super().judged(status, output, errors)
         if not found:
             return Result(self.name, False, [*result.why, f"standard error: {errors.decode(errors='replace')}"])
-        moments = len(record_of(output.decode(errors="replace"))["moments"])
-        wanted = [self.last, self.left, len(output), len(output) // moments, moments]
+        text = RECORD.search(output.decode(errors="replace"))[1]
+        moments = len(json.loads(text)["moments"])
+        wanted = [self.last, self.left, len(output), len(text.encode()) // moments, moments]
         came = [int(it) for it in found.groups()]
         why = [] if came == wanted else [f"the note has {came}, and {wanted} is wanted"]
         return Result(self.name, result.passed and not why, [*result.why, *why])

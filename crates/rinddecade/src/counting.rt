@@ -43,12 +43,14 @@ impl<O: AnswerWriter> AnswerWriter for Counted<O> {
     }
 }
 
-/// Says of a page that ends before its run does how far this goes, which is tried; and of that and of a large page what it takes.
+/// Says of a page that ends before its run does how far this goes, which is tried; and of that and of a large page what it takes, as a
+/// whole and, without its viewer, for each moment.
 pub(crate) fn tell_size<M: RecordedMachine>(
     rt: &HostRuntime,
     last: u64,
     written: Written,
     bytes: u64,
+    viewer_bytes: u64,
     session: &mut Session<M>,
 ) {
     let mut page = Page::new(StreamWriter::new(rt.stderr()));
@@ -60,7 +62,7 @@ pub(crate) fn tell_size<M: RecordedMachine>(
     } else if bytes <= LARGE {
         return;
     }
-    let each = bytes / u64::try_from(written.moments.max(1)).unwrap_or(1).max(1);
+    let each = bytes.saturating_sub(viewer_bytes) / (written.moments as u64).max(1);
     page.put(b"note: the page takes ");
     page.put_number(i128::from(bytes));
     page.put(b" bytes, about ");
@@ -70,6 +72,15 @@ pub(crate) fn tell_size<M: RecordedMachine>(
     page.put(
         b" moments; --most N bounds them, --from N begins later, --each N has one step of N\n",
     );
+}
+
+/// How many bytes parts have.
+pub(crate) fn length_of(parts: &[&[u8]]) -> u64 {
+    let mut bytes = 0u64;
+    for part in parts {
+        bytes = bytes.saturating_add(part.len() as u64);
+    }
+    bytes
 }
 
 /// Says how many steps a run has still.

@@ -3,7 +3,7 @@ ghost use Rattle.std.specs.Prelude.{◌≡◌};
 ghost use Rattle.ispc_options.specs.Ranges.{AreInRange};
 ghost use Rattle.ispc_debugger.specs.Runs.{lanes_of};
 
-use crate::counting::{Counted, tell_size};
+use crate::counting::{Counted, length_of, tell_size};
 use crate::drawing::{do_lines, read_commands};
 use crate::files::{read_texts, reason};
 use crate::overwriting::{Written, refuse_overwriting};
@@ -145,7 +145,8 @@ fn page_on<const W: usize, O: Write + Drop>(
         Ok(written) if written.end == PageEnd::WriteFault => write_fault(rt),
         Ok(written) => {
             let last = u64::from(subject.first_number) + u64::from(subject.most_steps);
-            tell_size(rt, last, written, writer.bytes, session);
+            let viewer_bytes = length_of(viewer.front).saturating_add(length_of(viewer.rest));
+            tell_size(rt, last, written, writer.bytes, viewer_bytes, session);
             ExitCode::SUCCESS
         }
     }
