@@ -1,5 +1,5 @@
 -- What the writing of a page does to a session, and what is written.
-use Rattle.std.specs.Prelude.{◌≡◌, ℕ, ◌≤◌, Bool, true, false, List, ◌++◌, Option, length, map}
+use Rattle.std.specs.Prelude.{◌≡◌, ℕ, ◌<◌, ◌≤◌, take, Bool, true, false, List, ◌++◌, Option, length, map}
 use Rattle.std.specs.Borrow.{Bor}
 use Rattle.std.specs.Io.KnownBytes.{Appends}
 use Rattle.std.specs.List.{concat}
@@ -48,11 +48,17 @@ parts_text parts = concat (map (λ part. part.now) parts)
 abbrev pub page_text : Viewer → Subject → StepsEnd → Record → Bytes
 page_text viewer subject ended kept = parts_text viewer.front.now ++ (record_text subject ended kept ++ parts_text viewer.rest.now)
 
--- What was written is a page of a run and nothing else: that of a record of the run, with so many moments; and the page tells how the run ends.
-pub record IsPageOf (s : Setting) (d : Debugger) (viewer : Viewer) (subject : Subject) (moments : ℕ) (old new : Option Bytes) : Type 0 where
+-- all of a text was written; or, where the writer failed, a front of it
+abbrev pub IsPut : (failed : Bool) → Bytes → (old new : Option Bytes) → Type 0
+IsPut false text old new = Appends old new text
+IsPut true text old new = (k : ℕ) × (k < length text) × Appends old new (take k text)
+
+-- What was written is a page of a run and nothing else, or a front of it: that of a record of the run, with so many moments; and the page tells how
+-- the run ends.
+pub record IsPageOf (s : Setting) (d : Debugger) (viewer : Viewer) (subject : Subject) (moments : ℕ) (failed : Bool) (old new : Option Bytes) : Type 0 where
   pub kept : Record
   pub ended : StepsEnd
-  pub text : Appends old new (page_text viewer subject ended kept)
+  pub text : IsPut failed (page_text viewer subject ended kept) old new
   pub ends : end_view ended ≡ run_end s.program subject.most_steps (now s d)
   pub has : HasRecord s d subject (steps_taken s.program subject.most_steps (now s d)) (end_view ended) kept
   pub count : moments ≡ length kept.moments.items

@@ -11,6 +11,7 @@ mod noting;
 mod page;
 mod reading;
 mod record;
+mod texts;
 mod variables;
 mod views;
 mod writing;

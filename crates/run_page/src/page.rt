@@ -4,10 +4,12 @@ ghost use Rattle.std.specs.Io.KnownBytes.{Appends};
 ghost use Rattle.gang_model.specs.Debugger.Debugger.{Debugger, Setting};
 ghost use Rattle.debug_session.specs.Sessions.{StandsFor};
 ghost use Rattle.lane_picture.specs.Tries.{HasBegun, end_view};
-ghost use Rattle.run_page.specs.Pages.{HasWritten, IsPageOf, TellsEnd, has_failed, page_text};
+ghost use Rattle.run_page.specs.Pages as spec;
+ghost use Rattle.run_page.specs.Pages.{HasWritten, IsPageOf, TellsEnd, has_failed};
 
 use crate::noting::note_run;
 use crate::record::Record;
+use crate::texts::TextWriter;
 use crate::writing::write_record;
 use debug_session::Session;
 use debug_texts::write_pieces;
@@ -76,8 +78,8 @@ pub fn write_page<M: FramedMachine, O: AnswerWriter>(
     requires works { O.has_failed writer.old ≡ false }
     ensures written { IfOk result (λ page. (s : Setting) (d : Debugger) → StandsFor M.stands session.old s d
         → HasWritten M.stands s subject.now.most_steps d page.end session.new) }
-    ensures page { IfOk result (λ page. has_failed page.end ≡ false → (s : Setting) (d : Debugger) → StandsFor M.stands session.old s d → 1 ≤ s.limit
-        → IsPageOf s d viewer.now subject.now page.moments (O.written writer.old) (O.written writer.new)) }
+    ensures page { IfOk result (λ page. (s : Setting) (d : Debugger) → StandsFor M.stands session.old s d → 1 ≤ s.limit
+        → IsPageOf s d viewer.now subject.now page.moments (has_failed page.end) (O.written writer.old) (O.written writer.new)) }
     ensures failed { IfOk result (λ page. O.has_failed writer.new ≡ has_failed page.end) }
     ensures memory { OnErr result ((s : Setting) (d : Debugger) → StandsFor M.stands session.old s d
         → HasBegun M.stands s subject.now.most_steps d session.new) }
@@ -85,7 +87,8 @@ pub fn write_page<M: FramedMachine, O: AnswerWriter>(
 {
     let (record, end) = note_run(alloc, session, subject)?;
     let moments = record.moments.len();
-    match write_whole_page(&record, end, subject, viewer, writer) {
+    let text = page_text(alloc, &record, end, subject, viewer)?;
+    match writer.write_all(text.as_slice()) {
         Ok(()) => Ok(Written {
             moments,
             end: told(end),
@@ -108,6 +111,27 @@ fn told(end: StepsEnd) -> PageEnd
     }
 }
 
+/// The text of a page: the viewer, with the record in it.
+///
+/// # Errors
+///
+/// Out of memory.
+fn page_text(
+    alloc: Global,
+    kept: &Record,
+    end: StepsEnd,
+    subject: &Subject<'_>,
+    viewer: &Viewer<'_>,
+) -> Result<Vec<u8>, AllocError>
+    ensures { IfOk result (λ text. text.items ≡ spec.page_text viewer.now subject.now end kept.now) }
+{
+    let mut writer = TextWriter::new(alloc);
+    match write_whole_page(kept, end, subject, viewer, &mut writer) {
+        Ok(()) => Ok(writer.into_bytes()),
+        Err(_) => Err(AllocError),
+    }
+}
+
 /// Writes the viewer, with the record in it.
 fn write_whole_page<O: AnswerWriter>(
     kept: &Record,
@@ -117,7 +141,7 @@ fn write_whole_page<O: AnswerWriter>(
     writer: &mut O,
 ) -> Result<(), WriteFault>
     requires works { O.has_failed writer.old ≡ false }
-    ensures written { IfOk result (λ _. Appends (O.written writer.old) (O.written writer.new) (page_text viewer.now subject.now end kept.now)) }
+    ensures written { IfOk result (λ _. Appends (O.written writer.old) (O.written writer.new) (spec.page_text viewer.now subject.now end kept.now)) }
     ensures failed { O.has_failed writer.new ≡ is_err result }
 {
     write_pieces(writer, viewer.front)?;
