@@ -6,8 +6,8 @@ use Rattle.lane_counts.specs.declared.counts.Counts.{Counts}
 use Rattle.lane_counts.specs.declared.tally.Tally.{Tally}
 use Rattle.lane_counts.specs.Counted.{counts_at, none}
 use Rattle.lane_counts.specs.Formed.{is_inside, is_round}
-use Rattle.lane_counts.specs.Steps.{Stand, at_line, each, in_function, lane_steps, partings, short_steps, steps}
-use Rattle.lane_counts.specs.Tallies.{IsBegun, all_with, counts_of, inside_with, line_with, own_with, rounds_with, unparted_of, unparted_with, with_later}
+use Rattle.lane_counts.specs.Steps.{Stand, at_line, each, in_frame, in_function, lane_steps, partings, short_steps, steps}
+use Rattle.lane_counts.specs.Tallies.{IsBegun, all_with, counts_of, inside_with, line_with, own_with, rounds_with, unparted_of, unparted_with, whole_with, with_later}
 use Rattle.lane_counts.proofs.Noting.{same_counts}
 use Rattle.lane_counts.proofs.Parting.{nothing_left}
 
@@ -50,6 +50,10 @@ module _ (tally : Tally) where
     pub all_begun : (stands : List Stand) → all_with tally stands ≡ counts_of each stands
     all_begun stands = begun_from _ _ each stands begun.all (begun.frames (λ last. true) stands)
 
+    pub whole_begun : (number : ℕ) (name : List ℕ) (stands : List Stand) → whole_with tally number name stands ≡ unparted_of (in_frame name) stands
+    whole_begun number name stands =
+        ap (λ c. unparted_with c (in_frame name) stands) (begun_at tally.whole.rows.items number begun.whole) ∙ from_unparted (in_frame name) stands
+
     pub rounds_begun : (number : ℕ) (form : Form) (stands : List Stand) → rounds_with tally number form stands ≡ unparted_of (λ stand. is_round form stand.spot) stands
     rounds_begun number form stands =
         ap (λ c. unparted_with c (λ stand. is_round form stand.spot) stands) (begun_at tally.forms.rounds.rows.items number begun.rounds) ∙ from_unparted (λ stand. is_round form stand.spot) stands
@@ -59,13 +63,16 @@ module _ (tally : Tally) where
         ap (λ c. unparted_with c (λ stand. is_inside form stand.spot) stands) (begun_at tally.forms.inside.rows.items number begun.inside) ∙ from_unparted (λ stand. is_inside form stand.spot) stands
 
   pub line_done : (line : ℕ) → line_with tally line [] ≡ counts_at tally.lines.rows.items line
-  line_done line = to_none (counts_at tally.lines.rows.items line) _ (at_line line) (nothing_left (λ last. last.line == line) 0 tally.frames.lasts.items)
+  line_done line = to_none (counts_at tally.lines.rows.items line) _ (at_line line) (nothing_left (λ last. last.line == line) 1 tally.frames.lasts.items)
 
   pub own_done : (number : ℕ) (name : List ℕ) → own_with tally number name [] ≡ counts_at tally.own.rows.items number
-  own_done number name = to_none (counts_at tally.own.rows.items number) _ (in_function name) (nothing_left (λ last. last.function == number) 0 tally.frames.lasts.items)
+  own_done number name = to_none (counts_at tally.own.rows.items number) _ (in_function name) (nothing_left (λ last. last.function == number) 1 tally.frames.lasts.items)
 
   pub all_done : all_with tally [] ≡ tally.all
-  all_done = to_none tally.all _ each (nothing_left (λ last. true) 0 tally.frames.lasts.items)
+  all_done = to_none tally.all _ each (nothing_left (λ last. true) 1 tally.frames.lasts.items)
+
+  pub whole_done : (number : ℕ) (name : List ℕ) → whole_with tally number name [] ≡ counts_at tally.whole.rows.items number
+  whole_done number name = to_unparted (counts_at tally.whole.rows.items number) (in_frame name)
 
   pub rounds_done : (number : ℕ) (form : Form) → rounds_with tally number form [] ≡ counts_at tally.forms.rounds.rows.items number
   rounds_done number form = to_unparted (counts_at tally.forms.rounds.rows.items number) (λ stand. is_round form stand.spot)

@@ -2,6 +2,7 @@ mod Rows
 pub mod Parting
 pub mod Noting
 mod Numbered
+mod Standing
 pub mod Ends
 pub mod Named
 mod Worked

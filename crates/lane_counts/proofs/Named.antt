@@ -32,7 +32,7 @@ module _ {X : Type 0} (text : X → List ℕ) where
     | inr last ↦ elim (which names new other name also) [ inl old ↦ absurd (none other (old ∙ ap Some (sym last.1))) | inr same ↦ last.0 ∙ sym same.0 ]
   ]
 
-  within : (names : List X) (number : ℕ) (name : List ℕ) → at names number ≡ Some name → number < length names
+  pub within : (names : List X) (number : ℕ) (name : List ℕ) → at names number ≡ Some name → number < length names
   within [] number name is = absurd (cc is)
   within (first ∷ names) zero name is = omega arith
   within (first ∷ names) (suc number) name is = omega (arith, within names number name is)

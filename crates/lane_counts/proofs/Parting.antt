@@ -88,11 +88,8 @@ no_parts lanes (Some next) e =
     let none : nat_lt (active (and lanes next.lanes)) (active lanes) ≡ false = grind (arith, nat_tests, e) in
     and_right (nat_lt 0 (active (and lanes next.lanes))) (nat_lt (active (and lanes next.lanes)) (active lanes)) none
 
-pub quiet_none : (lasts : List (Option LastStep)) → IsQuiet lasts → IsQuiet (lasts ++ None ∷ [])
-quiet_none lasts quiet mine later = omega (arith, behind mine 0 lasts None later, quiet mine later)
-
 pub quiet_step : (lasts : List (Option LastStep)) (last : LastStep) → active (last_lanes last) ≡ 0 → IsQuiet lasts → IsQuiet (lasts ++ Some last ∷ [])
 quiet_step lasts last none quiet mine later =
-    let parts_none : parts (last_lanes last) (next_in_frame (0 + length lasts) later) ≡ false = no_parts (last_lanes last) (next_in_frame (0 + length lasts) later) none in
-    let none_there : one_if (mine last && parts (last_lanes last) (next_in_frame (0 + length lasts) later)) ≡ 0 = ap one_if (and_right (mine last) (parts (last_lanes last) (next_in_frame (0 + length lasts) later)) parts_none) in
-    omega (arith, behind mine 0 lasts (Some last) later, quiet mine later, none_there)
+    let parts_none : parts (last_lanes last) (next_in_frame (1 + length lasts) later) ≡ false = no_parts (last_lanes last) (next_in_frame (1 + length lasts) later) none in
+    let none_there : one_if (mine last && parts (last_lanes last) (next_in_frame (1 + length lasts) later)) ≡ 0 = ap one_if (and_right (mine last) (parts (last_lanes last) (next_in_frame (1 + length lasts) later)) parts_none) in
+    omega (arith, behind mine 1 lasts (Some last) later, quiet mine later, none_there)

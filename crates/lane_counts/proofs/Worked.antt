@@ -5,7 +5,7 @@ use Rattle.gang_types.specs.declared.places.Spot.{Spot}
 use Rattle.foreach_forms.specs.declared.forms.Form.{Form}
 use Rattle.foreach_forms.specs.declared.forms.Word.TheVariants as word
 use Rattle.lane_counts.specs.Formed.{is_inside, is_round}
-use Rattle.lane_counts.specs.Steps.{Stand, at_line, each, lane_steps, partings, short_steps, steps}
+use Rattle.lane_counts.specs.Steps.{Stand, at_line, each, in_frame, lane_steps, partings, short_steps, steps}
 use Rattle.lane_counts.specs.Tallies.{unparted_of}
 
 abbrev go : List ℕ
@@ -90,3 +90,16 @@ inside_it = refl
 
 inside_another : unparted_of (λ stand. is_inside (form_of 1) stand.spot) branches ≡ record { steps = 0; lane_steps = 0; short_steps = 0; partings = 0 }
 inside_another = refl
+
+-- a function that stands twice takes a step once; each of its callee's steps is one of its own too, by the lanes that do it
+abbrev deeper : List Stand
+deeper = at 8 (go ∷ []) all ∷ at 2 (f ∷ go ∷ []) first_two ∷ at 2 (f ∷ f ∷ go ∷ []) last_one ∷ at 9 (go ∷ []) all ∷ []
+
+once_for_each_step : steps (in_frame f) deeper ≡ 2
+once_for_each_step = refl
+
+with_what_it_calls : unparted_of (in_frame go) deeper ≡ record { steps = 4; lane_steps = 11; short_steps = 2; partings = 0 }
+with_what_it_calls = refl
+
+by_lanes_of_the_callee : lane_steps (in_frame f) deeper ≡ 3
+by_lanes_of_the_callee = refl

@@ -30,7 +30,7 @@ pending mine deep (last ∷ lasts) later = parting_of mine deep last later + pen
 
 -- at none of these last steps the lanes part, whatever comes
 abbrev pub IsQuiet : List (Option LastStep) → Type 0
-IsQuiet lasts = (mine : LastStep → Bool) (later : List Stand) → pending mine 0 lasts later ≡ 0
+IsQuiet lasts = (mine : LastStep → Bool) (later : List Stand) → pending mine 1 lasts later ≡ 0
 
 -- the last step of the frame that is so many above the first of these
 abbrev pub last_at : List (Option LastStep) → ℕ → Option LastStep

@@ -1,5 +1,6 @@
 -- What is counted of the steps of a run.
 use Rattle.std.specs.Prelude.{ℕ, Bool, true, false, ◌&&◌, ◌+◌, ◌==◌, nat_lt, List, [], ◌∷◌, length, Option, Some, None, if◌then◌else◌, bytes_eq, count_by}
+use Rattle.std.specs.List.{list_any}
 use Rattle.gang_types.specs.Lanes.{Lanes, and}
 use Rattle.gang_types.specs.declared.places.Spot.{Spot}
 
@@ -75,6 +76,10 @@ at_line line stand = stand.line == line
 -- those whose frame is of a function of this name
 abbrev pub in_function : List ℕ → Stand → Bool
 in_function name stand = is_first name stand.functions
+
+-- those at which a frame of a function of this name stands, once or several times: its own steps, and those of what it calls
+abbrev pub in_frame : List ℕ → Stand → Bool
+in_frame name stand = list_any (λ other. bytes_eq other name) stand.functions
 
 -- all
 abbrev pub each : Stand → Bool

@@ -1,14 +1,16 @@
 -- What a tally has counted, and what it comes to with the steps to come.
-use Rattle.std.specs.Prelude.{◌≡◌, ℕ, Bool, true, ◌+◌, ◌*◌, ◌==◌, List, [], ◌∷◌}
+use Rattle.std.specs.Prelude.{◌≡◌, ℕ, Bool, true, ◌+◌, ◌*◌, ◌==◌, List, [], ◌∷◌, ◌++◌, drop, Option, Some}
 use Rattle.gang_types.specs.Masks.{lanes_of}
 use Rattle.foreach_forms.specs.declared.forms.Form.{Form}
 use Rattle.lane_counts.specs.declared.counts.Counts.{Counts}
+use Rattle.lane_counts.specs.declared.frames.LastStep.{LastStep}
+use Rattle.lane_counts.specs.declared.names.Names.{Names}
 use Rattle.lane_counts.specs.declared.tally.StepAt.{StepAt}
 use Rattle.lane_counts.specs.declared.tally.Tally.{Tally}
-use Rattle.lane_counts.specs.Steps.{Stand, at_line, depth, each, in_function, lane_steps, partings, short_steps, steps}
+use Rattle.lane_counts.specs.Steps.{Stand, at_line, depth, each, in_frame, in_function, lane_steps, partings, short_steps, steps}
 use Rattle.lane_counts.specs.Counted.{AreFew, IsFew, counts_at, none}
 use Rattle.lane_counts.specs.Formed.{is_inside, is_round}
-use Rattle.lane_counts.specs.Naming.{AreDistinct}
+use Rattle.lane_counts.specs.Naming.{AreDistinct, name_at}
 use Rattle.lane_counts.specs.Pending.{IsQuiet, pending, width_of}
 
 -- what is counted of the steps that are chosen
@@ -40,16 +42,20 @@ unparted_with c chosen later = record {
 
 -- what a tally has of a line, with later steps
 abbrev pub line_with : Tally → (line : ℕ) → List Stand → Counts
-line_with tally line later = with_later (counts_at tally.lines.rows.items line) (pending (λ last. last.line == line) 0 tally.frames.lasts.items later) (at_line line) later
+line_with tally line later = with_later (counts_at tally.lines.rows.items line) (pending (λ last. last.line == line) 1 tally.frames.lasts.items later) (at_line line) later
 
 -- what it has of the own steps of the function of a number, which has this name, with later steps
 abbrev pub own_with : Tally → (number : ℕ) → (name : List ℕ) → List Stand → Counts
 own_with tally number name later =
-    with_later (counts_at tally.own.rows.items number) (pending (λ last. last.function == number) 0 tally.frames.lasts.items later) (in_function name) later
+    with_later (counts_at tally.own.rows.items number) (pending (λ last. last.function == number) 1 tally.frames.lasts.items later) (in_function name) later
 
 -- what it has of all steps, with later ones
 abbrev pub all_with : Tally → List Stand → Counts
-all_with tally later = with_later tally.all (pending (λ last. true) 0 tally.frames.lasts.items later) each later
+all_with tally later = with_later tally.all (pending (λ last. true) 1 tally.frames.lasts.items later) each later
+
+-- what it has of the steps at which a frame of the function of a number stands, which has this name, with later steps
+abbrev pub whole_with : Tally → (number : ℕ) → (name : List ℕ) → List Stand → Counts
+whole_with tally number name later = unparted_with (counts_at tally.whole.rows.items number) (in_frame name) later
 
 -- what it has of the rounds of the form of a number, with later steps
 abbrev pub rounds_with : Tally → (number : ℕ) → Form → List Stand → Counts
@@ -58,6 +64,20 @@ rounds_with tally number form later = unparted_with (counts_at tally.forms.round
 -- what it has of the steps inside the form of a number, with later steps
 abbrev pub inside_with : Tally → (number : ℕ) → Form → List Stand → Counts
 inside_with tally number form later = unparted_with (counts_at tally.forms.inside.rows.items number) (λ stand. is_inside form stand.spot) later
+
+-- the last steps of frames, the bottom one's first, are those of frames of these functions, the top one's first
+abbrev pub AreFrames : Names → List (Option LastStep) → List (List ℕ) → Type 0
+AreFrames names lasts [] = lasts ≡ []
+AreFrames names lasts (name ∷ below) =
+    (rest : List (Option LastStep)) × (last : LastStep) × (lasts ≡ rest ++ Some last ∷ []) × (name_at names last.function ≡ Some name) × AreFrames names rest below
+
+-- the frames that a tally has entered and not left are those of these functions, the top one's first
+abbrev pub HasFrames : Tally → List (List ℕ) → Type 0
+HasFrames tally functions = AreFrames tally.names tally.frames.lasts.items functions
+
+-- the frames below that of a step stand there: those above them have been left
+abbrev pub Follows : Tally → Stand → Type 0
+Follows tally stand = (left : List (List ℕ)) × HasFrames tally (left ++ drop 1 stand.functions)
 
 -- a step stands where it is told
 pub record IsAt (at : StepAt) (stand : Stand) : Type 0 where
@@ -83,6 +103,7 @@ pub record IsBegun (tally : Tally) : Type 0 where
   pub all : tally.all ≡ none
   pub lines : tally.lines.rows.items ≡ []
   pub own : tally.own.rows.items ≡ []
+  pub whole : tally.whole.rows.items ≡ []
   pub rounds : tally.forms.rounds.rows.items ≡ []
   pub inside : tally.forms.inside.rows.items ≡ []
   pub frames : IsQuiet tally.frames.lasts.items

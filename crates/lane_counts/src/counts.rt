@@ -1,7 +1,12 @@
 //! What is counted of some steps.
 ghost use Rattle.std.specs.Prelude.{◌≡◌, ◌≤◌, ◌^◌, ◌-◌, true};
 ghost use Rattle.lane_counts.specs.Counted.{IsFew, none, noted, with_parting, with_step};
-ghost use Rattle.lane_counts.specs.Steps.{one_if};
+ghost use Rattle.gang_types.specs.Masks.{lanes_of};
+ghost use Rattle.lane_counts.specs.Pending.{width_of};
+ghost use Rattle.lane_counts.specs.Steps.{active, one_if};
+
+use crate::gang::Gang;
+use gang_types::Mask;
 
 /// What is counted of some steps of a run. No count is more than 16 times the steps of the whole run.
 #[derive(Clone, Copy, Debug, PartialEq, Eq)]
@@ -26,6 +31,19 @@ impl Counts {
             lane_steps: 0,
             short_steps: 0,
             partings: 0,
+        }
+    }
+
+    /// The counts with a step more, which these lanes of a gang do.
+    pub fn and_step(self, gang: Gang, lanes: Mask) -> Self
+        ensures { IsFew (2 ^ 40) self → result ≡ with_step (active (lanes_of (width_of gang) lanes)) (width_of gang) self }
+    {
+        let (lanes, width) = (gang.count(lanes), gang.width());
+        Counts {
+            steps: self.steps.saturating_add(1),
+            lane_steps: self.lane_steps.saturating_add(lanes as u64),
+            short_steps: self.short_steps.saturating_add(u64::from(lanes < width)),
+            partings: self.partings,
         }
     }
 

@@ -1,5 +1,5 @@
 //! The last step of each frame, whose lanes may part by the next one.
-ghost use Rattle.std.specs.Prelude.{◌≡◌, ℕ, ◌&&◌, ◌+◌, Bool, List, ◌∷◌, Some, IfOk, [], nat_lt};
+ghost use Rattle.std.specs.Prelude.{◌≡◌, ℕ, suc, ◌≤◌, ◌&&◌, ◌+◌, Bool, List, ◌∷◌, ◌++◌, Some, IfOk, [], length, nat_lt, take};
 ghost use Rattle.gang_types.specs.Lanes.{and};
 ghost use Rattle.gang_types.specs.Masks.{lanes_of};
 ghost use Rattle.lane_counts.specs.Pending.{IsQuiet, has_function, is_of, last_at, last_lanes, parting_of, pending, width_of};
@@ -50,7 +50,7 @@ fn is_of(function: usize, last: Option<LastStep>) -> bool
     }
 }
 
-/// The last step of each frame, at its depth.
+/// The last step of each frame, the bottom one's first.
 #[derive(Drop)]
 pub(crate) struct Frames {
     lasts: Vec<Option<LastStep>>,
@@ -72,11 +72,9 @@ impl Frames {
     /// Out of memory.
     pub(crate) fn enter(&mut self, function: usize) -> Result<(), AllocError>
         requires { IsQuiet self.old.lasts.items }
-        ensures { IfOk result (λ _. IsQuiet self.new.lasts.items) }
+        ensures quiet { IfOk result (λ _. IsQuiet self.new.lasts.items) }
+        ensures frames { IfOk result (λ _. (last : LastStep) × (self.new.lasts.items ≡ self.old.lasts.items ++ Some last ∷ []) × (last.function ≡ function)) }
     {
-        if self.lasts.is_empty() {
-            self.lasts.push(None)?;
-        }
         self.lasts.push(Some(LastStep {
             line: 0,
             function,
@@ -98,33 +96,34 @@ impl Frames {
         false
     }
 
-    /// The last step of the frame at a depth.
-    fn last(&self, depth: usize) -> Option<LastStep>
-        ensures { result ≡ last_at self.now.lasts.items depth }
+    /// The last step of the frame that is so many above the bottom one.
+    fn last(&self, below: usize) -> Option<LastStep>
+        ensures { result ≡ last_at self.now.lasts.items below }
     {
-        match self.lasts.get(depth) {
+        match self.lasts.get(below) {
             Some(last) => *last,
             None => None,
         }
     }
 
-    /// Puts a step in the place of the last one of the frame at a depth, which is given back. Frames above it have been left.
+    /// Puts a step in the place of the last one of the frame that has so many below it, which is given back. Frames above it have been left.
     ///
     /// # Errors
     ///
     /// Out of memory.
     pub(crate) fn put(
         &mut self,
-        depth: usize,
+        below: usize,
         step: LastStep,
     ) -> Result<Option<LastStep>, AllocError>
-        ensures { IfOk result (λ before. (mine : LastStep → Bool) (stand : Stand) (later : List Stand) → depth_of stand ≡ depth
-            → pending mine 0 self.old.lasts.items (stand ∷ later) + parting_of mine depth (Some step) later
-            ≡ pending mine 0 self.new.lasts.items later + parting_of mine depth before (stand ∷ later)) }
+        ensures parting { IfOk result (λ before. (mine : LastStep → Bool) (stand : Stand) (later : List Stand) → depth_of stand ≡ suc below
+            → pending mine 1 self.old.lasts.items (stand ∷ later) + parting_of mine (suc below) (Some step) later
+            ≡ pending mine 1 self.new.lasts.items later + parting_of mine (suc below) before (stand ∷ later)) }
+        ensures frames { IfOk result (λ _. below ≤ length self.old.lasts.items → self.new.lasts.items ≡ take below self.old.lasts.items ++ Some step ∷ []) }
     {
-        let before = self.last(depth);
-        self.lasts.truncate(depth);
-        while self.lasts.len() < depth {
+        let before = self.last(below);
+        self.lasts.truncate(below);
+        while self.lasts.len() < below {
             self.lasts.push(None)?;
         }
         self.lasts.push(Some(step))?;

@@ -6,6 +6,7 @@ mod forms;
 mod frames;
 mod gang;
 mod names;
+mod shares;
 mod table;
 mod tally;
 
@@ -13,4 +14,5 @@ pub use counts::Counts;
 pub use forms::FormCounts;
 pub use gang::Gang;
 pub use names::Names;
+pub use shares::{lost, share, share_of};
 pub use tally::{StepAt, Tally};

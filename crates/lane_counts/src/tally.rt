@@ -1,5 +1,5 @@
 //! The counts of a run, step by step.
-ghost use Rattle.std.specs.Prelude.{◌≡◌, ℕ, ◌+◌, ◌<◌, ◌^◌, ◌==◌, Bool, List, ◌∷◌, Some, IfOk, [], slice_get};
+ghost use Rattle.std.specs.Prelude.{◌≡◌, ℕ, suc, ◌+◌, ◌<◌, ◌^◌, ◌==◌, Bool, List, ◌∷◌, Some, IfOk, [], slice_get};
 ghost use Rattle.foreach_forms.specs.declared.forms.Form.{Form};
 ghost use Rattle.gang_types.specs.Masks.{lanes_of};
 ghost use Rattle.lane_counts.specs.Counted.{hits, none};
@@ -7,7 +7,7 @@ ghost use Rattle.lane_counts.specs.Naming.{AreDistinct, Extends, HasName, name_a
 ghost use Rattle.lane_counts.specs.declared.names.Names.{Names};
 ghost use Rattle.lane_counts.specs.Pending.{IsQuiet, hit, parting_of, width_of};
 ghost use Rattle.lane_counts.specs.Steps.{Stand, depth as depth_of};
-ghost use Rattle.lane_counts.specs.Tallies.{IsAt, IsBegun, IsSound, all_with, inside_with, line_with, own_with, rounds_with};
+ghost use Rattle.lane_counts.specs.Tallies.{Follows, HasFrames, IsAt, IsBegun, IsSound, all_with, inside_with, line_with, own_with, rounds_with, whole_with};
 
 use crate::counts::Counts;
 use crate::forms::FormCounts;
@@ -49,6 +49,7 @@ impl Tally {
     pub fn new(alloc: Global, forms: Vec<Form>) -> Self
         ensures begun { IsBegun result }
         ensures forms { result.forms.forms ≡ forms }
+        ensures frames { HasFrames result [] }
     {
         Tally {
             all: Counts::none(),
@@ -112,9 +113,11 @@ impl Tally {
         requires { IsBegun self.old }
         ensures begun { IfOk result (λ _. IsBegun self.new) }
         ensures forms { self.new.forms.forms ≡ self.old.forms.forms }
+        ensures frames { IfOk result (λ _. (functions : List (List ℕ)) → HasFrames self.old functions → HasFrames self.new (function.now ∷ functions)) }
     {
         let number = self.names.number_of(alloc, function)?;
-        self.frames.enter(number)
+        self.frames.enter(number)?;
+        Ok(())
     }
 
     /// Counts a step before it is done.
@@ -129,6 +132,9 @@ impl Tally {
             → line_with self.old line (stand ∷ later) ≡ line_with self.new line later) }
         ensures own { IfOk result (λ _. (final : Names) (number : ℕ) (name : List ℕ) → Extends self.new.names final → AreDistinct final → name_at final number ≡ Some name
             → (stand : Stand) (later : List Stand) → IsAt at.entry stand → own_with self.old number name (stand ∷ later) ≡ own_with self.new number name later) }
+        ensures whole { IfOk result (λ _. (final : Names) (number : ℕ) (name : List ℕ) → Extends self.new.names final → AreDistinct final → name_at final number ≡ Some name
+            → (stand : Stand) (later : List Stand) → IsAt at.entry stand → Follows self.old stand → whole_with self.old number name (stand ∷ later) ≡ whole_with self.new number name later) }
+        ensures frames { IfOk result (λ _. (stand : Stand) → IsAt at.entry stand → Follows self.old stand → HasFrames self.new stand.functions) }
         ensures kept { IfOk result (λ _. Extends self.old.names self.new.names) }
         ensures all { IfOk result (λ _. (stand : Stand) (later : List Stand) → IsAt at.entry stand
             → all_with self.old (stand ∷ later) ≡ all_with self.new later) }
@@ -149,7 +155,8 @@ impl Tally {
             gang: at.gang,
             lanes: at.lanes,
         };
-        let before = self.frames.put(at.depth, step)?;
+        let below = at.depth.saturating_sub(1);
+        let before = self.frames.put(below, step)?;
         let parted = parted_from(before, at.gang, at.lanes);
         self.lines.add(at.line, line_of(parted), lanes, width)?;
         self.own.add(function, function_of(parted), lanes, width)?;

@@ -1,4 +1,4 @@
-use Rattle.std.proofs.Common.{◌≡◌, ◌∙◌, ap, sym, arith, ◌+◌, ◌*◌, ◌≤◌, true, Bool, ◌∷◌, length, Some, refl}
+use Rattle.std.proofs.Common.{◌≡◌, ◌∙◌, ap, sym, subst, arith, suc, ◌+◌, ◌*◌, ◌≤◌, true, Bool, ◌∷◌, ◌++◌, drop, length, Some, refl}
 use Rattle.std.specs.Prelude.{◌==◌, ◌&&◌, nat_lt, slice_get}
 use Rattle.lane_counts.specs.declared.counts.Counts.{Counts}
 use Rattle.lane_counts.specs.declared.frames.LastStep.{LastStep}
@@ -7,8 +7,10 @@ use Rattle.lane_counts.specs.Pending.{has_function, pending, width_of}
 use Rattle.lane_counts.specs.declared.forms.Part.TheVariants as part
 use Rattle.lane_counts.specs.Formed.{has_part, is_inside, is_round}
 use Rattle.lane_counts.specs.Naming.{name_at}
-use Rattle.lane_counts.specs.Steps.{active, at_line, each, in_function, is_first, next_in_frame, one_if, parts}
+use Rattle.lane_counts.specs.Steps.{active, at_line, each, in_frame, in_function, is_first, next_in_frame, one_if, parts}
+use Rattle.lane_counts.specs.Tallies.{AreFrames}
 use Rattle.lane_counts.proofs.Numbered.{part_of}
+use Rattle.lane_counts.proofs.Standing.{above, counted_whole, enough, stepped}
 use Rattle.lane_counts.proofs.Named.{numbered, some_same}
 use Rattle.lane_counts.proofs.Noting.{few_noted, hit_some, hits_few, lanes_length, one_few, with_noted, with_unparted}
 use Rattle.lane_counts.proofs.tally.Tally.note.Goals as goal
@@ -16,12 +18,13 @@ use Rattle.lane_counts.proofs.tally.Tally.note.Goals as goal
 pub returns-clause-lines : goal.returns-clause-lines
 returns-clause-lines c line stand later at =
     let mine : LastStep → Bool = λ last. last.line == line in
-    let put = c.in_ok-before.ensures mine stand later at.deep in
-    let parted = c.parted_from-parted.ensures mine stand later c.args.at.depth at.deep at.lanes in
-    let next = ap (λ lanes. one_if ((c.args.at.line == line) && parts lanes (next_in_frame c.args.at.depth later))) at.lanes in
-    let deep = ap (λ n. one_if ((c.args.at.line == line) && parts stand.lanes (next_in_frame n later))) at.deep in
+    let deeper = above c.args.at.depth c.saturating_sub-below.result stand.functions at.function.0 at.deep at.function.1 c.saturating_sub-below.ensures in
+    let put = c.in_ok-before.ensures.parting mine stand later deeper in
+    let parted = c.parted_from-parted.ensures mine stand later (suc c.saturating_sub-below.result) deeper at.lanes in
+    let next = ap (λ lanes. one_if ((c.args.at.line == line) && parts lanes (next_in_frame (suc c.saturating_sub-below.result) later))) at.lanes in
+    let deep = ap (λ n. one_if ((c.args.at.line == line) && parts stand.lanes (next_in_frame n later))) deeper in
     with_noted (at_line line) _ _ (c.args.at.line == line) c.count-lanes.result c.width-width.result (hits c.line_of.result line)
-    (pending mine 0 c.args.self.now.frames.lasts.items (stand ∷ later)) (pending mine 0 c.put.new.self.lasts.items later) stand later
+    (pending mine 1 c.args.self.now.frames.lasts.items (stand ∷ later)) (pending mine 1 c.put.new.self.lasts.items later) stand later
     (c.in_ok-add.ensures line) (ap (λ n. n == line) at.line) (ap active at.lanes ∙ sym c.count-lanes.ensures.value)
     (ap length at.lanes ∙ lanes_length (width_of c.args.at.gang) c.args.at.lanes ∙ sym c.width-width.ensures.value)
     (omega (arith, put, parted, next, deep, c.line_of.ensures line))
@@ -31,15 +34,16 @@ returns-clause-own c final number name extends distinct is stand later at =
     let given = c.in_ok-function.function in
     let first = c.args.at.function.now in
     let mine : LastStep → Bool = λ last. last.function == number in
-    let put = c.in_ok-before.ensures mine stand later at.deep in
-    let parted = c.parted_from-parted.ensures mine stand later c.args.at.depth at.deep at.lanes in
-    let next = ap (λ lanes. one_if ((given == number) && parts lanes (next_in_frame c.args.at.depth later))) at.lanes in
-    let deep = ap (λ n. one_if ((given == number) && parts stand.lanes (next_in_frame n later))) at.deep in
+    let deeper = above c.args.at.depth c.saturating_sub-below.result stand.functions at.function.0 at.deep at.function.1 c.saturating_sub-below.ensures in
+    let put = c.in_ok-before.ensures.parting mine stand later deeper in
+    let parted = c.parted_from-parted.ensures mine stand later (suc c.saturating_sub-below.result) deeper at.lanes in
+    let next = ap (λ lanes. one_if ((given == number) && parts lanes (next_in_frame (suc c.saturating_sub-below.result) later))) at.lanes in
+    let deep = ap (λ n. one_if ((given == number) && parts stand.lanes (next_in_frame n later))) deeper in
     let has = extends given first c.in_ok-function.ensures.named in
     let back : first ≡ name → given ≡ number = λ e. distinct given number name (has ∙ ap Some e) is in
     let same : given ≡ number → first ≡ name = λ e. some_same first name (sym has ∙ ap (name_at final) e ∙ is) in
     with_noted (in_function name) _ _ (given == number) c.count-lanes.result c.width-width.result (hits c.function_of.result number)
-    (pending mine 0 c.args.self.now.frames.lasts.items (stand ∷ later)) (pending mine 0 c.put.new.self.lasts.items later) stand later
+    (pending mine 1 c.args.self.now.frames.lasts.items (stand ∷ later)) (pending mine 1 c.put.new.self.lasts.items later) stand later
     (c.in_ok-add-2.ensures number) (ap (is_first name) at.function.1 ∙ numbered given number first name same back) (ap active at.lanes ∙ sym c.count-lanes.ensures.value)
     (ap length at.lanes ∙ lanes_length (width_of c.args.at.gang) c.args.at.lanes ∙ sym c.width-width.ensures.value)
     (omega (arith, put, parted, next, deep, c.function_of.ensures number))
@@ -47,15 +51,36 @@ returns-clause-own c final number name extends distinct is stand later at =
 pub returns-clause-all : goal.returns-clause-all
 returns-clause-all c stand later at =
     let mine : LastStep → Bool = λ last. true in
-    let put = c.in_ok-before.ensures mine stand later at.deep in
-    let parted = c.parted_from-parted.ensures mine stand later c.args.at.depth at.deep at.lanes in
-    let next = ap (λ lanes. one_if (parts lanes (next_in_frame c.args.at.depth later))) at.lanes in
-    let deep = ap (λ n. one_if (parts stand.lanes (next_in_frame n later))) at.deep in
+    let deeper = above c.args.at.depth c.saturating_sub-below.result stand.functions at.function.0 at.deep at.function.1 c.saturating_sub-below.ensures in
+    let put = c.in_ok-before.ensures.parting mine stand later deeper in
+    let parted = c.parted_from-parted.ensures mine stand later (suc c.saturating_sub-below.result) deeper at.lanes in
+    let next = ap (λ lanes. one_if (parts lanes (next_in_frame (suc c.saturating_sub-below.result) later))) at.lanes in
+    let deep = ap (λ n. one_if (parts stand.lanes (next_in_frame n later))) deeper in
     with_noted each _ _ true c.count-lanes.result c.width-width.result (one_if c.is_some.result)
-    (pending mine 0 c.args.self.now.frames.lasts.items (stand ∷ later)) (pending mine 0 c.put.new.self.lasts.items later) stand later
+    (pending mine 1 c.args.self.now.frames.lasts.items (stand ∷ later)) (pending mine 1 c.put.new.self.lasts.items later) stand later
     c.noted-self.ensures refl (ap active at.lanes ∙ sym c.count-lanes.ensures.value)
     (ap length at.lanes ∙ lanes_length (width_of c.args.at.gang) c.args.at.lanes ∙ sym c.width-width.ensures.value)
     (omega (arith, put, parted, next, deep, ap one_if c.is_some.ensures, hit_some c.parted_from-parted.result))
+
+pub returns-clause-frames : goal.returns-clause-frames
+returns-clause-frames c stand at follows =
+    let deeper = above c.args.at.depth c.saturating_sub-below.result stand.functions at.function.0 at.deep at.function.1 c.saturating_sub-below.ensures in
+    let old = c.args.self.now in
+    let is_below : drop 1 stand.functions ≡ at.function.0 = ap (drop 1) at.function.1 in
+    let stood : AreFrames old.names old.frames.lasts.items (follows.0 ++ at.function.0) = subst (λ names. AreFrames old.names old.frames.lasts.items (follows.0 ++ names)) is_below follows.1 in
+    let count : c.saturating_sub-below.result ≡ length at.function.0 = omega (arith, deeper, ap length at.function.1) in
+    let put = c.in_ok-before.ensures.frames (enough old.names old.frames.lasts.items follows.0 at.function.0 c.saturating_sub-below.result count stood) in
+    subst (AreFrames c.number_of.new.self c.put.new.self.lasts.items) (sym at.function.1)
+    (subst (λ lasts. AreFrames c.number_of.new.self lasts (c.args.at.function.now ∷ at.function.0)) (sym put)
+    (stepped old.names c.number_of.new.self c.in_ok-function.ensures.kept old.frames.lasts.items follows.0 at.function.0 c.args.at.function.now _ c.saturating_sub-below.result count c.in_ok-function.ensures.named stood))
+
+pub returns-clause-whole : goal.returns-clause-whole
+returns-clause-whole c final number name extends distinct is stand later at follows =
+    with_unparted (in_frame name) _ _ (nat_lt number c.count.result && has_function number c.put.new.self.lasts.items) c.count-lanes.result c.width-width.result stand later
+    (c.in_ok-add_each.ensures number) (subst (λ n. in_frame name stand ≡ (nat_lt number n && has_function number c.put.new.self.lasts.items)) (sym c.count.ensures)
+    (counted_whole c.number_of.new.self final number name extends distinct is c.put.new.self.lasts.items stand.functions (returns-clause-frames c stand at follows)))
+    (ap active at.lanes ∙ sym c.count-lanes.ensures.value)
+    (ap length at.lanes ∙ lanes_length (width_of c.args.at.gang) c.args.at.lanes ∙ sym c.width-width.ensures.value)
 
 pub returns-clause-rounds : goal.returns-clause-rounds
 returns-clause-rounds c k form there stand later at =
