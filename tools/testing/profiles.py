@@ -2,8 +2,9 @@
 
 The counts are those of JSON, read by Python; the tables and the annotated source are made here anew from the counts of tools/meaning, so each
 byte of them is judged. A step is counted before it is done, where it stands; lanes part at it where some of them do the next step of its
-frame, and others do not. A round of a foreach form is the step that begins it, and it is full where all lanes do. The commands of
-docs/PROFILE.md give what stands below them, and the programs that it makes of kernels give these kernels' results.
+frame, and others do not. What a function takes with what it calls are the steps at which a frame of it stands, once or several times. A round
+of a foreach form is the step that begins it, and it is full where all lanes do. The commands of docs/PROFILE.md give what stands below them,
+and the programs that it makes of kernels give these kernels' results.
 """
 
 import functools
@@ -122,6 +123,38 @@ HOSTILE = b"""export void go() { // \xff\x00\x1b[31m
 \tint x = 1;\t// \t"\\
     x = 2; // 45678901234567890123456789012345678901234\xc3\xa9\xe2\x82\xac\xe2\x82\xac
     x = 3; // 4567890123456789012345678901234567890123456789
+}
+"""
+# A recursion three deep in some lanes, which two functions do in turn, negative numbers, and two functions of one name.
+DEEP = """uniform int total = 0;
+int odd(int n) {
+    if (n >= -1)
+        return 0;
+    int less = even(n + 1);
+    return less + 1;
+}
+int even(int n) {
+    if (n >= -1)
+        return 0;
+    int less = odd(n + 1);
+    return less + 1;
+}
+int twice(int x) { return x * 2; }
+uniform int twice(uniform int x) { return x - 2; }
+export void go() {
+    int n = -programIndex;
+    int x = 0;
+    uniform int k = 0;
+    while (n < 0) {
+        int y = 0;
+        y = even(n > -4 ? n : -4);
+        x += y;
+        n += 3;
+    }
+    x = twice(x);
+    k = twice(k);
+    if (x < k)
+        x = odd(-3);
 }
 """
 EMPTY = "export void go() {\n}\n"
@@ -477,6 +510,6 @@ def runs(root):
     own = runs_of("mixed", MIXED) + runs_of("empty", EMPTY) + runs_of("endless", ENDLESS, most=50)
     cut = [run for most in (1, 2, 7, 30) for run in runs_of("mixed", MIXED, most=most, widths=(8,))]
     late = [run for first in (2, 9, 23, 40, 61) for run in runs_of("mixed", MIXED, widths=(8,), first=first)] + runs_of("mixed", MIXED, most=12, first=30)
-    own += runs_of("forms", FORMED) + coloured_runs()
+    own += runs_of("forms", FORMED) + runs_of("deep", DEEP) + coloured_runs()
     other = [*shown_runs(root), *result_runs(root), *hostile_runs()]
     return [*own, *cut, *late, *other, *example_runs(root), *kernel_runs(root), *wrong_runs(), *file_runs()]

@@ -7,7 +7,7 @@ import json
 import pathlib
 import subprocess
 
-from . import examples, meant, run_pages
+from . import examples, meant, profiles, run_pages
 from .tried import Result
 
 MOMENTS = 40
@@ -321,6 +321,9 @@ def bands(browser, file):
     why += [] if text == "round 3 of 3 of line 8, 2 of 4 lanes" else [f"the round is told as {text}"]
     share = browser.value("rows[11].querySelector('.share').textContent")
     why += [] if share == "25%" else [f"line 12 is done by {share} of the lanes, and 25% is wanted"]
+    heat = json.loads(browser.value("JSON.stringify(times_of.map((times, at) => [at + 1, times.length, lane_steps_of[at]]).filter(it => it[1]))"))
+    wanted = [[line, row["steps"], row["lane_steps"]] for line, row in profiles.Counted(ROUNDS, {"width": 4}, 100_000).lines().items()]
+    why += [] if heat == wanted else [f"the heat has {heat}, and the profile {wanted}"]
     browser.value("go(LAST)")
     browser.value("who(variables.findIndex(it => it[NAME] === 'a'), 9)")
     last = json.loads(browser.value("JSON.stringify(here.pick.strip.filter(it => it[2] > LAST).map(it => it[3]))"))

@@ -1,2 +1,3 @@
 mod Placing
 mod Left
+mod Frames

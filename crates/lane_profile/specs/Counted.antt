@@ -13,7 +13,7 @@ use Rattle.lane_counts.specs.declared.tally.Tally.{Tally}
 use Rattle.lane_counts.specs.Counted.{counts_at}
 use Rattle.lane_counts.specs.Formed.{is_inside, is_round}
 use Rattle.lane_counts.specs.Naming.{HasName, name_at}
-use Rattle.lane_counts.specs.Steps.{at_line, each, in_function}
+use Rattle.lane_counts.specs.Steps.{at_line, each, in_frame, in_function}
 use Rattle.lane_counts.specs.Tallies.{IsAt, counts_of, unparted_of}
 use Rattle.lane_profile.specs.Stands.{stand_of, stands_of}
 
@@ -34,6 +34,12 @@ pub record HasCounted (p : Program) (most : ℕ) (first : State) (tally : Tally)
       → counts_at tally.forms.rounds.rows.items number ≡ unparted_of (λ stand. is_round form stand.spot) (stands_of p most first)
   pub inside : (number : ℕ) (form : Form) → slice_get (forms_of p) number ≡ Some form
       → counts_at tally.forms.inside.rows.items number ≡ unparted_of (λ stand. is_inside form stand.spot) (stands_of p most first)
+
+-- a tally has, of each function that it names, the counts of the steps of a run at which a frame of it stands, once or several times: with
+-- its own steps, those of what it calls
+abbrev pub HasCountedWhole : Program → (most : ℕ) → State → Tally → Type 0
+HasCountedWhole p most first tally =
+    (number : ℕ) (name : Bytes) → name_at tally.names number ≡ Some name → counts_at tally.whole.rows.items number ≡ unparted_of (in_frame name) (stands_of p most first)
 
 -- the next step of a state stands where it is told, or the program has ended
 abbrev pub IsNext : Program → State → Option StepAt → Type 0

@@ -1,7 +1,7 @@
 -- Where the steps of a run stand.
 use Rattle.std.specs.Prelude.{ℕ, zero, suc, List, [], ◌∷◌, map, Option, Some, None, slice_get, unwrap_or}
 use Rattle.gang_model.specs.Types.Tree.{Function, Program}
-use Rattle.gang_model.specs.Running.State.{State}
+use Rattle.gang_model.specs.Running.State.{Frame, State}
 use Rattle.gang_model.specs.Running.Step.{Stepped, Goes, Fails, Over, step}
 use Rattle.gang_model.specs.Debugger.Positions.{lanes_now, line_now, spot_in, spot_now}
 use Rattle.gang_model.specs.Texts.Text.{Bytes}
@@ -23,12 +23,16 @@ abbrev pub name_of : Option Function → Bytes
 name_of None = []
 name_of (Some f) = f.name
 
+-- the names of the functions of frames
+abbrev pub functions_of : Program → List Frame → List Bytes
+functions_of p frames = map (λ frame. name_of (slice_get p.functions frame.function)) frames
+
 -- where the step of a state stands
 abbrev pub stand_of : Program → State → Stand
 stand_of p state = record {
   line = unwrap_or (line_now p state) 0;
   spot = unwrap_or (spot_now p state) (spot_in 0 0);
-  functions = map (λ frame. name_of (slice_get p.functions frame.function)) state.frames;
+  functions = functions_of p state.frames;
   lanes = lanes_now state;
 }
 

@@ -1,11 +1,14 @@
 //! A run, step by step, with its counts.
-ghost use Rattle.std.specs.Prelude.{◌≡◌, ◌≤◌, IfOk, OnErr};
+ghost use Rattle.std.specs.Prelude.{◌≡◌, ◌<◌, ◌≤◌, ◌-◌, IfOk, OnErr, drop, length, slice_get};
+ghost use Rattle.debug_traits.specs.Frames.{frames_at};
 ghost use Rattle.foreach_forms.specs.Forms.{forms_of};
 ghost use Rattle.gang_model.specs.Debugger.Debugger.{Debugger, Setting, now};
 ghost use Rattle.debug_session.specs.Sessions.{StandsFor};
-ghost use Rattle.lane_counts.specs.Tallies.{IsBegun};
+ghost use Rattle.lane_counts.specs.Tallies.{HasFrames, IsBegun};
 ghost use Rattle.lane_picture.specs.Tries.{HasBegun, HasRun};
-ghost use Rattle.lane_profile.specs.Counted.{HasCounted, IsNext};
+ghost use Rattle.lane_profile.specs.Counted.{HasCounted, HasCountedWhole, IsNext};
+ghost use Rattle.lane_profile.specs.Stands.{functions_of, name_of};
+ghost use Rattle.typed_tree.specs.Views.{program_view};
 
 use debug_session::Session;
 use foreach_forms::forms_of;
@@ -13,6 +16,7 @@ use frame_expressions::ExpressionMachine;
 use lane_counts::{Gang, StepAt, Tally};
 use lane_picture::{StepsEnd, end_after, try_step};
 use std::alloc::{AllocError, Global};
+use typed_tree::Program;
 
 /// Tries one step after another, so many at most, and counts each before it is tried.
 ///
@@ -28,6 +32,8 @@ pub fn count_run<M: ExpressionMachine>(
         → HasRun M.stands s most_steps d counted.1 session.new) }
     ensures counted { IfOk result (λ counted. (s : Setting) (d : Debugger) → StandsFor M.stands session.old s d → 1 ≤ s.limit
         → HasCounted s.program most_steps (now s d) counted.0) }
+    ensures whole { IfOk result (λ counted. (s : Setting) (d : Debugger) → StandsFor M.stands session.old s d → 1 ≤ s.limit → length s.first.frames ≤ 1
+        → HasCountedWhole s.program most_steps (now s d) counted.0) }
     ensures memory { OnErr result ((s : Setting) (d : Debugger) → StandsFor M.stands session.old s d
         → HasBegun M.stands s most_steps d session.new) }
 {
@@ -49,22 +55,54 @@ pub fn count_run<M: ExpressionMachine>(
 fn begun_at<M: ExpressionMachine>(alloc: Global, machine: &M) -> Result<Tally, AllocError>
     ensures begun { IfOk result IsBegun }
     ensures forms { IfOk result (λ tally. (s : Setting) (d : Debugger) → M.stands machine.now s d → tally.forms.forms.items ≡ forms_of s.program) }
+    ensures frames { IfOk result (λ tally. (s : Setting) (d : Debugger) → M.stands machine.now s d → length s.first.frames ≤ 1
+        → HasFrames tally (functions_of s.program (drop 1 (now s d).frames))) }
 {
     let mut tally = Tally::new(alloc, forms_of(alloc, machine.program())?);
     for depth in 1..depth_of(machine) {
-        if let Some(call) = machine.call(depth) {
-            tally.enter(alloc, call.function)?;
-        }
+        enter_frame(alloc, depth, machine, &mut tally)?;
     }
     Ok(tally)
 }
 
+/// Puts the frame at a depth, below the top one, on those that a tally has.
+fn enter_frame<M: ExpressionMachine>(
+    alloc: Global,
+    depth: usize,
+    machine: &M,
+    tally: &mut Tally,
+) -> Result<(), AllocError>
+    requires { IsBegun tally.old }
+    ensures begun { IfOk result (λ _. IsBegun tally.new) }
+    ensures forms { tally.new.forms.forms ≡ tally.old.forms.forms }
+    ensures frames { IfOk result (λ _. (s : Setting) (d : Debugger) → M.stands machine.now s d → length s.first.frames ≤ 1 → 1 ≤ depth → depth < length (now s d).frames
+        → HasFrames tally.old (functions_of s.program (frames_at (depth - 1) (now s d).frames)) → HasFrames tally.new (functions_of s.program (frames_at depth (now s d).frames))) }
+{
+    let Some(spot) = machine.spot(depth) else {
+        return Ok(());
+    };
+    tally.enter(alloc, name_of(machine.program(), spot.function.0))?;
+    Ok(())
+}
+
+/// The name of the function of a number.
+fn name_of(program: &Program, number: usize) -> &[u8]
+    ensures { result.now ≡ name_of (slice_get (program_view program.now).functions number) }
+{
+    let Some(function) = program.functions.get(number) else {
+        return &[];
+    };
+    function.name.as_slice()
+}
+
 /// How many frames there are.
-fn depth_of<M: ExpressionMachine>(machine: &M) -> usize {
-    match machine.position() {
-        Some(position) => position.depth,
-        None => 0,
-    }
+fn depth_of<M: ExpressionMachine>(machine: &M) -> usize
+    ensures { (s : Setting) (d : Debugger) → M.stands machine.now s d → result ≡ length (now s d).frames }
+{
+    let Some(position) = machine.position() else {
+        return 0;
+    };
+    position.depth
 }
 
 /// Where the next step stands, unless the program has ended.

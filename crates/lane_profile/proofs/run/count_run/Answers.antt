@@ -1,4 +1,4 @@
-use Rattle.std.proofs.Common.{◌≡◌, ◌∙◌, [], refl, ap, sym, subst, arith}
+use Rattle.std.proofs.Common.{◌≡◌, ◌∙◌, ◌+◌, [], refl, ap, sym, subst, arith}
 use Rattle.std.specs.List.{All}
 use Rattle.std.specs.Prelude.{slice_get}
 use Rattle.std.proofs.lemmas.List.Elements.{All-cons, All-nil}
@@ -6,10 +6,14 @@ use Rattle.gang_model.specs.Debugger.Debugger.{now}
 use Rattle.debug_session.specs.Sessions.{bare}
 use Rattle.lane_picture.proofs.Counting.{none_tried, one_more, run_full, run_over, run_stopped}
 use Rattle.lane_counts.specs.declared.counts.Counts.{Counts}
-use Rattle.lane_counts.specs.Tallies.{all_with, inside_with, line_with, own_with, rounds_with}
-use Rattle.lane_counts.proofs.Ends.{all_begun, all_done, inside_begun, inside_done, line_begun, line_done, own_begun, own_done, rounds_begun, rounds_done}
+use Rattle.lane_counts.specs.Tallies.{Follows, all_with, inside_with, line_with, own_with, rounds_with, whole_with}
+use Rattle.lane_counts.proofs.Ends.{all_begun, all_done, inside_begun, inside_done, line_begun, line_done, own_begun, own_done, rounds_begun, rounds_done, whole_begun, whole_done}
 use Rattle.lane_profile.specs.Counted.{IsNamed}
 use Rattle.lane_profile.specs.Stands.{stand_of}
+use Rattle.gang_model.specs.Debugger.Events.{gone}
+use Rattle.lane_picture.specs.Seen.{next_state, state_after}
+use Rattle.lane_picture.proofs.SeenColumns.{after_more}
+use Rattle.lane_profile.proofs.Frames.{follows_first, follows_on}
 use Rattle.lane_profile.proofs.Left.{all_left, ended_left, last_left, named_by, none_left, step_left}
 use Rattle.lane_profile.proofs.run.count_run.Goals as goal
 
@@ -24,6 +28,9 @@ loop-count-init g c =
       forms = λ s d st. c.in_ok-tally.ensures.forms s (bare d) (subst (λ m. g.M.RecordedMachine.stands m s (bare d)) (sym c.machine.ensures) st.there);
       lines = λ s d st limit line. ap (line_with tally line) (all_left s.program c.args.most_steps (now s d)) ∙ line_begun tally begun line _;
       own = λ s d st limit final number name extends distinct is. ap (own_with tally number name) (all_left s.program c.args.most_steps (now s d)) ∙ own_begun tally begun number name _;
+      whole = λ s d st limit few final number name extends distinct is. ap (whole_with tally number name) (all_left s.program c.args.most_steps (now s d)) ∙ whole_begun tally begun number name _;
+      frames = λ s d st limit few. follows_first s.program tally (now s d)
+          (c.in_ok-tally.ensures.frames s (bare d) (subst (λ m. g.M.RecordedMachine.stands m s (bare d)) (sym c.machine.ensures) st.there) few);
       named = λ s d st limit final extends all. subst (λ l. All (λ stand. IsNamed final stand.functions) l) (all_left s.program c.args.most_steps (now s d)) all;
       all = λ s d st limit. ap (all_with tally) (all_left s.program c.args.most_steps (now s d)) ∙ all_begun tally begun _;
       rounds = λ s d st limit number form is. ap (rounds_with tally number form) (all_left s.program c.args.most_steps (now s d)) ∙ rounds_begun tally begun number form _;
@@ -127,6 +134,29 @@ loop-count-preserved g c =
           let left = step_left s.program c.args.most_steps (now s d) c.loop-count._count (omega arith) (now s e) (now s tried.done.after) (so.stood limit) (tried.comes limit placed.0) in
           sym (c.in_ok-note.ensures.own final number name extends distinct is stand _ placed.1) ∙ ap (own_with old number name) (sym left)
           ∙ c.loop-count.invariant.own s d st limit final number name (λ k n known. extends k n (c.in_ok-note.ensures.kept k n known)) distinct is;
+      whole = λ s d st limit few final number name extends distinct is.
+          let so = c.loop-count.invariant.so_far s d st in
+          let e = so.done.after in
+          let there = subst (λ m. stands m s (bare e)) (sym c.machine-in-loop-count.ensures) so.done.there.there in
+          let placed = c.in-Some.ensures s (bare e) there in
+          let stand = stand_of s.program (now s e) in
+          let tried = c.in_default-try_step.ensures s e so.done.there in
+          let left = step_left s.program c.args.most_steps (now s d) c.loop-count._count (omega arith) (now s e) (now s tried.done.after) (so.stood limit) (tried.comes limit placed.0) in
+          let follows = subst (λ state. Follows old (stand_of s.program state)) (sym (so.stood limit)) (c.loop-count.invariant.frames s d st limit few) in
+          sym (c.in_ok-note.ensures.whole final number name extends distinct is stand _ placed.1 follows) ∙ ap (whole_with old number name) (sym left)
+          ∙ c.loop-count.invariant.whole s d st limit few final number name (λ k n known. extends k n (c.in_ok-note.ensures.kept k n known)) distinct is;
+      frames = λ s d st limit few.
+          let so = c.loop-count.invariant.so_far s d st in
+          let e = so.done.after in
+          let there = subst (λ m. stands m s (bare e)) (sym c.machine-in-loop-count.ensures) so.done.there.there in
+          let placed = c.in-Some.ensures s (bare e) there in
+          let tried = c.in_default-try_step.ensures s e so.done.there in
+          let goes = tried.comes limit placed.0 in
+          let follows = subst (λ state. Follows old (stand_of s.program state)) (sym (so.stood limit)) (c.loop-count.invariant.frames s d st limit few) in
+          let has = c.in_ok-note.ensures.frames (stand_of s.program (now s e)) placed.1 follows in
+          let after : now s tried.done.after ≡ state_after s.program (c.loop-count._count + 1) (now s d) =
+          sym (ap (λ st. gone st (now s e)) goes) ∙ ap (next_state s.program) (so.stood limit) ∙ sym (after_more s.program c.loop-count._count (now s d)) in
+          subst (λ state. Follows new (stand_of s.program state)) after (follows_on s.program new (now s e) (now s tried.done.after) goes has);
       named = λ s d st limit final extends all.
           let so = c.loop-count.invariant.so_far s d st in
           let e = so.done.after in
@@ -167,6 +197,40 @@ loop-count-preserved g c =
           sym (c.in_ok-note.ensures.inside number form (ap (λ l. slice_get l number) (c.loop-count.invariant.forms s d st) ∙ is) stand _ placed.1)
           ∙ ap (inside_with old number form) (sym left) ∙ c.loop-count.invariant.inside s d st limit number form is;
     }
+
+pub returns-in_default-clause-whole : goal.returns-in_default-clause-whole
+returns-in_default-clause-whole g c s d st limit few number name is =
+    let stands = g.M.RecordedMachine.stands in
+    let so = c.loop-count.invariant.so_far s d st in
+    let e = so.done.after in
+    let there = subst (λ m. stands m s (bare e)) (sym c.machine-in-loop-count.ensures) so.done.there.there in
+    let left = ended_left s.program c.args.most_steps (now s d) c.loop-count._count (now s e) (so.stood limit) (c.in_default.ensures s (bare e) there) in
+    let tally = c.loop-count.tally in
+    sym (whole_done tally number name) ∙ ap (whole_with tally number name) (sym left)
+    ∙ c.loop-count.invariant.whole s d st limit few tally.names number name (λ k n e. e) c.loop-count.invariant.sound.names is
+
+pub returns-in-Some-try_step-clause-whole : goal.returns-in-Some-try_step-clause-whole
+returns-in-Some-try_step-clause-whole g c s d st limit few number name is =
+    let stands = g.M.RecordedMachine.stands in
+    let so = c.loop-count.invariant.so_far s d st in
+    let e = so.done.after in
+    let there = subst (λ m. stands m s (bare e)) (sym c.machine-in-loop-count.ensures) so.done.there.there in
+    let placed = c.in-Some.ensures s (bare e) there in
+    let stand = stand_of s.program (now s e) in
+    let tried = c.in-Some-try_step.ensures s e so.done.there in
+    let left = last_left s.program c.args.most_steps (now s d) c.loop-count._count (omega arith) s e tried.done.after c.in-Some-try_step.end refl (so.stood limit) (tried.comes limit placed.0) in
+    let old = c.loop-count.tally in
+    let new = c.note.new.self in
+    let follows = subst (λ state. Follows old (stand_of s.program state)) (sym (so.stood limit)) (c.loop-count.invariant.frames s d st limit few) in
+    sym (whole_done new number name) ∙ sym (c.in_ok-note.ensures.whole new.names number name (λ k n e. e) c.in_ok-note.ensures.sound.names is stand [] placed.1 follows)
+    ∙ ap (whole_with old number name) (sym left) ∙ c.loop-count.invariant.whole s d st limit few new.names number name c.in_ok-note.ensures.kept c.in_ok-note.ensures.sound.names is
+
+pub returns-clause-whole : goal.returns-clause-whole
+returns-clause-whole g c s d st limit few number name is =
+    let left = none_left s.program c.args.most_steps (now s d) c.loop-count._count (omega (arith, c.loop-count-test.false)) in
+    let tally = c.loop-count.tally in
+    sym (whole_done tally number name) ∙ ap (whole_with tally number name) (sym left)
+    ∙ c.loop-count.invariant.whole s d st limit few tally.names number name (λ k n e. e) c.loop-count.invariant.sound.names is
 
 pub returns-clause-run : goal.returns-clause-run
 returns-clause-run g c s d st =

@@ -1,5 +1,5 @@
 -- as many steps were tried and done as rounds were made, and what the tally has comes with the steps that are left to what is to be counted
-use Rattle.std.proofs.Common.{◌≡◌, ℕ, ◌≤◌, List, Some}
+use Rattle.std.proofs.Common.{◌≡◌, ℕ, ◌≤◌, List, Some, length}
 use Rattle.std.specs.List.{All}
 use Rattle.std.specs.Prelude.{slice_get}
 use Rattle.foreach_forms.specs.declared.forms.Form.{Form}
@@ -9,11 +9,12 @@ use Rattle.debug_session.specs.Sessions.{StandsFor}
 use Rattle.lane_counts.specs.declared.names.Names.{Names}
 use Rattle.lane_counts.specs.Formed.{is_inside, is_round}
 use Rattle.lane_counts.specs.Naming.{AreDistinct, Extends, name_at}
-use Rattle.lane_counts.specs.Steps.{at_line, each, in_function}
-use Rattle.lane_counts.specs.Tallies.{IsSound, all_with, counts_of, inside_with, line_with, own_with, rounds_with, unparted_of}
+use Rattle.lane_counts.specs.Steps.{at_line, each, in_frame, in_function}
+use Rattle.lane_counts.specs.Tallies.{Follows, IsSound, all_with, counts_of, inside_with, line_with, own_with, rounds_with, unparted_of, whole_with}
 use Rattle.lane_picture.proofs.Counting.{SoFar}
 use Rattle.lane_profile.specs.Counted.{IsNamed}
-use Rattle.lane_profile.specs.Stands.{stands_of}
+use Rattle.lane_picture.specs.Seen.{state_after}
+use Rattle.lane_profile.specs.Stands.{stand_of, stands_of}
 use Rattle.lane_profile.proofs.Left.{stands_left}
 use Rattle.lane_profile.proofs.run.count_run.Given as goal
 
@@ -28,6 +29,11 @@ invariant-loop-count g l = record {
   own : (s : Setting) (d : Debugger) → StandsFor g.M.RecordedMachine.stands l.initial.session s d → 1 ≤ s.limit → (final : Names) (number : ℕ) (name : List ℕ)
       → Extends l.tally.names final → AreDistinct final → name_at final number ≡ Some name
       → own_with l.tally number name (stands_left s.program l.most_steps (now s d) l._count) ≡ counts_of (in_function name) (stands_of s.program l.most_steps (now s d));
+  whole : (s : Setting) (d : Debugger) → StandsFor g.M.RecordedMachine.stands l.initial.session s d → 1 ≤ s.limit → length s.first.frames ≤ 1 → (final : Names) (number : ℕ) (name : List ℕ)
+      → Extends l.tally.names final → AreDistinct final → name_at final number ≡ Some name
+      → whole_with l.tally number name (stands_left s.program l.most_steps (now s d) l._count) ≡ unparted_of (in_frame name) (stands_of s.program l.most_steps (now s d));
+  frames : (s : Setting) (d : Debugger) → StandsFor g.M.RecordedMachine.stands l.initial.session s d → 1 ≤ s.limit → length s.first.frames ≤ 1
+      → Follows l.tally (stand_of s.program (state_after s.program l._count (now s d)));
   named : (s : Setting) (d : Debugger) → StandsFor g.M.RecordedMachine.stands l.initial.session s d → 1 ≤ s.limit → (final : Names) → Extends l.tally.names final
       → All (λ stand. IsNamed final stand.functions) (stands_left s.program l.most_steps (now s d) l._count) → All (λ stand. IsNamed final stand.functions) (stands_of s.program l.most_steps (now s d));
   all : (s : Setting) (d : Debugger) → StandsFor g.M.RecordedMachine.stands l.initial.session s d → 1 ≤ s.limit
