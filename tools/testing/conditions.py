@@ -163,6 +163,24 @@ def of_refusals(width):
     return "refused", lines, wanted
 
 
+def of_moves(width):
+    """Other moves stop at a breakpoint or watch all the same, and say so where its condition does not hold."""
+    # The fourth move of a round comes to the sum's line, and the watch shows another value behind it.
+    lines = [f"break {SUM} if i == 2", "watch total if total > 99", "step 20", "next 9", "step 9", "step 9", "step 9", "delete 2", "until 10"]
+    wanted = [
+        ("breakpoint 1 at line 7", "1 stops only if i == 2"),
+        ("watch 2: total", "2 stops only if total > 99"),
+        ("breakpoint 1:", "its condition does not hold here"),
+        ("watch 2:", "its condition does not hold here"),
+        ("breakpoint 1:", "its condition does not hold here"),
+        ("watch 2:", "its condition does not hold here"),
+        ("breakpoint 1:", "!does not hold"),
+        ("deleted 2",),
+        ("breakpoint 1:", "its condition does not hold here"),
+    ]
+    return "of other moves", lines, wanted
+
+
 # ---- three faults that are found by a condition, in six commands at most
 
 WRAPS = b"""uniform int table[300];
@@ -267,13 +285,14 @@ def of_orbits(width):
 
 
 def judged(wanted):
-    """What is wrong with the answers, of which each has these texts."""
+    """What is wrong with the answers, of which each has these texts, and none that stands behind `!`."""
 
     def judge(text):
         answers = text.decode().split("----\n")[1:-1]
         why = [] if len(answers) == len(wanted) else [f"{len(answers)} answers, and {len(wanted)} are wanted"]
         for number, (answer, texts) in enumerate(zip(answers, wanted), 1):
-            why += [f"answer {number} has no {it!r}:" for it in texts if it not in answer]
+            why += [f"answer {number} has no {it!r}:" for it in texts if not it.startswith("!") and it not in answer]
+            why += [f"answer {number} has {it[1:]!r}:" for it in texts if it.startswith("!") and it[1:] in answer]
         return why + shown(text) if why else []
 
     return judge
@@ -282,7 +301,7 @@ def judged(wanted):
 def runs():
     found = []
     for width in WIDTHS:
-        for part in (of_lanes, of_counts, of_faults, of_watches, of_runs, of_refusals, of_wraps, of_sorts, of_orbits):
+        for part in (of_lanes, of_counts, of_faults, of_watches, of_runs, of_moves, of_refusals, of_wraps, of_sorts, of_orbits):
             name, lines, wanted, source = (*part(width), SOURCE)[:4]
             typed = f"{MARK}\n" + "".join(f"{line}\n{MARK}\n" for line in lines)
             found.append(Run(f"conditions {name}, {width} lanes", typed.encode(), ["debug", NAME, "--width", str(width)], judged(wanted), b"", data={NAME: source}))

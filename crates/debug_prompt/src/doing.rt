@@ -12,11 +12,12 @@ ghost use Rattle.debug_prompt.specs.Holding.{held, sheet};
 use crate::holding::Holding;
 use crate::pieces::go_on;
 use crate::readings::{line_of, made_number};
+use crate::telling::tell_unheld;
 use crate::turning::{Scene, do_own, follow};
 use debug_answers::Answer;
 use debug_commands::{Command, read_command};
 use debug_session::Session;
-use debug_traits::{AnswerWriter, RecordedMachine};
+use debug_traits::AnswerWriter;
 use frame_expressions::ExpressionMachine;
 use prompt_lines::is_alone;
 use prompt_texts::{Before, Page, tell, tell_move, tell_unknown};
@@ -136,15 +137,16 @@ fn go_to_stop<M: ExpressionMachine, O: AnswerWriter + Drop>(
     let before = Before::note(session.machine());
     let answer = go_on(scene.most_steps, session, page);
     let _ = session.do_command(Command::Delete(Some(number)));
-    tell_until(&answer, number, &before, scene, session, page);
+    tell_until(&answer, number, &before, holding, scene, session, page);
     follow(&answer, holding, scene, session, page);
 }
 
 /// Tells where a move led, whose own breakpoint had a number that is not told.
-fn tell_until<M: RecordedMachine, O: AnswerWriter + Drop>(
+fn tell_until<M: ExpressionMachine, O: AnswerWriter + Drop>(
     answer: &Answer<'_>,
     number: u32,
     before: &Before,
+    holding: &Holding,
     scene: Scene<'_>,
     session: &Session<M>,
     page: &mut Page<O>,
@@ -154,4 +156,5 @@ fn tell_until<M: RecordedMachine, O: AnswerWriter + Drop>(
         other => *other,
     };
     tell_move(&told, scene.line, before, scene.source, session, page);
+    tell_unheld(&told, holding, scene.alloc, session, page);
 }

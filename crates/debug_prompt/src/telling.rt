@@ -1,11 +1,13 @@
 //! What is told of conditions and counts.
 use crate::holding::Holding;
-use conditional_stops::{CountedStop, HoldingLanes, MoveEnd, Moved, Verdict};
-use debug_answers::Stop;
+use conditional_stops::{CountedStop, HoldingLanes, MoveEnd, Moved, Verdict, judge_condition};
+use debug_answers::{Answer, Stop};
 use debug_session::Session;
 use debug_traits::{AnswerWriter, RecordedMachine};
+use frame_expressions::ExpressionMachine;
 use frame_values::NoValue;
 use prompt_texts::{Page, Spelled, tell_no_value};
+use std::alloc::Global;
 
 /// The widest gang.
 const WIDEST: usize = 16;
@@ -119,6 +121,33 @@ pub(crate) fn tell_counted<O: AnswerWriter + Drop>(
         Some(Verdict::Holds(lanes)) => tell_lanes(text, *lanes, page),
         Some(Verdict::NoValue(why)) => tell_fault(text, why, page),
         Some(Verdict::Fails) | None => {}
+    }
+}
+
+/// Tells that the condition of the breakpoint or watch that stopped a move does not hold, where it does not: such a move stops all the same.
+pub(crate) fn tell_unheld<M: ExpressionMachine, O: AnswerWriter + Drop>(
+    answer: &Answer<'_>,
+    holding: &Holding,
+    alloc: Global,
+    session: &Session<M>,
+    page: &mut Page<O>,
+) {
+    let Some(number) = stop_number(answer) else {
+        return;
+    };
+    let Some(text) = holding.conditions.condition(number) else {
+        return;
+    };
+    if let Verdict::Fails = judge_condition(alloc, text, session.machine()) {
+        page.put(b"its condition does not hold here\n");
+    }
+}
+
+/// The number of the breakpoint or watch that stopped a move.
+fn stop_number(answer: &Answer<'_>) -> Option<u32> {
+    match answer {
+        Answer::AtBreakpoint(number) | Answer::AtWatch(number) => Some(*number),
+        _ => None,
     }
 }
 

@@ -13,6 +13,7 @@ use crate::forms::show_form_here;
 use crate::holding::{Displayed, Holding};
 use crate::pieces::go_on;
 use crate::readings::{is_move, is_refusal, print_of, stopped_number};
+use crate::telling::tell_unheld;
 use debug_answers::Answer;
 use debug_commands::Command;
 use debug_session::Session;
@@ -80,6 +81,7 @@ fn do_move<M: ExpressionMachine, O: AnswerWriter + Drop>(
     let before = Before::note(session.machine());
     let answer = make_moves(command, scene, session, page);
     tell_move(&answer, scene.line, &before, scene.source, session, page);
+    tell_unheld(&answer, holding, scene.alloc, session, page);
     follow(&answer, holding, scene, session, page);
 }
 
