@@ -65,6 +65,7 @@ CALLS = {
     "conditional_stops::judge_condition": 0,
     "conditional_stops::ask_breakpoints": 0,
     "conditional_stops::continue_on": 0,
+    "conditional_stops::walk_on": 0,
     "source_port::port": 0,
     "adapter_frames::FrameReader::next_message": 0,
     "adapter_frames::write_frame": 0,

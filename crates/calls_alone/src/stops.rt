@@ -2,8 +2,8 @@
 use crate::ends::{CallFault, Ended};
 use crate::runs::session;
 use conditional_stops::{
-    Conditions, CountedStop, Direction, MoveEnd, Verdict, ask_breakpoints, continue_on,
-    judge_condition,
+    Conditions, CountedStop, Direction, FrameWatch, MoveEnd, Verdict, ask_breakpoints, continue_on,
+    judge_condition, walk_on,
 };
 use debug_commands::{Command, read_command};
 use debug_traits::RecordedMachine;
@@ -21,6 +21,7 @@ pub(crate) fn call(alloc: Global, name: &str) -> Option<Ended> {
         }
         "conditional_stops::ask_breakpoints" => Some(ask(alloc, &mut session(alloc)?)),
         "conditional_stops::continue_on" => Some(go_on(alloc, &mut session(alloc)?)),
+        "conditional_stops::walk_on" => Some(walk(alloc, &mut session(alloc)?)),
         _ => None,
     }
 }
@@ -53,16 +54,36 @@ fn line_of(session: &ProgramSession<4>) -> Option<u32> {
 
 /// Goes on to a breakpoint with a condition, beside a watch of an element that stays as it is before.
 fn go_on(alloc: Global, session: &mut ProgramSession<4>) -> Ended {
+    let Some(mut conditions) = conditions(session) else {
+        return Ended::Otherwise;
+    };
+    end_of_move(continue_on(alloc, Direction::Forward, 9, &mut conditions, session).end)
+}
+
+/// Goes there by single steps, beside the watch of a variable that is not there.
+fn walk(alloc: Global, session: &mut ProgramSession<4>) -> Ended {
+    let Some(mut conditions) = conditions(session) else {
+        return Ended::Otherwise;
+    };
+    let watches = [FrameWatch::default()];
+    end_of_move(walk_on(alloc, Direction::Forward, 99, &watches, &mut conditions, session).end)
+}
+
+/// Makes a breakpoint and a watch, and gives the breakpoint its condition.
+fn conditions(session: &mut ProgramSession<4>) -> Option<Conditions> {
     for line in [b"break 10".as_slice(), b"watch t[1]".as_slice()] {
         if let Some(command) = read_command(line) {
             session.do_command(command);
         }
     }
     let mut conditions = Conditions::new();
-    if conditions.set_condition(1, CONDITION).is_err() {
-        return Ended::Otherwise;
-    }
-    match continue_on(alloc, Direction::Forward, 9, &mut conditions, session).end {
+    conditions.set_condition(1, CONDITION).ok()?;
+    Some(conditions)
+}
+
+/// How a move ended that goes on to a breakpoint whose condition holds.
+fn end_of_move(end: MoveEnd<'_>) -> Ended {
+    match end {
         MoveEnd::NoMemory => Ended::Memory,
         MoveEnd::Stopped(
             CountedStop {

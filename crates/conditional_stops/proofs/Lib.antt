@@ -4,3 +4,6 @@ pub mod Judged
 pub mod Passing
 pub mod Plain
 mod WorkedRows
+pub mod Steps
+pub mod Changed
+pub mod Sighted

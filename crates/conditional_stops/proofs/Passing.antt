@@ -68,17 +68,17 @@ attempted_stops s goal d Over next same = refl
 attempted_stops s goal d (Fails fault) next same = refl
 attempted_stops s goal d (Goes new) next same = or_stops (after_move s.program goal (now s d) new d.stops (has_ended new) Here) d (moved Step d) next refl same
 
-forward_stops : (n : ℕ) (s : Setting) (goal : Goal) (d : Debugger) → (forward n s goal d).next.stops ≡ d.stops
+pub forward_stops : (n : ℕ) (s : Setting) (goal : Goal) (d : Debugger) → (forward n s goal d).next.stops ≡ d.stops
 forward_stops zero s goal d = refl
 forward_stops (suc n) s goal d = attempted_stops s goal d (step s.program (now s d)) (λ next. forward n s next (moved Step d)) (λ next. forward_stops n s next (moved Step d))
 
-backward_stops : (n : ℕ) (s : Setting) (goal : Goal) (d : Debugger) → (backward n s goal d).next.stops ≡ d.stops
+pub backward_stops : (n : ℕ) (s : Setting) (goal : Goal) (d : Debugger) → (backward n s goal d).next.stops ≡ d.stops
 backward_stops zero s goal d = refl
 backward_stops (suc n) s goal d =
     or_stops (after_move s.program goal (now s d) (now s (stepped_back d)) d.stops (kept_steps (stepped_back d) == 0) HistoryEnd) d (stepped_back d) (λ next. backward n s next (stepped_back d)) refl
     (λ next. backward_stops n s next (stepped_back d))
 
-refused_stops : (r : Option model.Refusal) (d : Debugger) (go : Debugger → Reply) → (go d).next.stops ≡ d.stops → (unless_refused r d go).next.stops ≡ d.stops
+pub refused_stops : (r : Option model.Refusal) (d : Debugger) (go : Debugger → Reply) → (go d).next.stops ≡ d.stops → (unless_refused r d go).next.stops ≡ d.stops
 refused_stops None d go same = same
 refused_stops (Some r) d go same = refl
 

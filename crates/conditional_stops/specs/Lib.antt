@@ -1,6 +1,9 @@
 pub mod Going
 pub mod Reasons
+pub mod SightViews
+pub mod Sights
 pub mod Tables
 pub mod Verdicts
 pub mod Views
+pub mod Walking
 pub mod Watching

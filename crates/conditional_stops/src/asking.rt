@@ -1,5 +1,5 @@
 //! Which breakpoints and watches count, where a command has stopped.
-ghost use Rattle.std.specs.Prelude.{◌≡◌, ℕ, Some};
+ghost use Rattle.std.specs.Prelude.{◌≡◌, ℕ, ◌∷◌, [], Some, map, option_map};
 ghost use Rattle.gang_model.specs.Debugger.Debugger as model;
 ghost use Rattle.gang_model.specs.Debugger.Debugger.{Debugger, Setting, now, on_line};
 ghost use Rattle.gang_model.specs.Debugger.Positions.{line_now};
@@ -8,12 +8,15 @@ ghost use Rattle.debug_session.specs.Moves.{noted, watch_words};
 ghost use Rattle.debug_session.specs.Sessions.{StandsFor, bare};
 ghost use Rattle.conditional_stops.specs.Reasons as spec;
 ghost use Rattle.conditional_stops.specs.Reasons.{Asks, AsksOne};
+ghost use Rattle.conditional_stops.specs.Sights.{changed_frames, sight};
+ghost use Rattle.conditional_stops.specs.SightViews.{sights_view};
 ghost use Rattle.conditional_stops.specs.Tables.{condition_of, passes_of};
 ghost use Rattle.conditional_stops.specs.Verdicts.{IsJudged};
 ghost use Rattle.conditional_stops.specs.Views.{table_of};
 
 use crate::judging::{Verdict, judge_condition};
 use crate::reasons::{CountedStop, Reason};
+use crate::sights::{FrameWatch, Sights, differs, noted_sight};
 use crate::table::Conditions;
 use crate::watching::{WordsBefore, noted_at, shows};
 use debug_answers::Stop;
@@ -92,6 +95,46 @@ fn ask_watches<M: ExpressionMachine>(
     first
 }
 
+/// Asks the watches of frames that show other words than were noted: the first that counts.
+pub(crate) fn ask_frames<M: ExpressionMachine>(
+    alloc: Global,
+    watches: &[FrameWatch],
+    sights: &Sights,
+    conditions: &mut Conditions,
+    session: &Session<M>,
+) -> Option<CountedStop>
+    ensures { (s : Setting) (began d : Debugger) → StandsFor M.stands session.now s d → sights_view sights.now.items ≡ map (sight s began) watches.now
+        → Asks s d (changed_frames s began d watches.now) (table_of conditions.old) result (table_of conditions.new) }
+{
+    let mut first = None;
+    let mut place = 0;
+    for watch in watches {
+        let noted = noted_sight(sights, place);
+        let counted = ask_frame(alloc, watch, noted, conditions, session.machine());
+        first = first_of(first, counted);
+        place += 1;
+    }
+    first
+}
+
+/// Asks the watch of a frame, if it shows other words than were noted.
+fn ask_frame<M: ExpressionMachine>(
+    alloc: Global,
+    watch: &FrameWatch,
+    noted: Option<&[u64]>,
+    conditions: &mut Conditions,
+    machine: &M,
+) -> Option<CountedStop>
+    ensures { (s : Setting) (began d : Debugger) → M.stands machine.now s (bare d) → option_map (λ words. words.now) noted.entry ≡ sight s began watch.now
+        → Asks s d (changed_frames s began d (watch.now ∷ [])) (table_of conditions.old) result (table_of conditions.new) }
+{
+    if differs(machine, watch, noted) {
+        ask(alloc, Reason::Watch(watch.number), conditions, machine)
+    } else {
+        None
+    }
+}
+
 /// Asks one breakpoint or watch: the stop, if it counts.
 fn ask<M: ExpressionMachine>(
     alloc: Global,
@@ -147,7 +190,10 @@ fn taking_of(passes: u32, verdict: &Option<Verdict>) -> Taking
 }
 
 /// The first of two, if it is there.
-fn first_of(first: Option<CountedStop>, later: Option<CountedStop>) -> Option<CountedStop>
+pub(crate) fn first_of(
+    first: Option<CountedStop>,
+    later: Option<CountedStop>,
+) -> Option<CountedStop>
     ensures { result ≡ spec.first_of first later }
 {
     match first {

@@ -8,6 +8,7 @@ ghost use Rattle.conditional_stops.specs.Going as spec;
 ghost use Rattle.conditional_stops.specs.Going.{GoesOn, GoesOnce};
 ghost use Rattle.conditional_stops.specs.Tables.{nothing};
 ghost use Rattle.conditional_stops.specs.Views.{table_of};
+ghost use Rattle.conditional_stops.specs.Walking.{step_of};
 
 use crate::asking::ask_all;
 use crate::reasons::{CountedStop, Reason};
@@ -36,6 +37,16 @@ impl Direction {
         match self {
             Direction::Forward => Command::Continue,
             Direction::Backward => Command::ReverseContinue,
+        }
+    }
+
+    /// The command that makes one step.
+    pub(crate) fn step<'a>(self) -> Command<'a>
+        ensures { command_view result ≡ step_of self }
+    {
+        match self {
+            Direction::Forward => Command::Step(1),
+            Direction::Backward => Command::ReverseStep(1),
         }
     }
 }

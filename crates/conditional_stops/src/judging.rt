@@ -44,7 +44,7 @@ pub fn judge_condition<M: ExpressionMachine>(alloc: Global, text: &[u8], machine
 }
 
 /// The depth of the top frame, 1 where the program has ended.
-fn top_depth<M: RecordedMachine>(machine: &M) -> usize
+pub(crate) fn top_depth<M: RecordedMachine>(machine: &M) -> usize
     ensures { (s : Setting) (d : Debugger) → M.stands machine.now s d → depth (now s d) ≡ result }
 {
     match machine.position() {

@@ -5,11 +5,15 @@ mod asking;
 mod going;
 mod judging;
 mod reasons;
+mod sights;
 mod table;
+mod walking;
 mod watching;
 
 pub use asking::ask_breakpoints;
 pub use going::{Direction, MoveEnd, Moved, continue_on};
 pub use judging::{HoldingLanes, Verdict, judge_condition};
 pub use reasons::{CountedStop, Reason};
+pub use sights::{FrameWatch, LONGEST_NAME};
 pub use table::{ConditionRefusal, Conditions, LONGEST_CONDITION};
+pub use walking::walk_on;

@@ -2,16 +2,18 @@
 use Rattle.std.proofs.Common.{◌≡◌, refl, ap}
 use Rattle.std.specs.Prelude.{ℕ, ◌^◌, true, false, List, [], ◌∷◌, pos, Some, None, codes, if◌then◌else◌}
 use Rattle.std.specs.List.{list_any}
-use Rattle.gang_model.specs.Debugger.Debugger.{AtBreakpoint, Command, Debugger, DoBreak, DoContinue, DoDelete, DoPrint, DoReverseContinue, DoReverseStep, DoSet, DoStep, DoUndo, DoWatch, Ended, Line, NoGoal, Refused, Setting, StepLimit, first_stop, forward, has_ended, now, on_line, reply, unless_refused}
+use Rattle.gang_model.specs.Debugger.Debugger.{AtBreakpoint, Command, Debugger, DoBreak, DoContinue, DoDelete, DoPrint, DoReverseContinue, DoReverseStep, DoSet, DoStep, DoUndo, DoWatch, Ended, Line, NoGoal, Refused, Setting, StepLimit, Target, first_stop, forward, has_ended, now, on_line, reply, unless_refused}
 use Rattle.gang_model.specs.Debugger.Events.{LaneOf, Poke, Step}
 use Rattle.gang_types.specs.declared.places.VarId.TheVariants as id
 use Rattle.debug_answers.specs.declared.stops.Stop.TheVariants as stop
 use Rattle.prompt_lines.specs.declared.line.Kind.TheVariants as kind
 use Rattle.prompt_lines.specs.Sources.{Sheet}
 use Rattle.conditional_stops.specs.declared.going.Direction.TheVariants as direction
+use Rattle.conditional_stops.specs.declared.sights.FrameWatch.{FrameWatch}
 use Rattle.conditional_stops.specs.Tables.{Table, nothing}
-use Rattle.debug_prompt.specs.Doing.{begun, changes_named, commands_of, follows, held_after, kept_after, step_noted}
-use Rattle.debug_prompt.specs.Lines.{way_by}
+use Rattle.debug_prompt.specs.Doing.{begun, changes_named, commands_of, follows, held_after, kept_after, numbered, step_noted, watched_as}
+use Rattle.debug_prompt.specs.FrameWatches.{ended, known}
+use Rattle.debug_prompt.specs.Lines.{walks_by, way_by}
 use Rattle.debug_prompt.specs.Moments.{all_back, at_first, is_unset, is_whole, to_moment}
 use Rattle.debug_prompt.specs.Holding.{Held, held_at_start, nothing_kept}
 use Rattle.conditional_stops.specs.Watching.{is_watch}
@@ -30,7 +32,7 @@ at_start s d line = commands_of source nothing_kept held_at_start s d line
 
 -- two temporary breakpoints are there, and x is displayed
 some_held : Held
-some_held = record { temporaries = 2 ∷ 5 ∷ []; displays = (1, codes "print  x") ∷ []; next = 2; has_begun = true; frame = 0; checkpoints = (3, 7) ∷ []; next_checkpoint = 4; table = nothing }
+some_held = record { temporaries = 2 ∷ 5 ∷ []; displays = (1, codes "print  x") ∷ []; next = 2; has_begun = true; frame = 0; checkpoints = (3, 7) ∷ []; next_checkpoint = 4; table = nothing; frames = [] }
 
 temporary_row : (s : Setting) (d : Debugger) → at_start s d (codes "tbreak 7") ≡ DoBreak 7 ∷ []
 unfolding at_start
@@ -94,7 +96,7 @@ refused_row : follows some_held (Refused Ended) ≡ []
 unfolding some_held
 refused_row = refl
 
-undisplay_row : (s : Setting) (d : Debugger) → held_after source nothing_kept some_held s d (codes "undisplay 1") ≡ record { temporaries = 2 ∷ 5 ∷ []; displays = []; next = 2; has_begun = true; frame = 0; checkpoints = (3, 7) ∷ []; next_checkpoint = 4; table = nothing }
+undisplay_row : (s : Setting) (d : Debugger) → held_after source nothing_kept some_held s d (codes "undisplay 1") ≡ record { temporaries = 2 ∷ 5 ∷ []; displays = []; next = 2; has_begun = true; frame = 0; checkpoints = (3, 7) ∷ []; next_checkpoint = 4; table = nothing; frames = [] }
 unfolding some_held
 undisplay_row s d = refl
 
@@ -183,16 +185,61 @@ break_if_row : (s : Setting) (d : Debugger) → at_start s d (codes "b 12 if i =
 unfolding at_start
 break_if_row s d = refl
 
-watch_if_row : (s : Setting) (d : Debugger) → at_start s d (codes "watch x[2] if x[2] > 4") ≡ DoWatch (record { name = codes "x"; at = Some 2 }) ∷ []
-unfolding at_start
-watch_if_row s d = refl
+file_watch_row : (s : Setting) (d : Debugger) (target : Target) → watched_as s d held_at_start target None ≡ DoWatch target ∷ []
+file_watch_row s d target = refl
+
+-- ---- watches of frames
+
+-- a number is taken for it, and what it is deleted by is no command
+number_row : (s : Setting) (d : Debugger) (target : Target) → watched_as s d held_at_start target (Some (id.Local 4)) ≡ numbered s d
+number_row s d target = refl
+
+in_depth : ℕ → ℕ → FrameWatch
+in_depth number deep = record { number = number; depth = deep; id = id.Local 4; at = None; name = record { items = codes "v" } }
+
+-- watch 3 is of the entry's frame, and watch 5, which has a condition, of one that it called
+watching : Held
+watching = record held_at_start { frames = in_depth 3 1 ∷ in_depth 5 2 ∷ []; table = record { conditions = (5, codes "v > 1") ∷ []; counts = [] } }
+
+delete_frame_row : (s : Setting) (d : Debugger) → commands_of source nothing_kept watching s d (codes "delete 5") ≡ []
+unfolding watching in_depth
+delete_frame_row s d = refl
+
+deleted_frame_row : (s : Setting) (d : Debugger) → held_after source nothing_kept watching s d (codes "delete 5") ≡ record held_at_start { frames = in_depth 3 1 ∷ [] }
+unfolding watching in_depth
+deleted_frame_row s d = refl
+
+-- where the frame has been left, its watch goes, with its condition
+left_row : ended (known kind.Own (codes "next") 1) watching ≡ record held_at_start { frames = in_depth 3 1 ∷ [] }
+unfolding watching in_depth
+left_row = refl
+
+there_row : ended (known kind.Own (codes "next") 2) watching ≡ watching
+unfolding watching in_depth
+there_row = refl
+
+-- more than one move may lead into another frame at the depth, and `run` begins another run
+other_frame_row : ended (known kind.Own (codes "step 5") 2) watching ≡ record held_at_start { frames = in_depth 3 1 ∷ [] }
+unfolding watching in_depth
+other_frame_row = refl
+
+other_run_row : ended (known kind.Run (codes "run") 2) watching ≡ held_at_start
+unfolding watching in_depth
+other_run_row = refl
+
+walk_row : walks_by watching (Some DoReverseContinue) ≡ Some direction.Backward
+unfolding watching
+walk_row = refl
+
+no_walk_row : walks_by held_at_start (Some DoContinue) ≡ None
+no_walk_row = refl
 
 -- breakpoint 2 has a condition, and two of its stops are to be passed
 some_table : Table
 some_table = record { conditions = (2, codes "i == 3") ∷ []; counts = (2, 2) ∷ [] }
 
 said : Held
-said = record { temporaries = 2 ∷ []; displays = []; next = 1; has_begun = true; frame = 0; checkpoints = []; next_checkpoint = 1; table = some_table }
+said = record { temporaries = 2 ∷ []; displays = []; next = 1; has_begun = true; frame = 0; checkpoints = []; next_checkpoint = 1; table = some_table; frames = [] }
 
 -- breakpoint 2 is there, and no other
 two_there : Debugger

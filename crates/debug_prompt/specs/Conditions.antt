@@ -1,13 +1,18 @@
 -- The conditions and the counts of breakpoints and watches, as lines change them.
-use Rattle.std.specs.Prelude.{ℕ, ◌==◌, Bool, List, [], ◌∷◌, Option, Some, None, is_none, if◌then◌else◌}
+use Rattle.std.specs.Prelude.{ℕ, ◌==◌, ◌||◌, Bool, List, [], ◌∷◌, Option, Some, None, is_none, if◌then◌else◌}
 use Rattle.std.specs.List.{list_any}
 use Rattle.gang_model.specs.Debugger.Debugger.{Debugger, Stop}
 use Rattle.conditional_stops.specs.Tables.{condition_refusal, count_refusal, nothing, with_condition, with_passes, without, without_condition}
+use Rattle.debug_prompt.specs.FrameWatches.{is_frame}
 use Rattle.debug_prompt.specs.Holding.{Held}
 
 -- whether a breakpoint or watch has a number
 abbrev pub is_there : ℕ → List (ℕ × Stop) → Bool
 is_there number stops = list_any (λ entry. entry.0 == number) stops
+
+-- the same with the watches of frames
+abbrev pub is_known : ℕ → Debugger → Held → Bool
+is_known number d h = is_there number d.stops || is_frame number h
 
 -- a breakpoint or watch has a condition from now on, where there is room
 abbrev pub conditioned : ℕ → (text : List ℕ) → Held → Held
@@ -31,13 +36,13 @@ replaced number (byte ∷ bytes) h = conditioned number (byte ∷ bytes) h
 -- the same where one of the number is there
 abbrev pub after_condition : Debugger → Held → (number : Option ℕ) → (text : List ℕ) → Held
 after_condition d h None text = h
-after_condition d h (Some n) text = if is_there n d.stops then replaced n text h else h
+after_condition d h (Some n) text = if is_known n d h then replaced n text h else h
 
 -- a number, and how many of its stops are to be passed
 abbrev pub after_ignore : Debugger → Held → (number count : Option ℕ) → Held
 after_ignore d h None count = h
 after_ignore d h (Some n) None = h
-after_ignore d h (Some n) (Some count) = if is_there n d.stops then counted n count h else h
+after_ignore d h (Some n) (Some count) = if is_known n d h then counted n count h else h
 
 -- what was said of a breakpoint or watch is forgotten
 abbrev pub forgotten : ℕ → Held → Held

@@ -17,6 +17,7 @@ use Rattle.prompt_lines.specs.Conditions.{before_if, behind_first, condition_in,
 use Rattle.prompt_lines.specs.Sources.{Sheet, line_named}
 use Rattle.prompt_lines.specs.Words.{Spelled, argument_of, held_text, is_alone, line_of, moment_of, setting_text}
 use Rattle.debug_prompt.specs.Conditions.{after_condition, after_ignore, forgotten_by, forgotten_one, forgotten_stop, made_so}
+use Rattle.debug_prompt.specs.FrameWatches.{is_frame, local_named, with_frame, without_frames}
 use Rattle.debug_prompt.specs.Holding.{Held, nothing_kept}
 use Rattle.debug_prompt.specs.Moments.{all_back, at_first, is_unchanged, is_unset, is_whole, led, steps_on, stops_back, to_moment, walked}
 use Rattle.debug_prompt.specs.declared.prompt.Turn.{Turn}
@@ -297,15 +298,15 @@ abbrev pub broken : (line : Option ℕ) → List Command
 broken None = []
 broken (Some n) = DoBreak n ∷ []
 
--- a target is watched
-abbrev pub watched : Option Target → List Command
-watched None = []
-watched (Some target) = DoWatch target ∷ []
+-- whether a number is that of the watch of a frame
+abbrev pub is_frame_number : Option ℕ → Held → Bool
+is_frame_number None h = false
+is_frame_number (Some n) h = is_frame n h
 
--- a breakpoint or watch is deleted, or all
-abbrev pub deletes : Option (Option ℕ) → List Command
-deletes None = []
-deletes (Some number) = DoDelete number ∷ []
+-- a breakpoint or watch is deleted, or all; the watch of a frame is no stop of the debugger's
+abbrev pub deletes : Held → Option (Option ℕ) → List Command
+deletes h None = []
+deletes h (Some number) = if is_frame_number number h then [] else DoDelete number ∷ []
 
 -- the first breakpoint on the line on which a breakpoint for this line would be
 abbrev pub stop_on : Setting → Debugger → (line : Option ℕ) → Option ℕ
@@ -316,6 +317,19 @@ stop_on s d (Some n) = first_stop (on_line (least_from n (step_lines s.program))
 abbrev pub cleared : (number : Option ℕ) → List Command
 cleared None = []
 cleared (Some n) = DoDelete (Some n) ∷ []
+
+-- the next number is taken: a breakpoint is made, and deleted at once
+abbrev pub numbered : Setting → Debugger → List Command
+numbered s d = DoBreak 1 ∷ cleared (made_number (do_command s (DoBreak 1) d).answer)
+
+-- a target is watched: a variable of the frame that is selected by a number that is taken, where there is room, and one of the file by the debugger
+abbrev pub watched_as : Setting → Debugger → Held → Target → (local : Option VarId) → List Command
+watched_as s d h target None = DoWatch target ∷ []
+watched_as s d h target (Some v) = if nat_lt (length h.frames) 16 then numbered s d else []
+
+abbrev pub watched : Setting → Debugger → Held → Option Target → List Command
+watched s d h None = []
+watched s d h (Some target) = watched_as s d h target (local_named s d (depth_of s d h) target)
 
 -- on to a breakpoint that has been made, which then goes
 abbrev pub going : Setting → Held → Debugger → (made : Option ℕ) → List Command
@@ -348,8 +362,8 @@ commands_by kind.Run sheet s d h text = if is_alone text then run_by s d h else 
 commands_by kind.Start sheet s d h text = if is_alone text then start_by d h else []
 commands_by kind.Clear sheet s d h text = cleared (stop_on s d (line_named sheet text))
 commands_by kind.Temporary sheet s d h text = broken (line_named sheet (before_if text))
-commands_by kind.Watch sheet s d h text = watched (watch_of (command_of (before_if text)))
-commands_by kind.Delete sheet s d h text = deletes (delete_of (command_of text))
+commands_by kind.Watch sheet s d h text = watched s d h (watch_of (command_of (before_if text)))
+commands_by kind.Delete sheet s d h text = deletes h (delete_of (command_of text))
 commands_by kind.Until sheet s d h text = if is_alone text then done_with s d h (DoNext 1) else until_line s d h (line_named sheet text)
 commands_by kind.Display sheet s d h text = in_top h (if is_alone text then shown h.displays else printed (print_of (command_of text)))
 commands_by kind.Goto sheet s d h text = go_by s d h (step_named text)
@@ -475,9 +489,16 @@ after_made s d h None condition = h
 after_made s d h (Some n) condition = made_so (made_number (do_command s (DoBreak n) d).answer) condition h
 
 -- a watch that is made
+abbrev pub watched_then : Setting → Debugger → Held → Target → (local : Option VarId) → (condition : Option (List ℕ)) → Held
+watched_then s d h target None condition = made_so (watch_number (do_command s (DoWatch target) d).answer) condition h
+watched_then s d h target (Some v) condition =
+    if nat_lt (length h.frames) 16
+    then made_so (made_number (do_command s (DoBreak 1) d).answer) condition (with_frame (made_number (do_command s (DoBreak 1) d).answer) target (depth_of s d h) v h)
+    else h
+
 abbrev pub after_watch : Setting → Debugger → Held → Option Target → (condition : Option (List ℕ)) → Held
 after_watch s d h None condition = h
-after_watch s d h (Some target) condition = made_so (watch_number (do_command s (DoWatch target) d).answer) condition h
+after_watch s d h (Some target) condition = watched_then s d h target (local_named s d (depth_of s d h) target) condition
 
 -- whether a command line is to be displayed: of a target if it is shown, and any other if all of it is held
 abbrev pub is_displayed : Setting → Debugger → Held → (text : List ℕ) → Option Target → Bool
@@ -509,7 +530,7 @@ changed_by kind.Break sheet s d h text = after_made s d h (line_named sheet (bef
 changed_by kind.Temporary sheet s d h text = after_made s d (after_break s d h (line_named sheet (before_if text))) (line_named sheet (before_if text)) (condition_in text)
 changed_by kind.Watch sheet s d h text = after_watch s d h (watch_of (command_of (before_if text))) (condition_in text)
 changed_by kind.Clear sheet s d h text = forgotten_one (stop_on s d (line_named sheet text)) h
-changed_by kind.Delete sheet s d h text = forgotten_by (delete_of (command_of text)) h
+changed_by kind.Delete sheet s d h text = forgotten_by (delete_of (command_of text)) (without_frames (delete_of (command_of text)) h)
 changed_by kind.Condition sheet s d h text = after_condition d h (index (first_word text)) (behind_first text)
 changed_by kind.Ignore sheet s d h text = after_ignore d h (index (first_word text)) (index (trimmed (behind_first text)))
 changed_by kind.Display sheet s d h text = if is_alone text then h else after_print s d h text (print_of (command_of text))

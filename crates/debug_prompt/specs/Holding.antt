@@ -4,6 +4,7 @@ use Rattle.prompt_lines.specs.Sources.{Sheet}
 use Rattle.prompt_lines.specs.Words.{Spelled}
 use Rattle.prompt_texts.specs.declared.source.Source.{Source}
 use Rattle.prompt_lines.specs.declared.line.Kind.TheVariants as kind
+use Rattle.conditional_stops.specs.declared.sights.FrameWatch.{FrameWatch}
 use Rattle.conditional_stops.specs.Tables.{Table, nothing}
 use Rattle.conditional_stops.specs.Views.{table_of}
 use Rattle.debug_prompt.specs.declared.holding.Checkpoint.{Checkpoint}
@@ -13,7 +14,7 @@ use Rattle.debug_prompt.specs.declared.holding.Holding as declared
 -- the numbers of the last breakpoints that go when they have stopped a move; what is displayed after each move, by its number and
 -- its command line; the next such number; whether the program has begun, by a move or by `run`; the number of the frame
 -- that is selected, the top one being number 0; the moments that were noted, each by its number and how many steps lead to it; the
--- next such number; the conditions and the counts of breakpoints and watches
+-- next such number; the conditions and the counts of breakpoints and watches; the watches of variables of frames
 pub record Held : Type 0 where
   pub temporaries : List ℕ
   pub displays : List (ℕ × List ℕ)
@@ -23,10 +24,11 @@ pub record Held : Type 0 where
   pub checkpoints : List (ℕ × ℕ)
   pub next_checkpoint : ℕ
   pub table : Table
+  pub frames : List FrameWatch
 
 -- what is held at the start
 abbrev pub held_at_start : Held
-held_at_start = record { temporaries = []; displays = []; next = 1; has_begun = false; frame = 0; checkpoints = []; next_checkpoint = 1; table = nothing }
+held_at_start = record { temporaries = []; displays = []; next = 1; has_begun = false; frame = 0; checkpoints = []; next_checkpoint = 1; table = nothing; frames = [] }
 
 -- a blank line, which does nothing
 abbrev pub nothing_kept : Spelled
@@ -51,6 +53,7 @@ held h = record {
   checkpoints = map noted_of h.checkpoints.items;
   next_checkpoint = h.next_checkpoint;
   table = table_of h.conditions;
+  frames = h.frames.items;
 }
 
 -- the source that is shown

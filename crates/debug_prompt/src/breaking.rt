@@ -1,5 +1,5 @@
 //! Breakpoints and watches: how they are made and deleted, and what is said of them.
-ghost use Rattle.std.specs.Prelude.{◌≡◌, ◌==◌, Some};
+ghost use Rattle.std.specs.Prelude.{◌≡◌, ◌==◌, None, Some};
 ghost use Rattle.std.specs.List.{list_any};
 ghost use Rattle.gang_model.specs.Debugger.Debugger.{Debugger, DoWatch, Setting, do_command};
 ghost use Rattle.gang_model.specs.Texts.CommandText.{command_of, index};
@@ -11,17 +11,22 @@ ghost use Rattle.prompt_lines.specs.Readings.{bytes_option};
 ghost use Rattle.prompt_lines.specs.Sources.{line_named};
 ghost use Rattle.debug_prompt.specs.Conditions as conditions;
 ghost use Rattle.debug_prompt.specs.Doing as spec;
+ghost use Rattle.debug_prompt.specs.FrameWatches as frames;
 ghost use Rattle.debug_prompt.specs.Holding.{held, sheet};
 
+use crate::frames::selected_depth;
 use crate::holding::Holding;
 use crate::pieces::stop_on;
 use crate::readings::{delete_of, line_of, made_number, trimmed, watch_number, watch_of};
 use crate::telling::{tell_condition, tell_no_stop, tell_passes};
 use crate::turning::{Scene, do_alone};
+use crate::watches::{tell_deleted, tell_made};
+use crate::watching::{local_named, take_number};
 use debug_answers::NumberedStop;
 use debug_commands::{Command, Target};
 use debug_session::Session;
-use debug_traits::{AnswerWriter, RecordedMachine};
+use debug_traits::{AnswerWriter, FramedMachine, RecordedMachine};
+use gang_types::VarId;
 use prompt_lines::{before_condition, condition_in, index, split_word};
 use prompt_texts::{Page, tell, tell_unknown, tell_usage};
 
@@ -31,6 +36,10 @@ const CONDITION_USAGE: &[u8] =
 
 /// How `ignore` is used.
 const IGNORE_USAGE: &[u8] = b"`ignore N COUNT` passes so many stops of breakpoint or watch N.";
+
+/// Why no more is watched.
+const NO_ROOM: &[u8] =
+    b"C11 TableFull: 16 variables of functions are watched, as many as can be; `delete N` ends one.\n";
 
 /// Makes a breakpoint, with a condition where the line goes on with `if`.
 pub(crate) fn make_break<M: RecordedMachine, O: AnswerWriter + Drop>(
@@ -107,7 +116,7 @@ fn break_once<M: RecordedMachine, O: AnswerWriter + Drop>(
 }
 
 /// Makes a watch, with a condition where the line goes on with `if`.
-pub(crate) fn make_watch<M: RecordedMachine, O: AnswerWriter + Drop>(
+pub(crate) fn make_watch<M: FramedMachine, O: AnswerWriter + Drop>(
     text: &[u8],
     holding: &mut Holding,
     scene: Scene<'_>,
@@ -115,7 +124,7 @@ pub(crate) fn make_watch<M: RecordedMachine, O: AnswerWriter + Drop>(
     page: &mut Page<O>,
 )
     ensures { (s : Setting) (d : Debugger) → StandsFor M.stands session.old s d
-        → HasDone M.stands s (spec.watched (spec.watch_of (command_of (before_if text.now)))) d session.new
+        → HasDone M.stands s (spec.watched s d (held holding.old) (spec.watch_of (command_of (before_if text.now)))) d session.new
         × (held holding.new ≡ spec.after_watch s d (held holding.old) (spec.watch_of (command_of (before_if text.now))) (condition_in text.now)) }
 {
     match watch_of(before_condition(text)) {
@@ -124,8 +133,8 @@ pub(crate) fn make_watch<M: RecordedMachine, O: AnswerWriter + Drop>(
     }
 }
 
-/// Makes a watch of a target, with a condition.
-fn watch_target<M: RecordedMachine, O: AnswerWriter + Drop>(
+/// Makes a watch of a target, with a condition: of a variable of the frame that is selected, or of the file.
+fn watch_target<M: FramedMachine, O: AnswerWriter + Drop>(
     target: Target<'_>,
     condition: Option<&[u8]>,
     holding: &mut Holding,
@@ -134,12 +143,57 @@ fn watch_target<M: RecordedMachine, O: AnswerWriter + Drop>(
     page: &mut Page<O>,
 )
     ensures { (s : Setting) (d : Debugger) → StandsFor M.stands session.old s d
-        → HasDone M.stands s (spec.watched (Some (target_view target.entry))) d session.new
+        → HasDone M.stands s (spec.watched s d (held holding.old) (Some (target_view target.entry))) d session.new
         × (held holding.new ≡ spec.after_watch s d (held holding.old) (Some (target_view target.entry)) (bytes_option condition.entry)) }
+{
+    let depth = selected_depth(holding, session);
+    match local_named(target, depth, session.machine()) {
+        Some(id) => watch_local(target, depth, id, condition, holding, scene, session, page),
+        None => watch_file(target, condition, holding, scene, session, page),
+    }
+}
+
+/// Makes a watch of a variable of the file, with a condition.
+fn watch_file<M: RecordedMachine, O: AnswerWriter + Drop>(
+    target: Target<'_>,
+    condition: Option<&[u8]>,
+    holding: &mut Holding,
+    scene: Scene<'_>,
+    session: &mut Session<M>,
+    page: &mut Page<O>,
+)
+    ensures { (s : Setting) (d : Debugger) → StandsFor M.stands session.old s d
+        → HasDone M.stands s (spec.watched_as s d (held holding.old) (target_view target.entry) None) d session.new
+        × (held holding.new ≡ spec.watched_then s d (held holding.old) (target_view target.entry) None (bytes_option condition.entry)) }
 {
     let answer = session.do_command(Command::Watch(target));
     tell(&answer, scene.line, scene.source, session, page);
     set_made(watch_number(&answer), condition, holding, page);
+}
+
+/// Makes a watch of a variable of the frame at a depth, with a condition, where there is room.
+fn watch_local<M: RecordedMachine, O: AnswerWriter + Drop>(
+    target: Target<'_>,
+    depth: usize,
+    id: VarId,
+    condition: Option<&[u8]>,
+    holding: &mut Holding,
+    scene: Scene<'_>,
+    session: &mut Session<M>,
+    page: &mut Page<O>,
+)
+    ensures { (s : Setting) (d : Debugger) → StandsFor M.stands session.old s d → depth ≡ spec.depth_of s d (held holding.old)
+        → HasDone M.stands s (spec.watched_as s d (held holding.old) (target_view target.entry) (Some id)) d session.new
+        × (held holding.new ≡ spec.watched_then s d (held holding.old) (target_view target.entry) (Some id) (bytes_option condition.entry)) }
+{
+    if holding.has_room() {
+        let number = take_number(scene, session, page);
+        holding.add_frame(number, target, depth, id);
+        tell_made(number, holding, page);
+        set_made(number, condition, holding, page);
+    } else {
+        page.put(NO_ROOM);
+    }
 }
 
 /// Gives what was made its condition, where there are both.
@@ -218,8 +272,8 @@ pub(crate) fn delete<M: RecordedMachine, O: AnswerWriter + Drop>(
     page: &mut Page<O>,
 )
     ensures { (s : Setting) (d : Debugger) → StandsFor M.stands session.old s d
-        → HasDone M.stands s (spec.deletes (spec.delete_of (command_of text.now))) d session.new
-        × (held holding.new ≡ conditions.forgotten_by (spec.delete_of (command_of text.now)) (held holding.old)) }
+        → HasDone M.stands s (spec.deletes (held holding.old) (spec.delete_of (command_of text.now))) d session.new
+        × (held holding.new ≡ conditions.forgotten_by (spec.delete_of (command_of text.now)) (frames.without_frames (spec.delete_of (command_of text.now)) (held holding.old))) }
 {
     match delete_of(text) {
         Some(number) => delete_by(number, holding, scene, session, page),
@@ -236,11 +290,26 @@ fn delete_by<M: RecordedMachine, O: AnswerWriter + Drop>(
     page: &mut Page<O>,
 )
     ensures { (s : Setting) (d : Debugger) → StandsFor M.stands session.old s d
-        → HasDone M.stands s (spec.deletes (Some number)) d session.new
-        × (held holding.new ≡ conditions.forgotten_by (Some number) (held holding.old)) }
+        → HasDone M.stands s (spec.deletes (held holding.old) (Some number)) d session.new
+        × (held holding.new ≡ conditions.forgotten_by (Some number) (frames.without_frames (Some number) (held holding.old))) }
 {
-    do_alone(Command::Delete(number), scene, session, page);
+    if is_frame(number, holding) {
+        tell_deleted(number, page);
+    } else {
+        do_alone(Command::Delete(number), scene, session, page);
+    }
+    holding.remove_frames(number);
     holding.forget_deleted(number);
+}
+
+/// Whether a number is that of the watch of a frame.
+fn is_frame(number: Option<u32>, holding: &Holding) -> bool
+    ensures { result ≡ spec.is_frame_number number (held holding.now) }
+{
+    match number {
+        Some(number) => holding.is_frame(number),
+        None => false,
+    }
 }
 
 /// Gives a breakpoint or watch another condition, or none.
@@ -272,7 +341,7 @@ fn change_by<M: RecordedMachine, O: AnswerWriter + Drop>(
     ensures { (s : Setting) (d : Debugger) → StandsFor M.stands session.now s d
         → held holding.new ≡ conditions.after_condition d (held holding.old) (Some number) text.now }
 {
-    if is_there(number, session) {
+    if is_known(number, holding, session) {
         replace_condition(number, text, holding, page);
     } else {
         tell_no_stop(number, page);
@@ -326,12 +395,19 @@ fn pass<M: RecordedMachine, O: AnswerWriter + Drop>(
     ensures { (s : Setting) (d : Debugger) → StandsFor M.stands session.now s d
         → held holding.new ≡ conditions.after_ignore d (held holding.old) (Some number) (Some count) }
 {
-    if is_there(number, session) {
+    if is_known(number, holding, session) {
         let is_taken = holding.set_passes(number, count);
         tell_passes(number, count, is_taken, page);
     } else {
         tell_no_stop(number, page);
     }
+}
+
+/// Whether a breakpoint or watch, or the watch of a frame, has a number.
+fn is_known<M: RecordedMachine>(number: u32, holding: &Holding, session: &Session<M>) -> bool
+    ensures { (s : Setting) (d : Debugger) → StandsFor M.stands session.now s d → result ≡ conditions.is_known number d (held holding.now) }
+{
+    is_there(number, session) || holding.is_frame(number)
 }
 
 /// Whether a breakpoint or watch has a number.

@@ -17,8 +17,9 @@ use crate::doing::do_spelled;
 use crate::holding::Holding;
 use crate::telling::{tell_conditions, tell_counted, tell_moved};
 use crate::turning::{Scene, follow};
+use crate::watches::{list_frames, tell_walked};
 use conditional_stops::{
-    Conditions, CountedStop, Direction, MoveEnd, Moved, ask_breakpoints, continue_on,
+    Conditions, CountedStop, Direction, MoveEnd, Moved, ask_breakpoints, continue_on, walk_on,
 };
 use debug_commands::{Command, read_command};
 use debug_session::Session;
@@ -37,8 +38,61 @@ const PIECE: u32 = 10_000;
 /// The most pieces of one line.
 const PIECES: u32 = 100;
 
-/// Does the command that a command line spells: where conditions or counts are there, a program that goes on goes on to a stop that counts.
+/// Does the command that a command line spells: where variables of frames are watched, a program that goes on does so by single steps.
 pub(crate) fn do_typed<M: ExpressionMachine, O: AnswerWriter + Drop>(
+    text: &[u8],
+    holding: &mut Holding,
+    scene: Scene<'_>,
+    session: &mut Session<M>,
+    page: &mut Page<O>,
+)
+    ensures { (s : Setting) (d : Debugger) → StandsFor M.stands session.old s d → s.limit ≡ scene.entry.most_steps
+        → spec.DoesTyped M.stands s d (held holding.old) (command_of text.now) (spec.walks_by (held holding.old) (command_of text.now)) session.new (held holding.new) }
+{
+    match walks_by(text, holding) {
+        Some(direction) => walk_to_stop(direction, holding, scene, session, page),
+        None => do_plainly(text, holding, scene, session, page),
+    }
+}
+
+/// Which way the command of a command line goes on by single steps.
+fn walks_by(text: &[u8], holding: &Holding) -> Option<Direction>
+    ensures { result ≡ spec.walks_by (held holding.now) (command_of text.now) }
+{
+    if !holding.has_frames() {
+        return None;
+    }
+    way_of(text)
+}
+
+/// Goes on by single steps to a stop that counts; then what follows a move.
+fn walk_to_stop<M: ExpressionMachine, O: AnswerWriter + Drop>(
+    direction: Direction,
+    holding: &mut Holding,
+    scene: Scene<'_>,
+    session: &mut Session<M>,
+    page: &mut Page<O>,
+)
+    ensures { (s : Setting) (d : Debugger) → StandsFor M.stands session.old s d
+        → spec.WalksToStop M.stands s direction d (held holding.old) session.new (held holding.new) }
+{
+    let before = Before::note(session.machine());
+    let moved = walk_on(
+        scene.alloc,
+        direction,
+        MOST,
+        holding.frames.as_slice(),
+        &mut holding.conditions,
+        session,
+    );
+    let answer = moved.end.answer();
+    tell_end(&moved, &before, scene, session, page);
+    tell_walked(&moved, holding, session, page);
+    follow(&answer, holding, scene, session, page);
+}
+
+/// Does the command that a command line spells: where conditions or counts are there, a program that goes on goes on to a stop that counts.
+fn do_plainly<M: ExpressionMachine, O: AnswerWriter + Drop>(
     text: &[u8],
     holding: &mut Holding,
     scene: Scene<'_>,
@@ -88,6 +142,7 @@ fn tell_listed<M: ExpressionMachine, O: AnswerWriter + Drop>(
 ) {
     if let Some(Command::InfoBreakpoints) = read_command(text) {
         tell_conditions(holding, session, page);
+        list_frames(holding, page);
     }
 }
 

@@ -1,12 +1,17 @@
 //! What a prompt holds from line to line, as far as it decides what is done.
-ghost use Rattle.std.specs.Prelude.{◌≡◌, ◌==◌, [], Some};
+ghost use Rattle.std.specs.Prelude.{◌≡◌, ◌==◌, [], Some, length, nat_lt, not};
 ghost use Rattle.std.specs.List.{list_any};
+ghost use Rattle.debug_commands.specs.Views.{target_view};
 ghost use Rattle.debug_prompt.specs.Conditions as conditions;
 ghost use Rattle.debug_prompt.specs.Doing as spec;
+ghost use Rattle.debug_prompt.specs.FrameWatches as frames;
 ghost use Rattle.debug_prompt.specs.Holding.{held, held_at_start};
 
+use crate::watching::forget_deeper;
 use arrayvec::ArrayVec;
-use conditional_stops::Conditions;
+use conditional_stops::{Conditions, FrameWatch};
+use debug_commands::Target;
+use gang_types::VarId;
 use prompt_lines::{Text, held_line};
 
 /// How many breakpoints may be temporary.
@@ -14,6 +19,9 @@ const TEMPORARIES: usize = 64;
 
 /// How much may be displayed.
 const DISPLAYS: usize = 16;
+
+/// How many variables of frames may be watched.
+const FRAMES: usize = 16;
 
 /// How many moments may be noted.
 const CHECKPOINTS: usize = 64;
@@ -57,7 +65,7 @@ impl Default for Checkpoint {
 }
 
 /// The numbers of the last temporary breakpoints, what is displayed, whether the program has begun, which frame is selected,
-/// the moments that were noted, and the conditions and the counts of breakpoints and watches.
+/// the moments that were noted, the conditions and the counts of breakpoints and watches, and the variables of frames that are watched.
 #[derive(Drop)]
 pub(crate) struct Holding {
     temporaries: ArrayVec<u32, TEMPORARIES>,
@@ -68,6 +76,7 @@ pub(crate) struct Holding {
     checkpoints: ArrayVec<Checkpoint, CHECKPOINTS>,
     next_checkpoint: u32,
     pub(crate) conditions: Conditions,
+    pub(crate) frames: ArrayVec<FrameWatch, FRAMES>,
 }
 
 impl Holding {
@@ -84,6 +93,7 @@ impl Holding {
             checkpoints: ArrayVec::new(),
             next_checkpoint: 1,
             conditions: Conditions::new(),
+            frames: ArrayVec::new(),
         }
     }
 
@@ -278,5 +288,74 @@ impl Holding {
             None => self.conditions.forget_all(),
             Some(number) => self.forget(number),
         }
+    }
+
+    /// Whether a variable of a frame is watched.
+    pub(crate) fn has_frames(&self) -> bool
+        ensures { result ≡ not (length (held self.now).frames == 0) }
+    {
+        !self.frames.is_empty()
+    }
+
+    /// Whether one more variable of a frame can be watched.
+    pub(crate) fn has_room(&self) -> bool
+        ensures { result ≡ nat_lt (length (held self.now).frames) 16 }
+    {
+        !self.frames.is_full()
+    }
+
+    /// Whether a variable of a frame is watched by a number.
+    pub(crate) fn is_frame(&self, number: u32) -> bool
+        ensures { result ≡ frames.is_frame number (held self.now) }
+    {
+        self.frames
+            .as_slice()
+            .iter()
+            .any(|watch| watch.number == number)
+    }
+
+    /// Watches a variable of a frame by a number, if one was found, where there is room.
+    pub(crate) fn add_frame(
+        &mut self,
+        number: Option<u32>,
+        target: Target<'_>,
+        depth: usize,
+        id: VarId,
+    )
+        ensures { held self.new ≡ frames.with_frame number (target_view target.entry) depth id (held self.old) }
+    {
+        let Some(number) = number else {
+            return;
+        };
+        let Ok(name) = ArrayVec::try_from(target.name) else {
+            return;
+        };
+        if !self.frames.is_full() {
+            self.frames.push(FrameWatch {
+                number,
+                depth,
+                id,
+                at: target.at,
+                name,
+            });
+        }
+    }
+
+    /// Watches what a line deleted no more: a variable of a frame, or all of them.
+    pub(crate) fn remove_frames(&mut self, deleted: Option<u32>)
+        ensures { held self.new ≡ frames.without_frames (Some deleted) (held self.old) }
+    {
+        match deleted {
+            None => self.frames.clear(),
+            Some(number) => self.frames.retain(|watch| watch.number != number),
+        }
+    }
+
+    /// Ends the watches of the frames that are deeper.
+    pub(crate) fn end_frames(&mut self, known: usize)
+        ensures { held self.new ≡ frames.ended known (held self.old) }
+    {
+        forget_deeper(self.frames.as_slice(), known, &mut self.conditions);
+        self.frames.retain(|watch| watch.depth <= known);
     }
 }

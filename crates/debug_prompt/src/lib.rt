@@ -22,5 +22,7 @@ mod prompt;
 mod readings;
 mod telling;
 mod turning;
+mod watches;
+mod watching;
 
 pub use prompt::{Prompt, Turn};

@@ -15,6 +15,8 @@ use crate::moments::show_checkpoints;
 use crate::readings::{delete_of, is_move, line_of, print_of};
 use crate::telling::tell_watch_conditions;
 use crate::turning::Scene;
+use crate::watches::list_frames;
+use debug_answers::{NumberedStop, Stop};
 use debug_commands::read_command;
 use debug_session::Session;
 use debug_traits::{AnswerWriter, FramedMachine, RecordedMachine};
@@ -194,8 +196,18 @@ fn look_at_watches<M: RecordedMachine, O: AnswerWriter + Drop>(
     session: &Session<M>,
     page: &mut Page<O>,
 ) {
-    show_watches(session, page);
+    if !holding.has_frames() || has_watch(session.stops()) {
+        show_watches(session, page);
+    }
     tell_watch_conditions(holding, session, page);
+    list_frames(holding, page);
+}
+
+/// Whether a variable of the file is watched.
+fn has_watch(stops: &[NumberedStop]) -> bool {
+    stops
+        .iter()
+        .any(|entry| matches!(entry.stop, Stop::Watch { .. }))
 }
 
 /// Shows variables, in the frame that is selected.

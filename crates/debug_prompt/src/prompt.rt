@@ -14,6 +14,7 @@ use crate::breaking::{
 };
 use crate::doing::{finish, go_until};
 use crate::forms::show_formatted;
+use crate::frames::depth;
 use crate::going::{do_typed, run_to_stop};
 use crate::holding::Holding;
 use crate::looking::Looking;
@@ -22,6 +23,8 @@ use crate::past::{go_to_last, tell_changes};
 use crate::printing::{display, print, set_spelled, undisplay};
 use crate::readings::{command_repeats, sets};
 use crate::turning::Scene;
+use crate::watches::tell_ended;
+use crate::watching::known;
 use debug_commands::{Command, read_command};
 use debug_session::Session;
 use debug_traits::{AnswerWriter, RecordedMachine};
@@ -107,6 +110,7 @@ impl Prompt {
             source,
             most_steps: self.most_steps,
         };
+        let steps = session.machine().kept_steps();
         do_meant(
             &meant,
             is_again,
@@ -116,6 +120,9 @@ impl Prompt {
             session,
             page,
         );
+        let deepest = known(&meant, depth(session));
+        tell_ended(deepest, steps, &self.holding, session, page);
+        self.holding.end_frames(deepest);
         self.looking.note(&meant, session);
         let turn = turn_of(&meant, page);
         self.kept = if_repeats(meant);

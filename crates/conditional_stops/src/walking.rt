@@ -1,0 +1,193 @@
+//! `continue` and `reverse-continue` by single steps, where variables of frames are watched.
+ghost use Rattle.std.specs.Prelude.{◌≡◌, map, option_map, OnOk};
+ghost use Rattle.std.specs.List.{list_any};
+ghost use Rattle.gang_model.specs.Debugger.Debugger as model;
+ghost use Rattle.gang_model.specs.Debugger.Debugger.{Debugger, Setting, now};
+ghost use Rattle.debug_session.specs.Moves.{noted, watch_words};
+ghost use Rattle.debug_session.specs.Sessions.{StandsFor};
+ghost use Rattle.conditional_stops.specs.Reasons.{Asks};
+ghost use Rattle.conditional_stops.specs.Sights.{is_gone, sight};
+ghost use Rattle.conditional_stops.specs.SightViews.{sights_view};
+ghost use Rattle.conditional_stops.specs.Walking as spec;
+ghost use Rattle.conditional_stops.specs.Walking.{StepsOnce, WalksOn};
+ghost use Rattle.conditional_stops.specs.Views.{table_of};
+
+use crate::asking::{ask_all, ask_frames, first_of};
+use crate::going::{Direction, MoveEnd, Moved};
+use crate::judging::top_depth;
+use crate::reasons::CountedStop;
+use crate::sights::{FrameWatch, Sights, note_sights};
+use crate::table::Conditions;
+use crate::watching::{WordsBefore, note_words};
+use debug_answers::Answer;
+use debug_session::Session;
+use debug_traits::RecordedMachine;
+use frame_expressions::ExpressionMachine;
+use std::alloc::{AllocError, Global};
+
+/// What is watched, and what it showed before a step.
+#[derive(Drop)]
+struct Before {
+    words: WordsBefore,
+    sights: Sights,
+}
+
+/// Goes on by single steps, so many at most, until a stop counts, a variable of a frame that is watched has changed, the frame of a
+/// watch is not there, or something else ends the move. Memory is wanted to read conditions, and to note what watches show.
+pub fn walk_on<'a, M: ExpressionMachine>(
+    alloc: Global,
+    direction: Direction,
+    most: u32,
+    watches: &[FrameWatch],
+    conditions: &mut Conditions,
+    session: &mut Session<M>,
+) -> Moved<'a>
+    ensures { (s : Setting) (d : Debugger) → StandsFor M.stands session.old s d
+        → WalksOn M.stands s direction watches.now most d (table_of conditions.old) result session.new (table_of conditions.new) }
+{
+    let mut before = Before {
+        words: Vec::new(alloc),
+        sights: Vec::new(alloc),
+    };
+    for passed in 0..most {
+        if let Some(end) = step_once(alloc, direction, watches, &mut before, conditions, session) {
+            return Moved { end, passed };
+        }
+    }
+    Moved {
+        end: MoveEnd::MostPassed,
+        passed: most,
+    }
+}
+
+/// Makes one step: what ends the move, unless the next one can be made.
+fn step_once<'a, M: ExpressionMachine>(
+    alloc: Global,
+    direction: Direction,
+    watches: &[FrameWatch],
+    before: &mut Before,
+    conditions: &mut Conditions,
+    session: &mut Session<M>,
+) -> Option<MoveEnd<'a>>
+    ensures { (s : Setting) (d : Debugger) → StandsFor M.stands session.old s d
+        → StepsOnce M.stands s direction watches.now d (table_of conditions.old) result session.new (table_of conditions.new) }
+{
+    match note(watches, before, session) {
+        Ok(()) => step_noted(alloc, direction, watches, before, conditions, session),
+        Err(_) => Some(MoveEnd::NoMemory),
+    }
+}
+
+/// Notes all that is watched.
+///
+/// # Errors
+///
+/// Out of memory.
+fn note<M: ExpressionMachine>(
+    watches: &[FrameWatch],
+    before: &mut Before,
+    session: &Session<M>,
+) -> Result<(), AllocError>
+    ensures { (s : Setting) (d : Debugger) → StandsFor M.stands session.now s d → OnOk result
+        ((noted before.new.words.items ≡ watch_words (now s d) d.stops) × (sights_view before.new.sights.items ≡ map (sight s d) watches.now)) }
+{
+    note_words(session.machine(), session.stops(), &mut before.words)?;
+    note_sights(session.machine(), watches, &mut before.sights)
+}
+
+/// Makes one step, where all that is watched is noted.
+fn step_noted<'a, M: ExpressionMachine>(
+    alloc: Global,
+    direction: Direction,
+    watches: &[FrameWatch],
+    before: &Before,
+    conditions: &mut Conditions,
+    session: &mut Session<M>,
+) -> Option<MoveEnd<'a>>
+    ensures { (s : Setting) (d : Debugger) → StandsFor M.stands session.old s d → noted before.now.words.items ≡ watch_words (now s d) d.stops
+        → sights_view before.now.sights.items ≡ map (sight s d) watches.now
+        → StepsOnce M.stands s direction watches.now d (table_of conditions.old) result session.new (table_of conditions.new) }
+{
+    let answer = session.do_command(direction.step());
+    if !is_here(&answer) {
+        return Some(MoveEnd::Answered(answer));
+    }
+    match ask_each(alloc, watches, before, conditions, session) {
+        Some(counted) => Some(MoveEnd::Stopped(counted)),
+        None => end_by(last_answer(direction, watches, session)),
+    }
+}
+
+/// Asks all breakpoints and watches at which a step stopped: the first that counts.
+fn ask_each<M: ExpressionMachine>(
+    alloc: Global,
+    watches: &[FrameWatch],
+    before: &Before,
+    conditions: &mut Conditions,
+    session: &Session<M>,
+) -> Option<CountedStop>
+    ensures { (s : Setting) (began d : Debugger) → StandsFor M.stands session.now s d → noted before.now.words.items ≡ watch_words (now s began) d.stops
+        → sights_view before.now.sights.items ≡ map (sight s began) watches.now
+        → Asks s d (spec.reasons_on s began d watches.now) (table_of conditions.old) result (table_of conditions.new) }
+{
+    let stop = ask_all(alloc, &before.words, conditions, session);
+    let watch = ask_frames(alloc, watches, &before.sights, conditions, session);
+    first_of(stop, watch)
+}
+
+/// The end of a move by an answer, if there is one.
+fn end_by<'a>(answer: Option<Answer<'a>>) -> Option<MoveEnd<'a>>
+    ensures { result ≡ option_map (λ given. MoveEnd.Answered given) answer.entry }
+{
+    match answer {
+        Some(answer) => Some(MoveEnd::Answered(answer)),
+        None => None,
+    }
+}
+
+/// The answer after a step where nothing counts, if it ends the move: the frame of a watch is not there, or no step is left.
+fn last_answer<'a, M: RecordedMachine>(
+    direction: Direction,
+    watches: &[FrameWatch],
+    session: &Session<M>,
+) -> Option<Answer<'a>>
+    ensures { (s : Setting) (d : Debugger) → StandsFor M.stands session.now s d → result ≡ spec.last_answer direction s d watches.now }
+{
+    if is_one_gone(watches, top_depth(session.machine())) {
+        Some(Answer::Here)
+    } else {
+        no_step(direction, session)
+    }
+}
+
+/// Whether the frame of a watch is not there, where there are so many.
+fn is_one_gone(watches: &[FrameWatch], depth: usize) -> bool
+    ensures { result ≡ list_any (is_gone depth) watches.now }
+{
+    watches.iter().any(|watch| depth < watch.depth)
+}
+
+/// The answer where no step is left.
+fn no_step<'a, M: RecordedMachine>(direction: Direction, session: &Session<M>) -> Option<Answer<'a>>
+    ensures { (s : Setting) (d : Debugger) → StandsFor M.stands session.now s d → result ≡ spec.no_step direction s d }
+{
+    match direction {
+        Direction::Forward if has_ended(session.machine()) => Some(Answer::Here),
+        Direction::Backward if session.machine().kept_steps() == 0 => Some(Answer::HistoryEnd),
+        Direction::Forward | Direction::Backward => None,
+    }
+}
+
+/// Whether the program has ended.
+fn has_ended<M: RecordedMachine>(machine: &M) -> bool
+    ensures { (s : Setting) (d : Debugger) → M.stands machine.now s d → result ≡ model.has_ended (now s d) }
+{
+    machine.position().is_none()
+}
+
+/// Whether a step was made.
+fn is_here(answer: &Answer<'_>) -> bool
+    ensures { result ≡ spec.tells_here answer.now }
+{
+    matches!(answer, Answer::Here)
+}

@@ -1,0 +1,211 @@
+"""Watches of variables of functions at the prompt, at 8 and 16 lanes, on and back: whole, by lanes and by elements, in the top frame and in an
+outer one of a recursion of depth 3, with conditions and counts, until the frame is left or not yet entered.
+
+What each lane shows, and after which statement, is worked out here by arithmetic.
+"""
+
+from .conditions import MARK, judged, lanes
+from .tried import Run
+
+WIDTHS = (8, 16)
+NAME = "watched.ispc"
+SOURCE = b"""uniform int total = 0;
+int down(uniform int n, int by) {
+    int v = by - 3;
+    uniform bool odd = false;
+    if (n > 0) {
+        int w = down(n - 1, by);
+        v = v + w;
+        odd = !odd;
+    }
+    v = v - programIndex;
+    return v;
+}
+export void go() {
+    int x = 0;
+    uniform int i = 0;
+    uniform int table[3];
+    while (i < 3) {
+        if (programIndex > 1) {
+            x -= i + 1;
+        } else {
+            x += 2;
+        }
+        table[i] = i * i - 7;
+        i += 1;
+    }
+    int y = down(2, x);
+    total = 1;
+}
+"""
+
+
+def changes(width):
+    """What `x` shows after each of its six changes, of which every second one is made in lanes 0 and 1 alone."""
+    x, found = [0] * width, []
+    for number in range(3):
+        x = [it - number - 1 if lane > 1 else it for lane, it in enumerate(x)]
+        found.append(x)
+        x = [it if lane > 1 else it + 2 for lane, it in enumerate(x)]
+        found.append(x)
+    return found
+
+
+def last(width):
+    """What `x` shows behind the loop."""
+    return changes(width)[-1]
+
+
+def prints(name, width, words):
+    """Lines that print the first lanes and the last, and what they tell."""
+    asked = (0, 1, 2, width - 1)
+    return [f"print {name}[{lane}]" for lane in asked], [(f"{name}[{lane}] = {words[lane]}\n",) for lane in asked]
+
+
+def of_lanes(width):
+    """Each change stops, in whichever lanes it is made, on and back."""
+    lines = ["break 17", "run", "delete 1", "watch x", "info watchpoints"]
+    wanted = [("breakpoint 1 at line 17",), ("breakpoint 1:",), ("deleted 1",), ("watch 2: x",), ("2  watch, x, of the frame at depth 1",)]
+    for words in changes(width):
+        more, told = prints("x", width, words)
+        lines, wanted = [*lines, "continue", *more], [*wanted, ("watch 2:",), *told]
+    lines, wanted = [*lines, "continue"], [*wanted, ("the program has ended",)]
+    for words in reversed([[0] * width, *changes(width)[:-1]]):
+        more, told = prints("x", width, words)
+        lines, wanted = [*lines, "reverse-continue", *more], [*wanted, ("watch 2:",), *told]
+    return "each change of a local", [*lines, "reverse-continue"], [*wanted, ("the history goes back no further",)]
+
+
+def of_parts(width):
+    """A lane, and an element."""
+    lines = ["break 17", "run", "delete", f"watch x[{width - 1}]", "watch table[1]", "continue", "continue", "continue", "print i", "continue", "continue"]
+    wanted = [
+        ("breakpoint 1 at line 17",),
+        ("breakpoint 1:",),
+        ("all breakpoints and watches are deleted",),
+        (f"watch 2: x[{width - 1}]",),
+        ("watch 3: table[1]",),
+        ("watch 2:", f"x[{width - 1}] = -1\n"),
+        ("watch 2:", f"x[{width - 1}] = -3\n"),
+        ("watch 3:", "table[1] = -6\n"),
+        ("i = 1",),
+        ("watch 2:", f"x[{width - 1}] = -6\n"),
+        ("the program has ended",),
+    ]
+    return "lanes and elements", lines, wanted
+
+
+def of_frames(width):
+    """In a frame of a recursion: the same name of another frame stops nothing, and the watch ends with its frame."""
+    x = last(width)
+    # In the frame of n == 1: v is that of the frame of n == 0 beside its own.
+    v = [2 * (it - 3) - lane for lane, it in enumerate(x)]
+    more, told = prints("v", width, [it - lane for lane, it in enumerate(v)])
+    lines = ["break 10 if n == 1", "run", "watch v", "condition 2", "continue", *more, "backtrace", "continue", "info watchpoints", "continue"]
+    wanted = [
+        ("breakpoint 1 at line 10",),
+        ("breakpoint 1:",),
+        ("watch 2: v",),
+        ("2 stops always",),
+        ("watch 2:",),
+        *told,
+        ("down", "go"),
+        ("watch 2 of v ends: its frame has been left",),
+        ("no watches",),
+        ("the program has ended",),
+    ]
+    return "a frame of a recursion", lines, wanted
+
+
+def of_outer_frames(width):
+    """In an outer frame: what the top frame does to its own variable of the name stops nothing."""
+    x = last(width)
+    v = [2 * (it - 3) - lane for lane, it in enumerate(x)]
+    more, told = prints("v", width, v)
+    lines = ["break 10 if n == 0", "run", "delete 1", "up", "watch v", "watch odd", "frame 0", "continue", *more, "print n", "continue", "print odd", "reverse-continue"]
+    wanted = [
+        ("breakpoint 1 at line 10",),
+        ("breakpoint 1:",),
+        ("deleted 1",),
+        ("down",),
+        ("watch 2: v",),
+        ("watch 3: odd",),
+        ("down",),
+        ("watch 2:",),
+        *told,
+        ("n = 1",),
+        ("watch 3:",),
+        ("odd = true",),
+        ("watch 3:",),
+    ]
+    return "an outer frame", lines, wanted
+
+
+def of_entries(width):
+    """Back to where a frame is not yet entered; and lines that may lead into another one."""
+    lines = ["break 10 if n == 0", "run", "watch v", "reverse-continue", "info watchpoints", "continue", "watch v", "next", "step 5", "break 10", "watch i", "run"]
+    wanted = [
+        ("breakpoint 1 at line 10",),
+        ("breakpoint 1:",),
+        ("watch 2: v",),
+        ("watch 2 of v ends: its frame is not yet entered here",),
+        ("no watches",),
+        ("breakpoint 1:", lanes(width, lambda lane: True)),
+        ("watch 3: v",),
+        ("",),
+        ("watch 3 of v ends: ",),
+        ("breakpoint 4 at line 10",),
+        ("",),
+        ("The program begins anew",),
+    ]
+    return "frames that are not yet entered", lines, wanted
+
+
+def of_conditions(width):
+    """A condition is worked out where the program stands then, in the lanes that are active there; and a count."""
+    lines = ["break 17", "run", "delete 1", "watch x if x < -2", "continue", "print x[2]", "print i", "condition 2", "ignore 2 1", "info breakpoints", "reverse-continue", "print x[2]", "delete 2", "continue"]
+    # The change from -1 to -3 is seen from the other arm, whose lanes show 2; that of these lanes from all.
+    wanted = [
+        ("breakpoint 1 at line 17",),
+        ("breakpoint 1:",),
+        ("deleted 1",),
+        ("watch 2: x", "2 stops only if x < -2"),
+        ("watch 2:", lanes(width, lambda lane: lane > 1)),
+        ("x[2] = -3",),
+        ("i = 1",),
+        ("2 stops always",),
+        ("2: 1 stop will be passed",),
+        ("2  watch, x, of the frame at depth 1", "2: 1 stop will be passed"),
+        ("watch 2:",),
+        ("x[2] = -1",),
+        ("deleted 2",),
+        ("the program has ended",),
+    ]
+    return "with a condition", lines, wanted
+
+
+def of_refusals(width):
+    """Lines that watch nothing."""
+    lines = ["break 17", "run", "watch table", "watch nobody", "watch i[0]", "watch table[3]", *["watch i"] * 17, "delete 40"]
+    wanted = [
+        ("breakpoint 1 at line 17",),
+        ("breakpoint 1:",),
+        ("C2 NoSuchName",),
+        ("C2 NoSuchName",),
+        ("C2 NoSuchName",),
+        ("C2 NoSuchName",),
+        *[(f"watch {number}: i",) for number in range(2, 18)],
+        ("C11 TableFull",),
+        ("C10 NoSuchNumber",),
+    ]
+    return "refused", lines, wanted
+
+
+def runs():
+    found = []
+    for width in WIDTHS:
+        for part in (of_lanes, of_parts, of_frames, of_outer_frames, of_entries, of_conditions, of_refusals):
+            name, lines, wanted = part(width)
+            typed = f"{MARK}\n" + "".join(f"{line}\n{MARK}\n" for line in lines)
+            found.append(Run(f"watches of {name}, {width} lanes", typed.encode(), ["debug", NAME, "--width", str(width)], judged(wanted), b"", data={NAME: SOURCE}))
+    return found
