@@ -56,6 +56,7 @@ CALLS = {
     "lane_picture::draw": 3,
     "run_page::write_page": 0,
     "frame_values::value_of_expression": 0,
+    "prompt_texts::told_variable": 0,
     "foreach_forms::forms_of": 0,
     "lane_counts::Tally::enter": 0,
     "lane_counts::Tally::note": 0,
@@ -83,8 +84,8 @@ CALLS = {
 }
 # These keep the allocator, and take no memory.
 NONE_TAKEN = {"adapter_frames::FrameReader::new", "adapter_server::Connection::new", "whole_runs::Notes::none", "whole_runs::Copies::none", "lane_counts::Tally::new"}
-# This shows on its page that memory was wanting: hostile.py refuses it each of its allocations.
-ON_A_PAGE = {"debug_prompt::Prompt::do_line"}
+# These show on their page that memory was wanting: hostile.py refuses the first each of its allocations, and it calls the others.
+ON_A_PAGE = {"debug_prompt::Prompt::do_line", "prompt_texts::show_arguments", "prompt_texts::show_full_frames", "prompt_texts::show_locals"}
 # These are made by `tokens` and `check`.
 INNER = {"ispc_lexer::first_step", "type_check::typed_program"}
 # The parts of a layer, whose calls are made by those of the crate with the plain name; and the crates of tests.

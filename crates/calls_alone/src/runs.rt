@@ -2,12 +2,14 @@
 use crate::ends::{Ended, end_of, end_of_command};
 use crate::samples::{INPUT, OPTIONS, SOURCE};
 use debug_commands::Command;
+use debug_traits::FramedMachine;
 use desk_options::read_verb;
 use frame_values::value_of_expression;
 use ispc_debugger::{ProgramSession, open_session, open_whole_session, run};
 use ispc_options::{read_options, wrong_arguments};
 use lane_picture::{Form, Subject, draw};
 use lane_report::report;
+use prompt_texts::{Layout, lanes_at, told_variable};
 use run_page::write_page;
 use source_port::port;
 use std::alloc::Global;
@@ -35,6 +37,7 @@ pub(crate) fn call(alloc: Global, name: &str) -> Option<Ended> {
         "lane_picture::draw" => Some(draw_picture(alloc, &mut session(alloc)?)),
         "run_page::write_page" => Some(write_run(alloc, &mut session(alloc)?)),
         "frame_values::value_of_expression" => Some(evaluate(alloc, &session(alloc)?)),
+        "prompt_texts::told_variable" => tell_variable(alloc, &session(alloc)?),
         "source_port::port" => Some(end_of(&port(alloc, SOURCE))),
         _ => None,
     }
@@ -100,4 +103,17 @@ fn write_run(alloc: Global, session: &mut ProgramSession<4>) -> Ended {
 /// The value of an expression where the program stands.
 fn evaluate(alloc: Global, session: &ProgramSession<4>) -> Ended {
     end_of(&value_of_expression(alloc, b"n + t[1]", 1, session.machine()))
+}
+
+/// What is told of an array where the program stands.
+fn tell_variable(alloc: Global, session: &ProgramSession<4>) -> Option<Ended> {
+    let machine = session.machine();
+    let shown = machine.find_at(1, b"t")?;
+    let layout = Layout {
+        elements: 200,
+        repeats: 10,
+    };
+    let lanes = lanes_at(1, machine);
+    let told = told_variable(alloc, layout, shown, lanes, 0, shown.count, 1, machine);
+    Some(end_of(&told))
 }

@@ -48,9 +48,13 @@ moves DoReverseContinue = true
 moves DoUndo = true
 moves command = false
 
+-- whether a name stands for some elements of an array, as `table@8` does
+abbrev pub names_part : (name : List ℕ) → Bool
+names_part = list_any (λ byte. byte == 64)
+
 -- the target that a command prints
 abbrev pub print_of : Option Command → Option Target
-print_of (Some (DoPrint target)) = Some target
+print_of (Some (DoPrint target)) = if names_part target.name then None else Some target
 print_of command = None
 
 -- the number that a command deletes, or all

@@ -1,6 +1,7 @@
 //! Expressions, in the frame that is selected.
 use crate::frames::selected_depth;
 use crate::holding::Holding;
+use crate::slices::{show_slice, slice_of, tell_no_slice};
 use crate::turning::Scene;
 use debug_session::Session;
 use debug_traits::{AnswerWriter, FramedMachine};
@@ -63,7 +64,7 @@ pub(crate) fn print_expression<M: ExpressionMachine, O: AnswerWriter + Drop>(
     }
 }
 
-/// Shows the value of an expression in the frame that is selected, or tells why it has none.
+/// Shows the elements or the value of an expression that are written, in the frame that is selected, or tells why there are none.
 pub(crate) fn print_written<M: ExpressionMachine, O: AnswerWriter + Drop>(
     written: &[u8],
     digits: Digits,
@@ -73,7 +74,24 @@ pub(crate) fn print_written<M: ExpressionMachine, O: AnswerWriter + Drop>(
     page: &mut Page<O>,
 ) {
     let depth = selected_depth(holding, session);
-    match value_of_expression(scene.alloc, written, depth, session.machine()) {
+    let machine = session.machine();
+    match slice_of(written, depth, scene, machine) {
+        None => print_value(written, digits, depth, scene, machine, page),
+        Some(Ok(slice)) => show_slice(&slice, digits, depth, scene, machine, page),
+        Some(Err(why)) => tell_no_slice(&why, page),
+    }
+}
+
+/// Shows the value of an expression in the frame at a depth, or tells why it has none.
+fn print_value<M: ExpressionMachine, O: AnswerWriter + Drop>(
+    written: &[u8],
+    digits: Digits,
+    depth: usize,
+    scene: Scene<'_>,
+    machine: &M,
+    page: &mut Page<O>,
+) {
+    match value_of_expression(scene.alloc, written, depth, machine) {
         Ok(value) => show_expression(written.trim_ascii(), digits, &value, page),
         Err(why) => tell_no_value(
             &why,

@@ -3,7 +3,9 @@ use crate::expressions::print_written;
 use crate::frames::{depth, find_part, selected_depth};
 use crate::holding::{Displayed, Holding};
 use crate::readings::print_of;
+use crate::slices::{show_slice, slice_of};
 use crate::turning::Scene;
+use crate::values::show_target;
 use debug_answers::Refusal;
 use debug_commands::Target;
 use debug_session::Session;
@@ -12,10 +14,8 @@ use frame_expressions::ExpressionMachine;
 use frame_values::{NoValue, value_of_expression};
 use prompt_lines::{HELD, is_alone, printing_line};
 use prompt_texts::{
-    Digits, Page, show_expression, show_faulty, show_value, tell_refused, tell_refused_here,
-    tell_unknown,
+    Digits, Page, show_expression, show_faulty, tell_refused, tell_refused_here, tell_unknown,
 };
-use std::alloc::Global;
 
 /// The word that a command line begins with which prints.
 const PRINT: &[u8] = b"print";
@@ -82,7 +82,7 @@ fn show_named_form<M: ExpressionMachine, O: AnswerWriter + Drop>(
     match print_of(line.as_slice()) {
         None => print_written(form.text, form.digits, holding, scene, session, page),
         Some(target) => {
-            match show_found(form, target, depth, scene.alloc, session.machine(), page) {
+            match show_found(form, target, depth, scene, session.machine(), page) {
                 Ok(()) => {}
                 Err(refusal) if holding.is_top() => {
                     tell_refused_here(refusal, scene.line, session.machine(), page);
@@ -98,13 +98,13 @@ fn show_found<M: ExpressionMachine, O: AnswerWriter + Drop>(
     form: Form<'_>,
     target: Target<'_>,
     depth: usize,
-    alloc: Global,
+    scene: Scene<'_>,
     machine: &M,
     page: &mut Page<O>,
 ) -> Result<(), Refusal> {
     match find_part(target, depth, machine) {
-        Ok(shown) => show_value(target, form.digits, shown, depth, machine, page),
-        Err(refusal) => match value_of_expression(alloc, form.text, depth, machine) {
+        Ok(shown) => show_target(target, form.digits, shown, depth, scene, machine, page),
+        Err(refusal) => match value_of_expression(scene.alloc, form.text, depth, machine) {
             Ok(value) => show_expression(form.text.trim_ascii(), form.digits, &value, page),
             Err(_) => return Err(refusal),
         },
@@ -115,18 +115,18 @@ fn show_found<M: ExpressionMachine, O: AnswerWriter + Drop>(
 /// Shows what is displayed by a number, of the top frame.
 pub(crate) fn show_form_here<M: ExpressionMachine, O: AnswerWriter + Drop>(
     displayed: &Displayed,
-    alloc: Global,
+    scene: Scene<'_>,
     session: &Session<M>,
     page: &mut Page<O>,
 ) {
-    show_form(displayed, depth(session), alloc, session.machine(), page);
+    show_form(displayed, depth(session), scene, session.machine(), page);
 }
 
 /// Shows what is displayed by a number, of the frame at a depth. What is not in scope there is left out.
 pub(crate) fn show_form<M: ExpressionMachine, O: AnswerWriter + Drop>(
     displayed: &Displayed,
     depth: usize,
-    alloc: Global,
+    scene: Scene<'_>,
     machine: &M,
     page: &mut Page<O>,
 ) {
@@ -137,11 +137,11 @@ pub(crate) fn show_form<M: ExpressionMachine, O: AnswerWriter + Drop>(
     if let Some(target) = print_of(line.as_slice()) {
         if let Ok(shown) = find_part(target, depth, machine) {
             put_number(displayed.number, page);
-            show_value(target, form.digits, shown, depth, machine, page);
+            show_target(target, form.digits, shown, depth, scene, machine, page);
             return;
         }
     }
-    show_written(displayed.number, form, depth, alloc, machine, page);
+    show_written(displayed.number, form, depth, scene, machine, page);
 }
 
 /// Shows the expression that is displayed by a number, of the frame at a depth, or its fault. Where it has no meaning it is left out.
@@ -149,11 +149,16 @@ fn show_written<M: ExpressionMachine, O: AnswerWriter + Drop>(
     number: u32,
     form: Form<'_>,
     depth: usize,
-    alloc: Global,
+    scene: Scene<'_>,
     machine: &M,
     page: &mut Page<O>,
 ) {
-    match value_of_expression(alloc, form.text, depth, machine) {
+    if let Some(Ok(slice)) = slice_of(form.text, depth, scene, machine) {
+        put_number(number, page);
+        show_slice(&slice, form.digits, depth, scene, machine, page);
+        return;
+    }
+    match value_of_expression(scene.alloc, form.text, depth, machine) {
         Ok(value) => {
             put_number(number, page);
             show_expression(form.text.trim_ascii(), form.digits, &value, page);

@@ -20,8 +20,11 @@ mod pieces;
 mod printing;
 mod prompt;
 mod readings;
+mod settings;
+mod slices;
 mod telling;
 mod turning;
+mod values;
 mod watches;
 mod watching;
 

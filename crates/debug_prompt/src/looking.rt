@@ -13,6 +13,7 @@ use crate::holding::Holding;
 use crate::listing::{Lines, Listed, lines_of};
 use crate::moments::show_checkpoints;
 use crate::readings::{delete_of, is_move, line_of, print_of};
+use crate::settings::show_layout;
 use crate::telling::tell_watch_conditions;
 use crate::turning::Scene;
 use crate::watches::list_frames;
@@ -79,6 +80,7 @@ impl Looking {
                 look, text, scene, session, page,
             ),
             Look::Watches => look_at_watches(holding, session, page),
+            Look::Layout => show_layout(text, scene, page),
             Look::Checkpoints => show_checkpoints(holding, page),
             Look::Type | Look::Locals | Look::Arguments | Look::Variables | Look::Displays => {
                 look_at_values(look, text, holding, scene, session, page);
@@ -179,7 +181,7 @@ fn look_at_program<M: FramedMachine, O: AnswerWriter + Drop>(
             Some(most) => show_frames(most, scene.source, session, page),
             None => tell_unknown(scene.line, page),
         },
-        Look::Full => show_full_frames(scene.source, session, page),
+        Look::Full => show_full_frames(scene.alloc, scene.layout, scene.source, session, page),
         Look::Line if is_alone(text) => show_here(scene.source, session, page),
         Look::Line => match line_of(text, scene.source) {
             Some(line) => show_line(line, session, page),
@@ -225,8 +227,8 @@ fn look_at_values<M: FramedMachine, O: AnswerWriter + Drop>(
             Some(target) => show_type(target, depth, session, page),
             None => tell_unknown(scene.line, page),
         },
-        Look::Locals => show_locals(depth, session, page),
-        Look::Arguments => show_arguments(depth, session, page),
+        Look::Locals => show_locals(scene.alloc, scene.layout, depth, session, page),
+        Look::Arguments => show_arguments(scene.alloc, scene.layout, depth, session, page),
         Look::Variables => show_variables(session, page),
         _ => show_displays(holding, page),
     }

@@ -15,13 +15,14 @@ use crate::forms::{show_form, show_formatted};
 use crate::frames::{find_part, may_set, selected_depth};
 use crate::holding::Holding;
 use crate::readings::{delete_of, is_shown, print_of};
-use crate::turning::{Scene, do_alone, show_displays};
+use crate::turning::{Scene, show_displays};
+use crate::values::{do_and_show, show_target, tell_answer};
 use debug_commands::{Command, Target, read_command};
 use debug_session::Session;
 use debug_traits::{AnswerWriter, FramedMachine, RecordedMachine};
 use frame_expressions::ExpressionMachine;
 use prompt_lines::{HELD, is_alone, setting_line};
-use prompt_texts::{Digits, Page, show_value, tell, tell_refused, tell_unknown};
+use prompt_texts::{Digits, Page, tell_refused, tell_unknown};
 
 /// Why a local variable of an outer frame is not set.
 const SETS_TOP: &[u8] =
@@ -119,7 +120,7 @@ fn print_target<M: FramedMachine, O: AnswerWriter + Drop>(
 }
 
 /// Prints a target in the top frame. Says whether it is shown.
-fn print_here<M: RecordedMachine, O: AnswerWriter + Drop>(
+fn print_here<M: FramedMachine, O: AnswerWriter + Drop>(
     target: Target<'_>,
     scene: Scene<'_>,
     session: &mut Session<M>,
@@ -130,7 +131,7 @@ fn print_here<M: RecordedMachine, O: AnswerWriter + Drop>(
         × (result ≡ spec.is_shown (do_command s (DoPrint (target_view target.entry)) d).answer) }
 {
     let answer = session.do_command(Command::Print(target));
-    tell(&answer, scene.line, scene.source, session, page);
+    tell_answer(&answer, scene, session, page);
     is_shown(&answer)
 }
 
@@ -147,14 +148,8 @@ fn print_at<M: FramedMachine, O: AnswerWriter + Drop>(
 {
     match find_part(target, depth, session.machine()) {
         Ok(shown) => {
-            show_value(
-                target,
-                Digits::Decimal,
-                shown,
-                depth,
-                session.machine(),
-                page,
-            );
+            let machine = session.machine();
+            show_target(target, Digits::Decimal, shown, depth, scene, machine, page);
             true
         }
         Err(refusal) => {
@@ -196,7 +191,7 @@ fn set_target<M: FramedMachine, O: AnswerWriter + Drop>(
         → HasDone M.stands s (if spec.may_set s d (held holding.now) (target_view target.entry).name then DoSet (target_view target.entry) value ∷ [] else []) d session.new }
 {
     if may_set(target.name, holding, session) {
-        do_alone(Command::Set { target, value }, scene, session, page);
+        do_and_show(Command::Set { target, value }, scene, session, page);
     } else {
         tell_unset(target, holding, scene, session, page);
     }
@@ -266,7 +261,7 @@ fn display_all_at<M: ExpressionMachine, O: AnswerWriter + Drop>(
     page: &mut Page<O>,
 ) {
     for displayed in holding.displays() {
-        show_form(displayed, depth, scene.alloc, session.machine(), page);
+        show_form(displayed, depth, scene, session.machine(), page);
     }
 }
 

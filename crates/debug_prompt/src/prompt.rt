@@ -22,6 +22,7 @@ use crate::moments::{forget, go_to_step, note_moment, restart};
 use crate::past::{go_to_last, tell_changes};
 use crate::printing::{display, print, set_spelled, undisplay};
 use crate::readings::{command_repeats, sets};
+use crate::settings::{USUAL, layout_after};
 use crate::turning::Scene;
 use crate::watches::tell_ended;
 use crate::watching::known;
@@ -30,7 +31,7 @@ use debug_session::Session;
 use debug_traits::{AnswerWriter, RecordedMachine};
 use frame_expressions::ExpressionMachine;
 use prompt_lines::{Kind, Look, PromptLine, Text, read_line};
-use prompt_texts::{Page, Source, show_here};
+use prompt_texts::{Layout, Page, Source, show_here};
 use std::alloc::Global;
 use std::mem::replace;
 use whole_runs::TellsCopies;
@@ -46,13 +47,14 @@ pub enum Turn {
 }
 
 /// What lasts from line to line: the line that an empty one repeats, temporary breakpoints, what is displayed, and what is
-/// looked at.
+/// looked at and how much of an array is told.
 #[derive(Drop)]
 pub struct Prompt {
     kept: PromptLine,
     holding: Holding,
     looking: Looking,
     most_steps: u32,
+    layout: Layout,
 }
 
 impl Prompt {
@@ -67,6 +69,7 @@ impl Prompt {
             holding: Holding::new(),
             looking: Looking::new(),
             most_steps,
+            layout: USUAL,
         }
     }
 
@@ -109,6 +112,7 @@ impl Prompt {
             },
             source,
             most_steps: self.most_steps,
+            layout: self.layout,
         };
         let steps = session.machine().kept_steps();
         do_meant(
@@ -124,6 +128,7 @@ impl Prompt {
         tell_ended(deepest, steps, &self.holding, session, page);
         self.holding.end_frames(deepest);
         self.looking.note(&meant, session);
+        self.layout = layout_after(line, self.layout);
         let turn = turn_of(&meant, page);
         self.kept = if_repeats(meant);
         turn

@@ -74,9 +74,16 @@ pub(crate) fn print_of(text: &[u8]) -> Option<Target<'_>>
     ensures { target_option result ≡ spec.print_of (command_of text.now) }
 {
     match read_command(text) {
-        Some(Command::Print(target)) => Some(target),
+        Some(Command::Print(target)) if !names_part(target.name) => Some(target),
         _ => None,
     }
+}
+
+/// Whether a name stands for some elements of an array.
+fn names_part(name: &[u8]) -> bool
+    ensures { result ≡ spec.names_part name.now }
+{
+    name.iter().any(|byte| *byte == b'@')
 }
 
 /// How many calls a command line goes up or down.

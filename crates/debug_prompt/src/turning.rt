@@ -14,22 +14,24 @@ use crate::holding::{Displayed, Holding};
 use crate::pieces::go_on;
 use crate::readings::{is_move, is_refusal, print_of, stopped_number};
 use crate::telling::tell_unheld;
+use crate::values::tell_answer;
 use debug_answers::Answer;
 use debug_commands::Command;
 use debug_session::Session;
-use debug_traits::{AnswerWriter, RecordedMachine};
+use debug_traits::{AnswerWriter, FramedMachine, RecordedMachine};
 use frame_expressions::ExpressionMachine;
-use prompt_texts::{Before, Page, Source, tell, tell_move};
+use prompt_texts::{Before, Layout, Page, Source, tell, tell_move};
 use std::alloc::Global;
 
-/// The line that is done, as it was typed, the source that is shown, and the most moves of one forward command; and where memory for
-/// expressions comes from.
+/// The line that is done, as it was typed, the source that is shown, the most moves of one forward command, and how much of an array is
+/// told; and where memory for expressions comes from.
 #[derive(Clone, Copy)]
 pub(crate) struct Scene<'a> {
     pub(crate) alloc: Global,
     pub(crate) line: &'a [u8],
     pub(crate) source: Source<'a>,
     pub(crate) most_steps: u32,
+    pub(crate) layout: Layout,
 }
 
 /// Does a command, and what follows a move.
@@ -181,12 +183,12 @@ fn show_display<M: ExpressionMachine, O: AnswerWriter + Drop>(
         let answer = session.do_command(Command::Print(target));
         tell_displayed(displayed.number, &answer, scene, session, page);
     } else {
-        show_form_here(displayed, scene.alloc, session, page);
+        show_form_here(displayed, scene, session, page);
     }
 }
 
 /// Writes what is displayed, behind its number.
-fn tell_displayed<M: RecordedMachine, O: AnswerWriter + Drop>(
+fn tell_displayed<M: FramedMachine, O: AnswerWriter + Drop>(
     number: u32,
     answer: &Answer<'_>,
     scene: Scene<'_>,
@@ -196,6 +198,6 @@ fn tell_displayed<M: RecordedMachine, O: AnswerWriter + Drop>(
     if let Answer::Shows { .. } = answer {
         page.put_number(i128::from(number));
         page.put(b": ");
-        tell(answer, scene.line, scene.source, session, page);
+        tell_answer(answer, scene, session, page);
     }
 }

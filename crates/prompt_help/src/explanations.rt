@@ -267,7 +267,7 @@ const PARTS: [Reason; 2] = [
 const MARKS: [Reason; 2] = [
     Reason(
         &[b"@"],
-        b"`print T` shows all elements of an array, and `print T[K]` the element K.",
+        b"`print T` shows all elements of an array, `print T[K]` the element K, and `print T[K]@8` eight elements from there on.",
     ),
     Reason(
         &[b"$"],

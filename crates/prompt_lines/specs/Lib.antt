@@ -1,4 +1,5 @@
 pub mod Words
+pub mod Parts
 pub mod Readings
 pub mod Sources
 pub mod Conditions

@@ -128,6 +128,7 @@ looks =
     ∷ row (codes "help" ∷ []) (kind.Look look.Help) []
     ∷ row (codes "h" ∷ []) (kind.Look look.Help) []
     ∷ row (codes "echo" ∷ []) (kind.Look look.Text) []
+    ∷ row (codes "show" ∷ codes "print" ∷ []) (kind.Look look.Layout) []
     ∷ row (codes "p/x" ∷ []) kind.Formatted (codes "print/x")
     ∷ row (codes "print/x" ∷ []) kind.Formatted (codes "print/x")
     ∷ row (codes "p/t" ∷ []) kind.Formatted (codes "print/t")

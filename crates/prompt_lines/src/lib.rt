@@ -3,12 +3,14 @@
 
 mod conditions;
 mod line;
+mod parts;
 mod reading;
 mod sources;
 mod table;
 
 pub use conditions::{before_condition, condition_in, split_word};
 pub use line::{HELD, Kind, Look, PromptLine, Text};
+pub use parts::count_place;
 pub use reading::{
     argument, breaking_line, held_line, index, is_alone, moment, printing_line, read_line,
     setting_line,

@@ -50,6 +50,8 @@ pub enum Look {
     Help,
     /// A text.
     Text,
+    /// How much of an array is told.
+    Layout,
 }
 
 /// What is done with a command line.

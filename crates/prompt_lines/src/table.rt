@@ -78,7 +78,7 @@ pub(crate) const ROWS: [Row; 60] = [
 ];
 
 /// The words of what is looked at, and of values in other digits, for a line that begins with none of the others.
-pub(crate) const LOOKS: [Row; 53] = [
+pub(crate) const LOOKS: [Row; 54] = [
     Row(&[b"backtrace", b"full"], Kind::Look(Look::Full), b""),
     Row(&[b"bt", b"full"], Kind::Look(Look::Full), b""),
     Row(&[b"where", b"full"], Kind::Look(Look::Full), b""),
@@ -120,6 +120,7 @@ pub(crate) const LOOKS: [Row; 53] = [
     Row(&[b"help"], Kind::Look(Look::Help), b""),
     Row(&[b"h"], Kind::Look(Look::Help), b""),
     Row(&[b"echo"], Kind::Look(Look::Text), b""),
+    Row(&[b"show", b"print"], Kind::Look(Look::Layout), b""),
     Row(&[b"p/x"], Kind::Formatted, b"print/x"),
     Row(&[b"print/x"], Kind::Formatted, b"print/x"),
     Row(&[b"p/t"], Kind::Formatted, b"print/t"),

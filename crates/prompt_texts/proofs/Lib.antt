@@ -1,4 +1,7 @@
+mod Groups
 mod Masking
 mod Putting
+mod Rows
 mod Spelling
 mod WorkedForms
+mod WorkedItems

@@ -1,26 +1,31 @@
 //! The frames, and the variables of each.
 ghost use Rattle.std.specs.Prelude.{◌++◌, codes};
-ghost use Rattle.gang_model.specs.Types.Tree.{Variable};
-ghost use Rattle.gang_model.specs.Debugger.Debugger.{Debugger, Setting, now, part_shown, shown_words};
 ghost use Rattle.gang_model.specs.Texts.Text.{target_text};
-ghost use Rattle.debug_answers.specs.Meanings.{IsInside};
 ghost use Rattle.debug_commands.specs.Views.{target_view};
-ghost use Rattle.debug_traits.specs.Frames.{IsShownAt, state_at};
-ghost use Rattle.prompt_texts.specs.Forms.{values_text};
+ghost use Rattle.prompt_texts.specs.Items.{told_text};
 ghost use Rattle.prompt_texts.specs.Shown.{Puts};
 
 use crate::answers::put_target;
 use crate::forms::Digits;
+use crate::items::Layout;
 use crate::page::Page;
 use crate::places::{put_around, put_place};
 use crate::source::Source;
-use crate::values::put_values_at;
+use crate::told::{Told, put_told, told_variable};
 use debug_commands::Target;
 use debug_session::Session;
-use debug_traits::{AnswerWriter, FramedMachine, NamedVariable, RecordedMachine, Shown};
+use debug_traits::{AnswerWriter, FramedMachine, NamedVariable, RecordedMachine};
+use gang_types::Mask;
+use std::alloc::Global;
 
 /// The most variables of a program.
 const VARIABLES: u32 = 256;
+
+/// The widest gang.
+const WIDEST: usize = 16;
+
+/// What is said where memory runs out.
+const NO_MEMORY: &[u8] = b" there is no memory to show it\n";
 
 /// Writes a line for each frame, the top one first, or for so many.
 pub(crate) fn put_frames<M: RecordedMachine, O: AnswerWriter + Drop>(
@@ -81,6 +86,8 @@ pub fn show_frames<M: RecordedMachine, O: AnswerWriter + Drop>(
 
 /// Writes a line for each frame, the top one first, with its parameters and local variables.
 pub fn show_full_frames<M: FramedMachine, O: AnswerWriter + Drop>(
+    alloc: Global,
+    layout: Layout,
     source: Source<'_>,
     session: &Session<M>,
     page: &mut Page<O>,
@@ -93,8 +100,8 @@ pub fn show_full_frames<M: FramedMachine, O: AnswerWriter + Drop>(
     for number in 0..position.depth {
         let depth = position.depth - number;
         put_frame(number, position.depth, source, machine, page);
-        put_parameters_at(b"    ", depth, machine, page);
-        put_locals_at(b"    ", depth, machine, page);
+        put_parameters_at(alloc, layout, b"    ", depth, machine, page);
+        put_locals_at(alloc, layout, b"    ", depth, machine, page);
     }
 }
 
@@ -128,6 +135,8 @@ pub fn show_frame<M: RecordedMachine, O: AnswerWriter + Drop>(
 
 /// Writes the parameters of the frame at a depth, with their values.
 pub fn show_arguments<M: FramedMachine, O: AnswerWriter + Drop>(
+    alloc: Global,
+    layout: Layout,
     depth: usize,
     session: &Session<M>,
     page: &mut Page<O>,
@@ -138,12 +147,14 @@ pub fn show_arguments<M: FramedMachine, O: AnswerWriter + Drop>(
     } else if machine.next_parameter_at(depth, 0).is_none() {
         page.put(b"no parameters\n");
     } else {
-        put_parameters_at(b"", depth, machine, page);
+        put_parameters_at(alloc, layout, b"", depth, machine, page);
     }
 }
 
 /// Writes the local variables in scope in the frame at a depth, parameters left out, with their values.
 pub fn show_locals<M: FramedMachine, O: AnswerWriter + Drop>(
+    alloc: Global,
+    layout: Layout,
     depth: usize,
     session: &Session<M>,
     page: &mut Page<O>,
@@ -152,12 +163,14 @@ pub fn show_locals<M: FramedMachine, O: AnswerWriter + Drop>(
     if machine.next_local_at(depth, 0).is_none() {
         page.put(b"no locals\n");
     } else {
-        put_locals_at(b"", depth, machine, page);
+        put_locals_at(alloc, layout, b"", depth, machine, page);
     }
 }
 
 /// Writes a line for each parameter in scope in the frame at a depth, behind blanks.
 fn put_parameters_at<M: FramedMachine, O: AnswerWriter + Drop>(
+    alloc: Global,
+    layout: Layout,
     front: &[u8],
     depth: usize,
     machine: &M,
@@ -166,7 +179,15 @@ fn put_parameters_at<M: FramedMachine, O: AnswerWriter + Drop>(
     let mut place = 0;
     for _ in 0..VARIABLES {
         if let Some(parameter) = machine.next_parameter_at(depth, place) {
-            put_variable_at(front, parameter.variable, depth, machine, page);
+            put_variable_at(
+                alloc,
+                layout,
+                front,
+                parameter.variable,
+                depth,
+                machine,
+                page,
+            );
             place = parameter.next;
         }
     }
@@ -174,6 +195,8 @@ fn put_parameters_at<M: FramedMachine, O: AnswerWriter + Drop>(
 
 /// Writes a line for each local variable in scope in the frame at a depth, behind blanks.
 fn put_locals_at<M: FramedMachine, O: AnswerWriter + Drop>(
+    alloc: Global,
+    layout: Layout,
     front: &[u8],
     depth: usize,
     machine: &M,
@@ -182,7 +205,7 @@ fn put_locals_at<M: FramedMachine, O: AnswerWriter + Drop>(
     let mut place = 0;
     for _ in 0..VARIABLES {
         if let Some(local) = machine.next_local_at(depth, place) {
-            put_variable_at(front, local.variable, depth, machine, page);
+            put_variable_at(alloc, layout, front, local.variable, depth, machine, page);
             place = local.next;
         }
     }
@@ -190,6 +213,8 @@ fn put_locals_at<M: FramedMachine, O: AnswerWriter + Drop>(
 
 /// Writes a line: a variable's name, and its values in the frame at a depth.
 fn put_variable_at<M: FramedMachine, O: AnswerWriter + Drop>(
+    alloc: Global,
+    layout: Layout,
     front: &[u8],
     named: NamedVariable<'_>,
     depth: usize,
@@ -199,25 +224,39 @@ fn put_variable_at<M: FramedMachine, O: AnswerWriter + Drop>(
     page.put(front);
     page.put(named.name);
     page.put(b" =");
-    put_values_at(Digits::Decimal, named.shown, None, depth, machine, page);
-    page.put(b"\n");
+    let lanes = lanes_at(depth, machine);
+    let count = named.shown.count;
+    match told_variable(alloc, layout, named.shown, lanes, 0, count, depth, machine) {
+        Ok(told) => put_told(Digits::Decimal, &told, page),
+        Err(_) => page.put(NO_MEMORY),
+    }
 }
 
-/// Writes a target, and its values in the frame at a depth.
-pub fn show_value<M: FramedMachine, O: AnswerWriter + Drop>(
+/// The lanes that are active where the frame at a depth stands, those of the call that it made or of its next step; all of them where the
+/// program has ended.
+pub fn lanes_at<M: RecordedMachine>(depth: usize, machine: &M) -> Mask {
+    let Some(top) = machine.position() else {
+        return Mask::all::<WIDEST>();
+    };
+    if depth >= top.depth {
+        return top.lanes;
+    }
+    match machine.call(depth) {
+        Some(call) => call.lanes,
+        None => Mask::all::<WIDEST>(),
+    }
+}
+
+/// Writes a target, and what is told of it.
+pub fn show_value<O: AnswerWriter + Drop>(
     target: Target<'_>,
     digits: Digits,
-    shown: Shown,
-    depth: usize,
-    machine: &M,
+    told: &Told,
     page: &mut Page<O>,
 )
-    ensures { (s : Setting) (d : Debugger) (v : Variable) → M.stands machine.now s d → IsShownAt s d depth v shown → IsInside (target_view target.entry).at shown.count
-        → Puts (target_text (target_view target.entry) ++ codes " =" ++ values_text digits shown.value_type (part_shown (target_view target.entry).at (shown_words (state_at depth (now s d)) v)) ++ codes "\n")
-        page.old.has_failed page.new.has_failed (O.written page.old.writer) (O.written page.new.writer) }
+    ensures { Puts (target_text (target_view target.entry) ++ codes " =" ++ told_text digits told.now) page.old.has_failed page.new.has_failed (O.written page.old.writer) (O.written page.new.writer) }
 {
     put_target(target, page);
     page.put(b" =");
-    put_values_at(digits, shown, target.at, depth, machine, page);
-    page.put(b"\n");
+    put_told(digits, told, page);
 }

@@ -9,6 +9,7 @@ mod expressions;
 mod forms;
 mod frames;
 mod help;
+mod items;
 mod looks;
 mod marked;
 mod moments;
@@ -16,6 +17,7 @@ mod page;
 mod places;
 mod refusals;
 mod source;
+mod told;
 mod values;
 
 pub use answers::{tell, tell_move};
@@ -25,8 +27,9 @@ pub use changes::{Before, Watched, tell_never_changed};
 pub use expressions::{Spelled, show_expression, show_faulty, tell_no_value};
 pub use forms::Digits;
 pub use frames::{
-    show_arguments, show_frame, show_frames, show_full_frames, show_locals, show_value,
+    lanes_at, show_arguments, show_frame, show_frames, show_full_frames, show_locals, show_value,
 };
+pub use items::{Item, Layout, Standing};
 pub use looks::{
     list_lines, show_displayed, show_help, show_here, show_line, show_lists, show_source,
     show_text, show_type, show_variables, show_watches,
@@ -38,3 +41,4 @@ pub use moments::{
 pub use page::Page;
 pub use refusals::tell_unknown;
 pub use source::Source;
+pub use told::{Told, put_told, told_variable};

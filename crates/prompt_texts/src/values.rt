@@ -2,14 +2,13 @@
 ghost use Rattle.gang_model.specs.Types.Tree.{Variable};
 ghost use Rattle.gang_model.specs.Debugger.Debugger.{Debugger, Setting, now, part_shown, shown_words};
 ghost use Rattle.debug_answers.specs.Meanings.{IsInside};
-ghost use Rattle.debug_traits.specs.Frames.{IsShownAt, state_at};
 ghost use Rattle.debug_traits.specs.Machines.{IsShown};
 ghost use Rattle.prompt_texts.specs.Forms.{shown_text, values_text};
 ghost use Rattle.prompt_texts.specs.Shown.{Puts};
 
 use crate::forms::{Digits, put_form};
 use crate::page::Page;
-use debug_traits::{AnswerWriter, FramedMachine, RecordedMachine, Shown};
+use debug_traits::{AnswerWriter, RecordedMachine, Shown};
 use gang_types::IntType;
 
 /// Writes a blank and a word.
@@ -59,45 +58,5 @@ fn put_words<M: RecordedMachine, O: AnswerWriter + Drop>(
 {
     for index in 0..shown.count {
         put_word(digits, shown.value_type, machine.word(shown, index), page);
-    }
-}
-
-/// Writes a blank and each word of a variable in the frame at a depth, or of one of them.
-pub(crate) fn put_values_at<M: FramedMachine, O: AnswerWriter + Drop>(
-    digits: Digits,
-    shown: Shown,
-    at: Option<u32>,
-    depth: usize,
-    machine: &M,
-    page: &mut Page<O>,
-)
-    ensures { (s : Setting) (d : Debugger) (v : Variable) → M.stands machine.now s d → IsShownAt s d depth v shown → IsInside at shown.count
-        → Puts (values_text digits shown.value_type (part_shown at (shown_words (state_at depth (now s d)) v)))
-        page.old.has_failed page.new.has_failed (O.written page.old.writer) (O.written page.new.writer) }
-{
-    match at {
-        Some(index) => {
-            let word = machine.word_at(depth, shown, index as usize);
-            put_word(digits, shown.value_type, word, page);
-        }
-        None => put_words_at(digits, shown, depth, machine, page),
-    }
-}
-
-/// Writes a blank and each word of a variable in the frame at a depth.
-fn put_words_at<M: FramedMachine, O: AnswerWriter + Drop>(
-    digits: Digits,
-    shown: Shown,
-    depth: usize,
-    machine: &M,
-    page: &mut Page<O>,
-)
-    ensures { (s : Setting) (d : Debugger) (v : Variable) → M.stands machine.now s d → IsShownAt s d depth v shown
-        → Puts (values_text digits shown.value_type (shown_words (state_at depth (now s d)) v))
-        page.old.has_failed page.new.has_failed (O.written page.old.writer) (O.written page.new.writer) }
-{
-    for index in 0..shown.count {
-        let word = machine.word_at(depth, shown, index);
-        put_word(digits, shown.value_type, word, page);
     }
 }
