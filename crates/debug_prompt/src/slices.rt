@@ -159,6 +159,7 @@ pub(crate) fn tell_no_slice<O: AnswerWriter + Drop>(why: &NoSlice<'_>, page: &mu
             page.put(b".\n");
         }
         NoSlice::NoNumber(text, why) => {
+            let text = *text;
             tell_no_value(why, Spelled { line: text, text }, page);
         }
         NoSlice::Varies(text) => {

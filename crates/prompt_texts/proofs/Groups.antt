@@ -1,8 +1,9 @@
 -- What is told of words, one group after the other.
-use Rattle.std.proofs.Common.{◌≡◌, ◌∙◌, ◌+◌, ◌-◌, ◌<◌, ℕ, zero, suc, Bool, true, false, List, [], ◌∷◌, ◌++◌, append-nil, append_assoc, drop, length, refl, ap, sym, arith, if◌then◌else◌}
+use Rattle.std.proofs.Common.{◌≡◌, ◌∙◌, ◌+◌, ◌-◌, ◌<◌, ◌≤◌, ℕ, zero, suc, Bool, true, false, List, [], ◌∷◌, ◌++◌, append-nil, append_assoc, drop, length, refl, ap, sym, take, arith, if◌then◌else◌}
 use Rattle.std.specs.Prelude.{◌==◌, nat_lt, flat_map, replicate, slice_index}
 use Rattle.std.specs.List.{prefix_len}
 use Rattle.std.proofs.lemmas.Bool.Decides.{nat_tests}
+use Rattle.std.proofs.lemmas.List.{length-drop, take_all}
 use Rattle.prompt_texts.specs.declared.items.Item.{Item}
 use Rattle.prompt_texts.specs.Items.{are_cut, element_item, groups, joined, kept, placed, runs, told, weight}
 
@@ -15,18 +16,18 @@ same_word x w is = grind (arith, nat_tests, is)
 
 runs_step : (w : ℕ) (rest : List ℕ) → runs (w ∷ rest) ≡ (w, suc (same_len w rest)) ∷ runs (drop (same_len w rest) rest)
 runs_step w [] = refl
-runs_step w (x ∷ xs) = go (x == w) refl
+runs_step w (x ∷ xs) = go (x == w) refl (runs_step x xs)
   where
-    go : (b : Bool) → (x == w) ≡ b → runs (w ∷ x ∷ xs) ≡ (w, suc (same_len w (x ∷ xs))) ∷ runs (drop (same_len w (x ∷ xs)) (x ∷ xs))
-    go true is =
+    go : (b : Bool) → (x == w) ≡ b → runs (x ∷ xs) ≡ (x, suc (same_len x xs)) ∷ runs (drop (same_len x xs) xs) → runs (w ∷ x ∷ xs) ≡ (w, suc (same_len w (x ∷ xs))) ∷ runs (drop (same_len w (x ∷ xs)) (x ∷ xs))
+    go true is others =
         let same : x ≡ w = same_word x w is in
         let more : same_len w (x ∷ xs) ≡ suc (same_len w xs) = ap (λ b. if b then 1 + same_len w xs else 0) is ∙ omega arith in
-        ap (joined w) (runs_step x xs) ∙ ap (λ b. if b then (w, suc (suc (same_len x xs))) ∷ runs (drop (same_len x xs) xs) else (w, 1) ∷ (x, suc (same_len x xs)) ∷ runs (drop (same_len x xs) xs)) is
+        ap (joined w) others ∙ ap (λ b. if b then (w, suc (suc (same_len x xs))) ∷ runs (drop (same_len x xs) xs) else (w, 1) ∷ (x, suc (same_len x xs)) ∷ runs (drop (same_len x xs) xs)) is
         ∙ ap (λ y. (w, suc (suc (same_len y xs))) ∷ runs (drop (same_len y xs) xs)) same ∙ ap (λ n. (w, suc n) ∷ runs (drop n (x ∷ xs))) (sym more)
-    go false is =
+    go false is others =
         let none : same_len w (x ∷ xs) ≡ 0 = ap (λ b. if b then 1 + same_len w xs else 0) is in
-        ap (joined w) (runs_step x xs) ∙ ap (λ b. if b then (w, suc (suc (same_len x xs))) ∷ runs (drop (same_len x xs) xs) else (w, 1) ∷ (x, suc (same_len x xs)) ∷ runs (drop (same_len x xs) xs)) is
-        ∙ ap (λ l. (w, 1) ∷ l) (sym (runs_step x xs)) ∙ ap (λ n. (w, suc n) ∷ runs (drop n (x ∷ xs))) (sym none)
+        ap (joined w) others ∙ ap (λ b. if b then (w, suc (suc (same_len x xs))) ∷ runs (drop (same_len x xs) xs) else (w, 1) ∷ (x, suc (same_len x xs)) ∷ runs (drop (same_len x xs) xs)) is
+        ∙ ap (λ l. (w, 1) ∷ l) (sym others) ∙ ap (λ n. (w, suc n) ∷ runs (drop n (x ∷ xs))) (sym none)
 
 groups_of_run : (r w : ℕ) (rest : List ℕ) → groups r (w ∷ rest)
     ≡ (if nat_lt r (suc (same_len w rest)) then (w, suc (same_len w rest)) ∷ [] else replicate (suc (same_len w rest)) (w, 1)) ++ groups r (drop (same_len w rest) rest)
@@ -63,6 +64,10 @@ group_single r w rest short =
     ∙ ap (λ b. (if b then (w, suc (same_len w rest)) ∷ [] else replicate (suc (same_len w rest)) (w, 1)) ++ groups r (drop (same_len w rest) rest)) short
     ∙ ap (λ l. (w, 1) ∷ l) (others r w rest short)
 
+-- what is left of a list from a place on
+pub rest_from : (words : List ℕ) (at : ℕ) → take (length words - at) (drop at words) ≡ drop at words
+rest_from words at = take_all (length words - at) (drop at words) (omega (arith, length-drop at words))
+
 -- ---- the first group
 
 pub first_folded : (r n : ℕ) (words : List ℕ) → 0 < length words → n ≡ same_len (slice_index words 0) (drop 1 words) → r < 1 + n
@@ -73,7 +78,7 @@ first_folded r n (w ∷ rest) some same long =
     let all : suc (same_len w rest) ≡ 1 + n = omega (arith, same) in
     group_folded r w rest test ∙ ap (λ k. (w, k) ∷ groups r (drop k (w ∷ rest))) all
 
-pub first_single : (r n : ℕ) (words : List ℕ) → 0 < length words → n ≡ same_len (slice_index words 0) (drop 1 words) → (r < 1 + n → ⊥)
+pub first_single : (r n : ℕ) (words : List ℕ) → 0 < length words → n ≡ same_len (slice_index words 0) (drop 1 words) → 1 + n ≤ r
     → groups r words ≡ (slice_index words 0, 1) ∷ groups r (drop 1 words)
 first_single r n [] some same short = absurd (omega (arith, some))
 first_single r n (w ∷ rest) some same short =

@@ -10,6 +10,7 @@ loop-index-preserved g c =
     let from = c.args.from in
     let so_far = c.loop-index.words.items in (
       omega (arith, ap length c.in_ok-push.ensures.items ∙ length_push so_far c.word_at.result, c.loop-index.invariant.0),
+      omega (arith, c.loop-index-test.true),
       λ ordered. omega (arith, c.loop-index-test.true),
       λ s d v st is within.
           let words = shown_words (state_at c.args.depth (now s d)) v in
@@ -19,7 +20,7 @@ loop-index-preserved g c =
           let next : index + 1 - from ≡ index - from + 1 = omega (arith, begun) in
           let there : from + (index - from) ≡ index = omega (arith, begun) in
           let word = c.word_at.ensures s d v st is (omega (arith, within, c.loop-index-test.true)) ∙ ap (λ i. get_or words i 0) (sym there) ∙ sym (get_or-drop from words (index - from) 0) in
-          c.in_ok-push.ensures.items ∙ ap (λ xs. xs ++ c.word_at.result ∷ []) (c.loop-index.invariant.2 s d v st is within)
+          c.in_ok-push.ensures.items ∙ ap (λ xs. xs ++ c.word_at.result ∷ []) (c.loop-index.invariant.3 s d v st is within)
           ∙ ap (λ x. take (index - from) behind ++ x ∷ []) word ∙ sym (take_more behind (index - from) 0 inside) ∙ ap (λ n. take n behind) (sym next),
     )
 
@@ -27,7 +28,7 @@ pub returns : goal.returns
 returns g c = record {
   words = λ s d v st is ordered within.
       let words = shown_words (state_at c.args.depth (now s d)) v in
-      let end : c.loop-index.index ≡ c.args.to = omega (arith, c.loop-index.invariant.1 ordered, c.loop-index-test.false) in
-      c.loop-index.invariant.2 s d v st is within ∙ ap (λ n. take (n - c.args.from) (drop c.args.from words)) end;
-  few = omega (arith, c.loop-index.invariant.0);
+      let end : c.loop-index.index ≡ c.args.to = omega (arith, c.loop-index.invariant.2 ordered, c.loop-index-test.false) in
+      c.loop-index.invariant.3 s d v st is within ∙ ap (λ n. take (n - c.args.from) (drop c.args.from words)) end;
+  few = omega (arith, c.loop-index.invariant.0, c.loop-index.invariant.1);
 }
