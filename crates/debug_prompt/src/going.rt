@@ -87,7 +87,7 @@ fn walk_to_stop<M: ExpressionMachine, O: AnswerWriter + Drop>(
     );
     let answer = moved.end.answer();
     tell_end(&moved, &before, scene, session, page);
-    tell_walked(&moved, holding, session, page);
+    tell_walked(&moved, holding, scene, session, page);
     follow(&answer, holding, scene, session, page);
 }
 

@@ -2,11 +2,13 @@
 use crate::frames::depth;
 use crate::holding::Holding;
 use crate::telling::{tell_condition, tell_moved, tell_passes};
+use crate::turning::Scene;
+use crate::values::show_target;
 use conditional_stops::{CountedStop, FrameWatch, MoveEnd, Moved, Reason};
 use debug_commands::Target;
 use debug_session::Session;
 use debug_traits::{AnswerWriter, FramedMachine, RecordedMachine};
-use prompt_texts::{Digits, Page, show_value};
+use prompt_texts::{Digits, Page};
 
 /// Tells the watch that was made by a number, if it was.
 pub(crate) fn tell_made<O: AnswerWriter + Drop>(
@@ -53,6 +55,7 @@ pub(crate) fn list_frames<O: AnswerWriter + Drop>(holding: &Holding, page: &mut 
 pub(crate) fn tell_walked<M: FramedMachine, O: AnswerWriter + Drop>(
     moved: &Moved<'_>,
     holding: &Holding,
+    scene: Scene<'_>,
     session: &Session<M>,
     page: &mut Page<O>,
 ) {
@@ -62,7 +65,7 @@ pub(crate) fn tell_walked<M: FramedMachine, O: AnswerWriter + Drop>(
                 reason: Reason::Watch(number),
                 ..
             },
-        ) => show_watched(*number, holding, session, page),
+        ) => show_watched(*number, holding, scene, session, page),
         MoveEnd::Stopped(_) | MoveEnd::Answered(_) | MoveEnd::MostPassed | MoveEnd::NoMemory => {}
     }
     let told = Moved {
@@ -77,13 +80,14 @@ pub(crate) fn tell_walked<M: FramedMachine, O: AnswerWriter + Drop>(
 fn show_watched<M: FramedMachine, O: AnswerWriter + Drop>(
     number: u32,
     holding: &Holding,
+    scene: Scene<'_>,
     session: &Session<M>,
     page: &mut Page<O>,
 ) {
     let top = depth(session);
     for watch in holding.frames.as_slice() {
         if watch.number == number && (watch.at.is_some() || watch.depth != top) {
-            show_watch(watch, session.machine(), page);
+            show_watch(watch, scene, session.machine(), page);
         }
     }
 }
@@ -91,6 +95,7 @@ fn show_watched<M: FramedMachine, O: AnswerWriter + Drop>(
 /// Shows what is watched.
 fn show_watch<M: FramedMachine, O: AnswerWriter + Drop>(
     watch: &FrameWatch,
+    scene: Scene<'_>,
     machine: &M,
     page: &mut Page<O>,
 ) {
@@ -98,7 +103,15 @@ fn show_watch<M: FramedMachine, O: AnswerWriter + Drop>(
     if let Some(shown) = machine.find_at(watch.depth, name) {
         let target = Target { name, at: watch.at };
         page.put(b"  ");
-        show_value(target, Digits::Decimal, shown, watch.depth, machine, page);
+        show_target(
+            target,
+            Digits::Decimal,
+            shown,
+            watch.depth,
+            scene,
+            machine,
+            page,
+        );
     }
 }
 
