@@ -57,7 +57,6 @@ impl CopyPlan {
     }
 
     /// Counts an event that happened: whether a copy is due after it.
-    #[inline(always)]
     pub(crate) fn count_event(&mut self) -> bool
         ensures { self.new.most ≡ self.old.most }
     {
@@ -103,7 +102,6 @@ impl Copies {
     }
 
     /// Counts an event: whether a copy is due after it.
-    #[inline(always)]
     pub(crate) fn is_due(&mut self) -> bool
         ensures { self.new.all ≡ self.old.all }
     {

@@ -64,7 +64,6 @@ impl Notes {
     }
 
     /// One event more can be taken back, up to the limit.
-    #[inline(always)]
     fn keep_one(&mut self)
         requires { suc self.old.kept ≤ length (events_of self.old.pokes.items self.old.steps) }
         ensures pokes { self.new.pokes ≡ self.old.pokes }
@@ -78,7 +77,6 @@ impl Notes {
     }
 
     /// Notes a step.
-    #[inline(always)]
     pub(crate) fn note_step(&mut self)
         requires { suc self.old.steps < 2 ^ 64 }
         ensures pokes { self.new.pokes ≡ self.old.pokes }
@@ -123,7 +121,6 @@ impl Notes {
     /// # Errors
     ///
     /// `NoHistory` where none can be taken back, and then nothing changes.
-    #[inline(always)]
     pub(crate) fn forget_last(&mut self) -> Result<Undone, NoHistory>
         ensures limit { self.new.limit ≡ self.old.limit }
         ensures forgets { Forgets self.old.pokes.items self.old.steps self.old.kept result self.new.pokes.items self.new.steps self.new.kept }

@@ -87,7 +87,6 @@ impl<M: BeginsAgain + Drop> WholeRun<M> {
 
 impl<M: BeginsAgain> WholeRun<M> {
     /// Copies of a moment after the last event go.
-    #[inline(never)]
     fn drop_past(&mut self)
         ensures whole { (s : Setting) (d : Debugger) → StandsWhole M.stands M.copies self.old s d → StandsWhole M.stands M.copies self.new s d }
         ensures fresh { self.new.is_stale ≡ false }
@@ -99,7 +98,6 @@ impl<M: BeginsAgain> WholeRun<M> {
     }
 
     /// Counts an event: a copy is made, if one is due and there is memory for it.
-    #[inline(always)]
     pub(crate) fn count_event(&mut self)
         requires { self.old.is_stale ≡ false }
         ensures whole { (s : Setting) (d : Debugger) → StandsWhole M.stands M.copies self.old s d → StandsWhole M.stands M.copies self.new s d }
@@ -112,7 +110,6 @@ impl<M: BeginsAgain> WholeRun<M> {
     }
 
     /// One copy more, if there is memory for it.
-    #[inline(never)]
     fn add_copy(&mut self)
         requires { self.old.is_stale ≡ false }
         ensures whole { (s : Setting) (d : Debugger) → StandsWhole M.stands M.copies self.old s d → StandsWhole M.stands M.copies self.new s d }
@@ -129,7 +126,6 @@ impl<M: BeginsAgain> WholeRun<M> {
     }
 
     /// Does the next step and notes it.
-    #[inline(always)]
     pub(crate) fn go_on(&mut self) -> StepEnd
         requires fresh { self.old.is_stale ≡ false }
         requires room { suc self.old.notes.steps < 2 ^ 64 }
@@ -149,7 +145,6 @@ impl<M: BeginsAgain> WholeRun<M> {
 
 impl<M: CopiesOver + PokesSurely> WholeRun<M> {
     /// No copy is of a moment after the last event, and another step can be counted.
-    #[inline(always)]
     pub(crate) fn make_ready(&mut self)
         ensures whole { (s : Setting) (d : Debugger) → StandsWhole M.stands M.copies self.old s d → StandsWhole M.stands M.copies self.new s d }
         ensures fresh { self.new.is_stale ≡ false }
@@ -162,7 +157,6 @@ impl<M: CopiesOver + PokesSurely> WholeRun<M> {
     }
 
     /// No copy is of a moment after the last event.
-    #[inline(always)]
     fn refresh(&mut self)
         ensures whole { (s : Setting) (d : Debugger) → StandsWhole M.stands M.copies self.old s d → StandsWhole M.stands M.copies self.new s d }
         ensures fresh { self.new.is_stale ≡ false }
@@ -175,7 +169,6 @@ impl<M: CopiesOver + PokesSurely> WholeRun<M> {
     }
 
     /// Another step can be counted.
-    #[inline(always)]
     fn count_anew(&mut self)
         ensures whole { (s : Setting) (d : Debugger) → StandsWhole M.stands M.copies self.old s d → StandsWhole M.stands M.copies self.new s d }
         ensures stale { self.new.is_stale ≡ self.old.is_stale }
@@ -189,7 +182,6 @@ impl<M: CopiesOver + PokesSurely> WholeRun<M> {
     }
 
     /// Forgets all events but the last steps, as many as can be taken back at most. The start is then the moment before these.
-    #[cold]
     fn forget_older(&mut self)
         requires { self.old.notes.limit ≤ self.old.notes.steps }
         ensures whole { (s : Setting) (d : Debugger) → StandsWhole M.stands M.copies self.old s d → StandsWhole M.stands M.copies self.new s d }
