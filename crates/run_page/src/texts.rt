@@ -25,7 +25,7 @@ impl TextWriter {
 
     /// What was written.
     pub(crate) fn into_bytes(self) -> Vec<u8>
-        ensures { result.items ≡ self.entry.bytes.items }
+        ensures { result.items ≡ self.bytes.items }
     {
         let TextWriter {
             bytes,

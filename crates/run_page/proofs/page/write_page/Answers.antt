@@ -1,7 +1,7 @@
 use Rattle.std.proofs.Common.{◌≡◌, ◌∙◌, false, true, length, rules, subst, sym}
 use Rattle.lane_picture.specs.Tries.{end_view}
 use Rattle.run_page.specs.Noting.{HasRecord}
-use Rattle.run_page.specs.Pages.{IsPut, has_failed}
+use Rattle.run_page.specs.Pages.{IsPut, page_text}
 use Rattle.run_page.specs.declared.page.PageEnd.TheVariants.{WriteFault}
 use Rattle.run_page.proofs.Telling.{written}
 use Rattle.run_page.proofs.page.write_page.Goals as goal
@@ -22,10 +22,11 @@ returns-in-Ok-clause-page g c s d st limit =
     let count : c.len-moments.result ≡ length kept.moments.items = search rules in
     let old = g.O.AnswerWriter.written c.args.writer.now in
     let new = g.O.AnswerWriter.written c.write_all.new.self in
+    let text = page_text c.args.viewer.now c.args.subject.now ended kept in
     record {
       kept = kept;
       ended = ended;
-      text = subst (λ failed. IsPut failed _ old new) (sym c.told.ensures.works) (subst (λ text. IsPut false text old new) (c.as_slice.ensures.value ∙ c.in_ok-text.ensures) c.in-Ok.ensures.0);
+      text = subst (λ failed. IsPut failed text old new) (sym c.told.ensures.works) (subst (λ text. IsPut false text old new) (c.as_slice.ensures.value ∙ c.in_ok-text.ensures) c.in-Ok.ensures.0);
       ends = noted.run.ends limit;
       has = subst (λ tried. HasRecord s d c.args.subject.now tried (end_view ended) kept) (noted.run.whole limit) (noted.has limit);
       count = count;
@@ -39,7 +40,8 @@ returns-clause-page g c s d st limit =
     let count : c.len-moments.result ≡ length kept.moments.items = search rules in
     let old = g.O.AnswerWriter.written c.args.writer.now in
     let new = g.O.AnswerWriter.written c.write_all.new.self in
-    let front = c.in_default.ensures in
+    let text = page_text c.args.viewer.now c.args.subject.now ended kept in
+    let front = c.in-Err.ensures in
     record {
       kept = kept;
       ended = ended;
