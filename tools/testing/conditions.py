@@ -202,11 +202,13 @@ def of_wraps(width):
     at = lambda number, lane: 90 + number * (lane + 1)
     wrong = first(lambda number: at(number, width - 1) > 127)
     lane = next(it for it in range(width) if at(wrong, it) > 127)
-    values = " ".join(str(at(wrong, it) - (256 if at(wrong, it) > 127 else 0)) for it in range(width))
+    values = [str(at(wrong, it) - (256 if at(wrong, it) > 127 else 0)) for it in range(width)]
+    # (a number of four characters stands among them, so a row has eight)
+    told = f" {' '.join(values)}" if width <= 8 else "".join(f"\n[{it}] {' '.join(values[it : it + 8])}" for it in range(0, width, 8))
     lines = ["run", "print at", "break 8 if at > 110", "reverse-continue", "print round"]
     wanted = [
         ("F2 Index", f"in lane {lane}"),
-        (f"at = {values}",),
+        (f"at ={told}\n",),
         ("breakpoint 1 at line 8",),
         ("breakpoint 1:", lanes(width, lambda lane: at(wrong - 1, lane) > 110)),
         (f"round = {wrong - 1}",),

@@ -1,4 +1,4 @@
-"""Watches of variables of functions at the prompt, at 8 and 16 lanes, on and back: whole, by lanes and by elements, in the top frame and in an
+"""Watches of variables of functions at the prompt, at 8 and 16 lanes, on and back: whole and by lanes, in the top frame and in an
 outer one of a recursion of depth 3, with conditions and counts, until the frame is left or not yet entered.
 
 What each lane shows, and after which statement, is worked out here by arithmetic.
@@ -24,14 +24,14 @@ int down(uniform int n, int by) {
 export void go() {
     int x = 0;
     uniform int i = 0;
-    uniform int table[3];
+    uniform int square = 0;
     while (i < 3) {
         if (programIndex > 1) {
             x -= i + 1;
         } else {
             x += 2;
         }
-        table[i] = i * i - 7;
+        square = i * i - 7;
         i += 1;
     }
     int y = down(2, x);
@@ -56,43 +56,59 @@ def last(width):
     return changes(width)[-1]
 
 
-def prints(name, width, words):
+def shown(word, is_active):
+    """What a lane shows: in brackets where it waits."""
+    return f"{word}" if is_active else f"({word})"
+
+
+def prints(name, width, words, is_active=lambda lane: True):
     """Lines that print the first lanes and the last, and what they tell."""
     asked = (0, 1, 2, width - 1)
-    return [f"print {name}[{lane}]" for lane in asked], [(f"{name}[{lane}] = {words[lane]}\n",) for lane in asked]
+    return [f"print {name}[{lane}]" for lane in asked], [(f"{name}[{lane}] = {shown(words[lane], is_active(lane))}\n",) for lane in asked]
+
+
+def in_first_arm(lane):
+    return lane > 1
+
+
+def in_other_arm(lane):
+    return lane <= 1
 
 
 def of_lanes(width):
     """Each change stops, in whichever lanes it is made, on and back."""
     lines = ["break 17", "run", "delete 1", "watch x", "info watchpoints"]
     wanted = [("breakpoint 1 at line 17",), ("breakpoint 1:",), ("deleted 1",), ("watch 2: x",), ("2  watch, x, of the frame at depth 1",)]
-    for words in changes(width):
-        more, told = prints("x", width, words)
+    for number, words in enumerate(changes(width)):
+        # (behind the first arm the lanes of the other one are at it, and then all lanes go on)
+        more, told = prints("x", width, words, (lambda lane: True) if number % 2 else in_other_arm)
         lines, wanted = [*lines, "continue", *more], [*wanted, ("watch 2:",), *told]
     lines, wanted = [*lines, "continue"], [*wanted, ("the program has ended",)]
-    for words in reversed([[0] * width, *changes(width)[:-1]]):
-        more, told = prints("x", width, words)
+    for number, words in enumerate(reversed([[0] * width, *changes(width)[:-1]])):
+        more, told = prints("x", width, words, in_first_arm if number % 2 else in_other_arm)
         lines, wanted = [*lines, "reverse-continue", *more], [*wanted, ("watch 2:",), *told]
     return "each change of a local", [*lines, "reverse-continue"], [*wanted, ("the history goes back no further",)]
 
 
 def of_parts(width):
-    """A lane, and an element."""
-    lines = ["break 17", "run", "delete", f"watch x[{width - 1}]", "watch table[1]", "continue", "continue", "continue", "print i", "continue", "continue"]
+    """A lane, beside a scalar with a condition."""
+    more = ["print square", "print i", "continue", "continue"]
+    lines = ["break 17", "run", "delete", f"watch x[{width - 1}]", "watch square if square == -6", *["continue"] * 3, *more]
     wanted = [
         ("breakpoint 1 at line 17",),
         ("breakpoint 1:",),
         ("all breakpoints and watches are deleted",),
         (f"watch 2: x[{width - 1}]",),
-        ("watch 3: table[1]",),
-        ("watch 2:", f"x[{width - 1}] = -1\n"),
-        ("watch 2:", f"x[{width - 1}] = -3\n"),
-        ("watch 3:", "table[1] = -6\n"),
+        ("watch 3: square", "3 stops only if square == -6"),
+        ("watch 2:", f"x[{width - 1}] = (-1)\n"),
+        ("watch 2:", f"x[{width - 1}] = (-3)\n"),
+        ("watch 3:", "square"),
+        ("square = -6\n",),
         ("i = 1",),
-        ("watch 2:", f"x[{width - 1}] = -6\n"),
+        ("watch 2:", f"x[{width - 1}] = (-6)\n"),
         ("the program has ended",),
     ]
-    return "lanes and elements", lines, wanted
+    return "a lane, and a scalar with a condition", lines, wanted
 
 
 def of_frames(width):
