@@ -19,6 +19,7 @@ TYPES = {
 LETTERS = ["", "/x", "/t", "/o", "/u", "/c"]
 ESCAPES = {7: "a", 8: "b", 9: "t", 10: "n", 11: "v", 12: "f", 13: "r", 39: "'", 92: "\\"}
 ACTIVE = 3  # the lanes that are active where values of expressions are asked for
+NARROW = 3  # the columns of a value of which sixteen stand in a row
 
 
 def value_in(number, bits, is_signed):
@@ -48,6 +49,26 @@ def text_of(value, name, letter):
     if letter == "/c":
         return f"{value_in(value, 8, is_signed)} '{character(value % 256)}'"
     return ("false", "true")[value] if name == "bool" else str(value)
+
+
+def rows_of(items, narrow):
+    """Items on a line, or in rows of which each begins with an index."""
+    size = 16 if narrow else 8
+    if len(items) <= size:
+        return "".join(f" {text}" for _, text in items)
+    rows = [items[at : at + size] for at in range(0, len(items), size)]
+    return "".join(f"\n[{row[0][0]}]" + "".join(f" {text}" for _, text in row) for row in rows)
+
+
+def is_narrow(texts, name, letter):
+    return not letter and name != "bool" and all(len(text) <= NARROW for text in texts)
+
+
+def lanes_text(values, active, name, letter=""):
+    """What is printed of a varying variable, of which some lanes wait."""
+    texts = [text_of(value, name, letter) for value in values]
+    items = [(lane, text if lane in active else f"({text})") for lane, text in enumerate(texts)]
+    return rows_of(items, is_narrow(texts, name, letter))
 
 
 def of_file(name, number):
@@ -80,11 +101,12 @@ def asked(numbers, width):
     found = []
     for letter in LETTERS:
         for place, (name, number) in enumerate(zip(TYPES, numbers)):
-            lanes = [text_of(of_lane(name, lane), name, letter) for lane in range(width)]
+            values = [of_lane(name, lane) for lane in range(width)]
+            lanes = [text_of(value, name, letter) for value in values]
             active = [it if lane < ACTIVE else "." for lane, it in enumerate(lanes)]
             one = text_of(of_file(name, number), name, letter)
             found.append((f"p{letter} f{place}", f"f{place} = {one}"))
-            found.append((f"p{letter} v{place}", f"v{place} = {' '.join(lanes)}"))
+            found.append((f"p{letter} v{place}", f"v{place} =" + lanes_text(values, range(ACTIVE), name, letter)))
             found.append((f"p{letter} v{place}[1]", f"v{place}[1] = {lanes[1]}"))
             found.append((f"p{letter} ({name})v{place}", f"({name})v{place} = {' '.join(active)}"))
             found.append((f"p{letter} ({name})f{place}", f"({name})f{place} = {one}"))
@@ -105,7 +127,7 @@ def digits(numbers, width):
     lines = asked(numbers, width)
     typed = f"step {len(TYPES) + 1}\n" + "".join(f"{it}\n" for it, _ in lines)
     file = "digits.ispc"
-    return Run(f"digits of {numbers[1]} and its like at {width} lanes", typed.encode(), ["debug", file, "--width", str(width)], ends_so([it for _, it in lines]), b"", data={file: source(numbers).encode()})
+    return Run(f"digits of {numbers[1]} and its like at {width} lanes", typed.encode(), ["debug", file, "--width", str(width)], ends_so([line for _, it in lines for line in it.splitlines()]), b"", data={file: source(numbers).encode()})
 
 
 SHOWN_SOURCE = b"""uniform int total = 0;

@@ -5,11 +5,10 @@ What is wanted is worked out here from the values, by the rules of GDB's manual 
 
 import itertools
 
-from .digits import TYPES, text_of, value_in
+from .digits import TYPES, is_narrow, lanes_text, rows_of, text_of, value_in
 from .tried import Run, shown
 
 ELEMENTS, REPEATS = 200, 10
-NARROW = 3  # the columns of a value of which sixteen stand in a row
 
 
 def grouped(values, repeats):
@@ -29,19 +28,6 @@ def cut(groups, most, repeats):
     return [group for group, begin in zip(groups, begins) if begin < most]
 
 
-def rows_of(items, narrow):
-    """Items on a line, or in rows of which each begins with an index."""
-    size = 16 if narrow else 8
-    if len(items) <= size:
-        return "".join(f" {text}" for _, text in items)
-    rows = [items[at : at + size] for at in range(0, len(items), size)]
-    return "".join(f"\n[{row[0][0]}]" + "".join(f" {text}" for _, text in row) for row in rows)
-
-
-def is_narrow(texts, name, letter):
-    return not letter and name != "bool" and all(len(text) <= NARROW for text in texts)
-
-
 def array_text(values, name, letter="", first=0, most=ELEMENTS, repeats=REPEATS):
     """What is printed of the elements of an array, from one on."""
     groups = grouped(values, repeats)
@@ -50,13 +36,6 @@ def array_text(values, name, letter="", first=0, most=ELEMENTS, repeats=REPEATS)
     times = [f" <repeats {size} times>" if size > 1 else "" for _, _, size in kept]
     items = [(first + index, text + time) for (index, _, _), text, time in zip(kept, texts, times)]
     return rows_of(items, is_narrow(texts, name, letter)) + (" ..." if len(kept) < len(groups) else "")
-
-
-def lanes_text(values, active, name, letter=""):
-    """What is printed of a varying variable, of which some lanes wait."""
-    texts = [text_of(value, name, letter) for value in values]
-    items = [(lane, text if lane in active else f"({text})") for lane, text in enumerate(texts)]
-    return rows_of(items, is_narrow(texts, name, letter))
 
 
 def asks(name, source, typed, wanted, width=4):
