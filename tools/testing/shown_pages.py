@@ -335,13 +335,13 @@ def bands(browser, file):
 # ---- time
 
 def slow(browser, file):
-    """What takes too long in a page of a long run, as the least of three tries."""
+    """What takes too long in a page of a long run, as the least of nine tries."""
     browser.open(file.as_uri())
     browser.value("pick(0, 0)")
     why = [] if browser.value("LAST") >= 50_000 else ["the run is too short"]
     for name, text, most in [("a move", "go(here.at + 1)", MOST_MOVE), ("a move back", "go(here.at - 1)", MOST_MOVE), ("a jump", "go(LAST * .7 - here.at / 2)", MOST_JUMP)]:
         browser.value("go(LAST / 2)")
-        took = browser.value(f"Math.min(...[1, 2, 3].map(() => {{ const start = performance.now(); {text}; document.body.offsetHeight; return performance.now() - start; }}))")
+        took = browser.value(f"Math.min(...Array.from({{ length: 9 }}, () => {{ const start = performance.now(); {text}; document.body.offsetHeight; return performance.now() - start; }}))")
         print(f"    {name} in {browser.value('LAST')} steps: {took:.1f} ms", flush=True)
         why += [] if took < most else [f"{name} takes {took} ms, and {most} is the most"]
     return why + browser.faults()
