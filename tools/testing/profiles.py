@@ -16,6 +16,7 @@ from meaning.source import Node
 from meaning.values import Fault
 
 from . import examples, meant
+from .printing import array_text
 from .program import begins_with, has_words
 from .tried import Run
 
@@ -417,17 +418,23 @@ def shown_runs(root):
     return found
 
 
+def printed(row):
+    """What the prompt prints first, with no bound on elements and repeats, of an array of the file whose first numbers a row has."""
+    name, _, numbers = row.partition(" = ")
+    return f"{name} ={array_text([int(it) for it in numbers.split()], 'int', most=len(row), repeats=len(row))}".encode()
+
+
 def result_runs(root):
     """A rewritten program gives what its kernel gives: the file's variables, where its entry is left."""
     found = []
     for name, kernel in REWRITTEN.items():
         source, given = f"examples/profiles/{name}.ispc", f"examples/kernels/{kernel}.input"
-        rows = (root / f"examples/kernels/{kernel}.expected").read_bytes().splitlines()
-        lines = [f"break {(root / source).read_text().rstrip().count(chr(10)) + 1}", "continue", "set print elements 0"]
-        text = "".join(f"{it}\n" for it in [*lines, *(f"print {row.split()[0].decode()}" for row in rows if b" = " in row)]).encode()
+        rows = [it for it in (root / f"examples/kernels/{kernel}.expected").read_text().splitlines() if " = " in it]
+        lines = [f"break {(root / source).read_text().rstrip().count(chr(10)) + 1}", "continue", "set print elements 0", "set print repeats 0"]
+        text = "".join(f"{it}\n" for it in [*lines, *(f"print {row.split()[0]}" for row in rows)]).encode()
         for width in WIDTHS:
             words = ["debug", source, "--input", given, "--width", str(width)]
-            found.append(Run(f"results of {source}, {width} lanes", text, words, has_words(*(row for row in rows if b" = " in row)), None, data={it: root / it for it in (source, given)}))
+            found.append(Run(f"results of {source}, {width} lanes", text, words, has_words(*map(printed, rows)), None, data={it: root / it for it in (source, given)}))
     return found
 
 
