@@ -272,7 +272,11 @@ def wanted_json(counted, name):
     end = {"end": counted.end[0]} | (dict(zip(("fault", "lane"), counted.end[1:])) if counted.end[1:] else {})
     lines = [{"line": number} | row for number, row in counted.lines().items()]
     functions = [{"name": it} | row for it, row in counted.functions().items()]
-    return {"source": name, "width": counted.width} | end | {"all": counted.all(), "lines": lines, "functions": functions}
+    forms = []
+    for (line, word, _), row in counted.by_form().items():
+        own = {key: value for key, value in row.items() if key != "partings"}
+        forms.append({"line": line, "form": word, "full_share": share_of(row["full"], row["rounds"])} | own)
+    return {"source": name, "width": counted.width} | end | {"all": counted.all(), "lines": lines, "functions": functions, "forms": forms}
 
 
 def columns(row):

@@ -5,10 +5,9 @@ use crate::colours::{ink, plain};
 use crate::parts::Part::{Right, Share, Shown, Text};
 use crate::parts::write_parts;
 use crate::profile::Subject;
-use crate::shares::share;
 use crate::tables::write_end;
 use debug_traits::{AnswerWriter, WriteFault};
-use lane_counts::{Counts, Tally};
+use lane_counts::{Counts, Tally, share};
 use lane_picture::StepsEnd;
 
 /// A bar of all its cells, and behind it one of none.

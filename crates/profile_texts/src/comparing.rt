@@ -5,9 +5,8 @@ use crate::colours::{ink, plain};
 use crate::lines::{front_of, line_at, lines_of};
 use crate::parts::Part::{Right, Share, Shown, Text};
 use crate::parts::write_parts;
-use crate::shares::share;
 use debug_traits::{AnswerWriter, WriteFault};
-use lane_counts::{Counts, Tally};
+use lane_counts::{Counts, Tally, share};
 use std::alloc::{AllocError, Global};
 
 /// The most bytes of a line of the source.

@@ -6,11 +6,10 @@ use crate::parts::Part::{Left, Right, Share, Text};
 use crate::parts::write_parts;
 use crate::profile::Subject;
 use crate::rows::Row;
-use crate::shares::{lost, share, share_of};
 use crate::tables::write_end;
 use debug_traits::{AnswerWriter, WriteFault};
 use foreach_forms::Word;
-use lane_counts::{Counts, Tally};
+use lane_counts::{Counts, Tally, lost, share, share_of};
 use lane_picture::StepsEnd;
 
 const HEAD: &[u8] =
@@ -66,7 +65,7 @@ fn write_form<O: AnswerWriter>(
 }
 
 /// The word that a form begins with.
-fn text_of(word: Word) -> &'static [u8] {
+pub(crate) fn text_of(word: Word) -> &'static [u8] {
     match word {
         Word::ForEach => b"foreach",
         Word::Tiled => b"foreach_tiled",

@@ -1,17 +1,18 @@
 //! Counts as JSON.
 ghost use Rattle.std.specs.Prelude.{◌≡◌, false, is_err};
 
+use crate::formed::text_of;
 use crate::parts::Part::{Number, Percents, Text};
 use crate::parts::write_parts;
 use crate::profile::Subject;
-use crate::shares::{lost, share};
 use crate::tables::fault_words;
 use debug_traits::{AnswerWriter, WriteFault};
-use lane_counts::{Counts, Tally};
+use foreach_forms::Form;
+use lane_counts::{Counts, Tally, lost, share, share_of};
 use lane_picture::StepsEnd;
 use std::str;
 
-/// Writes the counts of all steps, of each line and of each function.
+/// Writes the counts of all steps, of each line, of each function and of each foreach form.
 pub(crate) fn write_json<O: AnswerWriter>(
     tally: &Tally,
     end: StepsEnd,
@@ -34,6 +35,8 @@ pub(crate) fn write_json<O: AnswerWriter>(
     write_lines(tally, subject.width, writer)?;
     writer.write_all(b"],\n\"functions\":[")?;
     write_functions(tally, subject.width, writer)?;
+    writer.write_all(b"],\n\"forms\":[")?;
+    write_forms(tally, subject.width, writer)?;
     writer.write_all(b"]}\n")
 }
 
@@ -110,6 +113,63 @@ fn write_functions<O: AnswerWriter>(
     Ok(())
 }
 
+/// Writes the forms that were come to, in the order of the program.
+fn write_forms<O: AnswerWriter>(
+    tally: &Tally,
+    width: usize,
+    writer: &mut O,
+) -> Result<(), WriteFault>
+    requires works { O.has_failed writer.old ≡ false }
+    ensures failed { O.has_failed writer.new ≡ is_err result }
+{
+    let mut is_first = true;
+    for (number, form) in tally.forms().forms().iter().enumerate() {
+        let inside = counts_at(tally.forms().inside(), number);
+        if inside.steps > 0 {
+            write_comma(is_first, writer)?;
+            write_rounds(*form, counts_at(tally.forms().rounds(), number), writer)?;
+            write_unparted(inside, width, writer)?;
+            writer.write_all(b"}")?;
+            is_first = false;
+        }
+    }
+    Ok(())
+}
+
+/// The counts of a number.
+fn counts_at(rows: &[Counts], number: usize) -> Counts {
+    match rows.get(number) {
+        Some(counts) => *counts,
+        None => Counts::none(),
+    }
+}
+
+/// Writes the members of a form's place and rounds.
+fn write_rounds<O: AnswerWriter>(
+    form: Form,
+    rounds: Counts,
+    writer: &mut O,
+) -> Result<(), WriteFault>
+    requires works { O.has_failed writer.old ≡ false }
+    ensures failed { O.has_failed writer.new ≡ is_err result }
+{
+    let full = rounds.full_steps();
+    let parts = [
+        Text(b"{\"line\":"),
+        Number(u64::from(form.line)),
+        Text(b",\"form\":\""),
+        Text(text_of(form.word)),
+        Text(b"\",\"rounds\":"),
+        Number(rounds.steps),
+        Text(b",\"full\":"),
+        Number(full),
+        Text(b",\"full_share\":"),
+        Percents(share_of(full, rounds.steps)),
+        Text(b","),
+    ];
+    write_parts(writer, &parts)
+}
+
 /// Writes what stands before an element: nothing before the first one.
 fn write_comma<O: AnswerWriter>(is_first: bool, writer: &mut O) -> Result<(), WriteFault>
     requires works { O.has_failed writer.old ≡ false }
@@ -127,6 +187,20 @@ fn write_counts<O: AnswerWriter>(
     requires works { O.has_failed writer.old ≡ false }
     ensures failed { O.has_failed writer.new ≡ is_err result }
 {
+    write_unparted(counts, width, writer)?;
+    let parts = [Text(b",\"partings\":"), Number(counts.partings)];
+    write_parts(writer, &parts)
+}
+
+/// Writes the members of counts without partings.
+fn write_unparted<O: AnswerWriter>(
+    counts: Counts,
+    width: usize,
+    writer: &mut O,
+) -> Result<(), WriteFault>
+    requires works { O.has_failed writer.old ≡ false }
+    ensures failed { O.has_failed writer.new ≡ is_err result }
+{
     let parts = [
         Text(b"\"steps\":"),
         Number(counts.steps),
@@ -136,8 +210,6 @@ fn write_counts<O: AnswerWriter>(
         Percents(share(counts, width)),
         Text(b",\"short_steps\":"),
         Number(counts.short_steps),
-        Text(b",\"partings\":"),
-        Number(counts.partings),
         Text(b",\"lost\":"),
         Number(lost(counts, width)),
     ];

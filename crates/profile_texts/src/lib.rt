@@ -10,7 +10,6 @@ mod lines;
 mod parts;
 mod profile;
 mod rows;
-mod shares;
 mod tables;
 
 pub use comparing::{Compared, write_comparison};

@@ -1,6 +1,5 @@
 //! The rows of a table, dearest first.
-use crate::shares::lost;
-use lane_counts::Counts;
+use lane_counts::{Counts, lost};
 use std::alloc::{AllocError, Global};
 
 /// The counts of a line or a function, by its number.

@@ -7,10 +7,9 @@ use crate::parts::Part::{Left, Number, Right, Share, Shown, Text};
 use crate::parts::write_parts;
 use crate::profile::Subject;
 use crate::rows::Row;
-use crate::shares::{lost, share};
 use debug_traits::{AnswerWriter, Fault, WriteFault};
 use gang_types::FaultName;
-use lane_counts::{Counts, Tally};
+use lane_counts::{Counts, Tally, lost, share};
 use lane_picture::StepsEnd;
 
 /// The most bytes of a line of the source in a table.
