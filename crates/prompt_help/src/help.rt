@@ -128,7 +128,7 @@ const OTHERS: [Topic; 18] = [
     Topic {
         names: &[b"watch"],
         usage: b"watch T [if E]",
-        text: b"stops where a variable of the file, a lane or an element of it has changed, also going back.",
+        text: b"stops where a variable, a lane or an element of it has changed, also going back; one of a function while its frame is there.",
     },
     Topic {
         names: &[b"condition"],

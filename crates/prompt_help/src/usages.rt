@@ -86,7 +86,7 @@ const OTHERS: [Reason; 16] = [
     ),
     Reason(
         &[b"watch"],
-        b"A variable of the file is watched, or a lane or an element of it by its number, as `watch total` and `watch table[3]`, and no other expression; `if EXPRESSION` may stand behind it.",
+        b"A variable is watched, or a lane or an element of it by its number, as `watch total` and `watch table[3]`, and no other expression; one of a function while its frame is there. `if EXPRESSION` may stand behind it.",
     ),
     Reason(
         &[b"delete", b"d", b"del"],

@@ -97,7 +97,9 @@ fn put_no_part<O: AnswerWriter + Drop>(named: Named<'_>, shown: Shown, page: &mu
     if named.index.is_some() && !shown.is_array && shown.count == 1 {
         page.put(b" is one value for all lanes, and has no parts.\n");
     } else {
-        page.put(b" is a local variable: only variables of the file are watched.\n");
+        page.put(
+            b" is a local variable: this line takes variables of the file. `watch` takes those of functions too, by parts that are there.\n",
+        );
     }
 }
 
