@@ -13,13 +13,11 @@ from meaning import running
 from meaning.debugging import Debugger
 from meaning.values import Fault
 
-from . import examples, meant, viewer
+from . import examples, meant, pictures, viewer
 from .tried import Result, Run
 
 MOST_ELEMENTS = 1024
 WIDTHS = (4, 8, 16)
-
-STORED = "state_machine"
 
 # Where the record stands in a page.
 RECORD = re.compile(r'<script type="application/json" id="record">(.*?)</script>', re.S)
@@ -315,11 +313,17 @@ def is_whole_page(root):
 
 # ---- runs
 
-def stored(root):
-    """The page of an example that README.md and docs/PAGE.md show."""
-    words = ["page", f"{STORED}.ispc", "--input", f"{STORED}.input"]
-    data = {it: root / "examples" / it for it in (words[1], words[3])}
-    return Run(f"stored page of {STORED}", b"", words, (root / f"examples/{STORED}.html").read_bytes(), b"", data=data)
+def stored(root, name):
+    """The page of an example, as examples/README.md links it."""
+    source = {f"{name}.ispc": root / f"examples/{name}.ispc"}
+    words, data = examples.with_input(name, examples.input_of(root, name))
+    words = ["page", f"{name}.ispc", *examples.arguments(root, name), *words]
+    file = root / f"examples/{name}.html"
+    return Run(f"stored page of {name}", b"", words, file.read_bytes() if file.is_file() else b"(none)", b"", data=source | data)
+
+
+def stored_pages(root):
+    return [stored(root, it) for it in examples.names(root) if pictures.is_drawn(root, it)]
 
 
 class PageRun(Run):
@@ -407,4 +411,4 @@ def runs(root):
     some = [run_of("loop", LOOP, options={"width": width}, each=each, around=around, first=first) for width, each, around, first in SOME]
     some += [run_of("loop", LOOP, most=20, each=30), run_of("calls", CALLS, each=4, around=(1,)), run_of("calls", CALLS, each=1000), run_of("types", TYPES, options={"width": 16}, each=7)]
     late = Run("page from behind the end", b"", ["page", "calls.ispc", "--from", "50"], b"", None, 2, {"calls.ispc": CALLS.encode()})
-    return [stored(root), *example_runs(root), *kernel_runs(root), *own, *cut, *some, *no_places(), hostile, late]
+    return [*stored_pages(root), *example_runs(root), *kernel_runs(root), *own, *cut, *some, *no_places(), hostile, late]
