@@ -66,7 +66,17 @@ fn walk(alloc: Global, session: &mut ProgramSession<4>) -> Ended {
         return Ended::Otherwise;
     };
     let watches = [FrameWatch::default()];
-    end_of_move(walk_on(alloc, Direction::Forward, 99, &watches, &mut conditions, session).end)
+    end_of_move(
+        walk_on(
+            alloc,
+            Direction::Forward,
+            99,
+            &watches,
+            &mut conditions,
+            session,
+        )
+        .end,
+    )
 }
 
 /// Makes a breakpoint and a watch, and gives the breakpoint its condition.
