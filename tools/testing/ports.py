@@ -23,6 +23,9 @@ SEED, DAMAGED, BYTES = 20, 300, 1 << 20
 SECONDS = 300
 SECTION = "By `rinddecade port`"
 
+# What stands between two rows of elements.
+ROW = re.compile(r"\n\[\d+\]")
+
 # A function, and lines in it; where `go` ends, variables have these values at 4 lanes.
 FRAME = """uniform int a[8];
 uniform int n = 0;
@@ -133,9 +136,10 @@ class Port:
         path.write_bytes(text)
         last = max(number for number, line in enumerate(text.splitlines(), 1) if line == b"}" or number == 1)
         stop = [] if words else [f"break {self.end_of_go(text) or last}"]
-        lines = [*stop, "continue", "echo ----", *(f"print {name}" for name in names)]
+        lines = [*stop, "continue", "set print elements 0", "set print repeats 0", "echo ----", *(f"print {name}" for name in names)]
         output = self.called(["debug", path.name, *words], folder, "".join(f"{it}\n" for it in lines).encode())
-        return output[0].decode(errors="replace").partition("----")[2].split("\n"), output[1].decode(errors="replace")
+        shown = ROW.sub("", output[0].decode(errors="replace").partition("----")[2])
+        return shown.split("\n"), output[1].decode(errors="replace")
 
     def end_of_go(self, text):
         """The line at which `go` ends."""

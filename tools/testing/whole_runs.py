@@ -56,6 +56,8 @@ FAULT = (11, 5 * TURNS + 3)
 SPOILS = (6, 1 + 5 * SPOILED + 2)
 # At four lanes its run is the longest of the kernels.
 LONGEST = "sudoku"
+# What stands between two rows of lanes or elements.
+ROW = re.compile(rb"\n\[\d+\]")
 STEP = re.compile(rb"^(?:.*: )?\w+ at \S+?:(\d+):\d+,(?: depth \d+,)? step (\d+), lanes", re.M)
 PLACE = re.compile(rb"^(?:.*: )?(\w+) at \S+?:(\d+):(\d+),(?: (?:step|depth) \d+,)* lanes ([#.]+)$", re.M)
 
@@ -83,8 +85,8 @@ def told(program, lines, folder, width, source=SOURCE, words=()):
 
 
 def looks(text):
-    """What was printed behind each mark of a look."""
-    lines = text.splitlines()
+    """What was printed behind each mark of a look, a variable a line."""
+    lines = ROW.sub(b"", text).splitlines()
     return [tuple(lines[at + 1 : at + 1 + len(SHOWN)]) for at, line in enumerate(lines) if line == LOOK.encode()]
 
 
@@ -132,7 +134,7 @@ def from_end_to_start(program, kernel):
         go_on()
         words = ["--input", str(kernel.file("input")), *MOST]
         text = told(program, [*look, *(line for it in way for line in (it, *look))], folder, 4, kernel.file("ispc").read_bytes(), words)
-    lines = text.splitlines()
+    lines = ROW.sub(b"", text).splitlines()
     shown = [lines[at + 1 : at + 1 + len(names)] for at, line in enumerate(lines) if line == LOOK.encode()]
     if len(shown) != 1 + len(way):
         return Result(f"{kernel.name} from its end to its start", False, [f"{len(shown)} looks, and {1 + len(way)} are wanted"])
