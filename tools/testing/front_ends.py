@@ -6,6 +6,7 @@ where a file is read in smaller pieces. And the devices fail after each byte.
 """
 
 import json
+import re
 
 from .hostile import DEVICES_OF_RUNS, MEMORY, READ_FAULT, Case, task
 from .tried import Run
@@ -22,6 +23,8 @@ export void go() { int i = N, j = f(f(i)); uniform int a[B + 1] = { A }; i = j++
 LINES = b"step\nprint x\nbreak 5\ncontinue\nreverse-step\nundo\ninfo locals\nbacktrace\nhelp step\n"
 GROWTH = b"set record full insn-number-max 6\n"
 GROWN = b"up to 6 steps and changes can be taken back\n"
+# What stands where a variable is not shown.
+UNSHOWN = re.compile(rb"\w+ = there is no memory to show it|C12 Memory: there is no memory to show this\.")
 REFUSED = b"C12 Memory: there is no memory for so long a history; the limit is as before.\n    %s    ^\n" % GROWTH
 REQUESTS = (
     ("initialize", {"adapterID": "ispc"}),
@@ -64,9 +67,16 @@ def whole_or_nothing(whole, end):
 
 
 def front_of_answers(whole, end):
-    """The answers of the lines before; or all of them, and that the history limit stays as it was."""
+    """The answers of the lines before; or all of them, and that the history limit stays as it was, or that there is no memory for a value."""
     is_front = end[0] == 2 and end[2] == MEMORY[2] and whole[1].startswith(end[1]) and end[1] != whole[1]
-    return is_front or end == (0, whole[1].removesuffix(GROWN) + REFUSED, b"")
+    return is_front or end == (0, whole[1].removesuffix(GROWN) + REFUSED, b"") or lacks_values(whole, end)
+
+
+def lacks_values(whole, end):
+    """Whether all is told, but that in place of some variables' values stands that there is no memory to show them."""
+    lines, given = whole[1].split(b"\n"), end[1].split(b"\n")
+    is_told = all(one == other or (b" = " in one and UNSHOWN.fullmatch(other)) for one, other in zip(lines, given))
+    return (end[0], end[2]) == (0, b"") and len(lines) == len(given) and is_told
 
 
 def messages(whole, end):
