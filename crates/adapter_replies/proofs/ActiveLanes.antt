@@ -14,7 +14,7 @@ use Rattle.debug_traits.specs.declared.machine.Position.{Position}
 use Rattle.debug_traits.specs.Machines.{call_text, position_line, position_text}
 use Rattle.adapter_replies.specs.Waiting.{call_lanes, called_lanes, position_lanes}
 use Rattle.adapter_replies.proofs.CallFrames.{no_line, other_number, other_words}
-use Rattle.adapter_replies.proofs.PlaceTexts.{bits_no_blank, column_no_blank, decimal_no_blank, words_same}
+use Rattle.place_texts.proofs.PlaceTexts.{bits_no_blank, column_no_blank, decimal_no_blank, words_same}
 
 -- ---- tests of numbers
 

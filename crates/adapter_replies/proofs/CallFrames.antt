@@ -13,7 +13,7 @@ use Rattle.gang_model.specs.Texts.Text.{bits, call_line, frames_text, line_and_c
 use Rattle.debug_traits.specs.declared.machine.Position.{Position}
 use Rattle.debug_traits.specs.Machines.{call_text, depth_of, position_line, position_text}
 use Rattle.adapter_replies.specs.Frames.{all_frames, call_frame, call_told, calls_told, frame_name, outer_frames, position_frame, standing_frame}
-use Rattle.adapter_replies.proofs.PlaceTexts.{bits_no_blank, column_no_blank, decimal_no_blank, frame_words, words_same}
+use Rattle.place_texts.proofs.PlaceTexts.{bits_no_blank, column_no_blank, decimal_no_blank, frame_words, words_same}
 
 -- ---- one position
 

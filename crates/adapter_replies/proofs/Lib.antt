@@ -4,7 +4,6 @@ pub mod Completing
 pub mod LaneValues
 pub mod Numbered
 pub mod PageRanges
-pub mod PlaceTexts
 pub mod Rows
 pub mod ToldVariables
 pub mod TopFrame

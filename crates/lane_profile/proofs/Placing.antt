@@ -15,7 +15,7 @@ use Rattle.gang_model.specs.Texts.Text.{Bytes, bits, frames_text, line_and_colum
 use Rattle.debug_traits.specs.declared.machine.Position.{Position}
 use Rattle.debug_traits.specs.Frames.{spot_at}
 use Rattle.debug_traits.specs.Machines.{depth_of, line_of_position, position_text}
-use Rattle.adapter_replies.proofs.PlaceTexts.{bits_no_blank, column_no_blank, decimal_no_blank, words_same}
+use Rattle.place_texts.proofs.PlaceTexts.{bits_no_blank, column_no_blank, decimal_no_blank, words_same}
 use Rattle.lane_counts.specs.declared.tally.StepAt.{StepAt}
 use Rattle.lane_counts.specs.Pending.{width_of}
 use Rattle.lane_counts.specs.Steps.{Stand, depth as deep_of}

@@ -1,0 +1,2 @@
+//! The text of a place tells its parts: laws, and no function.
+#![tactic(auto)]
