@@ -148,7 +148,7 @@ def keys(browser, file, wanted):
         goes("p", start, first(start, lambda it: depths[it] <= depths[start], -1), "p")
         goes("o", start, first(start, lambda it: depths[it] < depths[start]), "o")
         goes("i", start, first(start, lambda it: depths[it] < depths[start], -1), "i")
-    return why + marks(browser) + typed(browser) + texts(browser, lines) + clicks(browser, lines, wanted) + browser.faults()
+    return why + marks(browser) + typed(browser) + texts(browser, lines) + clicks(browser, lines, wanted) + chosen(browser, lines, wanted) + played(browser) + browser.faults()
 
 
 def marks(browser):
@@ -222,6 +222,66 @@ def clicks(browser, lines, wanted):
     browser.key("]", "]")
     why += [] if at(browser) == changed[-1] else [f"] goes to {at(browser)}"]
     return why
+
+
+def chosen(browser, lines, wanted):
+    """The keys that choose a line or a value, ask it, and leave it; and the changes of a picked value, forward and back."""
+    why, line = [], lines[len(lines) // 2]
+    browser.value("go(0)")
+    browser.key("l", "l")
+    for _ in range(abs(line - lines[0])):
+        browser.key("ArrowDown" if line > lines[0] else "ArrowUp")
+    came = browser.value("document.activeElement.dataset.line")
+    why += [] if came == str(line) else [f"l and arrows choose line {came}, and {line} is wanted"]
+    browser.key("Enter")
+    why += [] if at(browser) == lines.index(line, 1) else [f"Enter on line {line} goes to {at(browser)}"]
+    browser.key("Enter", shift=True)
+    came_to = lines.index(line, 1)
+    before = next((it for it in range(came_to - 1, -1, -1) if lines[it] == line), came_to)
+    why += [] if at(browser) == before else [f"Shift Enter on line {line} goes to {at(browser)}, and {before} is wanted"]
+    browser.key("Escape")
+    why += [] if browser.value("document.activeElement === document.body") else ["Escape does not leave a line"]
+    browser.value("go(LAST)")
+    browser.key("v", "v")
+    for _ in wanted[-2][2]:
+        depth, name, part = browser.value("[...['depth', 'name'].map(it => document.activeElement.parentElement.dataset[it]), document.activeElement.dataset.part]")
+        if depth == "0":
+            break
+        browser.key("ArrowDown")
+    values = [next((values for level, it, values in moment[2] if (str(level), it) == (depth, name)), None) for moment in wanted]
+    changed = [it for it in range(1, len(values)) if values[it] != values[it - 1]]
+    browser.key("Enter")
+    why += [] if (part, at(browser)) == ("0", changed[-1] - 1) else [f"v Enter goes to {at(browser)} for part {part} of {name}, and {changed[-1] - 1} is wanted"]
+    browser.key("ArrowDown")
+    chosen_now = browser.value("document.activeElement.parentElement.dataset.name ?? ''")
+    why += [] if chosen_now not in ("", name) and at(browser) == changed[-1] - 1 else [f"Down from {name} chooses {chosen_now!r} at {at(browser)}"]
+    browser.key("Escape")
+    browser.key("]", "]")
+    browser.key("[", "[")
+    wanted_before = changed[-2] if len(changed) > 1 else 0
+    why += [] if at(browser) == wanted_before else [f"[ goes to {at(browser)}, and {wanted_before} is wanted"]
+    return why
+
+
+def played(browser):
+    """The run is played, and stops; and a longer part of the time line is shown."""
+    wait = "new Promise(done => setTimeout(done, 600))"
+    browser.value("go(0)")
+    browser.key(" ", " ")
+    browser.value(wait)
+    browser.key(" ", " ")
+    stopped = at(browser)
+    browser.value(wait)
+    why = [] if stopped > 0 and at(browser) == stopped else [f"played, it comes to {stopped}, and stopped to {at(browser)}"]
+    browser.key("+", "+")
+    shorter = browser.value("here.to - here.from")
+    browser.key("-", "-")
+    why += [] if browser.value("here.to - here.from") > shorter else ["- shows no longer part"]
+    browser.key("0", "0")
+    browser.key("?", "?")
+    missing = browser.value("KEYS.filter(it => !$('keys').textContent.includes(it[2])).length")
+    browser.value("$('keys').close()")
+    return why + ([] if missing == 0 else [f"? does not list {missing} keys"])
 
 
 # ---- some of the moments

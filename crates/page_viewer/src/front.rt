@@ -14,7 +14,7 @@ fn front_0() -> &'static [u8] {
 <meta name=\"generator\" content=\"rinddecade page\">
 <meta name=\"viewport\" content=\"width=device-width, initial-scale=1\">
 <meta http-equiv=\"Content-Security-Policy\"
- content=\"default-src 'none'; script-src 'sha256-eC9epFeq72ji3GYvULE3LwLpsqLTDfbtFBSprs1zcrM='; style-src 'sha256-CEff1ZkjtsFfEv3VEwQ20U2REKKZdjrAoYQS1Gr3hEM='; base-uri 'none'; form-action 'none'\">
+ content=\"default-src 'none'; script-src 'sha256-WiPBWZWEXt27SWiVOimoVGFN9hpsJPwFQpE0V/z3CR4='; style-src 'sha256-CEff1ZkjtsFfEv3VEwQ20U2REKKZdjrAoYQS1Gr3hEM='; base-uri 'none'; form-action 'none'\">
 <title>A run, step by step</title>
 <style>
 :root {

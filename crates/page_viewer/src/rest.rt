@@ -496,11 +496,18 @@ function build_tables(there, values, moment) {
   $(\"values\").scrollTop = 0;
 }
 
+// Where the tables are made anew, the value that the keys have chosen stays so, if it is still there.
+function rebuild_tables(there, values, moment) {
+  const { variable, part } = document.activeElement.dataset;
+  build_tables(there, values, moment);
+  if (part !== undefined) $(\"values\").querySelector(`[data-variable=\"${variable}\"][data-part=\"${part}\"]`)?.focus();
+}
+
 function show_values(moment) {
   const values = values_at(here.at);
   const there = seen(values);
   const key = `${there}|${calls_at[here.at]}|${moment[FUNCTION]}`;
-  if (key !== table_key) build_tables(there, values, moment);
+  if (key !== table_key) rebuild_tables(there, values, moment);
   table_key = key;
   const fresh = new Set();
   if (here.at > 0) for (const it of moment[CHANGES]) for (let i = 2; i < it.length; i++) fresh.add(it[0] * 65536 + it[1] + i - 2);
