@@ -59,7 +59,7 @@ def check(root):
     words = editor_words.words(root)
     grammar = textmate.Grammar((root / GRAMMAR).read_text(encoding="utf-8"))
     results = [same_as_page(root, words), *package_file(root), scoped_words(grammar, words), scoped_numbers(grammar)]
-    results += [scoped_marks(root, grammar), scoped_comments(grammar), *scoped_examples(root, grammar), snippets(root, grammar)]
+    results += [scoped_marks(root, grammar), scoped_comments(grammar), snippets(root, grammar)]
     results += [packed_twice(root), named_by_manifest(root), launches_of_kate(root)]
     return results + [named_words(*it, words) for it in named_by_editors(root)]
 
@@ -169,12 +169,6 @@ def scoped_comments(grammar):
     inside += [it.span() for it in re.finditer(r"/\*\*+/|/\* /\* \*/", text)]
     names = [(it.start(), it.end(), "name") for it in re.finditer("[A-Z]", text)]
     return result("comments by the grammar", wrongly_scoped(grammar, text, [*((start, end, "comment") for start, end in inside), *names]))
-
-
-def scoped_examples(root, grammar):
-    for file in sorted((root / "examples").glob("*.ispc")):
-        text = file.read_text(encoding="utf-8")
-        yield result(f"{file.name} by the grammar", wrongly_scoped(grammar, text, editor_words.tokens(root, text)))
 
 
 def snippets(root, grammar):
