@@ -1,4 +1,5 @@
--- Rows that the check computes from the definitions: breakpoint 7 has a condition and two stops to be passed, watch 3 a condition alone.
+-- Rows that the check computes from the definitions: breakpoint 7 has a condition and two stops to be passed, watch 3 a condition alone,
+-- and breakpoint 9 is disabled.
 use Rattle.std.proofs.Common.{◌≡◌, refl, true, false, [], ◌∷◌, Some, None}
 use Rattle.std.specs.Prelude.{codes, replicate}
 use Rattle.gang_types.specs.Lanes.{lanes_where, no_lane}
@@ -11,12 +12,12 @@ use Rattle.conditional_stops.specs.declared.going.MoveEnd.TheVariants as end
 use Rattle.conditional_stops.specs.declared.reasons.Reason.TheVariants as reason
 use Rattle.conditional_stops.specs.declared.table.ConditionRefusal.TheVariants.{TableFull, TooLong}
 use Rattle.conditional_stops.specs.Going.{is_stop, times}
-use Rattle.conditional_stops.specs.Reasons.{table_after, taking_of}
-use Rattle.conditional_stops.specs.Tables.{Table, condition_of, condition_refusal, count_refusal, nothing, passes_of, with_condition, with_passes, without, without_condition}
+use Rattle.conditional_stops.specs.Reasons.{table_after, taken, taking_of}
+use Rattle.conditional_stops.specs.Tables.{Table, asked_condition, condition_of, condition_refusal, count_refusal, is_disabled, nothing, passes_of, with_condition, with_disabled, with_passes, without, without_condition, without_disabled}
 use Rattle.conditional_stops.proofs.Asked.{chosen}
 
 abbrev some : Table
-some = record { conditions = (7, codes "a") ∷ (3, codes "b") ∷ []; counts = (7, 2) ∷ [] }
+some = record { conditions = (7, codes "a") ∷ (3, codes "b") ∷ []; counts = (7, 2) ∷ []; disabled = 9 ∷ [] }
 
 -- ---- the table
 
@@ -47,13 +48,13 @@ another_count = refl
 no_count_is_kept : with_passes 7 0 some ≡ record some { counts = [] }
 no_count_is_kept = refl
 
-forgotten : without 7 some ≡ record { conditions = (3, codes "b") ∷ []; counts = [] }
+forgotten : without 7 some ≡ record { conditions = (3, codes "b") ∷ []; counts = []; disabled = 9 ∷ [] }
 forgotten = refl
 
 -- ---- 64 are there
 
 abbrev full : Table
-full = record { conditions = replicate 64 (1, codes "a"); counts = replicate 64 (1, 5) }
+full = record { conditions = replicate 64 (1, codes "a"); counts = replicate 64 (1, 5); disabled = replicate 80 9 }
 
 too_long : condition_refusal 2 (replicate 257 65) nothing ≡ Some TooLong
 too_long = refl
@@ -73,7 +74,45 @@ a_count_too_many = refl
 no_count_fits : count_refusal 2 0 full ≡ None
 no_count_fits = refl
 
+-- ---- what is disabled
+
+is_off : is_disabled 9 some ≡ true
+is_off = refl
+
+is_on : is_disabled 7 some ≡ false
+is_on = refl
+
+off_with_its_count : with_disabled 7 some ≡ record some { disabled = 9 ∷ 7 ∷ [] }
+off_with_its_count = refl
+
+off_once : with_disabled 9 some ≡ some
+off_once = refl
+
+on_with_its_condition : without_disabled 7 (with_disabled 7 some) ≡ some
+on_with_its_condition = refl
+
+deleted_while_off : without 9 some ≡ record some { disabled = [] }
+deleted_while_off = refl
+
+no_room : with_disabled 7 full ≡ full
+no_room = refl
+
+not_asked : asked_condition 7 (with_disabled 7 some) ≡ None
+not_asked = refl
+
+the_other_is_asked : asked_condition 3 (with_disabled 7 some) ≡ Some (codes "b")
+the_other_is_asked = refl
+
 -- ---- what a stop is taken for
+
+disabled_fails : taken (with_disabled 3 some) (reason.Watch 3) None ≡ taking.Fails
+disabled_fails = refl
+
+disabled_passes_none : taken (with_disabled 7 some) (reason.Breakpoint 7) None ≡ taking.Fails
+disabled_passes_none = refl
+
+enabled_passes : taken some (reason.Breakpoint 7) None ≡ taking.Passes
+enabled_passes = refl
 
 counts_at_once : taking_of 0 None ≡ taking.Counts
 counts_at_once = refl

@@ -1,5 +1,5 @@
 -- Breakpoints and watches at which a command stopped, and which of them count.
-use Rattle.std.specs.Prelude.{◌≡◌, ℕ, ◌-◌, ◌==◌, List, [], ◌∷◌, ◌++◌, filter, map, Option, Some, None, if◌then◌else◌}
+use Rattle.std.specs.Prelude.{◌≡◌, ℕ, ◌-◌, ◌==◌, Bool, true, false, List, [], ◌∷◌, ◌++◌, filter, map, Option, Some, None, if◌then◌else◌}
 use Rattle.gang_model.specs.Debugger.Debugger.{Debugger, Setting, Stop, differs, now, on_line}
 use Rattle.gang_model.specs.Debugger.Positions.{line_now}
 use Rattle.conditional_stops.specs.declared.judging.Verdict.{Verdict}
@@ -9,7 +9,7 @@ use Rattle.conditional_stops.specs.declared.reasons.Reason.{Reason}
 use Rattle.conditional_stops.specs.declared.reasons.Reason.TheVariants as reason
 use Rattle.conditional_stops.specs.declared.asking.Taking.{Taking}
 use Rattle.conditional_stops.specs.declared.asking.Taking.TheVariants as taking
-use Rattle.conditional_stops.specs.Tables.{Table, condition_of, passes_of, with_passes}
+use Rattle.conditional_stops.specs.Tables.{Table, asked_condition, is_disabled, passes_of, with_passes}
 use Rattle.conditional_stops.specs.Verdicts.{IsJudged}
 
 -- the number of a breakpoint or watch
@@ -54,12 +54,21 @@ counted_by taking.Counts asked told = Some (record { reason = asked; verdict = t
 counted_by taking.Passes asked told = None
 counted_by taking.Fails asked told = None
 
+-- the same of one that may be disabled: then no stop counts, and none is passed
+abbrev pub taking_by : (disabled : Bool) → (passes : ℕ) → Option Verdict → Taking
+taking_by true passes told = taking.Fails
+taking_by false passes told = taking_of passes told
+
+-- what a breakpoint or watch makes of a stop, by the table
+abbrev pub taken : Table → Reason → Option Verdict → Taking
+taken table asked told = taking_by (is_disabled (number_of asked) table) (passes_of (number_of asked) table) told
+
 -- a breakpoint or watch is asked where the debugger stands: what its condition comes to, whether the stop counts by that, and the table then
 pub record AsksOne (s : Setting) (d : Debugger) (asked : Reason) (table : Table) (counted : Option CountedStop) (new : Table) : Type 0 where
   pub told : Option Verdict
-  pub judged : IsJudged (condition_of (number_of asked) table) s d told
-  pub counts : counted ≡ counted_by (taking_of (passes_of (number_of asked) table) told) asked told
-  pub table_is : new ≡ table_after (taking_of (passes_of (number_of asked) table) told) (number_of asked) table
+  pub judged : IsJudged (asked_condition (number_of asked) table) s d told
+  pub counts : counted ≡ counted_by (taken table asked told) asked told
+  pub table_is : new ≡ table_after (taken table asked told) (number_of asked) table
 
 -- the first of two, if it is there
 abbrev pub first_of : Option CountedStop → Option CountedStop → Option CountedStop

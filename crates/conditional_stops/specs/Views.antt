@@ -1,4 +1,4 @@
--- The table that conditions and counts are kept as.
+-- The table that conditions and counts are kept as, and the numbers of what is disabled.
 use Rattle.std.specs.Prelude.{ℕ, List, map}
 use Rattle.conditional_stops.specs.Tables.{Table}
 use Rattle.conditional_stops.specs.declared.table.Condition.{Condition}
@@ -15,4 +15,4 @@ count_view count = (count.number, count.left)
 
 -- the table of the definitions
 abbrev pub table_of : Conditions → Table
-table_of c = record { conditions = map condition_view c.conditions.items; counts = map count_view c.counts.items }
+table_of c = record { conditions = map condition_view c.conditions.items; counts = map count_view c.counts.items; disabled = c.disabled.items }

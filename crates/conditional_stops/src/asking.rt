@@ -10,7 +10,7 @@ ghost use Rattle.conditional_stops.specs.Reasons as spec;
 ghost use Rattle.conditional_stops.specs.Reasons.{Asks, AsksOne};
 ghost use Rattle.conditional_stops.specs.Sights.{changed_frames, sight};
 ghost use Rattle.conditional_stops.specs.SightViews.{sights_view};
-ghost use Rattle.conditional_stops.specs.Tables.{condition_of, passes_of};
+ghost use Rattle.conditional_stops.specs.Tables.{asked_condition, is_disabled, passes_of};
 ghost use Rattle.conditional_stops.specs.Verdicts.{IsJudged};
 ghost use Rattle.conditional_stops.specs.Views.{table_of};
 
@@ -32,7 +32,7 @@ pub(crate) enum Taking {
     Counts,
     /// It would count, but is one of those that are still to be passed.
     Passes,
-    /// Its condition does not hold.
+    /// It is disabled, or its condition does not hold.
     Fails,
 }
 
@@ -147,7 +147,7 @@ fn ask<M: ExpressionMachine>(
     let number = reason.number();
     let verdict = judge(alloc, number, conditions, machine);
     let passes = conditions.passes(number);
-    match taking_of(passes, &verdict) {
+    match taking_by(conditions.is_disabled(number), passes, &verdict) {
         Taking::Counts => Some(CountedStop { reason, verdict }),
         Taking::Passes => {
             conditions.put_passes(number, passes.saturating_sub(1));
@@ -157,18 +157,29 @@ fn ask<M: ExpressionMachine>(
     }
 }
 
-/// What the condition of a breakpoint or watch comes to, where it has one.
+/// What the condition of a breakpoint or watch comes to, where it has one and is not disabled.
 fn judge<M: ExpressionMachine>(
     alloc: Global,
     number: u32,
     conditions: &Conditions,
     machine: &M,
 ) -> Option<Verdict>
-    ensures { (s : Setting) (d : Debugger) → M.stands machine.now s (bare d) → IsJudged (condition_of number (table_of conditions.now)) s d result }
+    ensures { (s : Setting) (d : Debugger) → M.stands machine.now s (bare d) → IsJudged (asked_condition number (table_of conditions.now)) s d result }
 {
-    match conditions.condition(number) {
+    match conditions.asked_condition(number) {
         Some(text) => Some(judge_condition(alloc, text, machine)),
         None => None,
+    }
+}
+
+/// What a breakpoint or watch makes of a stop, by whether it is disabled.
+fn taking_by(is_disabled: bool, passes: u32, verdict: &Option<Verdict>) -> Taking
+    ensures { result ≡ spec.taking_by is_disabled passes verdict.now }
+{
+    if is_disabled {
+        Taking::Fails
+    } else {
+        taking_of(passes, verdict)
     }
 }
 

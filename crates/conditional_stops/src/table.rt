@@ -1,4 +1,4 @@
-//! The conditions and the counts of breakpoints and watches, by their numbers.
+//! The conditions and the counts of breakpoints and watches, by their numbers, and which of them are disabled.
 ghost use Rattle.std.specs.Prelude.{◌≡◌, ◌==◌, not, ℕ, filter, find, map, option_map, MatchResult, None, Some};
 ghost use Rattle.std.specs.List.{count_by};
 ghost use Rattle.conditional_stops.specs.Tables as spec;
@@ -8,6 +8,9 @@ use arrayvec::ArrayVec;
 
 /// How many conditions, and how many counts, can be there.
 const ROOM: usize = 64;
+
+/// How many breakpoints and watches can be disabled: as many as can be there, those of variables of frames among them.
+const DISABLED: usize = 80;
 
 /// The most bytes of a condition.
 pub const LONGEST_CONDITION: usize = 256;
@@ -59,29 +62,31 @@ impl Default for Count {
     }
 }
 
-/// The conditions and the counts of at most 64 breakpoints and watches each.
+/// The conditions and the counts of at most 64 breakpoints and watches each, and the numbers of those that are disabled.
 #[derive(Drop)]
 pub struct Conditions {
     conditions: ArrayVec<Condition, ROOM>,
     counts: ArrayVec<Count, ROOM>,
+    disabled: ArrayVec<u32, DISABLED>,
 }
 
 impl Conditions {
-    /// No condition, and no count.
+    /// No condition and no count, and nothing is disabled.
     pub fn new() -> Self
         ensures { table_of result ≡ spec.nothing }
     {
         Conditions {
             conditions: ArrayVec::new(),
             counts: ArrayVec::new(),
+            disabled: ArrayVec::new(),
         }
     }
 
-    /// Whether no condition and no count is there.
+    /// Whether no condition and no count is there, and nothing is disabled.
     pub fn is_empty(&self) -> bool
         ensures { result ≡ spec.is_nothing (table_of self.now) }
     {
-        self.conditions.is_empty() && self.counts.is_empty()
+        self.conditions.is_empty() && self.counts.is_empty() && self.disabled.is_empty()
     }
 
     /// The condition of a breakpoint or watch, if it has one.
@@ -92,6 +97,27 @@ impl Conditions {
             Some(condition) => Some(condition.text.as_slice()),
             None => None,
         }
+    }
+
+    /// The condition that is asked: none of what is disabled.
+    pub(crate) fn asked_condition(&self, number: u32) -> Option<&[u8]>
+        ensures { option_map (λ text. text.now) result ≡ spec.asked_condition number (table_of self.now) }
+    {
+        if self.is_disabled(number) {
+            None
+        } else {
+            self.condition(number)
+        }
+    }
+
+    /// Whether a breakpoint or watch is disabled.
+    pub fn is_disabled(&self, number: u32) -> bool
+        ensures { result ≡ spec.is_disabled number (table_of self.now) }
+    {
+        self.disabled
+            .as_slice()
+            .iter()
+            .any(|disabled| *disabled == number)
     }
 
     /// How many stops of a breakpoint or watch are still to be passed.
@@ -152,20 +178,38 @@ impl Conditions {
         Ok(())
     }
 
-    /// Forgets the condition and the count of a breakpoint or watch, which was deleted.
+    /// Disables a breakpoint or watch: its stops do not count, and use no count.
+    pub fn disable(&mut self, number: u32)
+        ensures { table_of self.new ≡ spec.with_disabled number (table_of self.old) }
+    {
+        if !self.is_disabled(number) && !self.disabled.is_full() {
+            self.disabled.push(number);
+        }
+    }
+
+    /// Enables a breakpoint or watch. Its condition and its count are those of before.
+    pub fn enable(&mut self, number: u32)
+        ensures { table_of self.new ≡ spec.without_disabled number (table_of self.old) }
+    {
+        self.disabled.retain(|disabled| *disabled != number);
+    }
+
+    /// Forgets the condition and the count of a breakpoint or watch, which was deleted, and that it was disabled.
     pub fn forget(&mut self, number: u32)
         ensures { table_of self.new ≡ spec.without number (table_of self.old) }
     {
         self.clear_condition(number);
         self.clear_passes(number);
+        self.enable(number);
     }
 
-    /// Forgets all conditions and counts.
+    /// Forgets all conditions and counts, and what was disabled.
     pub fn forget_all(&mut self)
         ensures { table_of self.new ≡ spec.nothing }
     {
         self.conditions.clear();
         self.counts.clear();
+        self.disabled.clear();
     }
 
     /// Lets so many stops be passed, where there is room.
