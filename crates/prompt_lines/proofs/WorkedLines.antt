@@ -1,9 +1,10 @@
 -- Lines, and what they stand for, computed.
-use Rattle.std.proofs.Common.{◌≡◌, refl}
+use Rattle.std.proofs.Common.{◌≡◌, refl, true, false}
 use Rattle.std.specs.Prelude.{[], ◌++◌, None, Some, codes, replicate}
 use Rattle.prompt_lines.specs.declared.line.Kind.TheVariants as kind
 use Rattle.prompt_lines.specs.declared.line.Look.TheVariants as look
 use Rattle.prompt_lines.specs.Conditions.{before_if, behind_first, condition_in, first_word}
+use Rattle.prompt_lines.specs.Numbers.{are_numbers, names_number, range_of}
 use Rattle.prompt_lines.specs.Words.{line_of, moment_of}
 
 temporary_row : line_of (codes "tbreak 5") ≡ record { kind = kind.Temporary; text = codes "break  5" }
@@ -47,6 +48,12 @@ forget_row = refl
 
 start_row : line_of (codes "start") ≡ record { kind = kind.Start; text = codes "start " }
 start_row = refl
+
+disable_row : line_of (codes "disable breakpoints 1 3-4") ≡ record { kind = kind.Disable; text = codes "disable  1 3-4" }
+disable_row = refl
+
+enable_row : line_of (codes "en 2") ≡ record { kind = kind.Enable; text = codes "enable  2" }
+enable_row = refl
 
 moment_row : moment_of (codes "100000") ≡ Some 100000
 moment_row = refl
@@ -100,3 +107,44 @@ nothing_row = refl
 
 delete_row : line_of (codes "d 2") ≡ record { kind = kind.Delete; text = codes "delete  2" }
 delete_row = refl
+
+-- ---- numbers
+
+range_row : range_of (codes "5-7") ≡ Some (record { first = 5; last = 7 })
+range_row = refl
+
+one_row : range_of (codes "12") ≡ Some (record { first = 12; last = 12 })
+one_row = refl
+
+upside_down_row : range_of (codes "7-5") ≡ None
+upside_down_row = refl
+
+not_closed_row : range_of (codes "5-") ≡ None
+not_closed_row = refl
+
+not_begun_row : range_of (codes "-5") ≡ None
+not_begun_row = refl
+
+two_dashes_row : range_of (codes "1-2-3") ≡ None
+two_dashes_row = refl
+
+the_last_row : names_number 7 (codes "delete  2 5-7") ≡ true
+the_last_row = refl
+
+behind_the_last_row : names_number 8 (codes "delete  2 5-7") ≡ false
+behind_the_last_row = refl
+
+between_row : names_number 4 (codes "delete  2 5-7") ≡ false
+between_row = refl
+
+all_row : names_number 4 (codes "disable ") ≡ true
+all_row = refl
+
+are_row : are_numbers (codes "delete  2 5-7") ≡ true
+are_row = refl
+
+are_not_row : are_numbers (codes "enable  once 1") ≡ false
+are_not_row = refl
+
+too_long_row : are_numbers (codes "delete " ++ replicate 250 49) ≡ false
+too_long_row = refl

@@ -3,3 +3,4 @@ pub mod Parts
 pub mod Readings
 pub mod Sources
 pub mod Conditions
+pub mod Numbers

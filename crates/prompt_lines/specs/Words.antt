@@ -69,6 +69,12 @@ rows =
     ∷ row (codes "delete" ∷ []) kind.Delete (codes "delete")
     ∷ row (codes "d" ∷ []) kind.Delete (codes "delete")
     ∷ row (codes "del" ∷ []) kind.Delete (codes "delete")
+    ∷ row (codes "disable" ∷ codes "breakpoints" ∷ []) kind.Disable (codes "disable")
+    ∷ row (codes "disable" ∷ []) kind.Disable (codes "disable")
+    ∷ row (codes "dis" ∷ []) kind.Disable (codes "disable")
+    ∷ row (codes "enable" ∷ codes "breakpoints" ∷ []) kind.Enable (codes "enable")
+    ∷ row (codes "enable" ∷ []) kind.Enable (codes "enable")
+    ∷ row (codes "en" ∷ []) kind.Enable (codes "enable")
     ∷ row (codes "watch" ∷ []) kind.Watch (codes "watch")
     ∷ row (codes "condition" ∷ []) kind.Condition []
     ∷ row (codes "ignore" ∷ []) kind.Ignore []

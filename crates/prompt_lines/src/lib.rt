@@ -3,6 +3,7 @@
 
 mod conditions;
 mod line;
+mod numbers;
 mod parts;
 mod reading;
 mod sources;
@@ -10,6 +11,7 @@ mod table;
 
 pub use conditions::{before_condition, condition_in, split_word};
 pub use line::{HELD, Kind, Look, PromptLine, Text};
+pub use numbers::{NumberRange, are_numbers, behind_first, names_number, range_of};
 pub use parts::count_place;
 pub use reading::{
     argument, breaking_line, held_line, index, is_alone, moment, printing_line, read_line,

@@ -107,6 +107,10 @@ pub enum Kind {
     Condition,
     /// So many stops of a breakpoint or watch are passed.
     Ignore,
+    /// Breakpoints and watches are disabled.
+    Disable,
+    /// They are enabled again.
+    Enable,
     Look(Look),
 }
 

@@ -10,7 +10,7 @@ pub(crate) struct Row(
 );
 
 /// The words of what is done, mostly by their names in GDB. Of two that a line begins with the first one counts.
-pub(crate) const ROWS: [Row; 60] = [
+pub(crate) const ROWS: [Row; 66] = [
     Row(&[b"set", b"var"], Kind::Set, b"set var"),
     Row(&[b"set", b"variable"], Kind::Set, b"set var"),
     Row(
@@ -58,6 +58,12 @@ pub(crate) const ROWS: [Row; 60] = [
     Row(&[b"delete"], Kind::Delete, b"delete"),
     Row(&[b"d"], Kind::Delete, b"delete"),
     Row(&[b"del"], Kind::Delete, b"delete"),
+    Row(&[b"disable", b"breakpoints"], Kind::Disable, b"disable"),
+    Row(&[b"disable"], Kind::Disable, b"disable"),
+    Row(&[b"dis"], Kind::Disable, b"disable"),
+    Row(&[b"enable", b"breakpoints"], Kind::Enable, b"enable"),
+    Row(&[b"enable"], Kind::Enable, b"enable"),
+    Row(&[b"en"], Kind::Enable, b"enable"),
     Row(&[b"watch"], Kind::Watch, b"watch"),
     Row(&[b"condition"], Kind::Condition, b""),
     Row(&[b"ignore"], Kind::Ignore, b""),
