@@ -8,3 +8,5 @@ mod StopPieces
 mod PlainLines
 mod MomentLaws
 mod StepsBack
+mod Numbered
+mod WorkedNumbers

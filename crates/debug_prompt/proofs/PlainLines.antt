@@ -1,4 +1,4 @@
--- Where no condition and no count is there, and no variable of a frame is watched, a line is a list of commands.
+-- Where no condition and no count is there, nothing is disabled, and no variable of a frame is watched, a line is a list of commands.
 use Rattle.std.proofs.Common.{◌≡◌, ℕ, List, [], length, Option, None, subst, ap}
 use Rattle.std.specs.Prelude.{◌==◌, ◌||◌, not, if◌then◌else◌}
 use Rattle.gang_model.specs.Debugger.Debugger.{Debugger, Setting}

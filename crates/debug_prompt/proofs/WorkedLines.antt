@@ -199,7 +199,7 @@ in_depth number deep = record { number = number; depth = deep; id = id.Local 4; 
 
 -- watch 3 is of the entry's frame, and watch 5, which has a condition, of one that it called
 watching : Held
-watching = record held_at_start { frames = in_depth 3 1 ∷ in_depth 5 2 ∷ []; table = record { conditions = (5, codes "v > 1") ∷ []; counts = [] } }
+watching = record held_at_start { frames = in_depth 3 1 ∷ in_depth 5 2 ∷ []; table = record { conditions = (5, codes "v > 1") ∷ []; counts = []; disabled = [] } }
 
 delete_frame_row : (s : Setting) (d : Debugger) → commands_of source nothing_kept watching s d (codes "delete 5") ≡ []
 unfolding watching in_depth
@@ -236,7 +236,7 @@ no_walk_row = refl
 
 -- breakpoint 2 has a condition, and two of its stops are to be passed
 some_table : Table
-some_table = record { conditions = (2, codes "i == 3") ∷ []; counts = (2, 2) ∷ [] }
+some_table = record { conditions = (2, codes "i == 3") ∷ []; counts = (2, 2) ∷ []; disabled = [] }
 
 said : Held
 said = record { temporaries = 2 ∷ []; displays = []; next = 1; has_begun = true; frame = 0; checkpoints = []; next_checkpoint = 1; table = some_table; frames = [] }
@@ -245,7 +245,7 @@ said = record { temporaries = 2 ∷ []; displays = []; next = 1; has_begun = tru
 two_there : Debugger
 two_there = record { events = []; kept = 0; history = 2 ^ 62; stops = (2, Line 5) ∷ []; next = 3 }
 
-condition_row : (s : Setting) → (held_after source nothing_kept held_at_start s two_there (codes "condition 2 i == 3")).table ≡ record { conditions = (2, codes "i == 3") ∷ []; counts = [] }
+condition_row : (s : Setting) → (held_after source nothing_kept held_at_start s two_there (codes "condition 2 i == 3")).table ≡ record { conditions = (2, codes "i == 3") ∷ []; counts = []; disabled = [] }
 unfolding two_there
 condition_row s = refl
 
@@ -257,7 +257,7 @@ not_there_row : (s : Setting) → held_after source nothing_kept held_at_start s
 unfolding two_there
 not_there_row s = refl
 
-ignore_row : (s : Setting) → (held_after source nothing_kept held_at_start s two_there (codes "ignore 2 5 ")).table ≡ record { conditions = []; counts = (2, 5) ∷ [] }
+ignore_row : (s : Setting) → (held_after source nothing_kept held_at_start s two_there (codes "ignore 2 5 ")).table ≡ record { conditions = []; counts = (2, 5) ∷ []; disabled = [] }
 unfolding two_there
 ignore_row s = refl
 

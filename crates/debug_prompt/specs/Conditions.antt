@@ -1,4 +1,4 @@
--- The conditions and the counts of breakpoints and watches, as lines change them.
+-- The conditions and the counts of breakpoints and watches, and which are disabled, as lines change them.
 use Rattle.std.specs.Prelude.{ℕ, ◌==◌, ◌||◌, Bool, List, [], ◌∷◌, Option, Some, None, is_none, if◌then◌else◌}
 use Rattle.std.specs.List.{list_any}
 use Rattle.gang_model.specs.Debugger.Debugger.{Debugger, Stop}

@@ -14,12 +14,14 @@ use Rattle.prompt_lines.specs.declared.line.Kind.{Kind}
 use Rattle.prompt_lines.specs.declared.line.Kind.TheVariants as kind
 use Rattle.prompt_lines.specs.declared.line.Look.TheVariants as look
 use Rattle.prompt_lines.specs.Conditions.{before_if, behind_first, condition_in, first_word}
+use Rattle.prompt_lines.specs.Numbers.{are_numbers}
 use Rattle.prompt_lines.specs.Sources.{Sheet, line_named}
 use Rattle.prompt_lines.specs.Words.{Spelled, argument_of, held_text, is_alone, line_of, moment_of, setting_text}
 use Rattle.debug_prompt.specs.Conditions.{after_condition, after_ignore, forgotten_by, forgotten_one, forgotten_stop, made_so}
 use Rattle.debug_prompt.specs.FrameWatches.{is_frame, local_named, with_frame, without_frames}
 use Rattle.debug_prompt.specs.Holding.{Held, nothing_kept}
 use Rattle.debug_prompt.specs.Moments.{all_back, at_first, is_unchanged, is_unset, is_whole, led, steps_on, stops_back, to_moment, walked}
+use Rattle.debug_prompt.specs.Numbers.{after_deleted, deleted_each, disabled_each, enabled_each, numbers_named}
 use Rattle.debug_prompt.specs.declared.prompt.Turn.{Turn}
 use Rattle.debug_prompt.specs.declared.prompt.Turn.TheVariants as turn
 
@@ -312,6 +314,20 @@ abbrev pub deletes : Held → Option (Option ℕ) → List Command
 deletes h None = []
 deletes h (Some number) = if is_frame_number number h then [] else DoDelete number ∷ []
 
+-- some are deleted, one after another
+abbrev pub deletes_each : Held → List ℕ → List Command
+deletes_each h [] = []
+deletes_each h (number ∷ numbers) = deletes h (Some (Some number)) ++ deletes_each (after_deleted number h) numbers
+
+-- those that a line names by more than one number
+abbrev pub deletes_named : Debugger → Held → (text : List ℕ) → List Command
+deletes_named d h text = if are_numbers text then deletes_each h (numbers_named d h text) else []
+
+-- one, or all, or those that a line names
+abbrev pub deletes_by : Debugger → Held → Option (Option ℕ) → (text : List ℕ) → List Command
+deletes_by d h None text = deletes_named d h text
+deletes_by d h (Some number) text = deletes h (Some number)
+
 -- the first breakpoint on the line on which a breakpoint for this line would be
 abbrev pub stop_on : Setting → Debugger → (line : Option ℕ) → Option ℕ
 stop_on s d None = None
@@ -367,7 +383,7 @@ commands_by kind.Start sheet s d h text = if is_alone text then start_by d h els
 commands_by kind.Clear sheet s d h text = cleared (stop_on s d (line_named sheet text))
 commands_by kind.Temporary sheet s d h text = broken (line_named sheet (before_if text))
 commands_by kind.Watch sheet s d h text = watched s d h (watch_of (command_of (before_if text)))
-commands_by kind.Delete sheet s d h text = deletes h (delete_of (command_of text))
+commands_by kind.Delete sheet s d h text = deletes_by d h (delete_of (command_of text)) text
 commands_by kind.Until sheet s d h text = if is_alone text then done_with s d h (DoNext 1) else until_line s d h (line_named sheet text)
 commands_by kind.Display sheet s d h text = in_top h (if is_alone text then shown h.displays else printed (print_of (command_of text)))
 commands_by kind.Goto sheet s d h text = go_by s d h (step_named text)
@@ -523,6 +539,21 @@ abbrev pub after_delete : Held → Option (Option ℕ) → Held
 after_delete h None = h
 after_delete h (Some number) = without_display h number
 
+-- what was deleted is forgotten: one, or all, or those that a line names
+abbrev pub after_named : Debugger → Held → (text : List ℕ) → Held
+after_named d h text = if are_numbers text then deleted_each (numbers_named d h text) h else h
+
+abbrev pub after_deletes : Debugger → Held → Option (Option ℕ) → (text : List ℕ) → Held
+after_deletes d h None text = after_named d h text
+after_deletes d h (Some number) text = forgotten_by (Some number) (without_frames (Some number) h)
+
+-- what a line names is disabled, or enabled
+abbrev pub after_disable : Debugger → Held → (text : List ℕ) → Held
+after_disable d h text = if are_numbers text then disabled_each (numbers_named d h text) h else h
+
+abbrev pub after_enable : Debugger → Held → (text : List ℕ) → Held
+after_enable d h text = if are_numbers text then enabled_each (numbers_named d h text) h else h
+
 -- what a command line of a kind changes
 abbrev pub changed_by : Kind → Sheet → Setting → Debugger → Held → (text : List ℕ) → Held
 changed_by kind.Own sheet s d h text = after_own s d h (command_of text)
@@ -534,7 +565,9 @@ changed_by kind.Break sheet s d h text = after_made s d h (line_named sheet (bef
 changed_by kind.Temporary sheet s d h text = after_made s d (after_break s d h (line_named sheet (before_if text))) (line_named sheet (before_if text)) (condition_in text)
 changed_by kind.Watch sheet s d h text = after_watch s d h (watch_of (command_of (before_if text))) (condition_in text)
 changed_by kind.Clear sheet s d h text = forgotten_one (stop_on s d (line_named sheet text)) h
-changed_by kind.Delete sheet s d h text = forgotten_by (delete_of (command_of text)) (without_frames (delete_of (command_of text)) h)
+changed_by kind.Delete sheet s d h text = after_deletes d h (delete_of (command_of text)) text
+changed_by kind.Disable sheet s d h text = after_disable d h text
+changed_by kind.Enable sheet s d h text = after_enable d h text
 changed_by kind.Condition sheet s d h text = after_condition d h (index (first_word text)) (behind_first text)
 changed_by kind.Ignore sheet s d h text = after_ignore d h (index (first_word text)) (index (trimmed (behind_first text)))
 changed_by kind.Display sheet s d h text = if is_alone text then h else after_print s d h text (print_of (command_of text))

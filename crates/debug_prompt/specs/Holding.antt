@@ -14,7 +14,7 @@ use Rattle.debug_prompt.specs.declared.holding.Holding as declared
 -- the numbers of the last breakpoints that go when they have stopped a move; what is displayed after each move, by its number and
 -- its command line; the next such number; whether the program has begun, by a move or by `run`; the number of the frame
 -- that is selected, the top one being number 0; the moments that were noted, each by its number and how many steps lead to it; the
--- next such number; the conditions and the counts of breakpoints and watches; the watches of variables of frames
+-- next such number; the conditions and the counts of breakpoints and watches, and which are disabled; the watches of variables of frames
 pub record Held : Type 0 where
   pub temporaries : List ℕ
   pub displays : List (ℕ × List ℕ)

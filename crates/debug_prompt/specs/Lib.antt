@@ -1,5 +1,6 @@
 pub mod Holding
 pub mod Moments
+pub mod Numbers
 pub mod Doing
 pub mod FrameWatches
 pub mod Given

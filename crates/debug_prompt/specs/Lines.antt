@@ -1,5 +1,5 @@
--- What is done for a line, where conditions or counts are there and where none is. With none it is a list of commands (`commands_of`).
--- With some, `continue`, `reverse-continue` and `run` go on to a breakpoint or watch that counts, and how often a command is done for
+-- What is done for a line, where conditions or counts are there or something is disabled, and where none is. With none it is a list of
+-- commands (`commands_of`). With some, `continue`, `reverse-continue` and `run` go on to a breakpoint or watch that counts, and how often a command is done for
 -- that depends on what the conditions come to.
 use Rattle.std.specs.Prelude.{◌≡◌, ℕ, ◌||◌, Bool, true, false, not, List, [], ◌∷◌, ◌++◌, ◌==◌, length, replicate, Option, Some, None, if◌then◌else◌}
 use Rattle.gang_model.specs.Debugger.Debugger.{Command, Debugger, DoContinue, DoReverseContinue, Setting, depth, now}
@@ -56,7 +56,7 @@ way_of (Some DoContinue) = Some direction.Forward
 way_of (Some DoReverseContinue) = Some direction.Backward
 way_of command = None
 
--- the same where a condition or a count is there
+-- the same where a condition or a count is there, or something is disabled
 abbrev pub way_by : Held → Option Command → Option Direction
 way_by h command = if is_nothing h.table then None else way_of command
 

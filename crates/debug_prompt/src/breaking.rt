@@ -16,6 +16,7 @@ ghost use Rattle.debug_prompt.specs.Holding.{held, sheet};
 
 use crate::frames::selected_depth;
 use crate::holding::Holding;
+use crate::numbers::delete_named;
 use crate::pieces::stop_on;
 use crate::readings::{delete_of, line_of, made_number, trimmed, watch_number, watch_of};
 use crate::telling::{tell_condition, tell_no_stop, tell_passes};
@@ -263,7 +264,7 @@ fn clear_line<M: RecordedMachine, O: AnswerWriter + Drop>(
     }
 }
 
-/// Deletes a breakpoint or watch, or all, and forgets what was said of it.
+/// Deletes a breakpoint or watch, or all, or those that a line names, and forgets what was said of them.
 pub(crate) fn delete<M: RecordedMachine, O: AnswerWriter + Drop>(
     text: &[u8],
     holding: &mut Holding,
@@ -272,17 +273,17 @@ pub(crate) fn delete<M: RecordedMachine, O: AnswerWriter + Drop>(
     page: &mut Page<O>,
 )
     ensures { (s : Setting) (d : Debugger) → StandsFor M.stands session.old s d
-        → HasDone M.stands s (spec.deletes (held holding.old) (spec.delete_of (command_of text.now))) d session.new
-        × (held holding.new ≡ conditions.forgotten_by (spec.delete_of (command_of text.now)) (frames.without_frames (spec.delete_of (command_of text.now)) (held holding.old))) }
+        → HasDone M.stands s (spec.deletes_by d (held holding.old) (spec.delete_of (command_of text.now)) text.now) d session.new
+        × (held holding.new ≡ spec.after_deletes d (held holding.old) (spec.delete_of (command_of text.now)) text.now) }
 {
     match delete_of(text) {
         Some(number) => delete_by(number, holding, scene, session, page),
-        None => tell_unknown(scene.line, page),
+        None => delete_named(text, holding, scene, session, page),
     }
 }
 
 /// Deletes a breakpoint or watch of a number, or all.
-fn delete_by<M: RecordedMachine, O: AnswerWriter + Drop>(
+pub(crate) fn delete_by<M: RecordedMachine, O: AnswerWriter + Drop>(
     number: Option<u32>,
     holding: &mut Holding,
     scene: Scene<'_>,

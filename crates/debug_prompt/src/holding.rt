@@ -6,6 +6,7 @@ ghost use Rattle.debug_prompt.specs.Conditions as conditions;
 ghost use Rattle.debug_prompt.specs.Doing as spec;
 ghost use Rattle.debug_prompt.specs.FrameWatches as frames;
 ghost use Rattle.debug_prompt.specs.Holding.{held, held_at_start};
+ghost use Rattle.debug_prompt.specs.Numbers as named;
 
 use crate::watching::forget_deeper;
 use arrayvec::ArrayVec;
@@ -65,7 +66,8 @@ impl Default for Checkpoint {
 }
 
 /// The numbers of the last temporary breakpoints, what is displayed, whether the program has begun, which frame is selected,
-/// the moments that were noted, the conditions and the counts of breakpoints and watches, and the variables of frames that are watched.
+/// the moments that were noted, the conditions and the counts of breakpoints and watches and which are disabled, and the variables of
+/// frames that are watched.
 #[derive(Drop)]
 pub(crate) struct Holding {
     temporaries: ArrayVec<u32, TEMPORARIES>,
@@ -262,7 +264,21 @@ impl Holding {
         }
     }
 
-    /// Forgets the condition and the count of a breakpoint or watch.
+    /// Disables a breakpoint or watch.
+    pub(crate) fn disable(&mut self, number: u32)
+        ensures { held self.new ≡ named.disabled number (held self.old) }
+    {
+        self.conditions.disable(number);
+    }
+
+    /// Enables a breakpoint or watch again.
+    pub(crate) fn enable(&mut self, number: u32)
+        ensures { held self.new ≡ named.enabled number (held self.old) }
+    {
+        self.conditions.enable(number);
+    }
+
+    /// Forgets the condition and the count of a breakpoint or watch, and that it was disabled.
     pub(crate) fn forget(&mut self, number: u32)
         ensures { held self.new ≡ conditions.forgotten number (held self.old) }
     {

@@ -15,6 +15,7 @@ mod holding;
 mod listing;
 mod looking;
 mod moments;
+mod numbers;
 mod past;
 mod pieces;
 mod printing;

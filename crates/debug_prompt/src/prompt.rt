@@ -19,6 +19,7 @@ use crate::going::{do_typed, run_to_stop};
 use crate::holding::Holding;
 use crate::looking::Looking;
 use crate::moments::{forget, go_to_step, note_moment, restart};
+use crate::numbers::{disable, enable};
 use crate::past::{go_to_last, tell_changes};
 use crate::printing::{display, print, set_spelled, undisplay};
 use crate::readings::{command_repeats, sets};
@@ -84,7 +85,7 @@ impl Prompt {
     }
 
     /// Does a line, its line feed not included, by the debugger's commands, and shows what they came to. Where conditions or counts
-    /// are there, `continue`, `reverse-continue` and `run` go on to a stop that counts. A long `continue` shows on a terminal how
+    /// are there, or something is disabled, `continue`, `reverse-continue` and `run` go on to a stop that counts. A long `continue` shows on a terminal how
     /// many moves it has made. Where the writer has failed, the commands are done, and nothing is shown any more.
     pub fn do_line<M: ExpressionMachine + TellsCopies, O: AnswerWriter + Drop>(
         &mut self,
@@ -194,6 +195,8 @@ fn repeats(line: &PromptLine) -> bool
         | Kind::Delete
         | Kind::Condition
         | Kind::Ignore
+        | Kind::Disable
+        | Kind::Enable
         | Kind::Look(_) => false,
     }
 }
@@ -238,6 +241,8 @@ fn do_meant<M: ExpressionMachine + TellsCopies, O: AnswerWriter + Drop>(
         Kind::Delete => delete(text, holding, scene, session, page),
         Kind::Condition => change_condition(text, holding, scene, session, page),
         Kind::Ignore => ignore(text, holding, scene, session, page),
+        Kind::Disable => disable(text, holding, scene, session, page),
+        Kind::Enable => enable(text, holding, scene, session, page),
         Kind::Look(look) => looking.look(look, text, is_again, holding, scene, session, page),
     }
 }

@@ -4,13 +4,22 @@ use conditional_stops::{CountedStop, HoldingLanes, MoveEnd, Moved, Verdict, judg
 use debug_answers::{Answer, Stop};
 use debug_session::Session;
 use debug_traits::{AnswerWriter, RecordedMachine};
+use debug_words::{Marks, next_word};
 use frame_expressions::ExpressionMachine;
 use frame_values::NoValue;
+use prompt_lines::{NumberRange, behind_first, range_of};
 use prompt_texts::{Page, Spelled, tell_no_value};
 use std::alloc::Global;
 
 /// The widest gang.
 const WIDEST: usize = 16;
+
+/// The most breakpoints and watches.
+const MOST_STOPS: usize = 80;
+
+/// What is told where a disabled breakpoint or watch stopped a move.
+const IS_DISABLED: &[u8] =
+    b"it is disabled: `continue`, `reverse-continue` and `run` pass it, and no other move does\n";
 
 /// Tells the condition that a breakpoint or watch has now, or that it has none, or that there was no room for one.
 pub(crate) fn tell_condition<O: AnswerWriter + Drop>(
@@ -55,7 +64,88 @@ pub(crate) fn tell_no_stop<O: AnswerWriter + Drop>(number: u32, page: &mut Page<
     page.put(b"; `info breakpoints` lists them.\n");
 }
 
-/// Tells the conditions and the counts of all breakpoints and watches.
+/// Tells which of the numbers that a line names no breakpoint or watch has.
+pub(crate) fn tell_missing<M: RecordedMachine, O: AnswerWriter + Drop>(
+    text: &[u8],
+    holding: &Holding,
+    session: &Session<M>,
+    page: &mut Page<O>,
+) {
+    let mut rest = behind_first(text);
+    while let Some((word, after)) = next_word(Marks::OfCommands, rest) {
+        if let Some(range) = range_of(word) {
+            tell_gaps(range, holding, session, page);
+        }
+        rest = after;
+    }
+}
+
+/// Tells the same of the numbers of a range: those before each that is there, and those behind the last one.
+fn tell_gaps<M: RecordedMachine, O: AnswerWriter + Drop>(
+    range: NumberRange,
+    holding: &Holding,
+    session: &Session<M>,
+    page: &mut Page<O>,
+) {
+    let mut first = range.first;
+    for _ in 0..=MOST_STOPS {
+        match least_from(first, holding, session) {
+            Some(number) if number <= range.last => {
+                tell_none(first, number.saturating_sub(1), page);
+                first = number.saturating_add(1);
+            }
+            _ => {
+                tell_none(first, range.last, page);
+                return;
+            }
+        }
+    }
+}
+
+/// The least number from one on that a breakpoint or watch has.
+fn least_from<M: RecordedMachine>(
+    first: u32,
+    holding: &Holding,
+    session: &Session<M>,
+) -> Option<u32> {
+    let stop = session
+        .stops()
+        .iter()
+        .map(|entry| entry.number)
+        .filter(|number| *number >= first)
+        .min();
+    let frame = holding
+        .frames
+        .as_slice()
+        .iter()
+        .map(|watch| watch.number)
+        .filter(|number| *number >= first)
+        .min();
+    match (stop, frame) {
+        (Some(stop), Some(frame)) => Some(stop.min(frame)),
+        (stop, frame) => stop.or(frame),
+    }
+}
+
+/// Tells that no breakpoint or watch has the numbers from the first to the last, if there are any.
+fn tell_none<O: AnswerWriter + Drop>(first: u32, last: u32, page: &mut Page<O>) {
+    if first > last {
+        return;
+    }
+    page.put(if first == last {
+        b"No breakpoint number "
+    } else {
+        b"No breakpoint numbers "
+    });
+    put_number(first, page);
+    if first < last {
+        page.put(b"-");
+        put_number(last, page);
+    }
+    page.put(b".\n");
+}
+
+/// Tells the conditions and the counts of all breakpoints and watches, and which are disabled.
 pub(crate) fn tell_conditions<M: RecordedMachine, O: AnswerWriter + Drop>(
     holding: &Holding,
     session: &Session<M>,
@@ -66,7 +156,7 @@ pub(crate) fn tell_conditions<M: RecordedMachine, O: AnswerWriter + Drop>(
     }
 }
 
-/// Tells the conditions and the counts of the watches.
+/// Tells the conditions and the counts of the watches, and which are disabled.
 pub(crate) fn tell_watch_conditions<M: RecordedMachine, O: AnswerWriter + Drop>(
     holding: &Holding,
     session: &Session<M>,
@@ -80,13 +170,21 @@ pub(crate) fn tell_watch_conditions<M: RecordedMachine, O: AnswerWriter + Drop>(
 }
 
 /// Tells what is said of a breakpoint or watch, if anything is.
-fn tell_said<O: AnswerWriter + Drop>(number: u32, holding: &Holding, page: &mut Page<O>) {
+pub(crate) fn tell_said<O: AnswerWriter + Drop>(
+    number: u32,
+    holding: &Holding,
+    page: &mut Page<O>,
+) {
     if let Some(text) = holding.conditions.condition(number) {
         tell_condition(number, text, true, page);
     }
     let passes = holding.conditions.passes(number);
     if passes > 0 {
         tell_passes(number, passes, true, page);
+    }
+    if holding.conditions.is_disabled(number) {
+        put_number(number, page);
+        page.put(b" is disabled\n");
     }
 }
 
@@ -124,7 +222,7 @@ pub(crate) fn tell_counted<O: AnswerWriter + Drop>(
     }
 }
 
-/// Tells that the condition of the breakpoint or watch that stopped a move does not hold, where it does not: such a move stops all the same.
+/// Tells that the breakpoint or watch that stopped a move is disabled, or that its condition does not hold: such a move stops all the same.
 pub(crate) fn tell_unheld<M: ExpressionMachine, O: AnswerWriter + Drop>(
     answer: &Answer<'_>,
     holding: &Holding,
@@ -135,6 +233,10 @@ pub(crate) fn tell_unheld<M: ExpressionMachine, O: AnswerWriter + Drop>(
     let Some(number) = stop_number(answer) else {
         return;
     };
+    if holding.conditions.is_disabled(number) {
+        page.put(IS_DISABLED);
+        return;
+    }
     let Some(text) = holding.conditions.condition(number) else {
         return;
     };

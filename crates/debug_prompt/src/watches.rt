@@ -1,7 +1,7 @@
 //! What is told of watches of variables of frames.
 use crate::frames::depth;
 use crate::holding::Holding;
-use crate::telling::{tell_condition, tell_moved, tell_passes};
+use crate::telling::{tell_moved, tell_said};
 use crate::turning::Scene;
 use crate::values::show_target;
 use conditional_stops::{CountedStop, FrameWatch, MoveEnd, Moved, Reason};
@@ -34,20 +34,14 @@ pub(crate) fn tell_deleted<O: AnswerWriter + Drop>(number: Option<u32>, page: &m
     }
 }
 
-/// Lists the watches of frames, with their conditions and counts.
+/// Lists the watches of frames, with what is said of them.
 pub(crate) fn list_frames<O: AnswerWriter + Drop>(holding: &Holding, page: &mut Page<O>) {
     for watch in holding.frames.as_slice() {
         put_watch(watch, b"  watch, ", page);
         page.put(b", of the frame at depth ");
         page.put_number(watch.depth as i128);
         page.put(b"\n");
-        if let Some(text) = holding.conditions.condition(watch.number) {
-            tell_condition(watch.number, text, true, page);
-        }
-        let passes = holding.conditions.passes(watch.number);
-        if passes > 0 {
-            tell_passes(watch.number, passes, true, page);
-        }
+        tell_said(watch.number, holding, page);
     }
 }
 
