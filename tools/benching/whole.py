@@ -10,6 +10,8 @@ import pathlib
 import subprocess
 import tempfile
 
+from testing.whole_runs import FAULT, SPOILS, SPOILT
+
 from . import works
 from .timed import NotRun
 
@@ -30,6 +32,9 @@ CONDITION_TURNS, CONDITION_LINE = 100_000, 6
 CONDITION_STEPS = 10 * CONDITION_TURNS + 4
 CONDITION_TEXT = f"export void go() {{\nint i = 0;\nint x = 0;\nwhile (i < {CONDITION_TURNS}) {{\nx += i;\n" + "x ^= 5;\nx += 7;\n" * 3 + "x -= 3;\ni += 1;\n}\n}\n"
 CONDITIONAL, GOES_ON = [f"break {CONDITION_LINE} if i < 0"], ["continue"]
+# A run to a fault, which the value of a variable near its start leads to.
+SPOILT_NAME, BACK_TO_CAUSE = "spoilt.ispc", "last divisor"
+(_, FAULT_STEP), (_, CAUSE_STEP) = FAULT, SPOILS
 LIBRARY = pathlib.Path(__file__).with_name("allocations.c")
 # What is typed behind the measured lines, and how it is answered: by the prompt, and by the program for scripts.
 MARK, MARK_OF_SCRIPTS = ("echo ----", b"----\n"), ("----", b"C1 BadCommand\n")
@@ -131,8 +136,27 @@ def back(program, folder):
     yield Figure(forward, f"seconds forward over {STEPS:,} steps")
     yield Figure(to_the_watch / forward, "times these for reverse-continue from the end to a watch at the start", 3)
     yield Figure(to_the_middle, "seconds for goto from the end to the middle", 1)
+    yield Figure(to_the_middle / forward, "times the way forward, for that goto")
     for name, seconds in zip(PLACES, single):
         yield Figure(seconds, f"seconds for {SINGLE:,} steps back from {name}, one by one", 1)
+
+
+def from_fault(program, folder):
+    """The seconds of one run to a fault, back to the statement that spoiled the value, and from the fault to that step by its number."""
+    with begun(debugged(program, SPOILT_NAME), folder) as desk:
+        forward = desk.seconds(["continue"], at_step(FAULT_STEP))
+        to_the_cause = desk.seconds([BACK_TO_CAUSE, "print i"], at_step(CAUSE_STEP))
+        desk.done(["continue"], at_step(FAULT_STEP))
+        return forward, to_the_cause, desk.seconds([f"goto {CAUSE_STEP}"], at_step(CAUSE_STEP))
+
+
+def to_what_spoiled(program, folder):
+    """How it goes from a fault to its cause, in three commands."""
+    pathlib.Path(folder, SPOILT_NAME).write_text(SPOILT)
+    forward, to_the_cause, by_number = least(from_fault(program, folder) for _ in range(ROUNDS))
+    yield Figure(forward, f"seconds forward over {FAULT_STEP:,} steps to a fault")
+    yield Figure(to_the_cause / forward, f"times these for `{BACK_TO_CAUSE}` from there to the statement of step {CAUSE_STEP} that spoiled it, and `print i`", 3)
+    yield Figure(by_number / forward, f"times these for `goto {CAUSE_STEP}` from there")
 
 
 def by_itself(words, folder, mark):
@@ -212,7 +236,7 @@ def told(program, script):
     with tempfile.TemporaryDirectory(prefix="bench-whole-") as folder:
         pathlib.Path(folder, NAME).write_text(TEXT)
         parts = [back(program, folder), *([beside_plain(program, script, folder)] if script else [])]
-        for part in (*parts, copies(program, folder), profile(program, folder), condition(program, folder)):
+        for part in (*parts, to_what_spoiled(program, folder), copies(program, folder), profile(program, folder), condition(program, folder)):
             try:
                 yield from part
             except (NotRun, OSError, subprocess.CalledProcessError) as why:
