@@ -47,13 +47,13 @@ extension:
 	@tools/needs $@ python3
 	tools/pack_extension
 
-# Emacs, Neovim, Kate's highlighter, and node with VS Code's extension try editors/ with the quick build, which is built first. Debian's packages
-# have them.
+# Emacs, Neovim, Kate's highlighter, and node with VS Code's extension try editors/ with the quick build, which is built first, and so does a
+# client of the protocol's types for Go. Debian's packages have them.
 test-editors:
 	@tools/needs $@ rt python3 apt-get
 	tools/quick_build rinddecade
 	apt-get update
-	apt-get install -y --no-install-recommends emacs-nox elpa-dap-mode neovim nodejs libkf5syntaxhighlighting-tools
+	apt-get install -y --no-install-recommends emacs-nox elpa-dap-mode neovim nodejs libkf5syntaxhighlighting-tools golang-go golang-github-google-go-dap-dev
 	tools/test_editors "$(CURDIR)/crates/rinddecade/out/quick"
 
 # Debian's chromium opens pages of runs of the quick build, which is built first.
