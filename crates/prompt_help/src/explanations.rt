@@ -9,7 +9,7 @@ pub(crate) struct Reason(
 );
 
 /// The first words of commands.
-const COMMANDS: [Reason; 16] = [
+const COMMANDS: [Reason; 15] = [
     Reason(
         &[b"kill", b"k"],
         b"There is no process to kill: the program runs inside the debugger; `quit` ends it.",
@@ -37,10 +37,6 @@ const COMMANDS: [Reason; 16] = [
     Reason(
         &[b"inferior", b"inferiors", b"add-inferior"],
         b"There is one program.",
-    ),
-    Reason(
-        &[b"disable", b"enable"],
-        b"Breakpoints are there or not: `delete N` takes one away, `break N` makes one, `ignore N COUNT` passes stops.",
     ),
     Reason(
         &[b"commands"],
@@ -275,6 +271,18 @@ const MARKS: [Reason; 2] = [
     ),
 ];
 
+/// Why nothing else is enabled or disabled, and not for a time.
+const ENABLING: [Reason; 2] = [
+    Reason(
+        &[b"once", b"delete", b"count"],
+        b"What is enabled stays so: `tbreak N` makes a breakpoint that goes once it has stopped a move, `ignore N COUNT` passes stops.",
+    ),
+    Reason(
+        &[b"display", b"mem"],
+        b"Breakpoints and watches are enabled and disabled: `undisplay N` displays a value no more, `display T` again.",
+    ),
+];
+
 /// Why nothing is done for an address.
 const NO_ADDRESS: &[u8] = b"Variables have no addresses: `print T` shows one, `whatis T` its type.";
 
@@ -303,6 +311,9 @@ pub fn explanation(text: &[u8]) -> Option<&'static [u8]> {
     }
     if word == b"set".as_slice() {
         return why_of(&SETTINGS, first_word(rest));
+    }
+    if is_one_of(&[b"enable", b"en", b"disable", b"dis"], word) {
+        return why_of(&ENABLING, first_word(rest));
     }
     if is_one_of(&SHOWING, word) {
         return why_of_part(rest);

@@ -109,7 +109,7 @@ const FIRST: [Topic; 16] = [
 ];
 
 /// The other commands.
-const OTHERS: [Topic; 18] = [
+const OTHERS: [Topic; 20] = [
     Topic {
         names: &[b"undisplay"],
         usage: b"undisplay [N]",
@@ -142,8 +142,18 @@ const OTHERS: [Topic; 18] = [
     },
     Topic {
         names: &[b"delete", b"d", b"del"],
-        usage: b"delete [N]",
-        text: b"deletes the breakpoint or watch N, or all.",
+        usage: b"delete [N ..]",
+        text: b"deletes the breakpoints and watches of these numbers, among them ranges as 3-5, or all.",
+    },
+    Topic {
+        names: &[b"disable", b"dis"],
+        usage: b"disable [N ..]",
+        text: b"lets `continue`, `reverse-continue` and `run` pass these breakpoints and watches, or all; conditions and counts stay.",
+    },
+    Topic {
+        names: &[b"enable", b"en"],
+        usage: b"enable [N ..]",
+        text: b"lets them stop there again.",
     },
     Topic {
         names: &[b"info", b"i"],

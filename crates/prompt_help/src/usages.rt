@@ -71,7 +71,7 @@ const FIRST: [Reason; 16] = [
 ];
 
 /// The words of the other commands, and what may follow them.
-const OTHERS: [Reason; 16] = [
+const OTHERS: [Reason; 18] = [
     Reason(
         &[b"undisplay"],
         b"A number may follow `undisplay`, that of `info display`; without one nothing is displayed any more.",
@@ -90,7 +90,15 @@ const OTHERS: [Reason; 16] = [
     ),
     Reason(
         &[b"delete", b"d", b"del"],
-        b"One number may follow `delete`, that of `info breakpoints`: delete them one after another, or all by `delete`.",
+        b"Numbers and ranges may follow `delete`, those of `info breakpoints`, as `delete 1 3-5`; alone it deletes all.",
+    ),
+    Reason(
+        &[b"disable", b"dis"],
+        b"Numbers and ranges may follow `disable`, those of `info breakpoints`, as `disable 1 3-5`; alone it disables all.",
+    ),
+    Reason(
+        &[b"enable", b"en"],
+        b"Numbers and ranges may follow `enable`, those of `info breakpoints`, as `enable 1 3-5`; alone it enables all.",
     ),
     Reason(
         &[b"info", b"i"],
