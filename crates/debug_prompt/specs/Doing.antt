@@ -299,6 +299,14 @@ walked_if_known s d = if is_whole d && is_unset d then walked s.limit s d else [
 abbrev pub when_by : Setting → Debugger → (text : List ℕ) → List Command
 when_by s d text = if is_asked text then walked_if_known s d else []
 
+-- through the run so far, where single steps lead to each moment of it and back
+abbrev pub walked_so_far : Setting → Debugger → List Command
+walked_so_far s d = if is_whole d && is_unset d then walked (kept_steps d) s d else []
+
+-- `info lanes`: through the run so far
+abbrev pub lanes_by : Setting → Debugger → (text : List ℕ) → List Command
+lanes_by s d text = if is_alone text then walked_so_far s d else []
+
 -- a breakpoint is made
 abbrev pub broken : (line : Option ℕ) → List Command
 broken None = []
@@ -391,6 +399,7 @@ commands_by kind.Restart sheet s d h text = go_by s d h (step_noted h (index_nam
 commands_by kind.Last sheet s d h text = last_by s d h (watch_of (command_of text))
 commands_by kind.Changes sheet s d h text = changes_by s d (changes_named text)
 commands_by kind.When sheet s d h text = when_by s d text
+commands_by kind.Lanes sheet s d h text = lanes_by s d text
 commands_by kind sheet s d h text = []
 
 -- the commands that are done for a line, where one is kept

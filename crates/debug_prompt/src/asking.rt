@@ -96,7 +96,17 @@ fn ask_if_known<M: ExpressionMachine, O: AnswerWriter + Drop>(
 {
     if is_known(session) {
         ask_all(question, scene, session, page);
-    } else if is_unset(session) {
+    } else {
+        tell_unknown_moments(session, page);
+    }
+}
+
+/// Tells why single steps do not lead to each moment of the run and back.
+pub(crate) fn tell_unknown_moments<M: RecordedMachine, O: AnswerWriter + Drop>(
+    session: &Session<M>,
+    page: &mut Page<O>,
+) {
+    if is_unset(session) {
         tell_not_whole(page);
     } else {
         page.put(IS_SET);
@@ -104,7 +114,7 @@ fn ask_if_known<M: ExpressionMachine, O: AnswerWriter + Drop>(
 }
 
 /// Whether single steps lead to each moment of the run and back.
-fn is_known<M: RecordedMachine>(session: &Session<M>) -> bool
+pub(crate) fn is_known<M: RecordedMachine>(session: &Session<M>) -> bool
     ensures { (s : Setting) (d : Debugger) → StandsFor M.stands session.now s d → result ≡ (moments.is_whole d && moments.is_unset d) }
 {
     is_whole(session) && is_unset(session)

@@ -12,6 +12,7 @@ mod frames;
 mod going;
 mod going_back;
 mod holding;
+mod lanes_told;
 mod listing;
 mod looking;
 mod moments;

@@ -17,6 +17,7 @@ use crate::forms::show_formatted;
 use crate::frames::depth;
 use crate::going::{do_typed, run_to_stop};
 use crate::holding::Holding;
+use crate::lanes_told::tell_lanes;
 use crate::looking::Looking;
 use crate::moments::{forget, go_to_step, note_moment, restart};
 use crate::numbers::{disable, enable};
@@ -188,6 +189,7 @@ fn repeats(line: &PromptLine) -> bool
         | Kind::Goto
         | Kind::Changes
         | Kind::When
+        | Kind::Lanes
         | Kind::Checkpoint
         | Kind::Restart
         | Kind::Forget
@@ -235,6 +237,7 @@ fn do_meant<M: ExpressionMachine + TellsCopies, O: AnswerWriter + Drop>(
         Kind::Last => go_to_last(text, holding, scene, session, page),
         Kind::Changes => tell_changes(text, scene, session, page),
         Kind::When => tell_when(text, scene, session, page),
+        Kind::Lanes => tell_lanes(text, holding, scene, session, page),
         Kind::Checkpoint => note_moment(text, holding, scene, session, page),
         Kind::Forget => forget(text, holding, scene, page),
         Kind::Watch => make_watch(text, holding, scene, session, page),

@@ -3,4 +3,4 @@
 
 mod run;
 
-pub use run::count_run;
+pub use run::{count_run, name_of, next_step};

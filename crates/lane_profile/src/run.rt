@@ -86,7 +86,7 @@ fn enter_frame<M: ExpressionMachine>(
 }
 
 /// The name of the function of a number.
-fn name_of(program: &Program, number: usize) -> &[u8]
+pub fn name_of(program: &Program, number: usize) -> &[u8]
     ensures { result.now ≡ name_of (slice_get (program_view program.now).functions number) }
 {
     let Some(function) = program.functions.get(number) else {
@@ -106,7 +106,7 @@ fn depth_of<M: ExpressionMachine>(machine: &M) -> usize
 }
 
 /// Where the next step stands, unless the program has ended.
-fn next_step<M: ExpressionMachine>(machine: &M) -> Option<StepAt<'_>>
+pub fn next_step<M: ExpressionMachine>(machine: &M) -> Option<StepAt<'_>>
     ensures { (s : Setting) (d : Debugger) → M.stands machine.now s d → IsNext s.program (now s d) result }
 {
     let position = machine.position()?;

@@ -158,7 +158,7 @@ const OTHERS: [Topic; 20] = [
     Topic {
         names: &[b"info", b"i"],
         usage: b"info WHAT",
-        text: b"lists: breakpoints, watchpoints, locals, args, variables, display, frame, stack, record, source, line [N], program.",
+        text: b"lists: breakpoints, watchpoints, locals, args, variables, display, frame, stack, lanes, record, source, line [N], program.",
     },
     Topic {
         names: &[b"backtrace", b"bt", b"where"],
@@ -213,7 +213,7 @@ const OTHERS: [Topic; 20] = [
 ];
 
 /// The commands that go to moments of the run, and tell of them.
-const MOMENTS: [Topic; 6] = [
+const MOMENTS: [Topic; 7] = [
     Topic {
         names: &[b"goto"],
         usage: b"goto N",
@@ -233,6 +233,11 @@ const MOMENTS: [Topic; 6] = [
         names: &[b"when"],
         usage: b"when [-a] EXPR",
         text: b"tells the first moment of the run at which EXPR is not 0 in an active lane, with those lanes, and how many such moments there are; -a lists twenty. The program stands where it stood.",
+    },
+    Topic {
+        names: &[b"lanes"],
+        usage: b"info lanes",
+        text: b"tells the share of the active lanes of the steps so far: of the line and the function of the frame that is selected, and of the run. The program stands where it stood.",
     },
     Topic {
         names: &[b"checkpoint"],

@@ -28,6 +28,9 @@ display_row = refl
 when_row : line_of (codes "when x > 2") ≡ record { kind = kind.When; text = codes "when  x > 2" }
 when_row = refl
 
+lanes_row : line_of (codes "info lanes") ≡ record { kind = kind.Lanes; text = codes "lanes " }
+lanes_row = refl
+
 own_row : line_of (codes "reverse-next 2") ≡ record { kind = kind.Own; text = codes "reverse-next 2" }
 own_row = refl
 

@@ -129,6 +129,8 @@ looks =
     ∷ row (codes "info" ∷ codes "source" ∷ []) (kind.Look look.Source) []
     ∷ row (codes "info" ∷ codes "line" ∷ []) (kind.Look look.Line) (codes "break")
     ∷ row (codes "info" ∷ codes "program" ∷ []) (kind.Look look.Here) []
+    ∷ row (codes "info" ∷ codes "lanes" ∷ []) kind.Lanes (codes "lanes")
+    ∷ row (codes "i" ∷ codes "lanes" ∷ []) kind.Lanes (codes "lanes")
     ∷ row (codes "info" ∷ []) (kind.Look look.Lists) []
     ∷ row (codes "i" ∷ []) (kind.Look look.Lists) []
     ∷ row (codes "help" ∷ []) (kind.Look look.Help) []

@@ -93,6 +93,8 @@ pub enum Kind {
     Changes,
     /// The moments of the run are told at which an expression is not 0.
     When,
+    /// The share of the active lanes of the steps so far is told.
+    Lanes,
     /// The moment is noted.
     Checkpoint,
     /// The program goes to a moment that was noted.

@@ -84,7 +84,7 @@ pub(crate) const ROWS: [Row; 66] = [
 ];
 
 /// The words of what is looked at, and of values in other digits, for a line that begins with none of the others.
-pub(crate) const LOOKS: [Row; 54] = [
+pub(crate) const LOOKS: [Row; 56] = [
     Row(&[b"backtrace", b"full"], Kind::Look(Look::Full), b""),
     Row(&[b"bt", b"full"], Kind::Look(Look::Full), b""),
     Row(&[b"where", b"full"], Kind::Look(Look::Full), b""),
@@ -121,6 +121,8 @@ pub(crate) const LOOKS: [Row; 54] = [
     Row(&[b"info", b"source"], Kind::Look(Look::Source), b""),
     Row(&[b"info", b"line"], Kind::Look(Look::Line), b"break"),
     Row(&[b"info", b"program"], Kind::Look(Look::Here), b""),
+    Row(&[b"info", b"lanes"], Kind::Lanes, b"lanes"),
+    Row(&[b"i", b"lanes"], Kind::Lanes, b"lanes"),
     Row(&[b"info"], Kind::Look(Look::Lists), b""),
     Row(&[b"i"], Kind::Look(Look::Lists), b""),
     Row(&[b"help"], Kind::Look(Look::Help), b""),

@@ -10,6 +10,7 @@ mod forms;
 mod frames;
 mod help;
 mod items;
+mod lanes;
 mod looks;
 mod marked;
 mod moments;
@@ -30,6 +31,7 @@ pub use frames::{
     lanes_at, show_arguments, show_frame, show_frames, show_full_frames, show_locals, show_value,
 };
 pub use items::{Item, Layout, Standing};
+pub use lanes::{LaneShare, SharesHere, show_lanes};
 pub use looks::{
     list_lines, show_displayed, show_help, show_here, show_line, show_lists, show_source,
     show_text, show_type, show_variables, show_watches,
