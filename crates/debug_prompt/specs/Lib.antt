@@ -7,3 +7,4 @@ pub mod Given
 pub mod Conditions
 pub mod Lines
 pub mod Pieces
+pub mod LanesTold
