@@ -155,7 +155,7 @@ def to_what_spoiled(program, folder):
     pathlib.Path(folder, SPOILT_NAME).write_text(SPOILT)
     forward, to_the_cause, by_number = least(from_fault(program, folder) for _ in range(ROUNDS))
     yield Figure(forward, f"seconds forward over {FAULT_STEP:,} steps to a fault")
-    yield Figure(to_the_cause / forward, f"times these for `{BACK_TO_CAUSE}` from there to the statement of step {CAUSE_STEP} that spoiled it, and `print i`", 3)
+    yield Figure(to_the_cause / forward, f"times these for `{BACK_TO_CAUSE}` from there to step {CAUSE_STEP}, which spoiled it, and `print i`", 3)
     yield Figure(by_number / forward, f"times these for `goto {CAUSE_STEP}` from there")
 
 

@@ -135,7 +135,8 @@ class Session:
 
     def page(self):
         start, count = self.draw.choice((0, 1, 3, 999, 2499)), self.draw.choice((0, 1, 2, 5, 1001))
-        return self.draw.choice([{}, {}, {"start": start, "count": count}, {"count": count}, {"start": start}, {"filter": self.draw.choice(("named", "indexed"))}])
+        kind = self.draw.choice(("named", "indexed"))
+        return self.draw.choice([{}, {}, {"start": start, "count": count}, {"count": count}, {"start": start}, {"filter": kind}])
 
     def request(self):
         """A request and its arguments."""

@@ -103,27 +103,30 @@ def tried(name, words, source, steps, status=0):
 
 def of_scripts(program):
     """The program for scripts: with a file, and with all of its text from the keyboard."""
-    at_file = [program, "go.ispc"]
+    at_file, by_signal = [program, "go.ispc"], -signal.SIGINT
+    long_steps = [*at_file, "--steps", "10000000"]
     return [
         tried("one Ctrl-D ends scripts", at_file, SOURCE, [(b"", CTRL_D)]),
         tried("one Ctrl-D behind a line ends scripts", at_file, SOURCE, [(b"", b"step\n"), (STEP, CTRL_D)]),
         tried("one Ctrl-D behind lines ends scripts", at_file, SOURCE, [(b"", b"step\nstep\nprint x\n" + CTRL_D), (b"x = 1 4 7 10\n", b"")]),
         tried("Ctrl-D behind a text ends scripts the second time", at_file, SOURCE, [(b"", b"step" + CTRL_D), (b"", CTRL_D), (STEP, b"")]),
         tried("one Ctrl-D ends a script with its source", [program], b"", [(b"", SOURCE + b"%%\nstep\n" + CTRL_D), (STEP, b"")]),
-        tried("Ctrl-C ends scripts", at_file, SOURCE, [(b"", b"step\n"), (STEP, CTRL_C)], -signal.SIGINT),
-        tried("Ctrl-C ends a long command of scripts", [*at_file, "--steps", "10000000"], ENDLESS, [(b"", b"step\n"), (STEP, LONG), (b"", CTRL_C)], -signal.SIGINT),
+        tried("Ctrl-C ends scripts", at_file, SOURCE, [(b"", b"step\n"), (STEP, CTRL_C)], by_signal),
+        tried("Ctrl-C ends a long command of scripts", long_steps, ENDLESS, [(b"", b"step\n"), (STEP, LONG), (b"", CTRL_C)], by_signal),
     ]
 
 
 def of_debugger(program):
     """The debugger, and the adapter."""
-    debug = [program, "debug", "go.ispc"]
+    debug, by_signal = [program, "debug", "go.ispc"], -signal.SIGINT
+    long_steps = [*debug, "--steps", "10000000"]
     return [
         tried("one Ctrl-D ends the debugger", debug, SOURCE, [(PROMPT, CTRL_D)]),
         tried("one Ctrl-D behind a line ends the debugger", debug, SOURCE, [(PROMPT, b"step\n"), (SHOWN, CTRL_D)]),
         # The second one hands the line over, behind which the third stands on an empty line.
         tried("Ctrl-D behind a text ends the debugger the third time", debug, SOURCE, [(PROMPT, b"step" + CTRL_D), (b"", CTRL_D), (SHOWN, CTRL_D)]),
-        tried("Ctrl-C ends the debugger", debug, SOURCE, [(PROMPT, b"step\n"), (SHOWN, CTRL_C)], -signal.SIGINT),
-        tried("Ctrl-C ends a long command of the debugger", [*debug, "--steps", "10000000"], ENDLESS, [(PROMPT, b"continue\n"), (b"moves", CTRL_C)], -signal.SIGINT),
+        tried("one Ctrl-D ends a list that waits, and the next one the debugger", debug, LINES, [(PROMPT, b"list 1,19\n"), (MORE, CTRL_D), (b"", CTRL_D)]),
+        tried("Ctrl-C ends the debugger", debug, SOURCE, [(PROMPT, b"step\n"), (SHOWN, CTRL_C)], by_signal),
+        tried("Ctrl-C ends a long command of the debugger", long_steps, ENDLESS, [(PROMPT, b"continue\n"), (b"moves", CTRL_C)], by_signal),
         tried("one Ctrl-D ends the adapter", [program, "adapter"], b"", [(b"", CTRL_D)]),
     ]

@@ -103,7 +103,9 @@ TYPES = {
         **{f"supports{it}?": "boolean" for it in CAPABLE},
         "supportTerminateDebuggee?": "boolean", "supportSuspendDebuggee?": "boolean", "exceptionBreakpointFilters?": "Filter[]",
         "completionTriggerCharacters?": "string[]", "supportedChecksumAlgorithms?": "Algorithm[]", "breakpointModes?": "BreakpointMode[]",
+        "additionalModuleColumns?": "ColumnDescriptor[]",
     },
+    "ColumnDescriptor": {"attributeName": "string", "label": "string", "format?": "string", "type?": "string", "width?": "index"},
     "Filter": {
         "filter": "string", "label": "string", "description?": "string", "default?": "boolean", "supportsCondition?": "boolean",
         "conditionDescription?": "string",
@@ -192,7 +194,10 @@ WORDS = {
     "Algorithm": "MD5 SHA1 SHA256 timestamp".split(),
     "Area": "all stacks threads variables".split(),
     "Attribute": "static constant readOnly rawString hasObjectId canHaveObjectId hasSideEffects hasDataBreakpoint".split(),
-    "CompletionType": "method function constructor field variable class interface module property unit value enum keyword snippet text color file reference customcolor".split(),
+    "CompletionType": (
+        "method function constructor field variable class interface module property unit value enum keyword snippet text color file reference"
+        " customcolor"
+    ).split(),
     "Kind": "property method class data event baseClass innerClass interface mostDerivedClass virtual dataBreakpoint".split(),
     "Reason": ("step", "breakpoint", "exception", "pause", "entry", "goto", "function breakpoint", "data breakpoint", "instruction breakpoint"),
 }
