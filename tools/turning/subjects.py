@@ -2,7 +2,7 @@
 
 import tempfile
 
-from testing import adapter_client, conditions, desk, disabling, explained, front_ends, hostile, pictures, profiles, prompts, run_pages, terminals
+from testing import adapter_client, conditions, desk, disabling, explained, front_ends, hostile, lanes_so_far, pictures, profiles, prompts, run_pages, terminals
 from testing.built import ended
 from testing.calls import side_by_side
 from testing.parts import done
@@ -72,7 +72,7 @@ class Subject:
 SUBJECTS = {
     "prompt": Subject(
         ("debug_prompt", "conditional_stops", "prompt_texts", "prompt_lines", "prompt_help", "terminal_lines"),
-        of_runs(prompts.runs, lambda root: conditions.runs() + disabling.runs(), terminals.runs),
+        of_runs(prompts.runs, lambda root: conditions.runs() + disabling.runs(), lanes_so_far.runs, terminals.runs),
         of_terminals,
         of_devices("lines at the prompt"),
     ),

@@ -54,6 +54,11 @@ when_alone_row : (s : Setting) (d : Debugger) → at_start s d (codes "when") �
 unfolding at_start
 when_alone_row s d = refl
 
+-- `info lanes` stands alone
+lanes_row : (s : Setting) (d : Debugger) → at_start s d (codes "info lanes now") ≡ []
+unfolding at_start
+lanes_row s d = refl
+
 look_row : (s : Setting) (d : Debugger) → at_start s d (codes "list 4") ≡ []
 unfolding at_start
 look_row s d = refl

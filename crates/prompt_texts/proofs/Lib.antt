@@ -5,3 +5,4 @@ mod Rows
 mod Spelling
 mod WorkedForms
 mod WorkedItems
+mod WorkedLanes
