@@ -1,0 +1,4 @@
+mod Following
+pub mod Meaning
+mod Noting
+mod Worked

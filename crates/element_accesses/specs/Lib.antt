@@ -1,0 +1,5 @@
+pub mod Found
+pub mod Views
+pub mod Rows
+pub mod Touched
+pub mod Shown

@@ -1,0 +1,3 @@
+mod Onward
+pub mod Touching
+mod Worked
