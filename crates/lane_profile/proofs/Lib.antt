@@ -1,3 +1,4 @@
 mod Placing
 mod Left
 mod Frames
+mod Touching

@@ -18,6 +18,17 @@ abbrev pub states_tried : Program → (most : ℕ) → State → List State
 states_tried p zero state = []
 states_tried p (suc most) state = tried_at (step p state) state (states_tried p most)
 
+-- the states whose steps are done, the first of which came to this: a step that faults is not
+abbrev pub done_at : Stepped → State → (State → List State) → List State
+done_at Over state next = []
+done_at (Fails fault) state next = []
+done_at (Goes new) state next = state ∷ next new
+
+-- the states of a run whose steps are done, so many at most
+abbrev pub states_done : Program → (most : ℕ) → State → List State
+states_done p zero state = []
+states_done p (suc most) state = done_at (step p state) state (states_done p most)
+
 -- the name of a function, if there is one
 abbrev pub name_of : Option Function → Bytes
 name_of None = []

@@ -1,24 +1,28 @@
 //! A run, step by step, with its counts.
-ghost use Rattle.std.specs.Prelude.{◌≡◌, ◌<◌, ◌≤◌, ◌-◌, IfOk, OnErr, drop, length, slice_get};
+ghost use Rattle.element_accesses.specs.Rows.{IsNoted};
+ghost use Rattle.std.specs.Prelude.{◌≡◌, ℕ, ◌<◌, ◌≤◌, ◌-◌, IfOk, OnErr, drop, length, slice_get};
 ghost use Rattle.debug_traits.specs.Frames.{frames_at};
 ghost use Rattle.foreach_forms.specs.Forms.{forms_of};
 ghost use Rattle.gang_model.specs.Debugger.Debugger.{Debugger, Setting, now};
 ghost use Rattle.debug_session.specs.Sessions.{StandsFor};
 ghost use Rattle.lane_counts.specs.Tallies.{HasFrames, IsBegun};
 ghost use Rattle.lane_picture.specs.Tries.{HasBegun, HasRun};
-ghost use Rattle.lane_profile.specs.Counted.{HasCounted, HasCountedWhole, IsNext};
+ghost use Rattle.lane_profile.specs.Counted.{HasCounted, HasCountedWhole, HasTouched, IsNext};
 ghost use Rattle.lane_profile.specs.Stands.{functions_of, name_of};
 ghost use Rattle.typed_tree.specs.Views.{program_view};
 
 use debug_session::Session;
+use element_accesses::Accesses;
 use foreach_forms::forms_of;
 use frame_expressions::ExpressionMachine;
+use gang_types::Spot;
 use lane_counts::{Gang, StepAt, Tally};
 use lane_picture::{StepsEnd, end_after, try_step};
 use std::alloc::{AllocError, Global};
 use typed_tree::Program;
 
-/// Tries one step after another, so many at most, and counts each before it is tried.
+/// Tries one step after another, so many at most, and counts each before it is tried. Of each of some accesses it counts what it touches at
+/// the steps that are done.
 ///
 /// # Errors
 ///
@@ -26,6 +30,7 @@ use typed_tree::Program;
 pub fn count_run<M: ExpressionMachine>(
     alloc: Global,
     session: &mut Session<M>,
+    accesses: &mut Accesses,
     most_steps: u32,
 ) -> Result<(Tally, StepsEnd), AllocError>
     ensures run { IfOk result (λ counted. (s : Setting) (d : Debugger) → StandsFor M.stands session.old s d
@@ -34,6 +39,8 @@ pub fn count_run<M: ExpressionMachine>(
         → HasCounted s.program most_steps (now s d) counted.0) }
     ensures whole { IfOk result (λ counted. (s : Setting) (d : Debugger) → StandsFor M.stands session.old s d → 1 ≤ s.limit → length s.first.frames ≤ 1
         → HasCountedWhole s.program most_steps (now s d) counted.0) }
+    ensures accesses { IfOk result (λ counted. (s : Setting) (d : Debugger) → StandsFor M.stands session.old s d → 1 ≤ s.limit
+        → HasTouched s.program most_steps (now s d) accesses.old accesses.new) }
     ensures memory { OnErr result ((s : Setting) (d : Debugger) → StandsFor M.stands session.old s d
         → HasBegun M.stands s most_steps d session.new) }
 {
@@ -43,12 +50,26 @@ pub fn count_run<M: ExpressionMachine>(
             return Ok((tally, StepsEnd::Ended));
         };
         tally.note(alloc, at)?;
+        note_touches(session, at.depth, at.spot, accesses);
         if let Some(end) = try_step(session) {
             return Ok((tally, end));
         }
+        accesses.keep();
     }
     let end = end_after(session.machine());
     Ok((tally, end))
+}
+
+/// Notes what the accesses of a step touch, where the top frame stands.
+fn note_touches<M: ExpressionMachine>(
+    session: &Session<M>,
+    depth: usize,
+    spot: Spot,
+    accesses: &mut Accesses,
+)
+    ensures { (k : ℕ) → IsNoted M.stands session.now.machine depth spot (slice_get accesses.old.rows.items k) (slice_get accesses.new.rows.items k) }
+{
+    accesses.note(depth, spot, session.machine());
 }
 
 /// A tally of the program's foreach forms before its first step, with the frames below the top one.

@@ -1,6 +1,6 @@
 use Rattle.std.proofs.Common.{◌≡◌, ◌∙◌, ◌+◌, [], refl, ap, sym, subst, arith}
 use Rattle.std.specs.List.{All}
-use Rattle.std.specs.Prelude.{slice_get}
+use Rattle.std.specs.Prelude.{option_map, slice_get}
 use Rattle.std.proofs.lemmas.List.Elements.{All-cons, All-nil}
 use Rattle.gang_model.specs.Debugger.Debugger.{now}
 use Rattle.debug_session.specs.Sessions.{bare}
@@ -15,6 +15,8 @@ use Rattle.lane_picture.specs.Seen.{next_state, state_after}
 use Rattle.lane_picture.proofs.SeenColumns.{after_more}
 use Rattle.lane_profile.proofs.Frames.{follows_first, follows_on}
 use Rattle.lane_profile.proofs.Left.{all_left, ended_left, last_left, named_by, none_left, step_left}
+use Rattle.element_accesses.specs.Rows.{kept}
+use Rattle.lane_profile.proofs.Touching.{all_touched, begun_touched, is_here, none_after_all, none_after_end, none_after_stop, noted_row, step_touched}
 use Rattle.lane_profile.proofs.run.count_run.Goals as goal
 
 pub loop-count-init : goal.loop-count-init
@@ -35,6 +37,7 @@ loop-count-init g c =
       all = λ s d st limit. ap (all_with tally) (all_left s.program c.args.most_steps (now s d)) ∙ all_begun tally begun _;
       rounds = λ s d st limit number form is. ap (rounds_with tally number form) (all_left s.program c.args.most_steps (now s d)) ∙ rounds_begun tally begun number form _;
       inside = λ s d st limit number form is. ap (inside_with tally number form) (all_left s.program c.args.most_steps (now s d)) ∙ inside_begun tally begun number form _;
+      accesses = λ s d st limit k access is done tried. (access, is, begun_touched s.program c.args.most_steps (now s d) access done tried);
     }
 
 pub returns-in_default-clause-run : goal.returns-in_default-clause-run
@@ -196,6 +199,19 @@ loop-count-preserved g c =
           let left = step_left s.program c.args.most_steps (now s d) c.loop-count._count (omega arith) (now s e) (now s tried.done.after) (so.stood limit) (tried.comes limit placed.0) in
           sym (c.in_ok-note.ensures.inside number form (ap (λ l. slice_get l number) (c.loop-count.invariant.forms s d st) ∙ is) stand _ placed.1)
           ∙ ap (inside_with old number form) (sym left) ∙ c.loop-count.invariant.inside s d st limit number form is;
+      accesses = λ s d st limit k access is done tried.
+          let so = c.loop-count.invariant.so_far s d st in
+          let e = so.done.after in
+          let there = subst (λ m. stands m s (bare e)) (sym c.machine-in-loop-count.ensures) so.done.there.there in
+          let placed = c.in-Some.ensures s (bare e) there in
+          let goes = (c.in_default-try_step.ensures s e so.done.there).comes limit placed.0 in
+          let has = c.loop-count.invariant.accesses s d st limit k access is done tried in
+          let noted = noted_row stands _ _ _ _ _ has.0 has.1 (c.note_touches.ensures k) in (
+            kept noted.0,
+            c.keep.ensures k ∙ ap (option_map kept) noted.1,
+            step_touched s.program c.args.most_steps (now s d) stands c.loop-count.session.machine s (bare e) refl so.done.there.there c.loop-count._count (omega arith) (omega arith)
+                _ _ (is_here s.program (now s e) _ placed.0 placed.1) (now s (c.in_default-try_step.ensures s e so.done.there).done.after) (so.stood limit) goes access has.0 noted.0 has.2 noted.2,
+          );
     }
 
 pub returns-in_default-clause-whole : goal.returns-in_default-clause-whole
@@ -253,3 +269,32 @@ returns-clause-counted g c s d st limit =
       rounds = λ number form is. sym (rounds_done tally number form) ∙ ap (rounds_with tally number form) (sym left) ∙ c.loop-count.invariant.rounds s d st limit number form is;
       inside = λ number form is. sym (inside_done tally number form) ∙ ap (inside_with tally number form) (sym left) ∙ c.loop-count.invariant.inside s d st limit number form is;
     }
+
+pub returns-in_default-clause-accesses : goal.returns-in_default-clause-accesses
+returns-in_default-clause-accesses g c s d st limit k access is done tried =
+    let stands = g.M.RecordedMachine.stands in
+    let so = c.loop-count.invariant.so_far s d st in
+    let e = so.done.after in
+    let there = subst (λ m. stands m s (bare e)) (sym c.machine-in-loop-count.ensures) so.done.there.there in
+    let left = none_after_end s.program c.args.most_steps (now s d) c.loop-count._count (now s e) (so.stood limit) (c.in_default.ensures s (bare e) there) in
+    let has = c.loop-count.invariant.accesses s d st limit k access is done tried in
+    (has.0, has.1, all_touched s.program c.args.most_steps (now s d) c.loop-count._count access has.0 has.0 has.2 left refl)
+
+pub returns-in-Some-try_step-clause-accesses : goal.returns-in-Some-try_step-clause-accesses
+returns-in-Some-try_step-clause-accesses g c s d st limit k access is done tried =
+    let stands = g.M.RecordedMachine.stands in
+    let so = c.loop-count.invariant.so_far s d st in
+    let e = so.done.after in
+    let there = subst (λ m. stands m s (bare e)) (sym c.machine-in-loop-count.ensures) so.done.there.there in
+    let placed = c.in-Some.ensures s (bare e) there in
+    let came = c.in-Some-try_step.ensures s e so.done.there in
+    let left = none_after_stop s.program c.args.most_steps (now s d) c.loop-count._count (omega arith) s e came.done.after c.in-Some-try_step.end refl (so.stood limit) (came.comes limit placed.0) in
+    let has = c.loop-count.invariant.accesses s d st limit k access is done tried in
+    let noted = noted_row stands _ _ _ _ _ has.0 has.1 (c.note_touches.ensures k) in
+    (noted.0, noted.1, all_touched s.program c.args.most_steps (now s d) c.loop-count._count access has.0 noted.0 has.2 left noted.2.others)
+
+pub returns-clause-accesses : goal.returns-clause-accesses
+returns-clause-accesses g c s d st limit k access is done tried =
+    let left = none_after_all s.program c.args.most_steps (now s d) c.loop-count._count (omega (arith, c.loop-count-test.false)) in
+    let has = c.loop-count.invariant.accesses s d st limit k access is done tried in
+    (has.0, has.1, all_touched s.program c.args.most_steps (now s d) c.loop-count._count access has.0 has.0 has.2 left refl)

@@ -2,6 +2,8 @@
 use Rattle.std.proofs.Common.{◌≡◌, ℕ, ◌≤◌, List, Some, length}
 use Rattle.std.specs.List.{All}
 use Rattle.std.specs.Prelude.{slice_get}
+use Rattle.element_touches.specs.Counted.{none}
+use Rattle.element_accesses.specs.declared.accesses.Access.{Access}
 use Rattle.foreach_forms.specs.declared.forms.Form.{Form}
 use Rattle.foreach_forms.specs.Forms.{forms_of}
 use Rattle.gang_model.specs.Debugger.Debugger.{Debugger, Setting, now}
@@ -16,6 +18,7 @@ use Rattle.lane_profile.specs.Counted.{IsNamed}
 use Rattle.lane_picture.specs.Seen.{state_after}
 use Rattle.lane_profile.specs.Stands.{stand_of, stands_of}
 use Rattle.lane_profile.proofs.Left.{stands_left}
+use Rattle.lane_profile.proofs.Touching.{SoTouched}
 use Rattle.lane_profile.proofs.run.count_run.Given as goal
 
 abbrev pub invariant-loop-count : goal.invariant-loop-count
@@ -42,4 +45,7 @@ invariant-loop-count g l = record {
       → rounds_with l.tally number form (stands_left s.program l.most_steps (now s d) l._count) ≡ unparted_of (λ stand. is_round form stand.spot) (stands_of s.program l.most_steps (now s d));
   inside : (s : Setting) (d : Debugger) → StandsFor g.M.RecordedMachine.stands l.initial.session s d → 1 ≤ s.limit → (number : ℕ) (form : Form) → slice_get (forms_of s.program) number ≡ Some form
       → inside_with l.tally number form (stands_left s.program l.most_steps (now s d) l._count) ≡ unparted_of (λ stand. is_inside form stand.spot) (stands_of s.program l.most_steps (now s d));
+  accesses : (s : Setting) (d : Debugger) → StandsFor g.M.RecordedMachine.stands l.initial.session s d → 1 ≤ s.limit → (k : ℕ) (access : Access)
+      → slice_get l.initial.accesses.rows.items k ≡ Some access → access.done ≡ none → access.tried ≡ none
+      → (so_far : Access) × (slice_get l.accesses.rows.items k ≡ Some so_far) × SoTouched s.program l.most_steps (now s d) l._count access so_far;
 }
