@@ -1,20 +1,23 @@
 //! Counts as JSON.
 ghost use Rattle.std.specs.Prelude.{◌≡◌, false, is_err};
 
+use crate::accessed::way_of;
 use crate::formed::text_of;
 use crate::parts::Part::{Number, Percents, Text};
 use crate::parts::write_parts;
 use crate::profile::Subject;
 use crate::tables::fault_words;
 use debug_traits::{AnswerWriter, WriteFault};
+use element_accesses::Access;
 use foreach_forms::Form;
 use lane_counts::{Counts, Tally, lost, share, share_of};
 use lane_picture::StepsEnd;
 use std::str;
 
-/// Writes the counts of all steps, of each line, of each function and of each foreach form.
+/// Writes the counts of all steps, of each line, of each function, of each foreach form and of each access.
 pub(crate) fn write_json<O: AnswerWriter>(
     tally: &Tally,
+    accesses: &[Access],
     end: StepsEnd,
     subject: &Subject<'_>,
     writer: &mut O,
@@ -37,6 +40,8 @@ pub(crate) fn write_json<O: AnswerWriter>(
     write_functions(tally, subject.width, writer)?;
     writer.write_all(b"],\n\"forms\":[")?;
     write_forms(tally, subject.width, writer)?;
+    writer.write_all(b"],\n\"accesses\":[")?;
+    write_accesses(accesses, writer)?;
     writer.write_all(b"]}\n")
 }
 
@@ -134,6 +139,67 @@ fn write_forms<O: AnswerWriter>(
         }
     }
     Ok(())
+}
+
+/// Writes the accesses that were made, in the order of the program, and those that are not counted.
+fn write_accesses<O: AnswerWriter>(accesses: &[Access], writer: &mut O) -> Result<(), WriteFault>
+    requires works { O.has_failed writer.old ≡ false }
+    ensures failed { O.has_failed writer.new ≡ is_err result }
+{
+    let mut is_first = true;
+    for access in accesses {
+        if !access.is_sure || access.counts().times > 0 {
+            write_comma(is_first, writer)?;
+            write_place(access, writer)?;
+            write_touches(access, writer)?;
+            is_first = false;
+        }
+    }
+    Ok(())
+}
+
+/// Writes where an access stands, and what it does.
+fn write_place<O: AnswerWriter>(access: &Access, writer: &mut O) -> Result<(), WriteFault>
+    requires works { O.has_failed writer.old ≡ false }
+    ensures failed { O.has_failed writer.new ≡ is_err result }
+{
+    let parts = [Text(b"{\"line\":"), Number(u64::from(access.line))];
+    write_parts(writer, &parts)?;
+    writer.write_all(b",\"array\":")?;
+    write_string(&access.name, writer)?;
+    let parts = [
+        Text(b",\"access\":\""),
+        Text(way_of(access.way)),
+        Text(b"\""),
+    ];
+    write_parts(writer, &parts)
+}
+
+/// Writes what is counted of an access, if it is counted.
+fn write_touches<O: AnswerWriter>(access: &Access, writer: &mut O) -> Result<(), WriteFault>
+    requires works { O.has_failed writer.old ≡ false }
+    ensures failed { O.has_failed writer.new ≡ is_err result }
+{
+    if !access.is_sure {
+        return writer.write_all(b",\"counted\":false}");
+    }
+    let counts = access.counts();
+    let parts = [
+        Text(b",\"counted\":true,\"times\":"),
+        Number(counts.times),
+        Text(b",\"lanes\":"),
+        Number(counts.lanes),
+        Text(b",\"elements\":"),
+        Number(counts.elements),
+        Text(b",\"consecutive\":"),
+        Number(counts.consecutive),
+        Text(b",\"equal\":"),
+        Number(counts.equal),
+        Text(b",\"scattered\":"),
+        Number(counts.scattered),
+        Text(b"}"),
+    ];
+    write_parts(writer, &parts)
 }
 
 /// The counts of a number.

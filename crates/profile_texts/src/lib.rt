@@ -1,6 +1,7 @@
-//! What the counts of a run tell: a table of the lines or the functions, the source with its counts, and JSON.
+//! What the counts of a run tell: a table of the lines, the functions, the foreach forms or the accesses, the source with its counts, and JSON.
 #![tactic(auto)]
 
+mod accessed;
 mod annotated;
 mod colours;
 mod comparing;

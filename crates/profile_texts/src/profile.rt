@@ -1,6 +1,7 @@
 //! What is told of the counts of a run.
 ghost use Rattle.std.specs.Prelude.{◌≡◌, false, is_err, IfOk, OnErr};
 
+use crate::accessed::{most_scattered_first, write_accesses};
 use crate::annotated::write_annotated;
 use crate::formed::write_forms;
 use crate::json::write_json;
@@ -8,6 +9,7 @@ use crate::lines::lines_of;
 use crate::rows::dearest_first;
 use crate::tables::{write_functions, write_lines};
 use debug_traits::{AnswerWriter, WriteFault};
+use element_accesses::Access;
 use lane_counts::Tally;
 use lane_picture::StepsEnd;
 use std::alloc::{AllocError, Global};
@@ -21,6 +23,8 @@ pub enum Form {
     Functions,
     /// A table of foreach forms.
     Forms,
+    /// A table of the accesses whose lanes may touch different elements.
+    Accesses,
     /// The source, with the counts of each line before it.
     Annotated,
     /// JSON.
@@ -39,7 +43,7 @@ pub struct Subject<'a> {
     pub has_colours: bool,
 }
 
-/// Writes what the counts of a run tell, and how the run ended.
+/// Writes what the counts of a run tell, which are those of its accesses with them, and how the run ended.
 ///
 /// # Errors
 ///
@@ -48,6 +52,7 @@ pub fn write_profile<O: AnswerWriter>(
     alloc: Global,
     form: Form,
     tally: &Tally,
+    accesses: &[Access],
     end: StepsEnd,
     subject: &Subject<'_>,
     writer: &mut O,
@@ -60,12 +65,16 @@ pub fn write_profile<O: AnswerWriter>(
     let by_line = dearest_first(alloc, tally.lines(), subject.width)?;
     let by_function = dearest_first(alloc, tally.own(), subject.width)?;
     let by_form = dearest_first(alloc, tally.forms().inside(), subject.width)?;
+    let by_access = most_scattered_first(alloc, accesses)?;
     let written = match form {
         Form::Lines => write_lines(&by_line, &lines, tally, end, subject, writer),
         Form::Functions => write_functions(&by_function, tally, end, subject, writer),
         Form::Forms => write_forms(&by_form, tally, end, subject, writer),
+        Form::Accesses => {
+            write_accesses(&by_access, accesses, &lines, tally, end, subject, writer)
+        }
         Form::Annotated => write_annotated(&lines, tally, end, subject, writer),
-        Form::Json => write_json(tally, end, subject, writer),
+        Form::Json => write_json(tally, accesses, end, subject, writer),
     };
     Ok(written)
 }
