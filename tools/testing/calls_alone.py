@@ -58,6 +58,7 @@ CALLS = {
     "frame_values::value_of_expression": 0,
     "prompt_texts::told_variable": 0,
     "foreach_forms::forms_of": 0,
+    "element_accesses::Accesses::of": 0,
     "lane_counts::Tally::enter": 0,
     "lane_counts::Tally::note": 0,
     "lane_profile::count_run": 0,

@@ -17,7 +17,7 @@ FIRST, RATE, HIDDEN = program.FIRST, program.RATE, program.HIDDEN
 FILES = {"first.ispc": FIRST}
 OF_A_RUN = (b"<SOURCE>", b"--input <FILE>", b"--entry <NAME>", b"--width <W>", b"--history <N>", b"[default: 65536]", b"--steps <N>")
 OF_A_PICTURE = (b"--commands <FILE>", b"--watch <T>", b"--from <N>", b"--most <N>", b"--row <N>", b"[default: 60]", b"--to <FILE>", b"--force")
-OF_A_PROFILE = (b"--from <N>", b"--most <N>", b"--top <N>", b"--by <WHAT>", b"line, function, form", b"--color <WHEN>", b"--annotate", b"--json", b"--compare")
+OF_A_PROFILE = (b"--from <N>", b"--most <N>", b"--top <N>", b"--by <WHAT>", b"line, function, form, access", b"--color <WHEN>", b"--annotate", b"--json", b"--compare")
 PICTURE = b'<svg xmlns="http://www.w3.org/2000/svg" width="'
 MOST_COMMANDS = 1_048_576
 MOST_TYPED = 4_096

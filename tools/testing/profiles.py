@@ -9,15 +9,17 @@ and the programs that it makes of kernels give these kernels' results.
 
 import functools
 import json
+import random
 import re
 
 from meaning.debugging import Debugger
 from meaning.source import Node
 from meaning.values import Fault
 
-from . import examples, meant
+from . import examples, meant, touches
 from .printing import array_text
 from .program import begins_with, has_words
+from .random_programs import Written
 from .tried import Run
 
 WIDTHS = (4, 8, 16)
@@ -26,6 +28,9 @@ KERNELS = ("mandelbrot", "quicksort", "queens")
 
 # How many steps of a kernel are counted.
 MOST_OF_KERNEL = 1500
+
+# How many random programs are profiled, and how many steps of each.
+RANDOM, MOST_OF_RANDOM = 60, 300
 
 # Calls in loops and in branches, two functions of one name, recursion, a parting in each form, lanes that leave together, and a fault at the end.
 MIXED = """uniform int a[8];
@@ -203,6 +208,7 @@ class Counted:
         debugger = Debugger(source, **options)
         self.source, self.width, self.steps, self.end = source, debugger.state.width, [], ["limit"]
         self.before, self.forms = first - 1, [it for function in debugger.program.functions for it in forms_in(function.body)]
+        self.accesses = touches.accesses_of(debugger.program)
         for _ in range(self.before):
             debugger.forward()
         while len(self.steps) < most:
@@ -212,11 +218,14 @@ class Counted:
             names = tuple(it.function.name for it in debugger.state.frames)
             task = debugger.state.top.tasks[0] if debugger.state.top.tasks else None
             self.steps.append((int(place.split(":")[0]), names, frozenset(at for at, bit in enumerate(lanes) if bit == "1"), task))
+            touched = touches.touched_now(self.accesses, debugger.state)
             try:
                 debugger.forward()
             except Fault as fault:
                 self.end = ["fault", " ".join(fault.name.split()), fault.lane]
                 break
+            for access, elements in touched:
+                access.touched.append(elements)
         if not debugger.state.frames:
             self.end = ["ended"]
         self.parted = [self.is_parting(at) for at in range(len(self.steps))]
@@ -276,7 +285,8 @@ def wanted_json(counted, name):
     for (line, word, _), row in counted.by_form().items():
         own = {key: value for key, value in row.items() if key != "partings"}
         forms.append({"line": line, "form": word, "full_share": share_of(row["full"], row["rounds"])} | own)
-    return {"source": name, "width": counted.width} | end | {"all": counted.all(), "lines": lines, "functions": functions, "forms": forms}
+    found = {"source": name, "width": counted.width} | end | {"all": counted.all(), "lines": lines, "functions": functions, "forms": forms}
+    return found | {"accesses": touches.wanted_members(counted.accesses)}
 
 
 def columns(row):
@@ -307,6 +317,10 @@ def wanted_forms(counted, top):
         for (line, word, _), row in dearest(counted.by_form(), top)
     )
     return FORM_HEAD + (text + counted.told_end()).encode()
+
+
+def wanted_accesses(counted, top):
+    return touches.wanted_table(counted.accesses, counted.source, top, counted.told_end())
 
 
 def wanted_annotated(counted):
@@ -359,6 +373,8 @@ def runs_of(name, source, words=(), options=None, data=None, most=10_000_000, wi
             ("--by", "function"): wanted_functions(counted, 20),
             ("--by=function", "--top=1"): wanted_functions(counted, 1),
             ("--by", "form"): wanted_forms(counted, 20),
+            ("--by", "access"): wanted_accesses(counted, 20),
+            ("--by", "access", "--top", "2"): wanted_accesses(counted, 2),
             ("--annotate",): wanted_annotated(counted),
         }
         for form, wanted in forms.items():
@@ -415,7 +431,8 @@ def shown_runs(root):
         elif "--annotate" in words:
             wanted = wanted_annotated(counted)
         else:
-            wanted = wanted_forms(counted, top) if value("--by", "line") == "form" else wanted_lines(counted, top)
+            tables = {"form": wanted_forms, "access": wanted_accesses, "line": wanted_lines}
+            wanted = tables[value("--by", "line")](counted, top)
         if not shown.startswith("rinddecade") and shown.encode() not in wanted:
             wanted = shown.encode()
         found.append(Run(f"{PAGE}: {' '.join(words[2:])}", b"", words[1:], wanted, b"", data={it: root / it for it in (file, given)}))
@@ -426,6 +443,29 @@ def printed(row):
     """What the prompt prints first, with no bound on elements and repeats, of an array of the file whose first numbers a row has."""
     name, _, numbers = row.partition(" = ")
     return f"{name} ={array_text([int(it) for it in numbers.split()], 'int', most=len(row), repeats=len(row))}".encode()
+
+
+def known_runs():
+    """What the accesses of a program touch, by arithmetic."""
+    judged = lambda wanted: lambda text: [] if json.loads(text)["accesses"] == wanted else [f"{json.loads(text)['accesses']}, and {wanted} is wanted"]
+    found = [
+        Run(f"accesses by arithmetic, {width} lanes", b"", ["profile", "known.ispc", "--json", "--width", str(width)], judged(touches.known_members(width)), b"", data={"known.ispc": touches.KNOWN.encode()})
+        for width in WIDTHS
+    ]
+    return found + runs_of("known", touches.KNOWN)
+
+
+def random_runs():
+    """What the accesses of random programs touch. Not all steps of an endless one are counted."""
+    found = []
+    for number in range(RANDOM):
+        source = "\n".join(Written(random.Random(f"profile {number}")).lines) + "\n"
+        for width in WIDTHS:
+            counted = Counted(source, {"width": width}, MOST_OF_RANDOM)
+            judged = lambda text, wanted=touches.wanted_members(counted.accesses): [] if json.loads(text)["accesses"] == wanted else [f"{json.loads(text)['accesses']}, and {wanted} is wanted"]
+            words = ["profile", "random.ispc", "--json", "--width", str(width), "--most", str(MOST_OF_RANDOM)]
+            found.append(Run(f"accesses of random program {number}, {width} lanes", b"", words, judged, b"", data={"random.ispc": source.encode()}))
+    return found
 
 
 def result_runs(root):
@@ -488,7 +528,7 @@ def wrong_runs():
     found += [Run(f"wrong profile: {' '.join(it)}", b"", ["profile", "mixed.ispc", *it], b"", has_words(one), 2, FILES) for it in several]
     far = has_words(b"--from: the run ends before this step, or --steps is less")
     found += [Run(f"wrong profile: {' '.join(it)}", b"", ["profile", "mixed.ispc", *it], b"", far, 2, FILES) for it in (["--from", "9999"], ["--from", "10000000", "--compare"])]
-    by = has_words(b"--by takes line, function or form, and not lanes")
+    by = has_words(b"--by takes line, function, form or access, and not lanes")
     return [*found, Run("wrong profile: --by lanes", b"", ["profile", "mixed.ispc", "--by", "lanes"], b"", by, 2, FILES)]
 
 
@@ -521,6 +561,6 @@ def runs(root):
     own = runs_of("mixed", MIXED) + runs_of("empty", EMPTY) + runs_of("endless", ENDLESS, most=50)
     cut = [run for most in (1, 2, 7, 30) for run in runs_of("mixed", MIXED, most=most, widths=(8,))]
     late = [run for first in (2, 9, 23, 40, 61) for run in runs_of("mixed", MIXED, widths=(8,), first=first)] + runs_of("mixed", MIXED, most=12, first=30)
-    own += runs_of("forms", FORMED) + runs_of("deep", DEEP) + coloured_runs()
+    own += known_runs() + random_runs() + runs_of("forms", FORMED) + runs_of("deep", DEEP) + coloured_runs()
     other = [*shown_runs(root), *result_runs(root), *hostile_runs()]
     return [*own, *cut, *late, *other, *example_runs(root), *kernel_runs(root), *wrong_runs(), *file_runs()]

@@ -2,6 +2,7 @@
 use crate::ends::{Ended, end_of};
 use crate::runs::session;
 use crate::samples::SOURCE;
+use element_accesses::Accesses;
 use foreach_forms::forms_of;
 use frame_expressions::ExpressionMachine;
 use gang_types::{FuncId, Mask, Spot};
@@ -19,7 +20,8 @@ pub(crate) fn call(alloc: Global, name: &str) -> Option<Ended> {
         "foreach_forms::forms_of" => Some(find_forms(alloc, &session(alloc)?)),
         "lane_counts::Tally::enter" => Some(enter_frame(alloc)),
         "lane_counts::Tally::note" => Some(note_step(alloc)),
-        "lane_profile::count_run" => Some(end_of(&count_run(alloc, &mut session(alloc)?, 100))),
+        "element_accesses::Accesses::of" => Some(find_accesses(alloc, &session(alloc)?)),
+        "lane_profile::count_run" => Some(count(alloc, &mut session(alloc)?)),
         "profile_texts::write_profile" => Some(write_table(alloc, &tally(alloc)?)),
         "profile_texts::write_comparison" => Some(compare(alloc, &tally(alloc)?)),
         _ => None,
@@ -29,6 +31,16 @@ pub(crate) fn call(alloc: Global, name: &str) -> Option<Ended> {
 /// Finds the foreach forms of a program.
 fn find_forms(alloc: Global, session: &ProgramSession<4>) -> Ended {
     end_of(&forms_of(alloc, session.machine().program()))
+}
+
+/// Finds the accesses of a program.
+fn find_accesses(alloc: Global, session: &ProgramSession<4>) -> Ended {
+    end_of(&Accesses::of(alloc, session.machine().program()))
+}
+
+/// Counts a run.
+fn count(alloc: Global, session: &mut ProgramSession<4>) -> Ended {
+    end_of(&count_run(alloc, session, &mut Accesses::none(alloc), 100))
 }
 
 /// Puts one frame below the steps that are counted.
@@ -54,7 +66,7 @@ fn note_step(alloc: Global) -> Ended {
 
 /// The counts of the run, if there is memory for them.
 fn tally(alloc: Global) -> Option<Tally> {
-    match count_run(alloc, &mut session(alloc)?, 100) {
+    match count_run(alloc, &mut session(alloc)?, &mut Accesses::none(alloc), 100) {
         Ok((tally, _)) => Some(tally),
         Err(_) => None,
     }
@@ -75,6 +87,7 @@ fn write_table(alloc: Global, tally: &Tally) -> Ended {
         alloc,
         Form::Lines,
         tally,
+        &[],
         StepsEnd::Ended,
         &subject,
         &mut writer,

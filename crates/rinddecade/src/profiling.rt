@@ -11,14 +11,16 @@ use crate::terminal::has_colours;
 use debug_streams::StreamWriter;
 use debug_traits::WriteFault;
 use desk_options::{Profile, Program};
-use ispc_debugger::open_session;
+use element_accesses::Accesses;
+use frame_expressions::ExpressionMachine;
+use ispc_debugger::{ProgramSession, open_session};
 use ispc_options::{Options, Width};
 use ispc_refusals::Refusal;
 use lane_counts::Tally;
 use lane_picture::StepsEnd;
 use lane_profile::count_run;
 use profile_texts::{Compared, Form, Subject, write_comparison, write_profile};
-use std::alloc::AllocError;
+use std::alloc::{AllocError, Global};
 use std::fs;
 use std::io::{IsTerminal, LineWriter, Write};
 use std::process::ExitCode;
@@ -29,7 +31,7 @@ const OVER_OTHER: &[u8] = b"only --force writes over a file that holds something
 
 const ONE_FORM: &[u8] = b"only one of --by, --annotate, --json and --compare may be given";
 
-const NO_ROWS: &[u8] = b"--by takes line, function or form, and not ";
+const NO_ROWS: &[u8] = b"--by takes line, function, form or access, and not ";
 
 /// What is shown.
 #[derive(Clone, Copy, Debug, PartialEq, Eq)]
@@ -43,8 +45,16 @@ enum Shown {
 /// What was counted.
 #[derive(Drop)]
 enum Counted {
-    Run(Form, Tally, StepsEnd),
+    Run(Form, Run),
     Widths(Tally, Tally, Tally),
+}
+
+/// The counts of a run, and how it ended.
+#[derive(Drop)]
+struct Run {
+    tally: Tally,
+    accesses: Accesses,
+    end: StepsEnd,
 }
 
 /// Profiles the run of a program. What the words ask for is judged first, then the source is read, and the input after it.
@@ -87,8 +97,15 @@ fn count_run_of(
 ) -> Result<Counted, ExitCode>
     requires { AreInRange profile.now.program.options }
 {
-    match count(rt, profile, profile.program.options.width, texts) {
-        Ok((tally, end)) => Ok(Counted::Run(form, tally, end)),
+    let is_touching = form == Form::Accesses || form == Form::Json;
+    match count(
+        rt,
+        profile,
+        profile.program.options.width,
+        is_touching,
+        texts,
+    ) {
+        Ok(run) => Ok(Counted::Run(form, run)),
         Err(status) => Err(status),
     }
 }
@@ -101,16 +118,16 @@ fn count_widths(
 ) -> Result<Counted, ExitCode>
     requires { AreInRange profile.now.program.options }
 {
-    let (four, _) = match count(rt, profile, Width::Four, texts) {
-        Ok(counted) => counted,
+    let four = match count(rt, profile, Width::Four, false, texts) {
+        Ok(run) => run.tally,
         Err(status) => return Err(status),
     };
-    let (eight, _) = match count(rt, profile, Width::Eight, texts) {
-        Ok(counted) => counted,
+    let eight = match count(rt, profile, Width::Eight, false, texts) {
+        Ok(run) => run.tally,
         Err(status) => return Err(status),
     };
-    match count(rt, profile, Width::Sixteen, texts) {
-        Ok((sixteen, _)) => Ok(Counted::Widths(four, eight, sixteen)),
+    match count(rt, profile, Width::Sixteen, false, texts) {
+        Ok(run) => Ok(Counted::Widths(four, eight, run.tally)),
         Err(status) => Err(status),
     }
 }
@@ -122,6 +139,7 @@ fn shown_as(rt: &HostRuntime, profile: &Profile<'_>) -> Result<Shown, ExitCode> 
         (Some("line"), false, false, false) => Ok(Shown::Run(Form::Lines)),
         (Some("function"), false, false, false) => Ok(Shown::Run(Form::Functions)),
         (Some("form"), false, false, false) => Ok(Shown::Run(Form::Forms)),
+        (Some("access"), false, false, false) => Ok(Shown::Run(Form::Accesses)),
         (Some(other), false, false, false) => Err(refuse_because(rt, NO_ROWS, other.as_bytes())),
         (None, true, false, false) => Ok(Shown::Run(Form::Annotated)),
         (None, false, true, false) => Ok(Shown::Run(Form::Json)),
@@ -144,13 +162,14 @@ fn refuse_writing_over(rt: &HostRuntime, profile: &Profile<'_>) -> Result<(), Ex
     Ok(())
 }
 
-/// Counts the run by a gang of a width.
+/// Counts the run by a gang of a width, and what its accesses touch if that is asked for.
 fn count(
     rt: &HostRuntime,
     profile: &Profile<'_>,
     width: Width,
+    is_touching: bool,
     texts: Texts<'_>,
-) -> Result<(Tally, StepsEnd), ExitCode>
+) -> Result<Run, ExitCode>
     requires { AreInRange profile.now.program.options }
 {
     let asked = profile.program.options;
@@ -166,9 +185,9 @@ fn count(
         },
     };
     match program.options.width {
-        Width::Four => count_wide::<4>(rt, &program, profile, texts),
-        Width::Eight => count_wide::<8>(rt, &program, profile, texts),
-        Width::Sixteen => count_wide::<16>(rt, &program, profile, texts),
+        Width::Four => count_wide::<4>(rt, &program, profile, is_touching, texts),
+        Width::Eight => count_wide::<8>(rt, &program, profile, is_touching, texts),
+        Width::Sixteen => count_wide::<16>(rt, &program, profile, is_touching, texts),
     }
 }
 
@@ -176,8 +195,9 @@ fn count_wide<const W: usize>(
     rt: &HostRuntime,
     program: &Program<'_>,
     profile: &Profile<'_>,
+    is_touching: bool,
     texts: Texts<'_>,
-) -> Result<(Tally, StepsEnd), ExitCode>
+) -> Result<Run, ExitCode>
     requires width { W ≡ lanes_of program.now.options.width }
     requires range { AreInRange program.now.options }
 {
@@ -188,12 +208,32 @@ fn count_wide<const W: usize>(
             if !goes_to_first::<W>(profile.from, &mut session) {
                 return Err(refuse_because(rt, NOT_SO_FAR, b""));
             }
-            match count_run(rt.alloc(), &mut session, profile.most) {
-                Ok(counted) => Ok(counted),
+            match run_counted::<W>(rt.alloc(), is_touching, profile.most, &mut session) {
+                Ok(run) => Ok(run),
                 Err(_) => Err(refuse(rt, &Refusal::Memory)),
             }
         }
     }
+}
+
+/// The counts of the run of a session, with those of its accesses if they are asked for.
+fn run_counted<const W: usize>(
+    alloc: Global,
+    is_touching: bool,
+    most: u32,
+    session: &mut ProgramSession<W>,
+) -> Result<Run, AllocError> {
+    let mut accesses = if is_touching {
+        Accesses::of(alloc, session.machine().program())?
+    } else {
+        Accesses::none(alloc)
+    };
+    let (tally, end) = count_run(alloc, session, &mut accesses, most)?;
+    Ok(Run {
+        tally,
+        accesses,
+        end,
+    })
 }
 
 /// Writes what was counted, to the file that is named or to standard output.
@@ -227,7 +267,7 @@ fn write_on<O: Write + Drop>(
     };
     let mut writer = StreamWriter::new(lines);
     let written = match counted {
-        Counted::Run(form, tally, end) => {
+        Counted::Run(form, run) => {
             let subject = Subject {
                 title: texts.source.name,
                 source: texts.source.text,
@@ -236,7 +276,15 @@ fn write_on<O: Write + Drop>(
                 most_rows: profile.top as usize,
                 has_colours: is_coloured,
             };
-            write_profile(rt.alloc(), *form, tally, *end, &subject, &mut writer)
+            write_profile(
+                rt.alloc(),
+                *form,
+                &run.tally,
+                run.accesses.rows(),
+                run.end,
+                &subject,
+                &mut writer,
+            )
         }
         Counted::Widths(four, eight, sixteen) => {
             let compared = Compared {
