@@ -20,14 +20,14 @@ u = record { id = Local 1; type = Int32; rate = Uniform }
 -- a[i] = b[a[i]]: the index of what is written first, and an index before what it is an index of
 written : accesses_in 2 (Assign 5 (ElementOf (File 0) Varying (Read i)) (Element (File 1) (Element (File 0) (Read i))))
     ≡ record { spot = spot_in 2 5; array = File 0; way = Writes; is_sure = true; index = Read i }
-      ∷ record { spot = spot_in 2 5; array = File 0; way = Reads; is_sure = true; index = Read i }
-      ∷ record { spot = spot_in 2 5; array = File 1; way = Reads; is_sure = true; index = Element (File 0) (Read i) } ∷ []
+    ∷ record { spot = spot_in 2 5; array = File 0; way = Reads; is_sure = true; index = Read i }
+    ∷ record { spot = spot_in 2 5; array = File 1; way = Reads; is_sure = true; index = Element (File 0) (Read i) } ∷ []
 written = refl
 
 -- behind `&&` some lanes may not read
 behind_and : reads_in (spot_in 0 1) true (And (Element (File 0) (Read i)) (Element (File 1) ProgramIndex))
     ≡ record { spot = spot_in 0 1; array = File 0; way = Reads; is_sure = true; index = Read i }
-      ∷ record { spot = spot_in 0 1; array = File 1; way = Reads; is_sure = false; index = ProgramIndex } ∷ []
+    ∷ record { spot = spot_in 0 1; array = File 1; way = Reads; is_sure = false; index = ProgramIndex } ∷ []
 behind_and = refl
 
 -- an index that is one for all lanes
@@ -37,8 +37,8 @@ one_for_all = refl
 -- the test of a loop, then its body, and then its update
 in_a_loop : accesses_in 0 (Loop 3 (Element (File 2) (Read i)) (Assign 2 (Scalar i) (Element (File 1) (Read i))) (Then (Break 0) (Assign 1 (Scalar i) (Element (File 0) (Read i)))))
     ≡ record { spot = spot_in 0 3; array = File 2; way = Reads; is_sure = true; index = Read i }
-      ∷ record { spot = spot_in 0 1; array = File 0; way = Reads; is_sure = true; index = Read i }
-      ∷ record { spot = spot_in 0 2; array = File 1; way = Reads; is_sure = true; index = Read i } ∷ []
+    ∷ record { spot = spot_in 0 1; array = File 0; way = Reads; is_sure = true; index = Read i }
+    ∷ record { spot = spot_in 0 2; array = File 1; way = Reads; is_sure = true; index = Read i } ∷ []
 in_a_loop = refl
 
 -- lanes 0 and 2, and an index with a fault
