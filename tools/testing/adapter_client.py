@@ -12,6 +12,7 @@ import sys
 import threading
 
 from .adapter_members import EVENTS, MEMBERS, NUMBER, TEXT, THREAD, TRUTH, Wrong, need, need_body, need_capabilities, need_members, need_stop, same
+from .adapter_conditions import CONDITION_CHECKS
 from .adapter_frames import FRAME_CHECKS, written
 from .adapter_launches import LAUNCH_CHECKS
 from .adapter_moves import MOVE_CHECKS
@@ -431,7 +432,7 @@ def wrong_requests(client, examples):
     client.end()
 
 
-CHECKS = [steps_and_back, watches, breaks, locations, variables, frames, faults, filters, the_end, wrong_requests, *FRAME_CHECKS, *LAUNCH_CHECKS, *VALUE_CHECKS, *MOVE_CHECKS]
+CHECKS = [steps_and_back, watches, breaks, locations, variables, frames, faults, filters, the_end, wrong_requests, *FRAME_CHECKS, *LAUNCH_CHECKS, *VALUE_CHECKS, *MOVE_CHECKS, *CONDITION_CHECKS]
 
 
 def check(root, command):

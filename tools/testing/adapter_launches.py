@@ -95,21 +95,27 @@ def no_breakpoints(client, examples):
     client.launch(examples / "first.ispc")
     client.begin()
     asked = [
-        {"line": 2, "condition": "x > 1"}, {"line": 3}, {"line": 3, "hitCondition": "2"}, {"line": 3, "logMessage": "x"}, {"line": "3"},
-        {}, {"line": -1}, {"line": 2**32}, {"line": 50}, {"line": 4, "condition": None},
+        {"line": 2, "condition": 1}, {"line": 3}, {"line": 3, "hitCondition": ">2"}, {"line": 3, "logMessage": "x"}, {"line": "3"},
+        {}, {"line": -1}, {"line": 2**32}, {"line": 50}, {"line": 4, "condition": None}, {"line": 2, "condition": "x" * 257},
+        {"line": 2, "hitCondition": "0"}, {"line": 2, "hitCondition": "10000001"}, {"line": 2, "hitCondition": 2},
     ]
     found = client.ask("setBreakpoints", source={"path": client.source}, breakpoints=asked)["breakpoints"]
-    conditional, unplaced = "conditions, counts and log messages are not there", "its line or target is missing or of a wrong type"
+    unplaced = "its line or target is missing or of a wrong type"
+    condition, count = "its condition is no text of at most 256 bytes", "its count is no number from 1 to 10000000"
     same([it.get("message") for it in found], [
-        conditional, None, conditional, conditional, unplaced, unplaced, unplaced, unplaced, "no step stands on this line or behind it", None,
+        condition, None, count, "log messages are not there", unplaced, unplaced, unplaced, unplaced,
+        "no step stands on this line or behind it", None, condition, count, count, count,
     ])
     same([it["line"] for it in found if it["verified"]], [3, 4])
     same(len(client.ask("evaluate", expression="info breakpoints", context="repl")["result"].splitlines()), 2)
     other = client.ask("setBreakpoints", source={"path": "/another.ispc"}, breakpoints=[{"line": 3}])["breakpoints"]
     same([it.get("message") for it in other], ["this source is not the program's"])
     same(len(client.ask("evaluate", expression="info breakpoints", context="repl")["result"].splitlines()), 2)
-    watched = client.ask("setDataBreakpoints", breakpoints=[{"dataId": "x"}, {"dataId": 3}, {"dataId": "x", "condition": "1"}])["breakpoints"]
-    same([it["message"] for it in watched], ["only scalars of the file, their lanes and elements of arrays are watched", unplaced, conditional])
+    watched = client.ask("setDataBreakpoints", breakpoints=[
+        {"dataId": "x"}, {"dataId": 3}, {"dataId": "x", "condition": "1"}, {"dataId": "x", "hitCondition": "2"},
+    ])["breakpoints"]
+    conditional = "a watch has no condition, no count and no log message"
+    same([it["message"] for it in watched], ["only scalars of the file, their lanes and elements of arrays are watched", unplaced, conditional, conditional])
     client.end()
 
 

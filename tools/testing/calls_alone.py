@@ -80,8 +80,10 @@ CALLS = {
     "adapter_replies::reply_to": 0,
     "adapter_replies::exception_reply": 0,
     "adapter_replies::answer_text": 0,
+    "adapter_replies::no_value_text": 0,
     "adapter_session::command_lines": 0,
     "adapter_session::answer_request": 0,
+    "adapter_session::stop_at_beginning": 0,
 }
 # These keep the allocator, and take no memory.
 NONE_TAKEN = {"adapter_frames::FrameReader::new", "adapter_server::Connection::new", "whole_runs::Notes::none", "whole_runs::Copies::none", "lane_counts::Tally::new"}

@@ -1,25 +1,25 @@
 -- What is read of each of a list, one after another.
-use Rattle.std.proofs.Common.{◌≡◌, ℕ, ◌+◌, ◌<◌, List, [], ◌∷◌, ◌++◌, map, length, take, get_or, Option, Result, refl, ap, sym, ◌∙◌}
+use Rattle.std.proofs.Common.{◌≡◌, ℕ, ◌+◌, ◌<◌, List, [], ◌∷◌, ◌++◌, map, length, take, get_or, Result, refl, ap, sym, ◌∙◌}
 use Rattle.std.proofs.lemmas.List.{map-append, map_more}
 use Rattle.serde_json.specs.Data.{Data}
 use Rattle.serde_json.specs.View.{items_of, view}
 use Rattle.serde_json.specs.declared.value.Value.{Value}
 use Rattle.adapter_requests.specs.declared.reply.BreakpointFault.{BreakpointFault}
-use Rattle.adapter_messages.specs.Arguments.{asked, each_asked}
+use Rattle.adapter_messages.specs.Arguments.{each_asked}
 
 -- one more at the end
-pub asked_more : {A : Type 0} (read : Data → Option A) (ds : List Data) (d : Data) → each_asked read (items_of (ds ++ d ∷ [])) ≡ each_asked read (items_of ds) ++ asked read d ∷ []
+pub asked_more : {A : Type 0} (read : Data → Result A BreakpointFault) (ds : List Data) (d : Data) → each_asked read (items_of (ds ++ d ∷ [])) ≡ each_asked read (items_of ds) ++ read d ∷ []
 asked_more read [] d = refl
-asked_more read (first ∷ ds) d = ap (λ others. asked read first ∷ others) (asked_more read ds d)
+asked_more read (first ∷ ds) d = ap (λ others. read first ∷ others) (asked_more read ds d)
 
 -- what the elements up to an index and the one there ask for
-pub asked_next : {A : Type 0} (read : Data → Option A) (vs : List Value) (i : ℕ) (v : Value) (old new : List (Result A BreakpointFault)) (one : Result A BreakpointFault) → i < length vs
-    → v ≡ get_or vs i v → old ≡ each_asked read (items_of (map view (take i vs))) → one ≡ asked read (view v) → new ≡ old ++ one ∷ []
+pub asked_next : {A : Type 0} (read : Data → Result A BreakpointFault) (vs : List Value) (i : ℕ) (v : Value) (old new : List (Result A BreakpointFault)) (one : Result A BreakpointFault) → i < length vs
+    → v ≡ get_or vs i v → old ≡ each_asked read (items_of (map view (take i vs))) → one ≡ read (view v) → new ≡ old ++ one ∷ []
     → new ≡ each_asked read (items_of (map view (take (i + 1) vs)))
 asked_next read vs i v old new one within is so one_is new_is =
     new_is
     ∙ ap (λ front. front ++ one ∷ []) so
-    ∙ ap (λ last. each_asked read (items_of (map view (take i vs))) ++ last ∷ []) (one_is ∙ ap (λ w. asked read (view w)) is)
+    ∙ ap (λ last. each_asked read (items_of (map view (take i vs))) ++ last ∷ []) (one_is ∙ ap (λ w. read (view w)) is)
     ∙ sym (asked_more read (map view (take i vs)) (view (get_or vs i v)))
     ∙ sym (ap (λ ds. each_asked read (items_of ds)) (map_more view vs i v within))
 

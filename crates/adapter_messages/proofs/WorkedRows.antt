@@ -14,7 +14,7 @@ use Rattle.adapter_requests.specs.declared.reply.VariableKind.TheVariants as kin
 use Rattle.adapter_requests.specs.declared.request.Context.TheVariants.{Hover, Watch}
 use Rattle.adapter_requests.specs.declared.request.Filter.TheVariants as filter
 use Rattle.adapter_requests.specs.declared.request.Way.TheVariants.{Backwards, Forwards}
-use Rattle.adapter_messages.specs.Arguments.{asked, context_in, filter_in, line_in, time_number, time_of, unmarked}
+use Rattle.adapter_messages.specs.Arguments.{breakpoint_in, context_in, filter_in, time_number, time_of, unmarked, watch_in}
 use Rattle.adapter_messages.specs.Replies.{breakpoint, file_name, only, stop_body, time, times, variable_of}
 
 -- a path with folders, one without, and one without a last part
@@ -63,15 +63,40 @@ a_program_alone : missing (codes "launch") (given (only (codes "program") (strin
 unfolding serde_json_on_literals
 a_program_alone = refl
 
--- a line with a condition, one with `null` for it, and no line
-a_condition : asked line_in (object (member (codes "condition") (string (codes "x > 0")) (member (codes "line") (natural 7) no_members))) ≡ Err fault.Conditional
+-- a breakpoint with a condition, one with `null` for it that stops the third time, one with no line, and one with a text in place of a stop
+abbrev with_condition : Data → Data
+with_condition condition = object (member (codes "condition") condition (member (codes "line") (natural 7) no_members))
+
+a_condition : breakpoint_in (with_condition (string (codes "x > 0"))) ≡ Ok (record { line = 7; condition = Some (codes "x > 0"); passes = 0 })
 a_condition = refl
 
-no_condition : asked line_in (object (member (codes "condition") null (member (codes "line") (natural 7) no_members))) ≡ Ok 7
+no_condition : breakpoint_in (with_condition null) ≡ Ok (record { line = 7; condition = None; passes = 0 })
 no_condition = refl
 
-no_line : asked line_in (object no_members) ≡ Err fault.Unplaced
+a_number_for_a_condition : breakpoint_in (with_condition (natural 1)) ≡ Err fault.NoCondition
+a_number_for_a_condition = refl
+
+abbrev with_count : Data → Data
+with_count count = object (member (codes "hitCondition") count (member (codes "line") (natural 7) no_members))
+
+the_third_time : breakpoint_in (with_count (string (codes "3"))) ≡ Ok (record { line = 7; condition = None; passes = 2 })
+the_third_time = refl
+
+from_the_third_time : breakpoint_in (with_count (string (codes ">= 3"))) ≡ Err fault.NoCount
+from_the_third_time = refl
+
+never : breakpoint_in (with_count (string (codes "0"))) ≡ Err fault.NoCount
+never = refl
+
+no_line : breakpoint_in (object no_members) ≡ Err fault.Unplaced
 no_line = refl
+
+a_message : breakpoint_in (object (member (codes "line") (natural 7) (member (codes "logMessage") (string (codes "x")) no_members))) ≡ Err fault.LogMessage
+a_message = refl
+
+-- a watch with a condition
+a_watch_on_a_condition : watch_in (object (member (codes "condition") (string (codes "x > 0")) (member (codes "dataId") (string (codes "x")) no_members))) ≡ Err fault.Conditional
+a_watch_on_a_condition = refl
 
 -- a request that is not known needs nothing
 another_request : missing (codes "goodbye") (object no_members) ≡ None

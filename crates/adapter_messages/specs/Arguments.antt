@@ -1,10 +1,11 @@
 -- What a request says.
-use Rattle.std.specs.Prelude.{◌≡◌, ℕ, ◌^◌, ◌-◌, ◌*◌, ◌+◌, ◌/◌, ◌%◌, ◌==◌, ◌||◌, Bool, true, not, List, [], ◌∷◌, map, Option, Some, None, Result, Ok, Err, codes, if◌then◌else◌, is_some, length, nat_eq, nat_lt, option_and_then, option_map, take, unwrap_or}
+use Rattle.std.specs.Prelude.{◌≡◌, ℕ, ◌^◌, ◌-◌, ◌*◌, ◌+◌, ◌/◌, ◌%◌, ◌==◌, ◌||◌, Bool, true, false, not, List, [], ◌∷◌, map, Option, Some, None, Result, Ok, Err, codes, if◌then◌else◌, is_some, length, nat_eq, nat_lt, option_and_then, option_map, take, unwrap_or}
 use Rattle.std.specs.List.{ends_with}
 use Rattle.std.specs.Borrow.{Bor}
 use Rattle.serde_json.specs.Data.{Data, Items, item, no_items}
 use Rattle.serde_json.specs.Find.{as_array, as_bool, as_null, as_number, as_str, as_u64, get, pointer}
 use Rattle.gang_model.specs.Source.Names.{same_text}
+use Rattle.gang_model.specs.Texts.CommandText.{number}
 use Rattle.gang_model.specs.Texts.Text.{Bytes}
 use Rattle.adapter_requests.specs.declared.reply.BreakpointFault.{BreakpointFault}
 use Rattle.adapter_requests.specs.declared.reply.BreakpointFault.TheVariants as fault
@@ -13,6 +14,7 @@ use Rattle.adapter_requests.specs.declared.request.Context.TheVariants.{Console,
 use Rattle.adapter_requests.specs.declared.request.Filter.{Filter}
 use Rattle.adapter_requests.specs.declared.request.Filter.TheVariants as filter
 use Rattle.adapter_requests.specs.declared.request.Launch.{Launch}
+use Rattle.adapter_requests.specs.declared.request.LineBreakpoint.{LineBreakpoint}
 use Rattle.adapter_requests.specs.declared.request.Page.{Page}
 use Rattle.adapter_requests.specs.declared.request.Request.{Request}
 use Rattle.adapter_requests.specs.declared.request.Request.TheVariants as request
@@ -130,7 +132,7 @@ line_in d = option_and_then as_line (option_and_then as_u64 (option_and_then as_
 abbrev pub target_in : Data → Option Bytes
 target_in d = option_and_then as_str (get (codes "dataId") d)
 
--- whether it is to stop on a condition, after a count, or to tell a text in place of stopping
+-- whether it is to stop on a condition, after a count, or to tell a text
 abbrev pub is_conditional : Data → Bool
 is_conditional d = not (is_absent (get (codes "condition") d)) || not (is_absent (get (codes "hitCondition") d)) || not (is_absent (get (codes "logMessage") d))
 
@@ -139,19 +141,74 @@ abbrev pub placed : {A : Type 0} → Option A → Result A BreakpointFault
 placed None = Err fault.Unplaced
 placed (Some place) = Ok place
 
--- what one of a list asks for, by how its place is read
-abbrev pub asked : {A : Type 0} → (Data → Option A) → Data → Result A BreakpointFault
-asked read d = if is_conditional d then Err fault.Conditional else placed (read d)
+-- what a watch asks for: its target, and no condition
+abbrev pub watch_in : Data → Result Bytes BreakpointFault
+watch_in d = if is_conditional d then Err fault.Conditional else placed (target_in d)
 
 -- what each of a list asks for
-abbrev pub each_asked : {A : Type 0} → (Data → Option A) → Items → List (Result A BreakpointFault)
+abbrev pub each_asked : {A : Type 0} → (Data → Result A BreakpointFault) → Items → List (Result A BreakpointFault)
 each_asked read no_items = []
-each_asked read (item d ds) = asked read d ∷ each_asked read ds
+each_asked read (item d ds) = read d ∷ each_asked read ds
 
 -- a text that is asked for
 abbrev pub asked_text : Result (Bor Bytes) BreakpointFault → Result Bytes BreakpointFault
 asked_text (Ok text) = Ok text.now
 asked_text (Err fault) = Err fault
+
+-- ---- breakpoints with conditions and counts
+
+-- a breakpoint that is asked for: its line, the text of its condition, if it has one, and how many of its stops are passed first
+pub record Asked : Type 0 where
+  pub line : ℕ
+  pub condition : Option Bytes
+  pub passes : ℕ
+
+-- the same of one that was read
+abbrev pub asked_breakpoint : Result LineBreakpoint BreakpointFault → Result Asked BreakpointFault
+asked_breakpoint (Ok b) = Ok (record { line = b.line; condition = text_of b.condition; passes = b.passes })
+asked_breakpoint (Err fault) = Err fault
+
+-- the text of a condition that was read
+abbrev pub asked_condition : Result (Option (Bor Bytes)) BreakpointFault → Result (Option Bytes) BreakpointFault
+asked_condition (Ok text) = Ok (text_of text)
+asked_condition (Err fault) = Err fault
+
+-- a text that can be a condition has at most 256 bytes
+abbrev pub fitting : Bytes → Result (Option Bytes) BreakpointFault
+fitting text = if nat_lt 256 (length text) then Err fault.NoCondition else Ok (Some text)
+
+abbrev pub condition_by : (is_absent : Bool) → Option Bytes → Result (Option Bytes) BreakpointFault
+condition_by true text = Ok None
+condition_by false None = Err fault.NoCondition
+condition_by false (Some text) = fitting text
+
+-- the condition of a breakpoint, if it has one
+abbrev pub condition_in : Data → Result (Option Bytes) BreakpointFault
+condition_in d = condition_by (is_absent (get (codes "condition") d)) (option_and_then as_str (get (codes "condition") d))
+
+-- at the K-th of its stops K - 1 are passed
+abbrev pub passes_before : Option ℕ → Result ℕ BreakpointFault
+passes_before None = Err fault.NoCount
+passes_before (Some k) = Ok (k - 1)
+
+abbrev pub passes_by : (is_absent : Bool) → Option Bytes → Result ℕ BreakpointFault
+passes_by true text = Ok 0
+passes_by false text = passes_before (option_and_then number text)
+
+-- how many stops of a breakpoint are passed: a decimal number K from 1 to 10,000,000 lets it stop the K-th time and from then on
+abbrev pub passes_in : Data → Result ℕ BreakpointFault
+passes_in d = passes_by (is_absent (get (codes "hitCondition") d)) (option_and_then as_str (get (codes "hitCondition") d))
+
+-- the first of three that is wrong, or the breakpoint that they are
+abbrev pub joined : (line : Option ℕ) → (condition : Result (Option Bytes) BreakpointFault) → (passes : Result ℕ BreakpointFault) → Result Asked BreakpointFault
+joined None condition passes = Err fault.Unplaced
+joined (Some line) (Err fault) passes = Err fault
+joined (Some line) (Ok condition) (Err fault) = Err fault
+joined (Some line) (Ok condition) (Ok passes) = Ok (record { line = line; condition = condition; passes = passes })
+
+-- what a breakpoint asks for; one that is to tell a text in place of stopping is none
+abbrev pub breakpoint_in : Data → Result Asked BreakpointFault
+breakpoint_in d = if is_absent (get (codes "logMessage") d) then joined (line_in d) (condition_in d) (passes_in d) else Err fault.LogMessage
 
 -- the breakpoints that a message lists; none where it has no list
 abbrev pub breakpoints_of : Data → Items
@@ -161,7 +218,7 @@ breakpoints_of message = unwrap_or (option_and_then as_array (pointer (codes "/a
 abbrev pub IsRequestNamed : Name → Data → Request → Type 0
 IsRequestNamed name.Initialize message request.Initialize = Unit {0}
 IsRequestNamed name.Launch message (request.Launch launch) = IsLaunch message launch
-IsRequestNamed name.SetBreakpoints message (request.SetBreakpoints source lines) = (text_at (codes "/arguments/source/path") message ≡ text_of source) × (lines.items ≡ each_asked line_in (breakpoints_of message))
+IsRequestNamed name.SetBreakpoints message (request.SetBreakpoints source lines) = (text_at (codes "/arguments/source/path") message ≡ text_of source) × (map asked_breakpoint lines.items ≡ each_asked breakpoint_in (breakpoints_of message))
 IsRequestNamed name.BreakpointLocations message (request.BreakpointLocations source first last) =
     (text_at (codes "/arguments/source/path") message ≡ text_of source) × (line_at (codes "/arguments/line") message ≡ Some first) × (line_at (codes "/arguments/endLine") message ≡ last)
 IsRequestNamed name.GotoTargets message (request.GotoTargets source line) = (text_at (codes "/arguments/source/path") message ≡ text_of source) × (line_at (codes "/arguments/line") message ≡ Some line)
@@ -169,7 +226,7 @@ IsRequestNamed name.Goto message (request.Goto line way) = time_in message ≡ S
 IsRequestNamed name.SetExceptionBreakpoints message request.SetExceptionBreakpoints = Unit {0}
 IsRequestNamed name.ExceptionInfo message request.ExceptionInfo = Unit {0}
 IsRequestNamed name.DataBreakpointInfo message (request.DataBreakpointInfo text) = unmarked_at (codes "/arguments/name") message ≡ Some text.now
-IsRequestNamed name.SetDataBreakpoints message (request.SetDataBreakpoints targets) = map asked_text targets.items ≡ each_asked target_in (breakpoints_of message)
+IsRequestNamed name.SetDataBreakpoints message (request.SetDataBreakpoints targets) = map asked_text targets.items ≡ each_asked watch_in (breakpoints_of message)
 IsRequestNamed name.ConfigurationDone message request.ConfigurationDone = Unit {0}
 IsRequestNamed name.Threads message request.Threads = Unit {0}
 IsRequestNamed name.StackTrace message request.StackTrace = Unit {0}

@@ -1,7 +1,7 @@
 -- What a request is told: the body of each reply, and of the events of a stop and of an output. Members stand in the order of their keys.
 use Rattle.std.specs.Prelude.{ℕ, Bool, true, false, List, ◌++◌, decimal, map, Option, Some, None, codes, length, string_bytes, unwrap_or}
 use Rattle.std.specs.Path.{path_file_name}
-use Rattle.serde_json.specs.Data.{Data, Items, Members, array, boolean, item, member, no_items, no_members, null, object, string}
+use Rattle.serde_json.specs.Data.{Data, Items, Members, array, boolean, item, member, no_items, no_members, null, object, put, string}
 use Rattle.serde_json.specs.View.{items_of}
 use Rattle.gang_model.specs.Texts.Text.{Bytes}
 use Rattle.adapter_requests.specs.declared.reply.Breakpoint.{Breakpoint}
@@ -40,27 +40,47 @@ exception_filter = object
     (member (codes "filter") (string (codes "faults"))
     (member (codes "label") (string (codes "Faults")) no_members))))
 
+-- that the adapter can do what has this name, beside others
+abbrev pub able : (name : Bytes) → Members → Members
+able name members = put name (boolean true) members
+
+-- the filters of exceptions, beside others
+abbrev pub with_filters : Members → Members
+with_filters members = put (codes "exceptionBreakpointFilters") (array (item exception_filter no_items)) members
+
+-- requests that are answered, beside others
+abbrev pub with_requests : Members → Members
+with_requests members =
+    able (codes "supportsTerminateRequest")
+    (able (codes "supportsRestartRequest")
+    (able (codes "supportsGotoTargetsRequest")
+    (able (codes "supportsExceptionInfoRequest")
+    (able (codes "supportsConfigurationDoneRequest")
+    (able (codes "supportsCompletionsRequest")
+    (able (codes "supportsBreakpointLocationsRequest") members))))))
+
+-- what else it can do, beside others
+abbrev pub with_others : Members → Members
+with_others members =
+    able (codes "supportsStepBack")
+    (able (codes "supportsSetVariable")
+    (able (codes "supportsSetExpression")
+    (able (codes "supportsHitConditionalBreakpoints")
+    (able (codes "supportsEvaluateForHovers")
+    (able (codes "supportsDataBreakpoints")
+    (able (codes "supportsConditionalBreakpoints") members))))))
+
 -- what the adapter can do
 abbrev pub capabilities : Data
-capabilities = object
-    (member (codes "exceptionBreakpointFilters") (array (item exception_filter no_items))
-    (member (codes "supportsBreakpointLocationsRequest") (boolean true)
-    (member (codes "supportsCompletionsRequest") (boolean true)
-    (member (codes "supportsConfigurationDoneRequest") (boolean true)
-    (member (codes "supportsDataBreakpoints") (boolean true)
-    (member (codes "supportsEvaluateForHovers") (boolean true)
-    (member (codes "supportsExceptionInfoRequest") (boolean true)
-    (member (codes "supportsGotoTargetsRequest") (boolean true)
-    (member (codes "supportsRestartRequest") (boolean true)
-    (member (codes "supportsSetExpression") (boolean true)
-    (member (codes "supportsSetVariable") (boolean true)
-    (member (codes "supportsStepBack") (boolean true)
-    (member (codes "supportsTerminateRequest") (boolean true) no_members)))))))))))))
+capabilities = object (with_others (with_requests (with_filters no_members)))
 
 -- why a breakpoint or a watch is not there
 abbrev pub fault_text : BreakpointFault → Bytes
 fault_text fault.Unplaced = codes "its line or target is missing or of a wrong type"
-fault_text fault.Conditional = codes "conditions, counts and log messages are not there"
+fault_text fault.Conditional = codes "a watch has no condition, no count and no log message"
+fault_text fault.NoCondition = codes "its condition is no text of at most 256 bytes"
+fault_text fault.NoCount = codes "its count is no number from 1 to 10000000"
+fault_text fault.LogMessage = codes "log messages are not there"
 fault_text fault.OtherSource = codes "this source is not the program's"
 fault_text fault.NoStep = codes "no step stands on this line or behind it"
 fault_text fault.NotWatched = codes "only scalars of the file, their lanes and elements of arrays are watched"

@@ -1,13 +1,19 @@
 //! The arguments of requests.
-ghost use Rattle.std.specs.Prelude.{◌≡◌, Err, IfOk, Some, codes, if◌then◌else◌, map, option_map};
+ghost use Rattle.std.specs.Prelude.{◌≡◌, IfOk, Some, codes, map, option_map};
+ghost use Rattle.gang_model.specs.Texts.CommandText.{number};
 ghost use Rattle.serde_json.specs.View.{items_view, view};
-ghost use Rattle.adapter_requests.specs.declared.reply.BreakpointFault.TheVariants.{Conditional};
-ghost use Rattle.adapter_messages.specs.Arguments.{asked, asked_text, breakpoints_of, context_in, each_asked, filter_in, flag_at, is_absent, is_conditional, line_at, line_in, number_at, page_in, placed, target_in, text_at, time_in, time_of, unmarked, way_of};
+ghost use Rattle.adapter_messages.specs.Arguments.{asked_breakpoint, asked_condition, asked_text, breakpoint_in, breakpoints_of, condition_in, context_in, each_asked, filter_in, flag_at, is_absent, is_conditional, joined, line_at, line_in, number_at, page_in, passes_in, text_at, time_in, time_of, unmarked, watch_in, way_of};
 
-use adapter_requests::{BreakpointFault, Context, Filter, Page, Way};
-use debug_words::is_same;
+use adapter_requests::{BreakpointFault, Context, Filter, LineBreakpoint, Page, Way};
+use debug_words::{Radix, digits_number, is_same};
 use serde_json::Value;
 use std::alloc::{AllocError, Global};
+
+/// The most bytes of a condition.
+const LONGEST_CONDITION: usize = 256;
+
+/// The largest count.
+const LARGEST_COUNT: u128 = 10_000_000;
 
 /// The text at a place of a message, if there is one.
 pub(crate) fn text_at<'a>(message: &'a Value, path: &str) -> Option<&'a str>
@@ -78,27 +84,96 @@ fn breakpoints_of(message: &Value) -> &[Value]
     }
 }
 
-/// The lines of the breakpoints that a message lists.
+/// The breakpoints that a message lists, each with its line, its condition and its count.
 pub(crate) fn lines_of(
     alloc: Global,
     message: &Value,
-) -> Result<Vec<Result<u32, BreakpointFault>>, AllocError>
-    ensures { IfOk result (λ lines. lines.items ≡ each_asked line_in (breakpoints_of (view message.now))) }
+) -> Result<Vec<Result<LineBreakpoint<'_>, BreakpointFault>>, AllocError>
+    ensures { IfOk result (λ lines. map asked_breakpoint lines.items ≡ each_asked breakpoint_in (breakpoints_of (view message.now))) }
 {
     let mut lines = Vec::new(alloc);
     for breakpoint in breakpoints_of(message) {
-        lines.push(line_of(breakpoint))?;
+        lines.push(line_breakpoint(breakpoint))?;
     }
     Ok(lines)
 }
 
-/// The line of a breakpoint, or why it is none.
-fn line_of(breakpoint: &Value) -> Result<u32, BreakpointFault>
-    ensures { result ≡ asked line_in (view breakpoint.now) }
+/// A breakpoint that is asked for, or why it is none.
+fn line_breakpoint(breakpoint: &Value) -> Result<LineBreakpoint<'_>, BreakpointFault>
+    ensures { asked_breakpoint result ≡ breakpoint_in (view breakpoint.now) }
+{
+    if !is_absent(breakpoint.get("logMessage")) {
+        return Err(BreakpointFault::LogMessage);
+    }
+    let line = line_of(breakpoint);
+    joined(line, condition_of(breakpoint), passes_of(breakpoint))
+}
+
+/// The line of a breakpoint, if it has one.
+fn line_of(breakpoint: &Value) -> Option<u32>
+    ensures { result ≡ line_in (view breakpoint.now) }
 {
     let line = breakpoint.get("line").and_then(Value::as_u64);
-    let line = line.and_then(|line| u32::try_from(line).ok());
-    asked(line, is_conditional(breakpoint))
+    line.and_then(|line| u32::try_from(line).ok())
+}
+
+/// The first of three that is wrong, or the breakpoint that they are.
+fn joined(
+    line: Option<u32>,
+    condition: Result<Option<&str>, BreakpointFault>,
+    passes: Result<u32, BreakpointFault>,
+) -> Result<LineBreakpoint<'_>, BreakpointFault>
+    ensures { asked_breakpoint result ≡ joined line (asked_condition condition.entry) passes }
+{
+    match (line, condition, passes) {
+        (None, _, _) => Err(BreakpointFault::Unplaced),
+        (Some(_), Err(fault), _) | (Some(_), Ok(_), Err(fault)) => Err(fault),
+        (Some(line), Ok(condition), Ok(passes)) => Ok(LineBreakpoint {
+            line,
+            condition,
+            passes,
+        }),
+    }
+}
+
+/// The condition of a breakpoint, if it has one.
+fn condition_of(breakpoint: &Value) -> Result<Option<&str>, BreakpointFault>
+    ensures { asked_condition result ≡ condition_in (view breakpoint.now) }
+{
+    let given = breakpoint.get("condition");
+    if is_absent(given) {
+        return Ok(None);
+    }
+    match given.and_then(Value::as_str) {
+        Some(text) if text.len() <= LONGEST_CONDITION => Ok(Some(text)),
+        _ => Err(BreakpointFault::NoCondition),
+    }
+}
+
+/// How many stops of a breakpoint are passed before it stops.
+fn passes_of(breakpoint: &Value) -> Result<u32, BreakpointFault>
+    ensures { result ≡ passes_in (view breakpoint.now) }
+{
+    let given = breakpoint.get("hitCondition");
+    if is_absent(given) {
+        return Ok(0);
+    }
+    match given.and_then(Value::as_str).and_then(count_of) {
+        Some(count) => Ok(count.saturating_sub(1)),
+        None => Err(BreakpointFault::NoCount),
+    }
+}
+
+/// The count that a text spells.
+fn count_of(text: &str) -> Option<u32>
+    ensures { result ≡ number text.now }
+{
+    let count = digits_number(Radix::Decimal, text.as_bytes())?;
+    if 1 <= count && count <= LARGEST_COUNT {
+        Some(count as u32)
+    } else {
+        None
+    }
 }
 
 /// The targets of the watches that a message lists.
@@ -106,7 +181,7 @@ pub(crate) fn targets_of(
     alloc: Global,
     message: &Value,
 ) -> Result<Vec<Result<&str, BreakpointFault>>, AllocError>
-    ensures { IfOk result (λ targets. map asked_text targets.items ≡ each_asked target_in (breakpoints_of (view message.now))) }
+    ensures { IfOk result (λ targets. map asked_text targets.items ≡ each_asked watch_in (breakpoints_of (view message.now))) }
 {
     let mut targets = Vec::new(alloc);
     for watch in breakpoints_of(message) {
@@ -117,26 +192,18 @@ pub(crate) fn targets_of(
 
 /// The target of a watch, or why it is none.
 fn target_of(watch: &Value) -> Result<&str, BreakpointFault>
-    ensures { asked_text result ≡ asked target_in (view watch.now) }
+    ensures { asked_text result ≡ watch_in (view watch.now) }
 {
-    let target = watch.get("dataId").and_then(Value::as_str);
-    asked(target, is_conditional(watch))
-}
-
-/// A place that was read, unless a condition stands with it; or why there is none.
-fn asked<P: Copy>(place: Option<P>, is_conditional: bool) -> Result<P, BreakpointFault>
-    ensures { result ≡ (if is_conditional then Err Conditional else placed place) }
-{
-    if is_conditional {
+    if is_conditional(watch) {
         return Err(BreakpointFault::Conditional);
     }
-    match place {
+    match watch.get("dataId").and_then(Value::as_str) {
         None => Err(BreakpointFault::Unplaced),
-        Some(place) => Ok(place),
+        Some(target) => Ok(target),
     }
 }
 
-/// Whether it is to stop on a condition, after a count, or to tell a text in place of stopping.
+/// Whether it is to stop on a condition, after a count, or to tell a text.
 fn is_conditional(breakpoint: &Value) -> bool
     ensures { result ≡ is_conditional (view breakpoint.now) }
 {

@@ -1,8 +1,8 @@
 //! What replies tell, as JSON.
-ghost use Rattle.std.specs.Prelude.{◌≡◌, ◌≤◌, ◌++◌, IfOk, codes, string_bytes};
+ghost use Rattle.std.specs.Prelude.{◌≡◌, ◌≤◌, ◌++◌, IfOk, OnOk, codes, string_bytes};
 ghost use Rattle.serde_json.specs.Data.{array, no_members, object};
-ghost use Rattle.serde_json.specs.View.{view};
-ghost use Rattle.adapter_messages.specs.Replies.{array_of, body_of, breakpoint, capabilities, completion, exception_filter, fault_text, file_name, file_scope, frames, hint, known_scope, location, not_watchable, only, scopes, source, time, times, variable, variable_of, watchable, way_text};
+ghost use Rattle.serde_json.specs.View.{members_view, view};
+ghost use Rattle.adapter_messages.specs.Replies.{able, array_of, body_of, breakpoint, capabilities, completion, exception_filter, fault_text, file_name, file_scope, frames, hint, known_scope, location, not_watchable, only, scopes, source, time, times, variable, variable_of, watchable, way_text, with_filters, with_others, with_requests};
 ghost use Rattle.adapter_messages.specs.Replies as spec;
 ghost use Rattle.adapter_messages.specs.Arguments.{mark, way_number};
 ghost use Rattle.adapter_requests.specs.declared.reply.VariableKind.TheVariants as kind;
@@ -12,7 +12,7 @@ use adapter_requests::{
     Breakpoint, BreakpointFault, Completion, Exception, Frame, Reply, Scopes, Variable,
     VariableKind, Way,
 };
-use serde_json::{Map, Value, json, push};
+use serde_json::{Map, Value, json, push, put};
 use std::alloc::{AllocError, Global};
 use std::path::Path;
 
@@ -55,22 +55,53 @@ fn nothing(alloc: Global) -> Value
 fn capabilities(alloc: Global) -> Result<Value, AllocError>
     ensures { IfOk result (λ v. view v ≡ capabilities) }
 {
+    let mut members = Map::new(alloc);
+    put_filters(alloc, &mut members)?;
+    put_requests(alloc, &mut members)?;
+    put_others(alloc, &mut members)?;
+    Ok(Value::Object(members))
+}
+
+/// Puts the filters of exceptions beside others.
+fn put_filters(alloc: Global, members: &mut Map<String, Value>) -> Result<(), AllocError>
+    ensures { OnOk result (members_view members.new.entries ≡ with_filters (members_view members.old.entries)) }
+{
     let filter = exception_filter(alloc)?;
-    json!(in alloc; {
-        "exceptionBreakpointFilters": [filter],
-        "supportsBreakpointLocationsRequest": true,
-        "supportsCompletionsRequest": true,
-        "supportsConfigurationDoneRequest": true,
-        "supportsDataBreakpoints": true,
-        "supportsEvaluateForHovers": true,
-        "supportsExceptionInfoRequest": true,
-        "supportsGotoTargetsRequest": true,
-        "supportsRestartRequest": true,
-        "supportsSetExpression": true,
-        "supportsSetVariable": true,
-        "supportsStepBack": true,
-        "supportsTerminateRequest": true
-    })
+    let filters = json!(in alloc; [filter])?;
+    put(members, alloc, "exceptionBreakpointFilters", filters)
+}
+
+/// Puts beside others that requests are answered.
+fn put_requests(alloc: Global, members: &mut Map<String, Value>) -> Result<(), AllocError>
+    ensures { OnOk result (members_view members.new.entries ≡ with_requests (members_view members.old.entries)) }
+{
+    put_able(alloc, members, "supportsBreakpointLocationsRequest")?;
+    put_able(alloc, members, "supportsCompletionsRequest")?;
+    put_able(alloc, members, "supportsConfigurationDoneRequest")?;
+    put_able(alloc, members, "supportsExceptionInfoRequest")?;
+    put_able(alloc, members, "supportsGotoTargetsRequest")?;
+    put_able(alloc, members, "supportsRestartRequest")?;
+    put_able(alloc, members, "supportsTerminateRequest")
+}
+
+/// Puts beside others what else the adapter can do.
+fn put_others(alloc: Global, members: &mut Map<String, Value>) -> Result<(), AllocError>
+    ensures { OnOk result (members_view members.new.entries ≡ with_others (members_view members.old.entries)) }
+{
+    put_able(alloc, members, "supportsConditionalBreakpoints")?;
+    put_able(alloc, members, "supportsDataBreakpoints")?;
+    put_able(alloc, members, "supportsEvaluateForHovers")?;
+    put_able(alloc, members, "supportsHitConditionalBreakpoints")?;
+    put_able(alloc, members, "supportsSetExpression")?;
+    put_able(alloc, members, "supportsSetVariable")?;
+    put_able(alloc, members, "supportsStepBack")
+}
+
+/// Puts beside others that the adapter can do what has a name.
+fn put_able(alloc: Global, members: &mut Map<String, Value>, name: &str) -> Result<(), AllocError>
+    ensures { OnOk result (members_view members.new.entries ≡ able name.now (members_view members.old.entries)) }
+{
+    put(members, alloc, name, Value::Bool(true))
 }
 
 /// The faults, which stop always.
@@ -221,7 +252,10 @@ fn fault_text(fault: BreakpointFault) -> &'static str
 {
     match fault {
         BreakpointFault::Unplaced => "its line or target is missing or of a wrong type",
-        BreakpointFault::Conditional => "conditions, counts and log messages are not there",
+        BreakpointFault::Conditional => { "a watch has no condition, no count and no log message" }
+        BreakpointFault::NoCondition => "its condition is no text of at most 256 bytes",
+        BreakpointFault::NoCount => "its count is no number from 1 to 10000000",
+        BreakpointFault::LogMessage => "log messages are not there",
         BreakpointFault::OtherSource => "this source is not the program's",
         BreakpointFault::NoStep => "no step stands on this line or behind it",
         BreakpointFault::NotWatched => {

@@ -26,6 +26,7 @@ use Rattle.adapter_requests.specs.declared.request.Context.TheVariants.{Console,
 use Rattle.adapter_requests.specs.declared.request.Filter.TheVariants as filter
 use Rattle.adapter_requests.specs.declared.request.Page.{Page}
 use Rattle.adapter_requests.specs.declared.request.Request.TheVariants as request
+use Rattle.adapter_requests.specs.declared.request.LineBreakpoint.{LineBreakpoint}
 use Rattle.adapter_replies.specs.declared.places.Place.TheVariants as place
 use Rattle.adapter_replies.specs.Breakpoints.{breakpoint_of, is_part, told_breakpoint, watches_target}
 use Rattle.adapter_replies.specs.Completions.{command_names, completed, frame_or, front, name_length}
@@ -224,8 +225,8 @@ no_number = refl
 no_step : breakpoint_of on_two_lines None ≡ Refused fault.NoStep
 no_step = refl
 
-in_another_source : (s : Setting) → told_breakpoint s false on_two_lines (Ok 5) ≡ Refused fault.OtherSource
-in_another_source s = refl
+in_another_source : (s : Setting) (asked : LineBreakpoint) → told_breakpoint s false on_two_lines (Ok asked) ≡ Refused fault.OtherSource
+in_another_source s asked = refl
 
 on_a_condition : (s : Setting) → told_breakpoint s true on_two_lines (Err fault.Conditional) ≡ Refused fault.Conditional
 on_a_condition s = refl

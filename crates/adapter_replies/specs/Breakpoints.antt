@@ -14,6 +14,7 @@ use Rattle.adapter_requests.specs.declared.reply.BreakpointFault.{BreakpointFaul
 use Rattle.adapter_requests.specs.declared.reply.BreakpointFault.TheVariants as fault
 use Rattle.adapter_requests.specs.declared.reply.Reply.{Reply}
 use Rattle.adapter_requests.specs.declared.reply.Reply.TheVariants as reply
+use Rattle.adapter_requests.specs.declared.request.LineBreakpoint.{LineBreakpoint}
 
 -- a breakpoint or a watch by its number, and its line if it has one; without a number it is not there for this reason
 abbrev pub standing : Option ℕ → (line : Option ℕ) → BreakpointFault → Breakpoint
@@ -26,10 +27,10 @@ breakpoint_of stops None = Refused fault.NoStep
 breakpoint_of stops (Some line) = standing (first_stop (on_line (Some line)) stops) (Some line) fault.Full
 
 -- the one that was asked for on a line: it stands on the first line from there on that has a place; another source has none
-abbrev pub told_breakpoint : Setting → (is_program : Bool) → List (ℕ × Stop) → Result ℕ BreakpointFault → Breakpoint
+abbrev pub told_breakpoint : Setting → (is_program : Bool) → List (ℕ × Stop) → Result LineBreakpoint BreakpointFault → Breakpoint
 told_breakpoint s is_program stops (Err why) = Refused why
-told_breakpoint s false stops (Ok line) = Refused fault.OtherSource
-told_breakpoint s true stops (Ok line) = breakpoint_of stops (least_from line (step_lines s.program))
+told_breakpoint s false stops (Ok asked) = Refused fault.OtherSource
+told_breakpoint s true stops (Ok asked) = breakpoint_of stops (least_from asked.line (step_lines s.program))
 
 -- the same index, or none
 abbrev pub same_index : Option ℕ → Option ℕ → Bool

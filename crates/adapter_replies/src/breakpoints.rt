@@ -1,15 +1,15 @@
 //! The breakpoints and watches that were asked for.
-ghost use Rattle.std.specs.Prelude.{◌≡◌, ℕ, List, IfOk, None, Ok, map, true};
+ghost use Rattle.std.specs.Prelude.{◌≡◌, ℕ, List, IfOk, None, map};
 ghost use Rattle.gang_model.specs.Debugger.Debugger as model;
-ghost use Rattle.gang_model.specs.Debugger.Debugger.{Debugger, Setting, first_stop, global_named};
+ghost use Rattle.gang_model.specs.Debugger.Debugger.{Debugger, Setting, first_stop, global_named, least_from, step_lines};
 ghost use Rattle.gang_model.specs.Texts.CommandText.{command_of};
 ghost use Rattle.debug_answers.specs.Meanings.{AreStops, IsStop};
 ghost use Rattle.debug_commands.specs.Views.{target_view};
 ghost use Rattle.gang_model.specs.Source.Names.{same_text};
-ghost use Rattle.adapter_replies.specs.Breakpoints.{IsWatchableTold, can_watch, has_name, has_target, is_part, is_watchable, no_watch, same_index, standing, told_breakpoint, told_watch, watch_number, watches_target};
+ghost use Rattle.adapter_replies.specs.Breakpoints.{IsWatchableTold, breakpoint_of, can_watch, has_name, has_target, is_part, is_watchable, no_watch, same_index, standing, told_breakpoint, told_watch, watch_number, watches_target};
 
 use crate::parts::has_parts;
-use adapter_requests::{Breakpoint, BreakpointFault, Reply};
+use adapter_requests::{Breakpoint, BreakpointFault, LineBreakpoint, Reply};
 use debug_answers::{NumberedStop, Stop};
 use debug_commands::{Command, Target, read_command};
 use debug_session::breakpoint_on;
@@ -22,7 +22,7 @@ pub(crate) fn breakpoints<M: RecordedMachine>(
     alloc: Global,
     machine: &M,
     stops: &[NumberedStop],
-    lines: &[Result<u32, BreakpointFault>],
+    lines: &[Result<LineBreakpoint<'_>, BreakpointFault>],
     is_program: bool,
 ) -> Result<Vec<Breakpoint>, AllocError>
     ensures { (s : Setting) (d : Debugger) (meant : List (ℕ × model.Stop)) → M.stands machine.now s d → AreStops s stops.now meant
@@ -40,23 +40,23 @@ pub(crate) fn breakpoints<M: RecordedMachine>(
 fn breakpoint<M: RecordedMachine>(
     machine: &M,
     stops: &[NumberedStop],
-    line: Result<u32, BreakpointFault>,
+    asked: Result<LineBreakpoint<'_>, BreakpointFault>,
     is_program: bool,
 ) -> Breakpoint
     ensures { (s : Setting) (d : Debugger) (meant : List (ℕ × model.Stop)) → M.stands machine.now s d → AreStops s stops.now meant
-        → result ≡ told_breakpoint s is_program meant line }
+        → result ≡ told_breakpoint s is_program meant asked.entry }
 {
-    match line {
+    match asked {
         Err(fault) => Breakpoint::Refused(fault),
         Ok(_) if !is_program => Breakpoint::Refused(BreakpointFault::OtherSource),
-        Ok(line) => breakpoint_from(machine, stops, line),
+        Ok(asked) => breakpoint_from(machine, stops, asked.line),
     }
 }
 
 /// The breakpoint on the first line from one on that has a place.
 fn breakpoint_from<M: RecordedMachine>(machine: &M, stops: &[NumberedStop], line: u32) -> Breakpoint
     ensures { (s : Setting) (d : Debugger) (meant : List (ℕ × model.Stop)) → M.stands machine.now s d → AreStops s stops.now meant
-        → result ≡ told_breakpoint s true meant (Ok line) }
+        → result ≡ breakpoint_of meant (least_from line (step_lines s.program)) }
 {
     match machine.line_from(line) {
         None => Breakpoint::Refused(BreakpointFault::NoStep),

@@ -128,8 +128,12 @@ fn one_text(alloc: Global, value_type: IntType, lanes: &LaneWords) -> Result<Str
     String::from_str(alloc, ".")
 }
 
-/// Why a text has no value where a frame stands.
-fn no_value_text(alloc: Global, why: NoValue) -> Result<String, AllocError>
+/// The text of why an expression has no value where a frame stands.
+///
+/// # Errors
+///
+/// Out of memory.
+pub fn no_value_text(alloc: Global, why: NoValue) -> Result<String, AllocError>
     ensures { IfOk result (λ text. string_bytes text ≡ no_value_text why) }
 {
     match why {

@@ -8,4 +8,4 @@ pub use reply::{
     Breakpoint, BreakpointFault, Completion, Exception, Frame, Reply, Scopes, Stop, StopReason,
     Variable, VariableKind,
 };
-pub use request::{Context, Filter, Launch, Page, Request, Way};
+pub use request::{Context, Filter, Launch, LineBreakpoint, Page, Request, Way};

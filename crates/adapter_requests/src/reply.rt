@@ -6,8 +6,14 @@ use gang_types::FaultName;
 pub enum BreakpointFault {
     /// It says no line or target that can be read.
     Unplaced,
-    /// It is to stop on a condition, after a count, or to tell a text in place of stopping.
+    /// It is a watch that is to stop on a condition, after a count, or to tell a text.
     Conditional,
+    /// Its condition is no text, or too long a one.
+    NoCondition,
+    /// Its count is no number from 1 on.
+    NoCount,
+    /// It is to tell a text in place of stopping.
+    LogMessage,
     /// It is in another source than the program's.
     OtherSource,
     /// No step is on its line or behind it.

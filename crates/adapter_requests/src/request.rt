@@ -20,6 +20,16 @@ pub struct Launch<'a> {
     pub stops_on_entry: bool,
 }
 
+/// A breakpoint that is asked for on a line.
+#[derive(Clone, Copy, Debug, PartialEq, Eq)]
+pub struct LineBreakpoint<'a> {
+    pub line: u32,
+    /// The expression where it stops, if it does not stop always.
+    pub condition: Option<&'a str>,
+    /// How many of its stops are passed first.
+    pub passes: u32,
+}
+
 /// Where an expression stands that is evaluated.
 #[derive(Clone, Copy, Debug, PartialEq, Eq)]
 pub enum Context {
@@ -65,10 +75,10 @@ pub enum Way {
 pub enum Request<'a> {
     Initialize,
     Launch(Launch<'a>),
-    /// The breakpoints of a source, in place of those that it had: the line of each, or why it is none.
+    /// The breakpoints of a source, in place of those that it had: each with its line, or why it is none.
     SetBreakpoints {
         source: Option<&'a str>,
-        lines: Vec<Result<u32, BreakpointFault>>,
+        lines: Vec<Result<LineBreakpoint<'a>, BreakpointFault>>,
     },
     /// The lines of a source, from the first to the last, on which a breakpoint can stand; the first alone where there is no last.
     BreakpointLocations {

@@ -1,2 +1,3 @@
+mod Launches
 mod ReadMessages
 mod ServedRequests

@@ -1,135 +1,121 @@
--- Requests, one behind another.
-use Rattle.std.proofs.Common.{◌≡◌, ℕ, Bool, true, false, List, [], ◌∷◌, ◌++◌, Option, Some, None, Result, Ok, Err, IfOk, IfErr, OnOk, refl, ap, sym, subst, ◌∙◌}
+-- Requests that are done, and what follows them.
+use Rattle.std.proofs.Common.{◌≡◌, ◌⊎◌, inl, inr, Bool, true, false, Option, Some, None, Result, Ok, Err, IfOk, IfErr, OnOk, refl, ap, sym, subst, ◌∙◌}
 use Rattle.gang_model.specs.Debugger.Debugger.{Debugger, Setting}
 use Rattle.gang_model.specs.Texts.Text.{Bytes}
 use Rattle.debug_session.specs.declared.session.Session.{Session}
 use Rattle.debug_session.specs.Sessions.{StandsFor}
-use Rattle.command_lists.specs.Lists.{HasDone}
+use Rattle.conditional_stops.specs.declared.reasons.CountedStop.{CountedStop}
 use Rattle.adapter_requests.specs.declared.request.Request.{Request}
 use Rattle.adapter_requests.specs.declared.request.Request.TheVariants as request
-use Rattle.adapter_session.specs.Beginning.{breakpoint_here}
-use Rattle.adapter_session.specs.Requested.{commands_of}
-use Rattle.adapter_server.specs.Serving.{Answers, Asks, Begins, ComesTo, Does, Follows, HasServed, IsAsked, MayFollow, MessageComesTo, RequestsLead, begun}
+use Rattle.adapter_session.specs.declared.answering.Answered.{Answered}
+use Rattle.adapter_session.specs.declared.terms.Terms.{Terms as GivenTerms}
+use Rattle.adapter_session.specs.Done.{DoesRequest}
+use Rattle.adapter_session.specs.Terms.{terms_of}
+use Rattle.adapter_server.specs.Serving.{Answers, Asks, AsksHere, Begins, BeginsBy, DoesAll, DoesOne, Follows, GoesUnless, IsAsked, MayDo, MayFollow, Run, Setup, run_of}
 use Rattle.serde_json.specs.Data.{Data}
 
--- where requests lead, and others from there
-requests_lead_on : (program : Bytes) (s : Setting) (first second : List Request) (d e f : Debugger) → RequestsLead program s first d e → RequestsLead program s second e f → RequestsLead program s (first ++ second) d f
-requests_lead_on program s [] second d e f p q = subst (λ x. RequestsLead program s second x f) p q
-requests_lead_on program s (request ∷ first) second d e f (middle, leads, p) q = (middle, leads, requests_lead_on program s first second middle e f p q)
+-- what holds where nothing failed, of what always holds, and of what follows from it
+pub on_ok : {T E : Type 0} (result : Result T E) (P : Type 0) → P → OnOk result P
+on_ok (Ok x) P p = p
+on_ok (Err e) P p = tt
 
-module _ {M : Type 0} (stands : M → Setting → Debugger → Type 0) (program : Bytes) where
-  -- no request is done
-  pub does_nothing : (session : Session M) → Does stands program [] session session
-  does_nothing session = λ s d there. record { after = d; leads = refl; there = there }
+pub on_ok_then : {T E : Type 0} (result : Result T E) (P Q : Type 0) → OnOk result P → (P → Q) → OnOk result Q
+on_ok_then (Ok x) P Q p f = f p
+on_ok_then (Err e) P Q p f = tt
 
-  -- requests, and others from where they lead
-  pub does_then : (first second : List Request) (old middle new : Session M) → Does stands program first old middle → Does stands program second middle new → Does stands program (first ++ second) old new
-  does_then first second old middle new p q = λ s d there.
-      let done = p s d there in
-      let more = q s done.after done.there in
-      record { after = more.after; leads = requests_lead_on program s first second d done.after more.after done.leads more.leads; there = more.there }
+module _ {M : Type 0} (stands : M → Setting → Debugger → Type 0) where
+  same_run : (old new : Session M) (terms after : GivenTerms) → new ≡ old → after ≡ terms → run_of new after ≡ run_of old terms
+  same_run old new terms after same stay = ap (λ session. run_of session after) same ∙ ap (λ t. run_of old t) stay
 
   -- one request is done, unless memory was wanting
-  pub asks : {T E : Type 0} (request : Request) (old new : Session M) (result : Result T E)
-      → ((s : Setting) (d : Debugger) → StandsFor stands old s d → IfOk result (λ _. HasDone stands s (commands_of program s d request) d new)) → IfErr result (λ _. new ≡ old) → Asks stands program request old new result
-  asks request old new (Ok reply) done none = λ s d there.
-      let leads = done s d there in
-      record { after = leads.after; leads = (leads.after, leads.leads, refl); there = leads.there }
-  asks request old new (Err error) done none = none
+  pub asks : {E : Type 0} (program : Bytes) (asked : Request) (old new : Session M) (terms after : GivenTerms) (result : Result Answered E)
+      → ((s : Setting) (d : Debugger) → StandsFor stands old s d → IfOk result (λ answered. DoesRequest stands s program asked d (terms_of terms) answered new (terms_of after)))
+      → IfErr result (λ _. (new ≡ old) × (after ≡ terms)) → Asks stands program asked (run_of old terms) (run_of new after) result
+  asks program asked old new terms after (Ok answered) done none = record { answered = answered; does = λ s d there. done s d there }
+  asks program asked old new terms after (Err error) done none = same_run old new terms after none.0 none.1
 
-  -- a run that begins with `continue`, unless memory was wanting
-  pub begins_nothing : (session : Session M) → Begins stands program session session
-  begins_nothing session = record { requests = []; may = tt; does = does_nothing session }
+  pub may_do : {T E : Type 0} (program : Bytes) (asked : Request) (old new : Run M) (result : Result T E) → Asks stands program asked old new result → MayDo stands program asked old new
+  may_do program asked old new (Ok reply) does = inr does
+  may_do program asked old new (Err error) same = inl same
 
-  pub begins_asking : {T E : Type 0} (old new : Session M) (result : Result T E) → Asks stands program request.Continue old new result → Begins stands program old new
-  begins_asking old new (Ok reply) does = record { requests = request.Continue ∷ []; may = tt; does = does }
-  begins_asking old new (Err error) same = subst (Begins stands program old) (sym same) (begins_nothing old)
+  pub does_one : {T E : Type 0} (program : Bytes) (asked : Request) (old new : Run M) (result : Result T E) (reply : T) → result ≡ Ok reply → Asks stands program asked old new result → DoesOne stands program asked old new
+  does_one program asked old new result reply ok does = subst (λ r. Asks stands program asked old new r) ok does
 
-  -- a run that begins with nothing, where it is to stop or a breakpoint stands
-  begun_at : (stops : Bool) (number : ℕ) → begun stops (Some number) ≡ []
-  begun_at true number = refl
-  begun_at false number = refl
+  -- ---- where a run begins
 
-  begun_nothing : (requests : List Request) (session : Session M) (s : Setting) (d : Debugger) → StandsFor stands session s d → requests ≡ [] → HasServed stands program s requests d session
-  begun_nothing requests session s d there is = subst (λ r. HasServed stands program s r d session) (sym is) (record { after = d; leads = refl; there = there })
+  module _ (Goes : Run M → Run M → Type 0) where
+    -- it is to stop before its first step
+    pub begins_on_entry : (stops : Bool) (run : Run M) → stops ≡ true → BeginsBy stands stops Goes run run
+    begins_on_entry stops run is = subst (λ b. BeginsBy stands b Goes run run) (sym is) refl
 
-  pub begun_on_entry : {T E : Type 0} (result : Result T E) (stops : Bool) (session : Session M) → stops ≡ true
-      → OnOk result ((s : Setting) (d : Debugger) → StandsFor stands session s d → HasServed stands program s (begun stops (breakpoint_here s d)) d session)
-  begun_on_entry (Ok x) stops session is = λ s d there. begun_nothing (begun stops (breakpoint_here s d)) session s d there (ap (λ b. begun b (breakpoint_here s d)) is)
-  begun_on_entry (Err e) stops session is = tt
+    -- a breakpoint counts there
+    pub begins_here : (stops : Bool) (first : Option CountedStop) (counted : CountedStop) (old middle : Run M) → stops ≡ false → first ≡ Some counted → AsksHere stands first old middle → BeginsBy stands stops Goes old middle
+    begins_here stops first counted old middle runs some asked =
+        subst (λ b. BeginsBy stands b Goes old middle) (sym runs)
+        (record { first = first; middle = middle; asks = asked; goes = subst (λ f. GoesUnless f Goes middle middle) (sym some) refl })
 
-  pub begun_at_breakpoint : {T E : Type 0} (result : Result T E) (stops : Bool) (here : Option ℕ) (number : ℕ) (session : Session M)
-      → ((s : Setting) (d : Debugger) → StandsFor stands session s d → here ≡ breakpoint_here s d) → here ≡ Some number
-      → OnOk result ((s : Setting) (d : Debugger) → StandsFor stands session s d → HasServed stands program s (begun stops (breakpoint_here s d)) d session)
-  begun_at_breakpoint (Ok x) stops here number session is some = λ s d there.
-      begun_nothing (begun stops (breakpoint_here s d)) session s d there (ap (begun stops) (sym (is s d there) ∙ some) ∙ begun_at stops number)
-  begun_at_breakpoint (Err e) stops here number session is some = tt
+    -- none does
+    pub begins_going : (stops : Bool) (first : Option CountedStop) (old middle new : Run M) → stops ≡ false → first ≡ None → AsksHere stands first old middle → Goes middle new → BeginsBy stands stops Goes old new
+    begins_going stops first old middle new runs none asked goes =
+        subst (λ b. BeginsBy stands b Goes old new) (sym runs)
+        (record { first = first; middle = middle; asks = asked; goes = subst (λ f. GoesUnless f Goes middle new) (sym none) goes })
 
-  pub begun_going_on : {T E X F : Type 0} (result : Result T E) (stops : Bool) (here : Option ℕ) (old new : Session M) (asked : Result X F) (reply : X) → stops ≡ false
-      → ((s : Setting) (d : Debugger) → StandsFor stands old s d → here ≡ breakpoint_here s d) → here ≡ None → asked ≡ Ok reply → Asks stands program request.Continue old new asked
-      → OnOk result ((s : Setting) (d : Debugger) → StandsFor stands old s d → HasServed stands program s (begun stops (breakpoint_here s d)) d new)
-  begun_going_on (Ok x) stops here old new asked reply runs is none ok does = λ s d there.
-      let first : Does stands program (request.Continue ∷ []) old new = subst (Asks stands program request.Continue old new) ok does in
-      subst (λ r. HasServed stands program s r d new) (sym (ap (λ b. begun b (breakpoint_here s d)) runs ∙ ap (begun false) (sym (is s d there) ∙ none))) (first s d there)
-  begun_going_on (Err e) stops here old new asked reply runs is none ok does = tt
+  module _ (setup : Setup) where
+    -- ---- a request that comes to nothing, or is done
 
-  -- a request that comes to nothing, or is done
-  pub follows_nothing : (asked : Request) (session : Session M) → Follows stands program asked session session
-  follows_nothing asked session = record { requests = []; comes = tt; does = does_nothing session }
+    pub follows_nothing : (asked : Request) (run : Run M) → Follows stands setup asked run run
+    follows_nothing asked run = inl refl
 
-  alone : (asked : Request) → MayFollow asked []
-  alone request.Initialize = tt
-  alone (request.Launch launch) = tt
-  alone (request.SetBreakpoints source lines) = tt
-  alone (request.BreakpointLocations source first last) = tt
-  alone (request.GotoTargets source line) = tt
-  alone (request.Goto line way) = tt
-  alone request.SetExceptionBreakpoints = tt
-  alone request.ExceptionInfo = tt
-  alone (request.DataBreakpointInfo name) = tt
-  alone (request.SetDataBreakpoints targets) = tt
-  alone request.ConfigurationDone = tt
-  alone request.Threads = tt
-  alone request.StackTrace = tt
-  alone (request.Scopes frame) = tt
-  alone (request.Variables reference page) = tt
-  alone (request.SetVariable reference name value) = tt
-  alone (request.SetExpression expression value frame) = tt
-  alone (request.Completions text column frame) = tt
-  alone (request.Evaluate expression frame context) = tt
-  alone request.Next = tt
-  alone request.StepIn = tt
-  alone request.StepOut = tt
-  alone request.Continue = tt
-  alone request.StepBack = tt
-  alone request.ReverseContinue = tt
-  alone request.Restart = tt
-  alone request.Terminate = tt
-  alone request.Disconnect = tt
-  alone (request.Unknown name) = tt
+    alone : (asked : Request) (run : Run M) → MayFollow stands setup asked run run
+    alone request.Initialize run = refl
+    alone (request.Launch launch) run = refl
+    alone (request.SetBreakpoints source lines) run = refl
+    alone (request.BreakpointLocations source first last) run = refl
+    alone (request.GotoTargets source line) run = refl
+    alone (request.Goto line way) run = refl
+    alone request.SetExceptionBreakpoints run = refl
+    alone request.ExceptionInfo run = refl
+    alone (request.DataBreakpointInfo name) run = refl
+    alone (request.SetDataBreakpoints targets) run = refl
+    alone request.ConfigurationDone run = inl refl
+    alone request.Threads run = refl
+    alone request.StackTrace run = refl
+    alone (request.Scopes frame) run = refl
+    alone (request.Variables reference page) run = refl
+    alone (request.SetVariable reference name value) run = refl
+    alone (request.SetExpression expression value frame) run = refl
+    alone (request.Completions text column frame) run = refl
+    alone (request.Evaluate expression frame context) run = refl
+    alone request.Next run = refl
+    alone request.StepIn run = refl
+    alone request.StepOut run = refl
+    alone request.Continue run = refl
+    alone request.StepBack run = refl
+    alone request.ReverseContinue run = refl
+    alone request.Restart run = refl
+    alone request.Terminate run = refl
+    alone request.Disconnect run = refl
+    alone (request.Unknown name) run = refl
 
-  pub follows_asking : {T E : Type 0} (asked : Request) (old new : Session M) (result : Result T E) → Asks stands program asked old new result → Follows stands program asked old new
-  follows_asking asked old new (Ok reply) does = record { requests = asked ∷ []; comes = (refl, alone asked); does = does }
-  follows_asking asked old new (Err error) same = subst (Follows stands program asked old) (sym same) (follows_nothing asked old)
+    pub follows_asking : {T E : Type 0} (asked : Request) (old new : Run M) (result : Result T E) → Asks stands setup.program asked old new result → Follows stands setup asked old new
+    follows_asking asked old new (Ok reply) does = inr (record { middle = new; does = does; follows = alone asked new })
+    follows_asking asked old new (Err error) same = inl same
 
-  -- a run that begins behind `configurationDone`
-  pub follows_beginning : {T E : Type 0} (asked : Request) (old middle new : Session M) (result : Result T E) (reply : T) → asked ≡ request.ConfigurationDone → result ≡ Ok reply → Asks stands program asked old middle result → Begins stands program middle new
-      → Follows stands program asked old new
-  follows_beginning asked old middle new result reply is ok does begins =
-      let first : Does stands program (asked ∷ []) old middle = subst (Asks stands program asked old middle) ok does in
-      record {
-        requests = asked ∷ begins.requests;
-        comes = (refl, subst (λ a. MayFollow a begins.requests) (sym is) begins.may);
-        does = does_then (asked ∷ []) begins.requests old middle new first begins.does;
-      }
+    -- a run that begins behind `configurationDone`
+    pub follows_beginning : {T E : Type 0} (asked : Request) (old middle new : Run M) (result : Result T E) (reply : T) → asked ≡ request.ConfigurationDone → result ≡ Ok reply → Asks stands setup.program asked old middle result
+        → Begins stands setup middle new → Follows stands setup asked old new
+    follows_beginning asked old middle new result reply is ok does begins =
+        inr (record {
+          middle = middle;
+          does = does_one setup.program asked old middle result reply ok does;
+          follows = subst (λ a. MayFollow stands setup a middle new) (sym is) (inr begins);
+        })
 
-  -- a message that is no request, or one that is refused, comes to nothing
-  pub answers_nothing : (message : Data) (session : Session M) → Answers stands program message session session
-  answers_nothing message session = record { requests = []; comes = tt; does = does_nothing session }
+    -- ---- a message
 
-  comes_of : (message : Data) (asked : Request) (requests : List Request) → IsAsked message asked → ComesTo asked requests → MessageComesTo message requests
-  comes_of message asked [] is comes = tt
-  comes_of message asked (done ∷ more) is comes = (subst (IsAsked message) (sym comes.0) is, subst (λ a. MayFollow a more) (sym comes.0) comes.1)
+    pub answers_nothing : (message : Data) (run : Run M) → Answers stands setup message run run
+    answers_nothing message run = inl refl
 
-  pub answers_following : (message : Data) (asked : Request) (old new : Session M) → IsAsked message asked → Follows stands program asked old new → Answers stands program message old new
-  answers_following message asked old new is follows = record { requests = follows.requests; comes = comes_of message asked follows.requests is follows.comes; does = follows.does }
+    pub answers_following : (message : Data) (asked : Request) (old new : Run M) → IsAsked message asked → Follows stands setup asked old new → Answers stands setup message old new
+    answers_following message asked old new is (inl same) = inl same
+    answers_following message asked old new is (inr does) = inr (asked, is, does)

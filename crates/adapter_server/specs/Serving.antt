@@ -1,5 +1,5 @@
 -- What serving an editor does to a session, and which messages it is done for.
-use Rattle.std.specs.Prelude.{◌≡◌, ℕ, Bool, true, false, List, [], ◌∷◌, ◌++◌, Option, Some, None, Result, MatchResult, codes, flat_map, option_and_then, unwrap_or}
+use Rattle.std.specs.Prelude.{◌≡◌, ◌⊎◌, Bool, true, false, List, [], ◌∷◌, Option, Some, None, Result, MatchResult, codes, option_and_then, unwrap_or}
 use Rattle.std.specs.Io.KnownBytes.{Consumes}
 use Rattle.serde_json.specs.Data.{Data}
 use Rattle.serde_json.specs.Find.{as_str, get}
@@ -9,15 +9,22 @@ use Rattle.gang_model.specs.Debugger.Debugger.{Debugger, Setting}
 use Rattle.gang_model.specs.Texts.Text.{Bytes}
 use Rattle.debug_session.specs.declared.session.Session.{Session}
 use Rattle.debug_session.specs.Sessions.{StandsFor}
-use Rattle.command_lists.specs.Lists.{Leads}
+use Rattle.command_lists.specs.Lists.{HasDone}
+use Rattle.conditional_stops.specs.declared.reasons.CountedStop.{CountedStop}
+use Rattle.conditional_stops.specs.Reasons as asking
+use Rattle.conditional_stops.specs.Reasons.{breakpoints_here}
+use Rattle.adapter_requests.specs.declared.request.Launch.{Launch}
 use Rattle.adapter_requests.specs.declared.request.Request.{Request}
 use Rattle.adapter_requests.specs.declared.request.Request.TheVariants as request
 use Rattle.adapter_frames.specs.declared.reading.FrameReader.{FrameReader}
 use Rattle.adapter_frames.specs.Reading as frames
 use Rattle.adapter_frames.specs.Reading.{Gives}
-use Rattle.adapter_messages.specs.Arguments.{IsRequest, text_at}
-use Rattle.adapter_session.specs.Requested.{commands_of}
-use Rattle.adapter_session.specs.Restored.{stop_commands}
+use Rattle.adapter_messages.specs.Arguments.{IsRequest, flag_at, text_at}
+use Rattle.adapter_session.specs.declared.answering.Answered.{Answered}
+use Rattle.adapter_session.specs.declared.terms.Terms.{Terms as GivenTerms}
+use Rattle.adapter_session.specs.Done.{DoesRequest}
+use Rattle.adapter_session.specs.Restored.{numbers, stop_commands, terms_anew}
+use Rattle.adapter_session.specs.Terms.{Terms, terms_of}
 use Rattle.adapter_server.specs.declared.connection.Connection.{Connection}
 use Rattle.adapter_server.specs.declared.launching.LaunchMessage.{LaunchMessage}
 
@@ -33,35 +40,86 @@ messages_of connection = connection.messages
 abbrev pub unread : {R O : Type 0} → (R → Option Bytes) → Connection R O → Option Bytes
 unread left connection = frames.unread left (messages_of connection)
 
+-- what of a launch decides what is done: the path of its program, and whether it stops before its first step
+pub record Setup : Type 0 where
+  pub program : Bytes
+  pub stops_on_entry : Bool
+
+abbrev pub setup_by : Launch → Setup
+setup_by launch = record { program = launch.program.now; stops_on_entry = launch.stops_on_entry }
+
+abbrev pub setup_of : LaunchMessage → Setup
+setup_of launch = record { program = path_of launch; stops_on_entry = unwrap_or (flag_at (codes "/arguments/stopOnEntry") (view launch.message)) true }
+
 -- ---- what is done to a session
 
--- where requests lead, one after another: each by its commands, which speak of the breakpoints and watches that there are then
-abbrev pub RequestsLead : (program : Bytes) → Setting → List Request → Debugger → Debugger → Type 0
-RequestsLead program s [] d e = e ≡ d
-RequestsLead program s (request ∷ requests) d e = (middle : Debugger) × Leads s (commands_of program s d request) d middle × RequestsLead program s requests middle e
+-- a session, with the conditions and the counts of its breakpoints
+pub record Run (M : Type 0) : Type 0 where
+  pub session : Session M
+  pub terms : Terms
 
--- a session that stood for a debugger has done these requests and nothing else
-pub record HasServed {M : Type 0} (stands : M → Setting → Debugger → Type 0) (program : Bytes) (s : Setting) (requests : List Request) (d : Debugger) (session : Session M) : Type 0 where
-  pub after : Debugger
-  pub leads : RequestsLead program s requests d after
-  pub there : StandsFor stands session s after
+abbrev pub run_of : {M : Type 0} → Session M → GivenTerms → Run M
+run_of session terms = record { session = session; terms = terms_of terms }
 
--- a session has done these requests and nothing else, whatever debugger it stood for
-abbrev pub Does : {M : Type 0} → (M → Setting → Debugger → Type 0) → (program : Bytes) → List Request → (old new : Session M) → Type 0
-Does stands program requests old new = (s : Setting) (d : Debugger) → StandsFor stands old s d → HasServed stands program s requests d new
+-- a request was done, whatever debugger the session stood for
+pub record DoesOne {M : Type 0} (stands : M → Setting → Debugger → Type 0) (program : Bytes) (request : Request) (old new : Run M) : Type 0 where
+  pub answered : Answered
+  pub does : (s : Setting) (d : Debugger) → StandsFor stands old.session s d → DoesRequest stands s program request d old.terms answered new.session new.terms
+
+-- a request was done, or nothing was
+abbrev pub MayDo : {M : Type 0} → (M → Setting → Debugger → Type 0) → (program : Bytes) → Request → (old new : Run M) → Type 0
+MayDo stands program request old new = (new ≡ old) ⊎ DoesOne stands program request old new
+
+-- the same by what came back
+abbrev pub Asks : {M T E : Type 0} → (M → Setting → Debugger → Type 0) → (program : Bytes) → Request → (old new : Run M) → Result T E → Type 0
+Asks stands program request old new result = MatchResult result (λ answered. DoesOne stands program request old new) (λ error. new ≡ old)
+
+-- the breakpoints on the line of the next step were asked, and the session stays
+pub record AsksHere {M : Type 0} (stands : M → Setting → Debugger → Type 0) (first : Option CountedStop) (old new : Run M) : Type 0 where
+  pub session : new.session ≡ old.session
+  pub asked : new.terms.asked ≡ old.terms.asked
+  pub asks : (s : Setting) (d : Debugger) → StandsFor stands old.session s d → asking.Asks s d (breakpoints_here s d d.stops) old.terms.left first new.terms.left
+
+-- a run stops where it begins if a breakpoint counts there, and else goes on
+abbrev pub GoesUnless : {M : Type 0} → (first : Option CountedStop) → (Goes : Run M → Run M → Type 0) → (old new : Run M) → Type 0
+GoesUnless (Some counted) Goes old new = new ≡ old
+GoesUnless None Goes old new = Goes old new
+
+pub record Starts {M : Type 0} (stands : M → Setting → Debugger → Type 0) (Goes : Run M → Run M → Type 0) (old new : Run M) : Type 0 where
+  pub first : Option CountedStop
+  pub middle : Run M
+  pub asks : AsksHere stands first old middle
+  pub goes : GoesUnless first Goes middle new
+
+-- a run begins: by nothing where it is to stop before its first step
+abbrev pub BeginsBy : {M : Type 0} → (M → Setting → Debugger → Type 0) → (stops_on_entry : Bool) → (Goes : Run M → Run M → Type 0) → (old new : Run M) → Type 0
+BeginsBy stands true Goes old new = new ≡ old
+BeginsBy stands false Goes old new = Starts stands Goes old new
+
+-- a run has begun, and where it goes on that is a `continue`
+abbrev pub HasBegun : {M : Type 0} → (M → Setting → Debugger → Type 0) → Setup → (old new : Run M) → Type 0
+HasBegun stands setup old new = BeginsBy stands setup.stops_on_entry (DoesOne stands setup.program request.Continue) old new
+
+-- the same where memory may have been wanting for the `continue`
+abbrev pub Begins : {M : Type 0} → (M → Setting → Debugger → Type 0) → Setup → (old new : Run M) → Type 0
+Begins stands setup old new = BeginsBy stands setup.stops_on_entry (MayDo stands setup.program request.Continue) old new
 
 -- ---- the messages that it is done for
 
--- what may be done behind a request: behind `configurationDone` the program may run on
-abbrev pub MayFollow : Request → List Request → Type 0
-MayFollow request.ConfigurationDone (request.Continue ∷ []) = Unit {0}
-MayFollow other [] = Unit {0}
-MayFollow other more = ⊥
+-- what may follow a request: behind `configurationDone` the run may begin
+abbrev pub MayFollow : {M : Type 0} → (M → Setting → Debugger → Type 0) → Setup → Request → (old new : Run M) → Type 0
+MayFollow stands setup request.ConfigurationDone old new = (new ≡ old) ⊎ Begins stands setup old new
+MayFollow stands setup other old new = new ≡ old
 
--- a request comes to nothing, or is done
-abbrev pub ComesTo : Request → List Request → Type 0
-ComesTo request [] = Unit {0}
-ComesTo request (done ∷ more) = (done ≡ request) × MayFollow request more
+-- a request was done, and what may follow it
+pub record DoesAll {M : Type 0} (stands : M → Setting → Debugger → Type 0) (setup : Setup) (request : Request) (old new : Run M) : Type 0 where
+  pub middle : Run M
+  pub does : DoesOne stands setup.program request old middle
+  pub follows : MayFollow stands setup request middle new
+
+-- what a request comes to: nothing, or it is done
+abbrev pub Follows : {M : Type 0} → (M → Setting → Debugger → Type 0) → Setup → Request → (old new : Run M) → Type 0
+Follows stands setup request old new = (new ≡ old) ⊎ DoesAll stands setup request old new
 
 -- a message with a command is a request
 pub record IsAsked (message : Data) (request : Request) : Type 0 where
@@ -69,10 +127,9 @@ pub record IsAsked (message : Data) (request : Request) : Type 0 where
   pub named : option_and_then as_str (get (codes "command") message) ≡ Some command
   pub is_request : IsRequest command message request
 
--- a message comes to nothing, or the request that it is is done
-abbrev pub MessageComesTo : Data → List Request → Type 0
-MessageComesTo message [] = Unit {0}
-MessageComesTo message (request ∷ more) = IsAsked message request × MayFollow request more
+-- what a message comes to: nothing, or the request that it is is done
+abbrev pub Answers : {M : Type 0} → (M → Setting → Debugger → Type 0) → Setup → (message : Data) → (old new : Run M) → Type 0
+Answers stands setup message old new = (new ≡ old) ⊎ ((request : Request) × IsAsked message request × DoesAll stands setup request old new)
 
 -- bytes in front were let go
 pub record LetsGo (old new : Option Bytes) : Type 0 where
@@ -91,50 +148,26 @@ pub record ReadsJson (old new : Option Bytes) (message : Data) : Type 0 where
   pub reads : Reads old new text
   pub json : read text ≡ Some message
 
--- messages that were read one after another, each with the requests that it came to
-abbrev pub Come : List (Data × List Request) → (old new : Option Bytes) → Type 0
-Come [] old new = LetsGo old new
-Come (turn ∷ turns) old new = (after : Option Bytes) × ReadsJson old after turn.0 × MessageComesTo turn.0 turn.1 × Come turns after new
+-- messages were read one after another, and each came to what it comes to
+abbrev pub Come : {M : Type 0} → (M → Setting → Debugger → Type 0) → Setup → List Data → (old_unread new_unread : Option Bytes) → (old new : Run M) → Type 0
+Come stands setup [] old_unread new_unread old new = LetsGo old_unread new_unread × (new ≡ old)
+Come stands setup (message ∷ messages) old_unread new_unread old new =
+    (after : Option Bytes) × (middle : Run _) × ReadsJson old_unread after message × Answers stands setup message old middle × Come stands setup messages after new_unread middle new
 
--- there are messages that were read one after another, and the requests that they came to, and nothing else, were done
-pub record Serves {M : Type 0} (stands : M → Setting → Debugger → Type 0) (program : Bytes) (old_unread new_unread : Option Bytes) (old new : Session M) : Type 0 where
-  pub turns : List (Data × List Request)
-  pub come : Come turns old_unread new_unread
-  pub does : Does stands program (flat_map (λ turn. turn.1) turns) old new
+-- there are messages that were read one after another, and what they come to, and nothing else, was done
+pub record Serves {M : Type 0} (stands : M → Setting → Debugger → Type 0) (setup : Setup) (old_unread new_unread : Option Bytes) (old new : Run M) : Type 0 where
+  pub messages : List Data
+  pub come : Come stands setup messages old_unread new_unread old new
 
--- a session has the breakpoints and watches of another one made anew, its run has begun, and the requests of messages that were read, and nothing else, were done
-pub record ServesAnew {M : Type 0} (stands : M → Setting → Debugger → Type 0) (program : Bytes) (old_unread new_unread : Option Bytes) (other old new : Session M) : Type 0 where
-  pub begun : List Request
-  pub may : MayFollow request.ConfigurationDone begun
-  pub turns : List (Data × List Request)
-  pub come : Come turns old_unread new_unread
-  pub does : (s : Setting) (d e : Debugger) → StandsFor stands other s d → StandsFor stands old s e
-      → (middle : Debugger) × Leads s (stop_commands d.stops) e middle × HasServed stands program s (begun ++ flat_map (λ turn. turn.1) turns) middle new
+-- a session has the breakpoints and watches of another one made anew, with the conditions and counts that were asked for
+pub record Restores {M : Type 0} (stands : M → Setting → Debugger → Type 0) (other : Session M) (old new : Run M) : Type 0 where
+  pub done : (s : Setting) (d e : Debugger) → StandsFor stands other s d → StandsFor stands old.session s e → HasDone stands s (stop_commands d.stops) e new.session
+  pub terms : (s : Setting) (d e : Debugger) → StandsFor stands other s d → StandsFor stands new.session s e → new.terms ≡ terms_anew old.terms (numbers d.stops) (numbers e.stops)
 
--- what a message comes to
-pub record Answers {M : Type 0} (stands : M → Setting → Debugger → Type 0) (program : Bytes) (message : Data) (old new : Session M) : Type 0 where
-  pub requests : List Request
-  pub comes : MessageComesTo message requests
-  pub does : Does stands program requests old new
-
--- what a request comes to
-pub record Follows {M : Type 0} (stands : M → Setting → Debugger → Type 0) (program : Bytes) (request : Request) (old new : Session M) : Type 0 where
-  pub requests : List Request
-  pub comes : ComesTo request requests
-  pub does : Does stands program requests old new
-
--- a request is done, or nothing is
-abbrev pub Asks : {M T E : Type 0} → (M → Setting → Debugger → Type 0) → (program : Bytes) → Request → (old new : Session M) → Result T E → Type 0
-Asks stands program request old new result = MatchResult result (λ reply. Does stands program (request ∷ []) old new) (λ error. new ≡ old)
-
--- the requests by which a run begins: none where it is to stop, or where a breakpoint stands at its first step
-abbrev pub begun : (stops_on_entry : Bool) → (breakpoint : Option ℕ) → List Request
-begun true breakpoint = []
-begun false (Some number) = []
-begun false None = request.Continue ∷ []
-
--- a run begins with nothing, or with `continue`
-pub record Begins {M : Type 0} (stands : M → Setting → Debugger → Type 0) (program : Bytes) (old new : Session M) : Type 0 where
-  pub requests : List Request
-  pub may : MayFollow request.ConfigurationDone requests
-  pub does : Does stands program requests old new
+-- the breakpoints and watches of another session were made anew, the run may have begun, and then messages were served
+pub record ServesAnew {M : Type 0} (stands : M → Setting → Debugger → Type 0) (setup : Setup) (old_unread new_unread : Option Bytes) (other : Session M) (old new : Run M) : Type 0 where
+  pub restored : Run M
+  pub begun : Run M
+  pub restores : Restores stands other old restored
+  pub begins : (begun ≡ restored) ⊎ Begins stands setup restored begun
+  pub serves : Serves stands setup old_unread new_unread begun new

@@ -2,7 +2,7 @@
 ghost use Rattle.std.specs.Prelude.{◌≡◌, IfSome};
 ghost use Rattle.serde_json.specs.View.{view};
 ghost use Rattle.adapter_messages.specs.Arguments.{IsLaunch};
-ghost use Rattle.adapter_server.specs.Serving.{path_of};
+ghost use Rattle.adapter_server.specs.Serving.{path_of, setup_by, setup_of};
 
 use crate::connection::{Connection, Ended};
 use adapter_messages::{Head, read_head, read_request};
@@ -20,9 +20,11 @@ pub struct LaunchMessage {
 
 impl LaunchMessage {
     /// How the program is to be run; none where memory is wanting.
+    #[tactic(auto, using(crate::proofs::Launches::launch_setup))]
     pub fn launch(&self) -> Option<Launch<'_>>
         ensures launch { IfSome result (IsLaunch (view self.now.message)) }
         ensures program { IfSome result (λ launch. launch.program.now ≡ path_of self.now) }
+        ensures setup { IfSome result (λ launch. setup_by launch ≡ setup_of self.now) }
     {
         match read_request(self.alloc, "launch", &self.message) {
             Ok(Request::Launch(launch)) => Some(launch),

@@ -1,17 +1,16 @@
 //! The requests for a program that is launched.
 ghost use Rattle.std.specs.Prelude.{◌≡◌, OnOk};
 ghost use Rattle.serde_json.specs.View.{view};
-ghost use Rattle.gang_model.specs.Debugger.Debugger.{Debugger, Setting};
-ghost use Rattle.debug_session.specs.Sessions.{StandsFor};
-ghost use Rattle.adapter_session.specs.Beginning.{breakpoint_here};
-ghost use Rattle.adapter_server.specs.Serving.{Answers, Asks, Begins, Follows, HasServed, Serves, ServesAnew, begun, messages_of, path_of, unread};
+ghost use Rattle.adapter_requests.specs.declared.request.Request.TheVariants.{Continue};
+ghost use Rattle.adapter_server.specs.Serving.{Answers, Asks, Begins, DoesOne, Follows, HasBegun, MayDo, Serves, ServesAnew, messages_of, run_of, setup_by, setup_of, unread};
 
 use crate::connection::{Connection, Ended};
 use crate::launching::LaunchMessage;
 use adapter_messages::{Head, read_head, read_request};
-use adapter_replies::{answer_text, exception_reply, stop_behind};
+use adapter_replies::{answer_text, exception_reply, no_value_text, stop_behind};
 use adapter_requests::{Launch, Reply, Request, StopReason};
-use adapter_session::{answer_request, breakpoint_here, restore_stops};
+use adapter_session::{Answered, Terms, answer_request, restore_stops, stop_at_beginning};
+use conditional_stops::{CountedStop, Verdict};
 use debug_answers::Answer;
 use debug_session::Session;
 use frame_expressions::ExpressionMachine;
@@ -45,13 +44,15 @@ impl<R: Read, O: Write> Connection<R, O> {
     pub fn serve<M: ExpressionMachine>(
         &mut self,
         launch: &LaunchMessage,
+        terms: &mut Terms,
         session: &mut Session<M>,
     ) -> Result<Served, Ended>
-        ensures { Serves M.stands (path_of launch.now) (unread R.remaining self.old) (unread R.remaining self.new) session.old session.new }
+        ensures { Serves M.stands (setup_of launch.now) (unread R.remaining self.old) (unread R.remaining self.new)
+            (run_of session.old terms.old) (run_of session.new terms.new) }
     {
         self.reply(launch.head(), "", &Reply::Done)?;
         self.tell("initialized")?;
-        self.go_on(launch, session)
+        self.go_on(launch, terms, session)
     }
 
     /// Answers a request to restart, once the program is run anew by a session: it gets the breakpoints and watches of the
@@ -64,17 +65,19 @@ impl<R: Read, O: Write> Connection<R, O> {
         &mut self,
         launch: &LaunchMessage,
         old: &Session<M>,
+        terms: &mut Terms,
         session: &mut Session<M>,
     ) -> Result<Served, Ended>
-        ensures { ServesAnew M.stands (path_of launch.now) (unread R.remaining self.old) (unread R.remaining self.new) old.now session.old session.new }
+        ensures { ServesAnew M.stands (setup_of launch.now) (unread R.remaining self.old) (unread R.remaining self.new) old.now
+            (run_of session.old terms.old) (run_of session.new terms.new) }
     {
-        restore_stops(old, session);
+        restore_stops(old, terms, session);
         self.reply(self.restarting(), "", &Reply::Done)?;
         let Some(asked) = launch.launch() else {
             return Err(Ended::Memory);
         };
-        self.begin(&asked, session)?;
-        self.go_on(launch, session)
+        self.begin(&asked, terms, session)?;
+        self.go_on(launch, terms, session)
     }
 
     /// Refuses a request to restart, with the reason.
@@ -103,16 +106,18 @@ impl<R: Read, O: Write> Connection<R, O> {
     pub fn go_on<M: ExpressionMachine>(
         &mut self,
         launch: &LaunchMessage,
+        terms: &mut Terms,
         session: &mut Session<M>,
     ) -> Result<Served, Ended>
-        ensures { Serves M.stands (path_of launch.now) (unread R.remaining self.old) (unread R.remaining self.new) session.old session.new }
+        ensures { Serves M.stands (setup_of launch.now) (unread R.remaining self.old) (unread R.remaining self.new)
+            (run_of session.old terms.old) (run_of session.new terms.new) }
     {
         let Some(asked) = launch.launch() else {
             return Err(Ended::Memory);
         };
         for _ in 0..u64::MAX {
             let message = self.next_value()?;
-            match self.answer(&asked, session, &message)? {
+            match self.answer(&asked, terms, session, &message)? {
                 Turn::Goes => {}
                 Turn::Restarts => return Ok(Served::Restarts),
                 Turn::Disconnects => return Ok(Served::Disconnected),
@@ -126,10 +131,11 @@ impl<R: Read, O: Write> Connection<R, O> {
     fn answer<M: ExpressionMachine>(
         &mut self,
         launch: &Launch<'_>,
+        terms: &mut Terms,
         session: &mut Session<M>,
         message: &Value,
     ) -> Result<Turn, Ended>
-        ensures done { Answers M.stands launch.now.program.now (view message.now) session.old session.new }
+        ensures done { Answers M.stands (setup_by launch.now) (view message.now) (run_of session.old terms.old) (run_of session.new terms.new) }
         ensures messages { messages_of self.new ≡ messages_of self.old }
     {
         let Some(head) = read_head(message) else {
@@ -142,7 +148,7 @@ impl<R: Read, O: Write> Connection<R, O> {
                 self.refuse(head, text.as_str())?;
                 Ok(Turn::Goes)
             }
-            Ok(request) => self.do_request(launch, session, head, &request),
+            Ok(request) => self.do_request(launch, terms, session, head, &request),
         }
     }
 
@@ -151,11 +157,12 @@ impl<R: Read, O: Write> Connection<R, O> {
     fn do_request<M: ExpressionMachine>(
         &mut self,
         launch: &Launch<'_>,
+        terms: &mut Terms,
         session: &mut Session<M>,
         head: Head<'_>,
         request: &Request<'_>,
     ) -> Result<Turn, Ended>
-        ensures done { Follows M.stands launch.now.program.now request.now session.old session.new }
+        ensures done { Follows M.stands (setup_by launch.now) request.now (run_of session.old terms.old) (run_of session.new terms.new) }
         ensures messages { messages_of self.new ≡ messages_of self.old }
     {
         if let Request::Restart = request {
@@ -167,12 +174,12 @@ impl<R: Read, O: Write> Connection<R, O> {
             self.reply(head, launch.program, &reply)?;
             return Ok(Turn::Goes);
         }
-        let reply = ask(self.alloc, launch.program, session, request)?;
-        self.reply(head, launch.program, &reply)?;
-        self.tell_of(request, &reply)?;
+        let answered = ask(self.alloc, launch.program, terms, session, request)?;
+        self.reply(head, launch.program, &answered.reply)?;
+        self.tell_of(request, &answered)?;
         match request {
             Request::ConfigurationDone => {
-                self.begin(launch, session)?;
+                self.begin(launch, terms, session)?;
                 Ok(Turn::Goes)
             }
             Request::Terminate => {
@@ -184,41 +191,88 @@ impl<R: Read, O: Write> Connection<R, O> {
         }
     }
 
-    /// Tells of what the reply to a request leads to: a stop, or the end.
-    fn tell_of(&mut self, request: &Request<'_>, reply: &Reply) -> Result<(), Ended>
+    /// Tells of what a request leads to: a condition that has no value, and a stop, or the end.
+    fn tell_of(&mut self, request: &Request<'_>, answered: &Answered) -> Result<(), Ended>
         ensures { messages_of self.new ≡ messages_of self.old }
     {
-        if let Reply::Ended = reply {
+        self.tell_verdict(&answered.verdict)?;
+        if let Reply::Ended = &answered.reply {
             return self.tell("terminated");
         }
-        match stop_behind(request, reply, self.stopped) {
+        match stop_behind(request, &answered.reply, self.stopped) {
             Some((reason, text)) => self.tell_stop(reason, text),
             None => Ok(()),
         }
     }
 
-    /// Begins the run: the program stops before its first step, where it is to or a breakpoint stands there, or runs to where it
+    /// Tells on the console why a condition has no value, where it has none.
+    fn tell_verdict(&mut self, verdict: &Option<Verdict>) -> Result<(), Ended>
+        ensures { messages_of self.new ≡ messages_of self.old }
+    {
+        match verdict {
+            Some(Verdict::NoValue(why)) => {
+                let why = no_value_text(self.alloc, *why)?;
+                let text = format!(in self.alloc; "the condition has no value: {why}\n")?;
+                self.tell_console(text.as_str())
+            }
+            Some(Verdict::Holds(_) | Verdict::Fails) | None => Ok(()),
+        }
+    }
+
+    /// Begins the run: the program stops before its first step, where it is to or a breakpoint counts there, or runs to where it
     /// stops by itself.
-    #[tactic(auto, using(crate::proofs::ServedRequests::begins_nothing, crate::proofs::ServedRequests::begins_asking))]
     fn begin<M: ExpressionMachine>(
         &mut self,
         launch: &Launch<'_>,
+        terms: &mut Terms,
         session: &mut Session<M>,
     ) -> Result<(), Ended>
-        ensures done { Begins M.stands launch.now.program.now session.old session.new }
-        ensures begun { OnOk result ((s : Setting) (d : Debugger) → StandsFor M.stands session.old s d
-            → HasServed M.stands launch.now.program.now s (begun launch.now.stops_on_entry (breakpoint_here s d)) d session.new) }
+        ensures done { Begins M.stands (setup_by launch.now) (run_of session.old terms.old) (run_of session.new terms.new) }
+        ensures begun { OnOk result (HasBegun M.stands (setup_by launch.now) (run_of session.old terms.old) (run_of session.new terms.new)) }
         ensures messages { messages_of self.new ≡ messages_of self.old }
     {
         if launch.stops_on_entry {
             return self.tell_beginning(session, &Answer::Here, StopReason::Entry);
         }
-        if let Some(number) = breakpoint_here(session) {
-            let answer = Answer::AtBreakpoint(number);
-            return self.tell_beginning(session, &answer, StopReason::Breakpoint(number));
+        match stop_at_beginning(self.alloc, terms, session) {
+            Some(counted) => self.tell_counted(session, &counted),
+            None => self.run_on(launch, terms, session),
         }
-        let reply = ask(self.alloc, launch.program, session, &Request::Continue)?;
-        self.tell_of(&Request::Continue, &reply)
+    }
+
+    /// Runs to where the program stops by itself.
+    fn run_on<M: ExpressionMachine>(
+        &mut self,
+        launch: &Launch<'_>,
+        terms: &mut Terms,
+        session: &mut Session<M>,
+    ) -> Result<(), Ended>
+        ensures done { MayDo M.stands launch.now.program.now Continue (run_of session.old terms.old) (run_of session.new terms.new) }
+        ensures gone { OnOk result (DoesOne M.stands launch.now.program.now Continue (run_of session.old terms.old) (run_of session.new terms.new)) }
+        ensures messages { messages_of self.new ≡ messages_of self.old }
+    {
+        let answered = ask(
+            self.alloc,
+            launch.program,
+            terms,
+            session,
+            &Request::Continue,
+        )?;
+        self.tell_of(&Request::Continue, &answered)
+    }
+
+    /// Tells that a breakpoint counts where the run begins.
+    fn tell_counted<M: ExpressionMachine>(
+        &mut self,
+        session: &Session<M>,
+        counted: &CountedStop,
+    ) -> Result<(), Ended>
+        ensures { messages_of self.new ≡ messages_of self.old }
+    {
+        self.tell_verdict(&counted.verdict)?;
+        let number = counted.reason.number();
+        let answer = Answer::AtBreakpoint(number);
+        self.tell_beginning(session, &answer, StopReason::Breakpoint(number))
     }
 
     /// Tells that the program stands before its first step, and why.
@@ -239,10 +293,11 @@ impl<R: Read, O: Write> Connection<R, O> {
 fn ask<M: ExpressionMachine>(
     alloc: Global,
     program: &str,
+    terms: &mut Terms,
     session: &mut Session<M>,
     request: &Request<'_>,
-) -> Result<Reply, AllocError>
-    ensures { Asks M.stands program.now request.now session.old session.new result }
+) -> Result<Answered, AllocError>
+    ensures { Asks M.stands program.now request.now (run_of session.old terms.old) (run_of session.new terms.new) result }
 {
-    answer_request(alloc, program, session, request)
+    answer_request(alloc, program, terms, session, request)
 }

@@ -1,7 +1,9 @@
 pub mod Answered
 pub mod Beginning
 pub mod Doing
+pub mod Done
 pub mod Given
 pub mod Going
 pub mod Requested
 pub mod Restored
+pub mod Terms

@@ -7,6 +7,7 @@ use Rattle.gang_model.specs.Texts.Text.{Bytes}
 use Rattle.adapter_requests.specs.declared.reply.BreakpointFault.{BreakpointFault}
 use Rattle.adapter_requests.specs.declared.request.Context.{Context}
 use Rattle.adapter_requests.specs.declared.request.Context.TheVariants.{Console}
+use Rattle.adapter_requests.specs.declared.request.LineBreakpoint.{LineBreakpoint}
 use Rattle.adapter_requests.specs.declared.request.Request.{Request}
 use Rattle.adapter_requests.specs.declared.request.Request.TheVariants as request
 use Rattle.adapter_requests.specs.declared.request.Way.{Way}
@@ -88,9 +89,9 @@ line_for line (Ok place) = only (line place)
 line_for line (Err fault) = []
 
 -- the lines that put breakpoints on lines of a source, in place of those that there are; another source has none
-abbrev pub break_lines : (is_program : Bool) → List (ℕ × Stop) → List (Result ℕ BreakpointFault) → List Bytes
+abbrev pub break_lines : (is_program : Bool) → List (ℕ × Stop) → List (Result LineBreakpoint BreakpointFault) → List Bytes
 break_lines false stops lines = []
-break_lines true stops lines = map delete_line (numbers_of is_breakpoint stops) ++ flat_map (line_for break_line) lines
+break_lines true stops lines = map delete_line (numbers_of is_breakpoint stops) ++ flat_map (line_for (λ asked. break_line asked.line)) lines
 
 -- the lines that watch targets, in place of those that are watched
 abbrev pub watch_lines : List (ℕ × Stop) → List (Result (Bor Bytes) BreakpointFault) → List Bytes

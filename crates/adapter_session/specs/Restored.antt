@@ -1,6 +1,8 @@
 -- The commands that make breakpoints and watches anew.
 use Rattle.std.specs.Prelude.{ℕ, List, map}
 use Rattle.gang_model.specs.Debugger.Debugger.{Command, DoBreak, DoWatch, Stop, Line, Watch}
+use Rattle.conditional_stops.specs.Tables.{nothing}
+use Rattle.adapter_session.specs.Terms.{Terms, anew, carried}
 
 -- the command that makes a breakpoint or a watch: `break N` or `watch T`
 abbrev pub made_anew : Stop → Command
@@ -10,3 +12,11 @@ made_anew (Watch target v) = DoWatch target
 -- the commands that make these breakpoints and watches, in their order
 abbrev pub stop_commands : List (ℕ × Stop) → List Command
 stop_commands stops = map (λ entry. made_anew entry.1) stops
+
+-- the numbers of breakpoints and watches
+abbrev pub numbers : List (ℕ × Stop) → List ℕ
+numbers stops = map (λ entry. entry.0) stops
+
+-- the conditions and counts that were asked for, of the breakpoints and watches that are made anew
+abbrev pub terms_anew : Terms → (old new : List ℕ) → Terms
+terms_anew terms old new = anew (carried terms.asked old new nothing)

@@ -6,24 +6,96 @@ ghost use Rattle.debug_session.specs.Sessions.{StandsFor};
 ghost use Rattle.command_lists.specs.Lists.{HasDone};
 ghost use Rattle.adapter_replies.specs.Told.{MeansLast};
 ghost use Rattle.adapter_session.specs.Answered.{IsTold, IsToldByLines, MayTell, is_source_of};
+ghost use Rattle.adapter_session.specs.Done.{DoesPlainly, DoesRequest, terms_after};
 ghost use Rattle.adapter_session.specs.Requested.{commands_of, lines_of, spelled};
+ghost use Rattle.adapter_session.specs.Terms.{terms_of};
 
+use crate::counting::{go_to_counted, way_by};
 use crate::doing::do_lines;
 use crate::going::{go_to, goto_of};
 use crate::lines::{command_lines, is_program};
+use crate::terms::Terms;
 use adapter_replies::{depth_of, reply_to};
 use adapter_requests::{Reply, Request};
+use conditional_stops::Verdict;
 use debug_answers::Answer;
 use debug_session::Session;
+use debug_traits::RecordedMachine;
 use frame_expressions::ExpressionMachine;
 use std::alloc::{AllocError, Global};
 
-/// Does the commands of a request, where the program's source has this path, and says what the request is told.
+/// What a request came to.
+#[derive(Drop)]
+pub struct Answered {
+    /// What it is told.
+    pub reply: Reply,
+    /// What the condition came to of the breakpoint at which the program stopped, where it has one.
+    pub verdict: Option<Verdict>,
+}
+
+/// Does a request, where the program's source has this path, and says what it is told. Where conditions or counts are there, a
+/// program that goes on does so to a stop that counts.
 ///
 /// # Errors
 ///
 /// Out of memory, and then nothing was done.
 pub fn answer_request<M: ExpressionMachine>(
+    alloc: Global,
+    program: &str,
+    terms: &mut Terms,
+    session: &mut Session<M>,
+    request: &Request<'_>,
+) -> Result<Answered, AllocError>
+    ensures done { (s : Setting) (d : Debugger) → StandsFor M.stands session.old s d
+        → IfOk result (λ answered. DoesRequest M.stands s program.now request.now d (terms_of terms.old) answered session.new (terms_of terms.new)) }
+    ensures memory { IfErr result (λ _. (session.new ≡ session.old) × (terms.new ≡ terms.old)) }
+{
+    match way_by(terms, request) {
+        Some(way) => Ok(go_to_counted(alloc, program, terms, session, request, way)),
+        None => answer_plainly(alloc, program, terms, session, request),
+    }
+}
+
+/// Does the commands of a request, and says what it is told.
+fn answer_plainly<M: ExpressionMachine>(
+    alloc: Global,
+    program: &str,
+    terms: &mut Terms,
+    session: &mut Session<M>,
+    request: &Request<'_>,
+) -> Result<Answered, AllocError>
+    ensures done { (s : Setting) (d : Debugger) → StandsFor M.stands session.old s d
+        → IfOk result (λ answered. DoesPlainly M.stands s program.now request.now d (terms_of terms.old) answered session.new (terms_of terms.new)) }
+    ensures memory { IfErr result (λ _. (session.new ≡ session.old) × (terms.new ≡ terms.old)) }
+{
+    let reply = answer_commands(alloc, program, session, request)?;
+    change_terms(program, terms, session, request);
+    Ok(Answered {
+        reply,
+        verdict: None,
+    })
+}
+
+/// Puts the conditions and the counts of a request in place of those that there are, where it has some.
+fn change_terms<M: RecordedMachine>(
+    program: &str,
+    terms: &mut Terms,
+    session: &Session<M>,
+    request: &Request<'_>,
+)
+    ensures { (s : Setting) (d : Debugger) → StandsFor M.stands session.now s d
+        → terms_of terms.new ≡ terms_after s program.now d request.now (terms_of terms.old) }
+{
+    match request {
+        Request::SetBreakpoints { source, lines } => {
+            terms.replace(is_program(program, *source), session, lines);
+        }
+        _ => {}
+    }
+}
+
+/// Does the commands of a request, where the program's source has this path, and says what the request is told.
+fn answer_commands<M: ExpressionMachine>(
     alloc: Global,
     program: &str,
     session: &mut Session<M>,

@@ -3,13 +3,16 @@
 
 mod answering;
 mod beginning;
+mod counting;
 mod doing;
 mod going;
 mod lines;
 mod restoring;
+mod terms;
 
-pub use answering::answer_request;
-pub use beginning::breakpoint_here;
+pub use answering::{Answered, answer_request};
+pub use beginning::stop_at_beginning;
 pub use doing::do_lines;
 pub use lines::command_lines;
 pub use restoring::restore_stops;
+pub use terms::Terms;

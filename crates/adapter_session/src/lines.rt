@@ -7,7 +7,7 @@ ghost use Rattle.adapter_session.specs.Given.{given_numbers, is_of};
 ghost use Rattle.adapter_session.specs.Requested.{break_line, delete_line, evaluated, is_console, is_elsewhere, is_program, line_for, lines_of, only, set_lines, watch_line};
 
 use adapter_replies::is_set_there;
-use adapter_requests::{BreakpointFault, Context, Request};
+use adapter_requests::{BreakpointFault, Context, LineBreakpoint, Request};
 use debug_answers::{NumberedStop, Stop};
 use debug_commands::read_command;
 use debug_words::is_same;
@@ -139,7 +139,7 @@ fn is_elsewhere(top: usize, frame: Option<u64>) -> bool
 }
 
 /// Whether an expression stands in the console.
-fn is_console(context: Context) -> bool
+pub(crate) fn is_console(context: Context) -> bool
     ensures { result ≡ is_console context }
 {
     context == Context::Console
@@ -169,14 +169,14 @@ fn evaluated(
 fn break_lines(
     alloc: Global,
     stops: &[NumberedStop],
-    lines: &[Result<u32, BreakpointFault>],
+    lines: &[Result<LineBreakpoint<'_>, BreakpointFault>],
 ) -> Result<Vec<String>, AllocError>
     ensures { IfOk result (λ all. map string_bytes all.items
-        ≡ map delete_line (given_numbers Kind.Breakpoints stops.now) ++ flat_map (line_for break_line) lines.now) }
+        ≡ map delete_line (given_numbers Kind.Breakpoints stops.now) ++ flat_map (line_for (λ asked. break_line asked.line)) lines.now) }
 {
     let mut all = delete_lines(alloc, stops, Kind::Breakpoints)?;
-    for line in lines {
-        push_break(alloc, *line, &mut all)?;
+    for asked in lines {
+        push_break(alloc, *asked, &mut all)?;
     }
     Ok(all)
 }
@@ -184,12 +184,14 @@ fn break_lines(
 /// Puts the line that makes a breakpoint behind others, where it can be made.
 fn push_break(
     alloc: Global,
-    line: Result<u32, BreakpointFault>,
+    asked: Result<LineBreakpoint<'_>, BreakpointFault>,
     all: &mut Vec<String>,
 ) -> Result<(), AllocError>
-    ensures { IfOk result (λ _. map string_bytes all.new.items ≡ map string_bytes all.old.items ++ line_for break_line line) }
+    ensures { IfOk result (λ _. map string_bytes all.new.items
+        ≡ map string_bytes all.old.items ++ line_for (λ asked. break_line asked.line) asked.entry) }
 {
-    if let Ok(line) = line {
+    if let Ok(asked) = asked {
+        let line = asked.line;
         all.push(format!(in alloc; "break {line}")?)?;
     }
     Ok(())
@@ -245,7 +247,7 @@ fn delete_lines(
 }
 
 /// Whether a stop is of a kind.
-fn is_of(kind: Kind, stop: Stop) -> bool
+pub(crate) fn is_of(kind: Kind, stop: Stop) -> bool
     ensures { result ≡ is_of kind stop }
 {
     match (kind, stop) {

@@ -6,15 +6,34 @@ ghost use Rattle.debug_answers.specs.Meanings.{IsStop};
 ghost use Rattle.debug_commands.specs.Views.{command_view};
 ghost use Rattle.debug_session.specs.Sessions.{StandsFor};
 ghost use Rattle.command_lists.specs.Lists.{HasDone};
-ghost use Rattle.adapter_session.specs.Restored.{made_anew, stop_commands};
+ghost use Rattle.adapter_session.specs.Restored.{made_anew, numbers, stop_commands, terms_anew};
+ghost use Rattle.adapter_session.specs.Terms.{terms_of};
 
+use crate::terms::Terms;
 use debug_answers::Stop;
 use debug_commands::{Command, Target};
 use debug_session::Session;
 use debug_traits::RecordedMachine;
 
+/// Makes the breakpoints and watches of a session anew in another one of the same program, in the order of their numbers, with the
+/// conditions and the counts that were asked for.
+pub fn restore_stops<M: RecordedMachine>(
+    old: &Session<M>,
+    terms: &mut Terms,
+    session: &mut Session<M>,
+)
+    ensures done { (s : Setting) (d e : Debugger) → StandsFor M.stands old.now s d → StandsFor M.stands session.old s e
+        → HasDone M.stands s (stop_commands d.stops) e session.new }
+    ensures terms { (s : Setting) (d e : Debugger) → StandsFor M.stands old.now s d → StandsFor M.stands session.new s e
+        → terms_of terms.new ≡ terms_anew (terms_of terms.old) (numbers d.stops) (numbers e.stops) }
+{
+    restore_all(old, session);
+    let restored = terms.carried(old.stops(), session.stops());
+    *terms = restored;
+}
+
 /// Makes the breakpoints and watches of a session anew in another one of the same program, in the order of their numbers.
-pub fn restore_stops<M: RecordedMachine>(old: &Session<M>, session: &mut Session<M>)
+fn restore_all<M: RecordedMachine>(old: &Session<M>, session: &mut Session<M>)
     ensures { (s : Setting) (d e : Debugger) → StandsFor M.stands old.now s d → StandsFor M.stands session.old s e
         → HasDone M.stands s (stop_commands d.stops) e session.new }
 {

@@ -1,16 +1,23 @@
 //! What an editor's requests do, and what they are answered.
 use crate::ends::{Ended, end_of};
 use crate::runs::session;
-use adapter_replies::{answer_text, exception_reply, reply_to};
-use adapter_requests::{Reply, Request, StopReason};
-use adapter_session::{answer_request, command_lines};
+use crate::stops::end_of_verdict;
+use adapter_replies::{answer_text, exception_reply, no_value_text, reply_to};
+use adapter_requests::{LineBreakpoint, Reply, Request, StopReason};
+use adapter_session::{Answered, Terms, answer_request, command_lines, stop_at_beginning};
+use conditional_stops::CountedStop;
 use debug_answers::Answer;
+use debug_traits::RecordedMachine;
+use frame_values::NoValue;
 use gang_types::FaultName;
 use ispc_debugger::ProgramSession;
 use std::alloc::Global;
 
 /// The name of the source.
 const PROGRAM: &str = "it.ispc";
+
+/// What holds where the program stands.
+const CONDITION: &str = "n + t[1] > 0";
 
 /// Makes the call of a name, if there is memory for what it is called on.
 pub(crate) fn call(alloc: Global, name: &str) -> Option<Ended> {
@@ -19,6 +26,8 @@ pub(crate) fn call(alloc: Global, name: &str) -> Option<Ended> {
             Some(end_of(&command_lines(alloc, PROGRAM, 1, &Request::StepIn, &[])))
         }
         "adapter_session::answer_request" => Some(step(alloc, &mut session(alloc)?)),
+        "adapter_session::stop_at_beginning" => begin(alloc),
+        "adapter_replies::no_value_text" => Some(end_of(&no_value_text(alloc, NoValue::NoFrame))),
         "adapter_replies::reply_to" => Some(list_frames(alloc, &session(alloc)?)),
         "adapter_replies::exception_reply" => Some(tell_fault(alloc)),
         "adapter_replies::answer_text" => Some(write_frames(alloc, &session(alloc)?)),
@@ -28,9 +37,41 @@ pub(crate) fn call(alloc: Global, name: &str) -> Option<Ended> {
 
 /// Does a request to step, which is done also where there is no memory to tell of it.
 fn step(alloc: Global, session: &mut ProgramSession<4>) -> Ended {
-    match answer_request(alloc, PROGRAM, session, &Request::StepIn) {
-        Ok(Reply::OutOfMemory) => Ended::Memory,
-        reply => end_of(&reply),
+    let mut terms = Terms::new();
+    match answer_request(alloc, PROGRAM, &mut terms, session, &Request::StepIn) {
+        Ok(
+            Answered {
+                reply: Reply::OutOfMemory,
+                verdict: _,
+            },
+        ) => Ended::Memory,
+        answered => end_of(&answered),
+    }
+}
+
+/// Asks a breakpoint with a condition where the program stands.
+fn begin(alloc: Global) -> Option<Ended> {
+    let mut session = session(alloc)?;
+    let mut terms = Terms::new();
+    let asked = LineBreakpoint {
+        line: session.machine().position()?.place.line,
+        condition: Some(CONDITION),
+        passes: 0,
+    };
+    let mut lines = Vec::new(alloc);
+    lines.push(Ok(asked)).ok()?;
+    let source = Some(PROGRAM);
+    let request = Request::SetBreakpoints { source, lines };
+    answer_request(alloc, PROGRAM, &mut terms, &mut session, &request).ok()?;
+    match stop_at_beginning(alloc, &mut terms, &session)? {
+        CountedStop {
+            verdict: Some(verdict),
+            reason: _,
+        } => Some(end_of_verdict(verdict)),
+        CountedStop {
+            verdict: None,
+            reason: _,
+        } => Some(Ended::Otherwise),
     }
 }
 

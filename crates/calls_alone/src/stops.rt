@@ -106,7 +106,7 @@ fn end_of_move(end: MoveEnd<'_>) -> Ended {
 }
 
 /// How the judging of a condition ended that holds.
-fn end_of_verdict(verdict: Verdict) -> Ended {
+pub(crate) fn end_of_verdict(verdict: Verdict) -> Ended {
     match verdict {
         Verdict::Holds(_) => Ended::Done,
         Verdict::NoValue(why) if why.is_memory() => Ended::Memory,

@@ -7,6 +7,7 @@ use crate::files::file_front;
 use crate::refusing::{read_fault, refuse, write_fault};
 use adapter_requests::Launch;
 use adapter_server::{Connection, Ended, LaunchMessage, Served};
+use adapter_session::Terms;
 use debug_inputs::MOST_BYTES as MOST_INPUT;
 use debug_streams::StreamWriter;
 use ispc_debugger::{WholeSession, open_whole_session};
@@ -159,7 +160,8 @@ fn serve_session<const W: usize, R: Read + Drop, O: Write + Drop>(
     requires range { AreInRange options.now }
 {
     let mut session = session;
-    let mut served = connection.serve(message, &mut session)?;
+    let mut terms = Terms::new();
+    let mut served = connection.serve(message, &mut terms, &mut session)?;
     for _ in 0..u64::MAX {
         if served == Served::Disconnected {
             break;
@@ -167,10 +169,10 @@ fn serve_session<const W: usize, R: Read + Drop, O: Write + Drop>(
         match open_launch::<W>(rt, launch, options)? {
             Opened::Refused(text) => {
                 connection.refuse_restart(text.as_str())?;
-                served = connection.go_on(message, &mut session)?;
+                served = connection.go_on(message, &mut terms, &mut session)?;
             }
             Opened::Session(mut next) => {
-                served = connection.restart(message, &session, &mut next)?;
+                served = connection.restart(message, &session, &mut terms, &mut next)?;
                 session = next;
             }
         }

@@ -4,7 +4,7 @@ use Rattle.gang_model.specs.Debugger.Debugger.{Debugger, Setting}
 use Rattle.debug_session.specs.Sessions.{StandsFor}
 use Rattle.command_lists.specs.Lists.{HasDone}
 use Rattle.adapter_session.specs.Restored.{stop_commands}
-use Rattle.adapter_session.proofs.restoring.restore_stops.Given as goal
+use Rattle.adapter_session.proofs.restoring.restore_all.Given as goal
 
 abbrev pub invariant-loop-index : goal.invariant-loop-index
 invariant-loop-index g l =

@@ -1,0 +1,48 @@
+use Rattle.std.proofs.Common.{refl}
+use Rattle.adapter_requests.specs.declared.request.Request.TheVariants.{Continue}
+use Rattle.adapter_server.specs.Serving.{AsksHere, DoesOne, HasBegun, MayDo, run_of, setup_by}
+use Rattle.adapter_server.proofs.ServedRequests.{begins_going, begins_here, on_ok, on_ok_then}
+use Rattle.adapter_server.proofs.connection.Connection.begin.Goals as goal
+
+pub returns-in-Some-clause-done : goal.returns-in-Some-clause-done
+returns-in-Some-clause-done g c =
+    let stands = g.M.RecordedMachine.stands in
+    let launch = c.args.launch.now in
+    let first = c.stop_at_beginning.result in
+    let old = run_of c.args.session.now c.args.terms.now in
+    let middle = run_of c.args.session.now c.stop_at_beginning.new.terms in
+    let asked : AsksHere stands first old middle = record { session = refl; asked = c.stop_at_beginning.ensures.asked; asks = c.stop_at_beginning.ensures.asks } in
+    begins_here stands (MayDo stands launch.program.now Continue) launch.stops_on_entry first c.in-Some.counted old middle c.if-launch.false c.in-Some.is asked
+
+pub returns-in-Some-clause-begun : goal.returns-in-Some-clause-begun
+returns-in-Some-clause-begun g c =
+    let stands = g.M.RecordedMachine.stands in
+    let launch = c.args.launch.now in
+    let first = c.stop_at_beginning.result in
+    let old = run_of c.args.session.now c.args.terms.now in
+    let middle = run_of c.args.session.now c.stop_at_beginning.new.terms in
+    let asked : AsksHere stands first old middle = record { session = refl; asked = c.stop_at_beginning.ensures.asked; asks = c.stop_at_beginning.ensures.asks } in
+    on_ok c.tell_counted.result (HasBegun stands (setup_by launch) old middle)
+    (begins_here stands (DoesOne stands launch.program.now Continue) launch.stops_on_entry first c.in-Some.counted old middle c.if-launch.false c.in-Some.is asked)
+
+pub returns-in-None-clause-done : goal.returns-in-None-clause-done
+returns-in-None-clause-done g c =
+    let stands = g.M.RecordedMachine.stands in
+    let launch = c.args.launch.now in
+    let first = c.stop_at_beginning.result in
+    let old = run_of c.args.session.now c.args.terms.now in
+    let middle = run_of c.args.session.now c.stop_at_beginning.new.terms in
+    let asked : AsksHere stands first old middle = record { session = refl; asked = c.stop_at_beginning.ensures.asked; asks = c.stop_at_beginning.ensures.asks } in
+    begins_going stands (MayDo stands launch.program.now Continue) launch.stops_on_entry first old middle (run_of c.run_on.new.session c.run_on.new.terms) c.if-launch.false c.in-None.is asked c.run_on.ensures.done
+
+pub returns-in-None-clause-begun : goal.returns-in-None-clause-begun
+returns-in-None-clause-begun g c =
+    let stands = g.M.RecordedMachine.stands in
+    let launch = c.args.launch.now in
+    let first = c.stop_at_beginning.result in
+    let old = run_of c.args.session.now c.args.terms.now in
+    let middle = run_of c.args.session.now c.stop_at_beginning.new.terms in
+    let new = run_of c.run_on.new.session c.run_on.new.terms in
+    let asked : AsksHere stands first old middle = record { session = refl; asked = c.stop_at_beginning.ensures.asked; asks = c.stop_at_beginning.ensures.asks } in
+    on_ok_then c.run_on.result (DoesOne stands launch.program.now Continue middle new) (HasBegun stands (setup_by launch) old new) c.run_on.ensures.gone
+    (λ goes. begins_going stands (DoesOne stands launch.program.now Continue) launch.stops_on_entry first old middle new c.if-launch.false c.in-None.is asked goes)

@@ -1,0 +1,86 @@
+-- What a request comes to: with no condition and no count its commands; with some, a program that goes on does so to a stop that counts.
+use Rattle.std.specs.Prelude.{◌≡◌, ℕ, Bool, Option, Some, None, if◌then◌else◌}
+use Rattle.gang_model.specs.Debugger.Debugger as model
+use Rattle.gang_model.specs.Debugger.Debugger.{Command, Debugger, DoContinue, DoReverseContinue, Setting}
+use Rattle.gang_model.specs.Texts.CommandText.{command_of}
+use Rattle.gang_model.specs.Texts.Text.{Bytes}
+use Rattle.debug_answers.specs.Meanings.{Means}
+use Rattle.debug_session.specs.declared.session.Session.{Session}
+use Rattle.debug_session.specs.Sessions.{StandsFor}
+use Rattle.command_lists.specs.Lists.{HasDone}
+use Rattle.conditional_stops.specs.declared.going.Direction.{Direction}
+use Rattle.conditional_stops.specs.declared.going.Direction.TheVariants.{Forward, Backward}
+use Rattle.conditional_stops.specs.declared.going.MoveEnd.{MoveEnd}
+use Rattle.conditional_stops.specs.declared.going.MoveEnd.TheVariants as end
+use Rattle.conditional_stops.specs.declared.going.Moved.{Moved}
+use Rattle.conditional_stops.specs.declared.judging.Verdict.{Verdict}
+use Rattle.conditional_stops.specs.Going.{GoesOn, answer_of}
+use Rattle.conditional_stops.specs.Tables.{is_nothing}
+use Rattle.adapter_requests.specs.declared.request.Request.{Request}
+use Rattle.adapter_requests.specs.declared.request.Request.TheVariants as request
+use Rattle.adapter_session.specs.declared.answering.Answered.{Answered}
+use Rattle.adapter_session.specs.Answered.{IsTold, MayTell}
+use Rattle.adapter_session.specs.Requested.{commands_of, is_breakpoint, is_console, is_program, numbers_of}
+use Rattle.adapter_session.specs.Terms.{Terms, anew, asked_table, replaced}
+
+-- the most stops that are passed for one request
+abbrev pub most : ℕ
+most = 1000000
+
+-- which way a command goes on
+abbrev pub way_of_command : Option Command → Option Direction
+way_of_command (Some DoContinue) = Some Forward
+way_of_command (Some DoReverseContinue) = Some Backward
+way_of_command command = None
+
+-- which way a line of the console goes on
+abbrev pub way_of_line : (is_console : Bool) → Bytes → Option Direction
+way_of_line is_console text = if is_console then way_of_command (command_of text) else None
+
+-- which way a request goes on
+abbrev pub way_of : Request → Option Direction
+way_of request.Continue = Some Forward
+way_of request.ReverseContinue = Some Backward
+way_of (request.Evaluate expression frame context) = way_of_line (is_console context) expression.now
+way_of other = None
+
+-- the same where a condition or a count is there
+abbrev pub way_by : Terms → Request → Option Direction
+way_by terms request = if is_nothing terms.left then None else way_of request
+
+-- the conditions and counts after a request, where a debugger stands then
+abbrev pub terms_after : Setting → (program : Bytes) → Debugger → Request → Terms → Terms
+terms_after s program d (request.SetBreakpoints source lines) terms = replaced (is_program program source) (anew (asked_table s lines.items (numbers_of is_breakpoint d.stops))) terms
+terms_after s program d other terms = terms
+
+-- what the condition came to of a stop that counts
+abbrev pub verdict_of : MoveEnd → Option Verdict
+verdict_of (end.Stopped counted) = counted.verdict
+verdict_of ended = None
+
+-- the commands of a request were done, and nothing else
+pub record DoesPlainly {M : Type 0} (stands : M → Setting → Debugger → Type 0) (s : Setting) (program : Bytes) (request : Request) (d : Debugger) (terms : Terms) (answered : Answered) (session : Session M) (new : Terms) : Type 0 where
+  pub done : HasDone stands s (commands_of program s d request) d session
+  pub told : IsTold stands s program request d answered.reply session
+  pub verdict : answered.verdict ≡ None
+  pub terms_are : (e : Debugger) → StandsFor stands session s e → new ≡ terms_after s program e request terms
+
+-- the session has gone on to a stop that counts, or to what else ended that, and the request is told that answer
+pub record GoesToStop {M : Type 0} (stands : M → Setting → Debugger → Type 0) (s : Setting) (program : Bytes) (request : Request) (way : Direction) (d : Debugger) (terms : Terms) (answered : Answered) (session : Session M) (new : Terms) : Type 0 where
+  pub moved : Moved
+  pub goes : GoesOn stands s way most d terms.left moved session new.left
+  pub asked : new.asked ≡ terms.asked
+  pub after : Debugger
+  pub there : StandsFor stands session s after
+  pub meant : model.Answer
+  pub means : Means s after (answer_of moved.end) meant
+  pub tells : MayTell s program after (Some (answer_of moved.end)) meant request answered.reply
+  pub verdict : answered.verdict ≡ verdict_of moved.end
+
+-- what a request comes to, by which way it goes on
+abbrev pub DoesBy : {M : Type 0} → (M → Setting → Debugger → Type 0) → Option Direction → Setting → (program : Bytes) → Request → Debugger → Terms → Answered → Session M → (new : Terms) → Type 0
+DoesBy stands None s program request d terms answered session new = DoesPlainly stands s program request d terms answered session new
+DoesBy stands (Some way) s program request d terms answered session new = GoesToStop stands s program request way d terms answered session new
+
+abbrev pub DoesRequest : {M : Type 0} → (M → Setting → Debugger → Type 0) → Setting → (program : Bytes) → Request → Debugger → Terms → Answered → Session M → (new : Terms) → Type 0
+DoesRequest stands s program request d terms answered session new = DoesBy stands (way_by terms request) s program request d terms answered session new
