@@ -88,18 +88,33 @@ fn write_made<O: AnswerWriter>(
     let Some(access) = accesses.get(row.number) else {
         return Ok(());
     };
-    let name = access.name.as_slice();
-    let parts = [
-        Right(u64::from(access.line), 5),
-        Text(b" "),
-        Left(name, NAME_ROOM),
-        Text(b" "),
-        Left(way_of(access.way), WAY_ROOM),
-    ];
-    write_parts(writer, &parts)?;
+    write_parts(writer, &[Right(u64::from(access.line), 5), Text(b" ")])?;
+    write_left(access.name.as_slice(), NAME_ROOM, writer)?;
+    writer.write_all(b" ")?;
+    write_left(way_of(access.way), WAY_ROOM, writer)?;
     write_counts(row.counts, writer)?;
-    let text = front_of(line_at(lines, access.line as usize), MOST_SHOWN);
-    write_parts(writer, &[Text(b"  "), Shown(text), Text(b"\n")])
+    write_text(
+        front_of(line_at(lines, access.line as usize), MOST_SHOWN),
+        writer,
+    )
+}
+
+/// Writes the line of the source behind the columns.
+fn write_text<O: AnswerWriter>(text: &[u8], writer: &mut O) -> Result<(), WriteFault>
+    requires works { O.has_failed writer.old ≡ false }
+    ensures failed { O.has_failed writer.new ≡ is_err result }
+{
+    writer.write_all(b"  ")?;
+    write_parts(writer, &[Shown(text)])?;
+    writer.write_all(b"\n")
+}
+
+/// Writes bytes at the left of a column of so many.
+fn write_left<O: AnswerWriter>(bytes: &[u8], room: usize, writer: &mut O) -> Result<(), WriteFault>
+    requires works { O.has_failed writer.old ≡ false }
+    ensures failed { O.has_failed writer.new ≡ is_err result }
+{
+    write_parts(writer, &[Left(bytes, room)])
 }
 
 /// Writes the columns of some counts.
