@@ -31,7 +31,12 @@ class Terminal:
     def __init__(self, words, folder):
         self.ours, theirs = os.openpty()
         set_quiet(theirs)
-        control = lambda: fcntl.ioctl(0, termios.TIOCSCTTY, 0)
+
+        def control():
+            # (what runs behind a shell's & ignores this signal, and so does what it begins)
+            signal.signal(signal.SIGINT, signal.SIG_DFL)
+            fcntl.ioctl(0, termios.TIOCSCTTY, 0)
+
         streams = {"stdin": theirs, "stdout": theirs, "stderr": theirs}
         self.process = subprocess.Popen(words, cwd=folder, env={"LINES": "8"}, start_new_session=True, preexec_fn=control, **streams)
         os.close(theirs)
