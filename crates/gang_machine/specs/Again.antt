@@ -1,5 +1,5 @@
 -- What of a machine lasts all through its run, and what a copy of its words is.
-use Rattle.std.specs.Prelude.{◌≡◌, ℕ, List, []}
+use Rattle.std.specs.Prelude.{◌≡◌, ℕ, List, [], length}
 use Rattle.std.proofs.Common.{subst, sym}
 use Rattle.undo_log.specs.History.{History}
 use Rattle.gang_model.specs.Debugger.Debugger.{Debugger, Setting}
@@ -29,6 +29,10 @@ pub record AreWords (m : View) (words : List ℕ) : Type 0 where
 abbrev pub CanHave : Counted → List ℕ → Type 0
 CanHave m words = AreWords (with_only [] m.seen) words
 
+-- how many words it has
+abbrev pub word_count : Counted → ℕ
+word_count m = m.seen.layout.words
+
 -- a machine with these words stands there, where no event is kept
 abbrev pub Copies : Counted → List ℕ → Setting → Debugger → Type 0
 Copies m words s d = SeenStands (with_only words m.seen) s d
@@ -39,3 +43,7 @@ can_have_so old new words same has = subst (λ m. AreWords m words) (sym same) h
 
 pub copies_so : (old new : Counted) (words : List ℕ) (s : Setting) (d : Debugger) → SameRun old new → Copies old words s d → Copies new words s d
 copies_so old new words s d same copy = subst (λ m. SeenStands (with_only words m) s d) (sym same) copy
+
+-- words that it can have are as many
+pub are_as_many : (m : Counted) (words : List ℕ) → CanHave m words → length words ≡ word_count m
+are_as_many m words has = has.laid.long

@@ -43,9 +43,15 @@ fn put<T: Timeline + Drop>(words: &mut MachineWords<T>, copy: &[u64])
 }
 
 impl<const W: usize, T: Timeline + Drop> CopiesOver for Machine<W, T> {
+    ghost use Rattle.gang_machine.specs.Again.{are_as_many, word_count};
+
+    ghost word_count = { word_count };
+
     fn copy_over(&self, words: &mut [u64]) {
         copy_words(&self.words, words);
     }
+
+    ghost are_as_many = { are_as_many };
 }
 
 /// Copies all words over others, as many.

@@ -12,12 +12,13 @@ ghost use Rattle.gang_machine.specs.Standings.{Stands};
 use crate::machine::Machine;
 use debug_traits::Fault;
 use expression_instructions::Instruction;
-use expression_runs::{Stacks, Stop, evaluate};
+use expression_runs::Stop;
 use frame_expressions::{ExpressionMachine, LaneWords};
 use frame_steps::TopVariables;
 use gang_types::{FuncId, Mask, Spot};
 use machine_shown::{frame_count, position, step_at};
 use machine_words::{Head, MachineWords, Region};
+use short_expressions::value_of;
 use typed_tree::Program;
 use undo_log::Timeline;
 
@@ -69,8 +70,7 @@ impl<const W: usize, T: Timeline + Drop> ExpressionMachine for Machine<W, T> {
             words: &self.words,
             frame: active.frame,
         };
-        let mut stacks = Stacks::<W>::new();
-        match evaluate(code, &variables, lanes, &mut stacks) {
+        match value_of(code, &variables, lanes) {
             Ok(values) => Ok(widened(lanes, values)),
             Err(Stop::Fault((lane, name))) => Err(Fault { name, lane }),
             Err(Stop::NoRoom) => Ok(no_words()),

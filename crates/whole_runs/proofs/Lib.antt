@@ -1,5 +1,6 @@
 pub mod Counts
 pub mod DoneAgain
+pub mod KeptWords
 pub mod NoWords
 pub mod Places
 pub mod SeenSame

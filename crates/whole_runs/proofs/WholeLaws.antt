@@ -146,9 +146,9 @@ module _ {M : Type 0} (stands : M → Setting → Debugger → Type 0) (copies :
 
     -- ---- events that are taken back
     pub taken : (notes : Noted) (kind : Undone) → Left s whole.older d.events kind notes.pokes notes.steps run.notes.kept notes.kept → notes.limit ≡ run.notes.limit
-        → (all : List CopiedMoment) → All (IsCopied copies new s d whole.older notes.pokes notes.steps) all → StandsAt stands new s d (steps_on notes.steps (noted whole.older notes.pokes))
-        → Undoes (StandsWhole stands copies) s d (Ok kind) (record run { inner = new; notes = notes; copies = all; is_stale = true; moves = moves })
-    taken notes kind is limit_is all copied there =
+        → (all : List CopiedMoment) (most : ℕ) → All (IsCopied copies new s d whole.older notes.pokes notes.steps) all → StandsAt stands new s d (steps_on notes.steps (noted whole.older notes.pokes))
+        → Undoes (StandsWhole stands copies) s d (Ok kind) (record run { inner = new; notes = notes; copies = all; most = most; is_stale = true; moves = moves })
+    taken notes kind is limit_is all most copied there =
         let events = steps_on notes.steps (noted whole.older notes.pokes) in
         let rest : drop 1 d.events ≡ events = ap (drop 1) is.is in
         let one = is.one in
@@ -204,10 +204,10 @@ module _ {M : Type 0} (stands : M → Setting → Debugger → Type 0) (copies :
       never kept k is some none = omega arith
 
   -- with other copies
-  pub recopied : (run : Whole M) (s : Setting) (d : Debugger) (whole : StandsWhole stands copies run s d) (all : List CopiedMoment) (is_stale : Bool)
+  pub recopied : (run : Whole M) (s : Setting) (d : Debugger) (whole : StandsWhole stands copies run s d) (all : List CopiedMoment) (most : ℕ) (is_stale : Bool)
       → All (IsCopied copies run.inner s d whole.older run.notes.pokes run.notes.steps) all → (is_stale ≡ false → AreWithin run.notes.pokes run.notes.steps all)
-      → StandsWhole stands copies (record run { copies = all; is_stale = is_stale }) s d
-  recopied run s d whole all is_stale copied within = record {
+      → StandsWhole stands copies (record run { copies = all; most = most; is_stale = is_stale }) s d
+  recopied run s d whole all most is_stale copied within = record {
     older = whole.older;
     there = whole.there;
     events = whole.events;
@@ -237,32 +237,32 @@ module _ {M : Type 0} (stands : M → Setting → Debugger → Type 0) (copies :
       )
 
   -- copies of a moment after the last event are gone
-  pub dropped : (run : Whole M) (s : Setting) (d : Debugger) (whole : StandsWhole stands copies run s d) (all : List CopiedMoment) (is_stale : Bool)
-      → all ≡ filter (λ c. is_within run.notes.pokes run.notes.steps c.pokes c.steps) run.copies → StandsWhole stands copies (record run { copies = all; is_stale = is_stale }) s d
-  dropped run s d whole all is_stale is =
+  pub dropped : (run : Whole M) (s : Setting) (d : Debugger) (whole : StandsWhole stands copies run s d) (all : List CopiedMoment) (most : ℕ) (is_stale : Bool)
+      → all ≡ filter (λ c. is_within run.notes.pokes run.notes.steps c.pokes c.steps) run.copies → StandsWhole stands copies (record run { copies = all; most = most; is_stale = is_stale }) s d
+  dropped run s d whole all most is_stale is =
       let P = IsCopied copies run.inner s d whole.older run.notes.pokes run.notes.steps in
       let test : CopiedMoment → Bool = λ c. is_within run.notes.pokes run.notes.steps c.pokes c.steps in
       let W : CopiedMoment → Type 0 = λ c. IsWithin run.notes.pokes run.notes.steps c.pokes c.steps in
       let passes = filter_passes test run.copies in
       let within : All W (filter test run.copies) = λ k e inside. within_of run.notes.pokes run.notes.steps (slice_index_or (filter test run.copies) k e).pokes (slice_index_or (filter test run.copies) k e).steps (passes k e inside) in
-      recopied run s d whole all is_stale (All-same P all (filter test run.copies) is (All-filter test P run.copies whole.copied)) (λ f. All-same W all (filter test run.copies) is within)
+      recopied run s d whole all most is_stale (All-same P all (filter test run.copies) is (All-filter test P run.copies whole.copied)) (λ f. All-same W all (filter test run.copies) is within)
 
   -- another copy is kept
   pub another : (run : Whole M) (s : Setting) (d : Debugger) (whole : StandsWhole stands copies run s d) (c : CopiedMoment) → c.pokes ≡ length run.notes.pokes → c.steps ≡ run.notes.steps
       → ((s : Setting) (d : Debugger) → stands run.inner s d → copies run.inner c.words.items s (with_events d.events 0 0 d))
-      → (all : List CopiedMoment) → MayKeep run.copies c all → StandsWhole stands copies (record run { copies = all }) s d
-  another run s d whole c pokes_are steps_are moment all keeps =
+      → (all : List CopiedMoment) (most : ℕ) → MayKeep run.copies c all → StandsWhole stands copies (record run { copies = all; most = most }) s d
+  another run s d whole c pokes_are steps_are moment all most keeps =
       let last : IsWithin run.notes.pokes run.notes.steps c.pokes c.steps = let less : c.steps ≤ run.notes.steps = omega (arith, steps_are) in inr (pokes_are, less) in
-      recopied run s d whole all run.is_stale
+      recopied run s d whole all most run.is_stale
       (all_kept (IsCopied copies run.inner s d whole.older run.notes.pokes run.notes.steps) run.copies c all whole.copied (copy_here run s d whole c pokes_are steps_are moment) keeps)
       (λ f. all_kept (λ c. IsWithin run.notes.pokes run.notes.steps c.pokes c.steps) run.copies c all (whole.within f) last keeps)
 
   -- only the last steps are left, and the start is the moment before them
-  pub restarted : (run : Whole M) (s : Setting) (d : Debugger) (whole : StandsWhole stands copies run s d) (new : M) (start : List ℕ) (left : ℕ) (all : List CopiedMoment) → all ≡ [] → left ≤ run.notes.steps
+  pub restarted : (run : Whole M) (s : Setting) (d : Debugger) (whole : StandsWhole stands copies run s d) (new : M) (start : List ℕ) (left : ℕ) (all : List CopiedMoment) (most : ℕ) → all ≡ [] → left ≤ run.notes.steps
       → StandsAt stands new s d (steps_on run.notes.steps (noted whole.older run.notes.pokes))
       → copies new start s (with_events (steps_on (run.notes.steps - left) (noted whole.older run.notes.pokes)) 0 0 d)
-      → StandsWhole stands copies (record run { inner = new; notes = last_steps left run.notes; start = start; copies = all }) s d
-  restarted run s d whole new start left all none less there begins =
+      → StandsWhole stands copies (record run { inner = new; notes = last_steps left run.notes; start = start; copies = all; most = most }) s d
+  restarted run s d whole new start left all most none less there begins =
       let before = noted whole.older run.notes.pokes in
       let first = run.notes.steps - left in
       let count : left ≡ run.notes.steps - first = omega (arith, less) in
@@ -283,10 +283,10 @@ module _ {M : Type 0} (stands : M → Setting → Debugger → Type 0) (copies :
 
   -- a run begins
   pub begun : (inner : M) (start : List ℕ) (limit : ℕ) (s : Setting) (d : Debugger) → stands inner s d → d.events ≡ [] → copies inner start s (with_events [] 0 0 d)
-      → (notes : Noted) → notes ≡ record { pokes = []; steps = 0; kept = 0; limit = limit } → (all : List CopiedMoment) → all ≡ [] → (moves : ℕ)
-      → StandsWhole stands copies (record { inner = inner; notes = notes; start = start; copies = all; is_stale = false; moves = moves }) s (with_events [] 0 limit d)
-  begun inner start limit s d there none begins notes is all no_copies moves =
-      let here : StandsWhole stands copies (record { inner = inner; notes = record { pokes = []; steps = 0; kept = 0; limit = limit }; start = start; copies = all; is_stale = false; moves = moves }) s (with_events [] 0 limit d) = record {
+      → (notes : Noted) → notes ≡ record { pokes = []; steps = 0; kept = 0; limit = limit } → (all : List CopiedMoment) (most : ℕ) → all ≡ [] → (moves : ℕ)
+      → StandsWhole stands copies (record { inner = inner; notes = notes; start = start; copies = all; most = most; is_stale = false; moves = moves }) s (with_events [] 0 limit d)
+  begun inner start limit s d there none begins notes is all most no_copies moves =
+      let here : StandsWhole stands copies (record { inner = inner; notes = record { pokes = []; steps = 0; kept = 0; limit = limit }; start = start; copies = all; most = most; is_stale = false; moves = moves }) s (with_events [] 0 limit d) = record {
         older = [];
         there = (d.kept, d.history, subst (λ events. stands inner s (with_events events d.kept d.history d)) none there);
         events = refl;
@@ -298,7 +298,7 @@ module _ {M : Type 0} (stands : M → Setting → Debugger → Type 0) (copies :
         kept = refl;
         history = refl;
       } in
-      subst (λ notes. StandsWhole stands copies (record { inner = inner; notes = notes; start = start; copies = all; is_stale = false; moves = moves }) s (with_events [] 0 limit d)) (sym is) here
+      subst (λ notes. StandsWhole stands copies (record { inner = inner; notes = notes; start = start; copies = all; most = most; is_stale = false; moves = moves }) s (with_events [] 0 limit d)) (sym is) here
 
 -- what it can have lasts
 pub have_all : {M : Type 0} (can_have : M → List ℕ → Type 0) (old new : M) (start : List ℕ) (all : List CopiedMoment) → ((words : List ℕ) → can_have old words → can_have new words)

@@ -6,15 +6,17 @@ use Rattle.gang_model.specs.Debugger.Debugger.{Debugger, Setting}
 use Rattle.debug_traits.specs.Beginnings.{StandsAt, with_events}
 use Rattle.whole_runs.specs.declared.notes.NotedPoke.{NotedPoke}
 use Rattle.whole_runs.specs.declared.copies.CopiedMoment.{CopiedMoment}
+use Rattle.whole_runs.specs.Copies.{KeptMoments}
 use Rattle.whole_runs.specs.Notes.{AreNoted, Noted, HaveGone, IsWithin, noted, steps_first, steps_on}
 
--- what a contract sees of a machine whose whole run can be taken back: the machine; what is noted; the words of the start; the copies; whether one of
--- these may be of a moment after the last event; and how often it has moved
+-- what a contract sees of a machine whose whole run can be taken back: the machine; what is noted; the words of the start; the copies, and how many
+-- there can be; whether one of these may be of a moment after the last event; and how often it has moved
 pub record Whole (M : Type 0) : Type 0 where
   pub inner : M
   pub notes : Noted
   pub start : List ℕ
   pub copies : List CopiedMoment
+  pub most : ℕ
   pub is_stale : Bool
   pub moves : ℕ
 
@@ -56,5 +58,13 @@ pub record StandsWhole {M : Type 0} (stands : M → Setting → Debugger → Typ
 abbrev pub inner_debugger : {M : Type 0} → (M → History) → Whole M → Debugger → Debugger
 inner_debugger history run d = with_events d.events (length (history run.inner).past) (history run.inner).limit d
 
-abbrev pub whole_of : {M : Type 0} → M → Noted → (start : List ℕ) → List CopiedMoment → Bool → (moves : ℕ) → Whole M
-whole_of inner notes start copies is_stale moves = record { inner = inner; notes = notes; start = start; copies = copies; is_stale = is_stale; moves = moves }
+abbrev pub whole_of : {M : Type 0} → M → Noted → (start : List ℕ) → List CopiedMoment → (most : ℕ) → Bool → (moves : ℕ) → Whole M
+whole_of inner notes start copies most is_stale moves = record { inner = inner; notes = notes; start = start; copies = copies; most = most; is_stale = is_stale; moves = moves }
+
+-- what is kept of its run
+abbrev pub moments_of : {M : Type 0} → Whole M → KeptMoments
+moments_of run = record { start = run.start; copies = run.copies; most = run.most }
+
+-- there can be as many copies as before
+abbrev pub AsManyCopies : {M : Type 0} → Whole M → Whole M → Type 0
+AsManyCopies old new = new.most ≡ old.most

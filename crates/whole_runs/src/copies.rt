@@ -1,6 +1,6 @@
 //! Copies of all words at some moments of a run.
 ghost use Rattle.std.specs.Prelude.{◌≡◌, ◌≤◌, ℕ, [], filter, length, remove};
-ghost use Rattle.whole_runs.specs.Copies.{MayKeep, is_within};
+ghost use Rattle.whole_runs.specs.Copies.{MayKeep, is_within, most_copies};
 
 use crate::notes::Notes;
 use std::alloc::Global;
@@ -26,13 +26,13 @@ impl CopiedMoment {
 /// How many words all copies have at most, where that allows a few copies.
 const COPIED_WORDS: usize = 1 << 23;
 
-/// When copies are made: how many there are at most, how many events are between two of them at least, how many events have happened since
-/// the last one, and which of them goes next where there are too many.
+/// When copies are made: how many there are at most, how many events are between two of them at least, how many of these are left up to
+/// the next one, and which of them goes next where there are too many.
 #[derive(Clone, Copy, Debug)]
 pub struct CopyPlan {
     pub most: usize,
     pub distance: u64,
-    since: u64,
+    left: u64,
     next_to_go: usize,
 }
 
@@ -44,14 +44,16 @@ impl CopyPlan {
         CopyPlan {
             most,
             distance,
-            since: 0,
+            left: distance,
             next_to_go: 0,
         }
     }
 
     /// That of a machine of so many words: all copies have some eight million words, but that there may be 8 copies, and making them takes
     /// little of the time of the steps between them.
-    pub fn of_words(words: usize) -> Self {
+    pub fn of_words(words: usize) -> Self
+        ensures { result.most ≡ most_copies words }
+    {
         let most = (COPIED_WORDS / words.max(1)).clamp(8, 1024);
         Self::new(most, (words as u64).saturating_mul(2).max(4096))
     }
@@ -60,11 +62,8 @@ impl CopyPlan {
     pub(crate) fn count_event(&mut self) -> bool
         ensures { self.new.most ≡ self.old.most }
     {
-        self.since = self.since.saturating_add(1);
-        let is_due = self.since >= self.distance;
-        if is_due {
-            self.since = 0;
-        }
+        let is_due = self.left <= 1;
+        self.left = if is_due { self.distance } else { self.left - 1 };
         is_due
     }
 
@@ -75,6 +74,7 @@ impl CopyPlan {
         if self.next_to_go == 0 || self.next_to_go >= copies / 2 {
             self.next_to_go = 0;
             self.distance = self.distance.saturating_mul(2);
+            self.left = self.distance;
         }
         let goes = self.next_to_go;
         self.next_to_go = self.next_to_go.saturating_add(1);
@@ -93,7 +93,8 @@ pub struct Copies {
 impl Copies {
     /// None yet.
     pub fn none(alloc: Global, plan: CopyPlan) -> Self
-        ensures { result.all.items ≡ [] }
+        ensures all { result.all.items ≡ [] }
+        ensures most { result.plan.most ≡ plan.most }
     {
         Copies {
             all: Vec::new(alloc),
@@ -103,14 +104,16 @@ impl Copies {
 
     /// Counts an event: whether a copy is due after it.
     pub(crate) fn is_due(&mut self) -> bool
-        ensures { self.new.all ≡ self.old.all }
+        ensures all { self.new.all ≡ self.old.all }
+        ensures most { self.new.plan.most ≡ self.old.plan.most }
     {
         self.plan.count_event()
     }
 
     /// One of them goes, if there are as many as there can be.
     fn make_place(&mut self)
-        ensures { (i : ℕ) × (self.new.all.items ≡ remove self.old.all.items i) }
+        ensures all { (i : ℕ) × (self.new.all.items ≡ remove self.old.all.items i) }
+        ensures most { self.new.plan.most ≡ self.old.plan.most }
     {
         let count = self.all.len();
         if count < self.plan.most {
@@ -124,7 +127,8 @@ impl Copies {
 
     /// One more, and another one goes, if there are as many as there can be. Without memory for it there is none more.
     pub(crate) fn keep(&mut self, copy: CopiedMoment)
-        ensures { MayKeep self.old.all.items copy self.new.all.items }
+        ensures all { MayKeep self.old.all.items copy self.new.all.items }
+        ensures most { self.new.plan.most ≡ self.old.plan.most }
     {
         self.make_place();
         if self.all.len() < self.plan.most {
@@ -134,14 +138,16 @@ impl Copies {
 
     /// Those of a moment after the last of the noted events go.
     pub(crate) fn drop_past(&mut self, notes: &Notes)
-        ensures { self.new.all.items ≡ filter (λ c. is_within notes.now.pokes.items notes.now.steps c.pokes c.steps) self.old.all.items }
+        ensures all { self.new.all.items ≡ filter (λ c. is_within notes.now.pokes.items notes.now.steps c.pokes c.steps) self.old.all.items }
+        ensures most { self.new.plan.most ≡ self.old.plan.most }
     {
         self.all.retain(|copy| copy.is_within(notes));
     }
 
     /// All of them go.
     pub(crate) fn clear(&mut self)
-        ensures { self.new.all.items ≡ [] }
+        ensures all { self.new.all.items ≡ [] }
+        ensures most { self.new.plan.most ≡ self.old.plan.most }
     {
         self.all.clear();
     }

@@ -8,7 +8,7 @@ ghost use Rattle.gang_model.specs.Debugger.Debugger.{Debugger, Setting, depth, k
 ghost use Rattle.gang_model.specs.Texts.Text.{where_text};
 ghost use Rattle.debug_traits.specs.Machines.{Finds, FindsInFile, IsPart, IsShown, Limits, LimitsWords, PokesOrNot, PokesWords, ShowsNamed, ShowsNext, Steps, StepsWords, Undoes, UndoesWords, call_text, depth_of, file_variables, line_of_position, listed, listed_parameters, position_line, position_text};
 ghost use Rattle.whole_runs.specs.Costs.{steps_again};
-ghost use Rattle.whole_runs.specs.Runs.{StandsWhole, inner_debugger};
+ghost use Rattle.whole_runs.specs.Runs.{AsManyCopies, StandsWhole, inner_debugger};
 ghost use Rattle.whole_runs.specs.Histories.{history_of};
 
 use crate::copies_over::CopiesOver;
@@ -29,7 +29,7 @@ impl<M: CopiesOver + PokesSurely> RecordedMachine for WholeRun<M> {
 
     ghost may_want = { Unit {0} };
 
-    ghost same_run = { λ _ _. Unit {0} };
+    ghost same_run = { AsManyCopies };
 
     ghost locals_from = { λ run s d. M.locals_from run.inner s (inner_debugger M.history run d) };
 
@@ -46,7 +46,7 @@ impl<M: CopiesOver + PokesSurely> RecordedMachine for WholeRun<M> {
 
     fn undo(&mut self) -> Result<Undone, NoHistory>
         ensures undo { (s : Setting) (d : Debugger) → StandsWhole M.stands M.copies self.old s d → Undoes (StandsWhole M.stands M.copies) s d result self.new }
-        ensures run { Unit {0} }
+        ensures run { AsManyCopies self.old self.new }
         ensures words { UndoesWords (history_of self.old) result (history_of self.new) }
         ensures moves { self.new.moves ≡ suc self.old.moves }
         // The machine itself moves once for it, or does again the steps behind the newest copy that is left, or behind the start.

@@ -144,6 +144,7 @@ pub(crate) fn take_last_back<M: BeginsAgain + PokesSurely>(
 )
     requires { CanHaveAll M.can_have machine.old start.now copies.old.all.items }
     ensures words { CanHaveAll M.can_have machine.new start.now copies.new.all.items }
+    ensures most { copies.new.plan.most ≡ copies.old.plan.most }
     ensures stays { KeepsCopies M.can_have M.copies machine.old machine.new }
     ensures back { (s : Setting) (d : Debugger) (older events : List Event) → StandsAt M.stands machine.old s d events
         → (drop 1 events ≡ steps_on notes.now.steps (noted older notes.now.pokes.items))

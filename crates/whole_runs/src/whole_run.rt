@@ -1,11 +1,12 @@
 //! A run that can be taken back to its start.
-ghost use Rattle.std.specs.Prelude.{◌≡◌, ℕ, List, [], ◌^◌, ◌<◌, ◌≤◌, false, suc, IfOk};
+ghost use Rattle.std.specs.Prelude.{◌≡◌, ℕ, List, [], ◌^◌, ◌<◌, ◌≤◌, false, suc, length, IfOk};
 ghost use Rattle.gang_model.specs.Types.Tree.{Variable};
 ghost use Rattle.gang_model.specs.Debugger.Debugger.{Debugger, Setting};
 ghost use Rattle.debug_traits.specs.Beginnings.{with_events};
 ghost use Rattle.debug_traits.specs.Machines.{IsPart, IsShown, PokesOrNot, PokesWords, Steps, StepsWords};
+ghost use Rattle.whole_runs.specs.Copies.{most_copies};
 ghost use Rattle.whole_runs.specs.Histories.{history_of};
-ghost use Rattle.whole_runs.specs.Runs.{StandsWhole};
+ghost use Rattle.whole_runs.specs.Runs.{AsManyCopies, StandsWhole};
 
 use crate::copies::{CopiedMoment, Copies, CopyPlan};
 use crate::copies_over::CopiesOver;
@@ -36,7 +37,7 @@ impl<M: BeginsAgain> Model for WholeRun<M> {
 
     ghost Value = { Whole M };
 
-    ghost view = { λ run. record { inner = run.inner; notes = noted_of run.notes; start = run.start.items; copies = run.copies.all.items; is_stale = run.is_stale; moves = run.moves.count } };
+    ghost view = { λ run. record { inner = run.inner; notes = noted_of run.notes; start = run.start.items; copies = run.copies.all.items; most = run.copies.plan.most; is_stale = run.is_stale; moves = run.moves.count } };
 
     ghost invariant = { λ run. CanHaveAll M.can_have run.inner run.start.items run.copies.all.items };
 }
@@ -48,7 +49,8 @@ impl<M: BeginsAgain + Drop> WholeRun<M> {
     ///
     /// Out of memory for the copy of the start.
     pub fn begin(alloc: Global, inner: M) -> Result<Self, AllocError>
-        ensures { IfOk result (λ run. (s : Setting) (d : Debugger) → M.stands inner s d → d.events ≡ [] → StandsWhole M.stands M.copies run s (with_events [] 0 (2 ^ 62) d)) }
+        ensures stands { IfOk result (λ run. (s : Setting) (d : Debugger) → M.stands inner s d → d.events ≡ [] → StandsWhole M.stands M.copies run s (with_events [] 0 (2 ^ 62) d)) }
+        ensures most { IfOk result (λ run. run.most ≡ most_copies (length run.start)) }
     {
         let start = inner.copied(alloc)?;
         let plan = CopyPlan::of_words(start.len());
@@ -61,7 +63,8 @@ impl<M: BeginsAgain + Drop> WholeRun<M> {
     ///
     /// Out of memory for the copy of the start.
     pub fn begin_by(alloc: Global, inner: M, plan: CopyPlan) -> Result<Self, AllocError>
-        ensures { IfOk result (λ run. (s : Setting) (d : Debugger) → M.stands inner s d → d.events ≡ [] → StandsWhole M.stands M.copies run s (with_events [] 0 (2 ^ 62) d)) }
+        ensures stands { IfOk result (λ run. (s : Setting) (d : Debugger) → M.stands inner s d → d.events ≡ [] → StandsWhole M.stands M.copies run s (with_events [] 0 (2 ^ 62) d)) }
+        ensures most { IfOk result (λ run. run.most ≡ plan.most) }
     {
         let start = inner.copied(alloc)?;
         Ok(Self::of_start(alloc, inner, start, plan))
@@ -70,8 +73,10 @@ impl<M: BeginsAgain + Drop> WholeRun<M> {
     /// With a copy of the start.
     fn of_start(alloc: Global, inner: M, start: Vec<u64>, plan: CopyPlan) -> Self
         requires { M.can_have inner start.items }
-        ensures { (s : Setting) (d : Debugger) → M.stands inner s d → d.events ≡ [] → M.copies inner start.items s (with_events [] 0 0 d)
+        ensures stands { (s : Setting) (d : Debugger) → M.stands inner s d → d.events ≡ [] → M.copies inner start.items s (with_events [] 0 0 d)
             → StandsWhole M.stands M.copies result s (with_events [] 0 (2 ^ 62) d) }
+        ensures most { result.most ≡ plan.most }
+        ensures start { result.start ≡ start.items }
     {
         WholeRun {
             alloc,
@@ -87,10 +92,12 @@ impl<M: BeginsAgain + Drop> WholeRun<M> {
 
 impl<M: BeginsAgain> WholeRun<M> {
     /// Copies of a moment after the last event go.
+    #[cold]
     fn drop_past(&mut self)
         ensures whole { (s : Setting) (d : Debugger) → StandsWhole M.stands M.copies self.old s d → StandsWhole M.stands M.copies self.new s d }
         ensures fresh { self.new.is_stale ≡ false }
         ensures notes { self.new.notes ≡ self.old.notes }
+        ensures most { AsManyCopies self.old self.new }
         ensures moves { self.new.moves ≡ self.old.moves }
     {
         self.copies.drop_past(&self.notes);
@@ -102,6 +109,7 @@ impl<M: BeginsAgain> WholeRun<M> {
         requires { self.old.is_stale ≡ false }
         ensures whole { (s : Setting) (d : Debugger) → StandsWhole M.stands M.copies self.old s d → StandsWhole M.stands M.copies self.new s d }
         ensures notes { self.new.notes ≡ self.old.notes }
+        ensures most { AsManyCopies self.old self.new }
         ensures moves { self.new.moves ≡ self.old.moves }
     {
         if self.copies.is_due() {
@@ -110,10 +118,12 @@ impl<M: BeginsAgain> WholeRun<M> {
     }
 
     /// One copy more, if there is memory for it.
+    #[cold]
     fn add_copy(&mut self)
         requires { self.old.is_stale ≡ false }
         ensures whole { (s : Setting) (d : Debugger) → StandsWhole M.stands M.copies self.old s d → StandsWhole M.stands M.copies self.new s d }
         ensures notes { self.new.notes ≡ self.old.notes }
+        ensures most { AsManyCopies self.old self.new }
         ensures moves { self.new.moves ≡ self.old.moves }
     {
         if let Ok(words) = self.inner.copied(self.alloc) {
@@ -132,6 +142,7 @@ impl<M: BeginsAgain> WholeRun<M> {
         ensures step { (s : Setting) (d : Debugger) → StandsWhole M.stands M.copies self.old s d → Steps (StandsWhole M.stands M.copies) s d result self.new }
         ensures words { StepsWords (history_of self.old) result (history_of self.new) }
         ensures fresh { self.new.is_stale ≡ false }
+        ensures most { AsManyCopies self.old self.new }
         ensures moves { self.new.moves ≡ suc self.old.moves }
     {
         self.moves.count_one();
@@ -145,11 +156,14 @@ impl<M: BeginsAgain> WholeRun<M> {
 
 impl<M: CopiesOver + PokesSurely> WholeRun<M> {
     /// No copy is of a moment after the last event, and another step can be counted.
+    // Each step calls it, and nearly always there is nothing to do.
+    #[inline(always)]
     pub(crate) fn make_ready(&mut self)
         ensures whole { (s : Setting) (d : Debugger) → StandsWhole M.stands M.copies self.old s d → StandsWhole M.stands M.copies self.new s d }
         ensures fresh { self.new.is_stale ≡ false }
         ensures room { suc self.new.notes.steps < 2 ^ 64 }
         ensures history { history_of self.new ≡ history_of self.old }
+        ensures most { AsManyCopies self.old self.new }
         ensures moves { self.new.moves ≡ self.old.moves }
     {
         self.refresh();
@@ -161,6 +175,7 @@ impl<M: CopiesOver + PokesSurely> WholeRun<M> {
         ensures whole { (s : Setting) (d : Debugger) → StandsWhole M.stands M.copies self.old s d → StandsWhole M.stands M.copies self.new s d }
         ensures fresh { self.new.is_stale ≡ false }
         ensures notes { self.new.notes ≡ self.old.notes }
+        ensures most { AsManyCopies self.old self.new }
         ensures moves { self.new.moves ≡ self.old.moves }
     {
         if self.is_stale {
@@ -174,6 +189,7 @@ impl<M: CopiesOver + PokesSurely> WholeRun<M> {
         ensures stale { self.new.is_stale ≡ self.old.is_stale }
         ensures room { suc self.new.notes.steps < 2 ^ 64 }
         ensures history { history_of self.new ≡ history_of self.old }
+        ensures most { AsManyCopies self.old self.new }
         ensures moves { self.new.moves ≡ self.old.moves }
     {
         if self.notes.steps == u64::MAX {
@@ -182,12 +198,14 @@ impl<M: CopiesOver + PokesSurely> WholeRun<M> {
     }
 
     /// Forgets all events but the last steps, as many as can be taken back at most. The start is then the moment before these.
+    #[cold]
     fn forget_older(&mut self)
         requires { self.old.notes.limit ≤ self.old.notes.steps }
         ensures whole { (s : Setting) (d : Debugger) → StandsWhole M.stands M.copies self.old s d → StandsWhole M.stands M.copies self.new s d }
         ensures stale { self.new.is_stale ≡ self.old.is_stale }
         ensures room { suc self.new.notes.steps < 2 ^ 64 }
         ensures history { history_of self.new ≡ history_of self.old }
+        ensures most { AsManyCopies self.old self.new }
         ensures moves { self.new.moves ≡ self.old.moves }
     {
         let left = self.notes.limit as u64;
@@ -211,6 +229,7 @@ impl<M: CopiesOver + PokesSurely> WholeRun<M> {
         ensures poke { (s : Setting) (d : Debugger) (v : Variable) → StandsWhole M.stands M.copies self.old s d → IsShown s d v shown → IsPart at shown
             → PokesOrNot (StandsWhole M.stands M.copies) s d v shown at word result self.new }
         ensures words { PokesWords (history_of self.old) result (history_of self.new) }
+        ensures most { AsManyCopies self.old self.new }
         ensures moves { self.new.moves ≡ self.old.moves }
     {
         self.notes.note_poke(shown, at, word)?;

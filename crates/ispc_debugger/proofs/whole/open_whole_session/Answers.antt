@@ -11,5 +11,5 @@ returns-clause-opened g c =
     let options = c.args.options.now in
     let (program, entry, rows, are, stands) = c.in_ok-machine.ensures.opened in
     let s = setting program entry rows (options_view options) in
-    let whole = c.in_ok-run.ensures.stands s (c.in-Ok.ensures s (fresh options.history) stands refl) in
+    let whole = c.in_ok-run.ensures.stands s (c.in-Ok.ensures.stands s (fresh options.history) stands refl) in
     (program, entry, rows, are, c.open.ensures s (fresh (whole_history options.history)) whole refl refl refl)

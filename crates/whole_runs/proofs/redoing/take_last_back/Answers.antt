@@ -29,7 +29,7 @@ returns-then-kept-gt0-clause-copies g c = inl refl
 
 pub redo_nearest-requires-clause-words : goal.redo_nearest-requires-clause-words
 redo_nearest-requires-clause-words g c =
-    have_dropped g.M.BeginsAgain.can_have _ c.args.start.now c.args.copies.now.all.items _ (λ c'. is_within c.args.notes.now.pokes.items c.args.notes.now.steps c'.pokes c'.steps) c.drop_past.ensures c.requires
+    have_dropped g.M.BeginsAgain.can_have _ c.args.start.now c.args.copies.now.all.items _ (λ c'. is_within c.args.notes.now.pokes.items c.args.notes.now.steps c'.pokes c'.steps) c.drop_past.ensures.all c.requires
 
 pub redo_nearest-requires-clause-none_kept : goal.redo_nearest-requires-clause-none_kept
 redo_nearest-requires-clause-none_kept g c = none_kept c.kept.result _ c.kept.ensures.all c.if-kept-gt0.false
@@ -37,7 +37,7 @@ redo_nearest-requires-clause-none_kept g c = none_kept c.kept.result _ c.kept.en
 pub returns-clause-words : goal.returns-clause-words
 returns-clause-words g c =
     have_all g.M.BeginsAgain.can_have _ _ c.args.start.now _ c.redo_nearest.ensures.copies.0
-    (have_dropped g.M.BeginsAgain.can_have _ c.args.start.now c.args.copies.now.all.items _ (λ c'. is_within c.args.notes.now.pokes.items c.args.notes.now.steps c'.pokes c'.steps) c.drop_past.ensures c.requires)
+    (have_dropped g.M.BeginsAgain.can_have _ c.args.start.now c.args.copies.now.all.items _ (λ c'. is_within c.args.notes.now.pokes.items c.args.notes.now.steps c'.pokes c'.steps) c.drop_past.ensures.all c.requires)
 
 pub returns-clause-back : goal.returns-clause-back
 returns-clause-back g c s d older events there is copied begins are gone =
@@ -45,10 +45,10 @@ returns-clause-back g c s d older events there is copied begins are gone =
     let P = IsCopied g.M.BeginsAgain.copies c.args.machine.now s d older notes.pokes.items notes.steps in
     let old = c.args.copies.now.all.items in
     let test : CopiedMoment → Bool = λ c'. is_within notes.pokes.items notes.steps c'.pokes c'.steps in
-    c.redo_nearest.ensures.redone s d older (All-same P _ (filter test old) c.drop_past.ensures (All-filter test P old copied)) begins are gone
+    c.redo_nearest.ensures.redone s d older (All-same P _ (filter test old) c.drop_past.ensures.all (All-filter test P old copied)) begins are gone
 
 pub returns-clause-copies : goal.returns-clause-copies
-returns-clause-copies g c = inr c.drop_past.ensures
+returns-clause-copies g c = inr c.drop_past.ensures.all
 
 pub returns-then-kept-gt0-clause-cost : goal.returns-then-kept-gt0-clause-cost
 returns-then-kept-gt0-clause-cost g c = let one = c.undo.ensures.moves in grind (arith, one)

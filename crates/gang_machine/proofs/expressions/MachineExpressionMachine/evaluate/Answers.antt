@@ -33,9 +33,9 @@ returns-in-Ok g c s d spot written type rate stands at means =
     let shown = shown_here history g.row.W m.entry m.compiled m.lines.items m.words c.self.invariant s d here in
     let next = c.in-Some.ensures.step in
     let lanes_are = c.lanes_shown-lanes.ensures s d spot stands at in
-    let is : IsValue c.evaluate.result (value (expr_view means.tree) (lanes_at c.args.depth (now s d)) (state_at c.args.depth (now s d))) =
+    let is : IsValue c.value_of.result (value (expr_view means.tree) (lanes_at c.args.depth (now s d)) (state_at c.args.depth (now s d))) =
     is_value history g.row.W m.entry m.compiled c.self.invariant.lie.compiled_is.runnable m.lines.items m.words s d here c.args.depth c.in-Some.active next.0 next.1
-    (c.in-Some.ensures.place _ shown) spot at written type rate c.args.code.now means c.lanes_shown-lanes.result lanes_are c.evaluate.result c.evaluate.ensures in
+    (c.in-Some.ensures.place _ shown) spot at written type rate c.args.code.now means c.lanes_shown-lanes.result lanes_are c.value_of.result c.value_of.ensures in
     let meant = subst (λ r. IsValue r (value (expr_view means.tree) (lanes_at c.args.depth (now s d)) (state_at c.args.depth (now s d)))) c.in-Ok.is is in
     let wide = c.widened.ensures in (
       record {
@@ -53,9 +53,9 @@ returns-in-Err-Fault g c s d spot written type rate stands at means =
     let shown = shown_here history g.row.W m.entry m.compiled m.lines.items m.words c.self.invariant s d here in
     let next = c.in-Some.ensures.step in
     let lanes_are = c.lanes_shown-lanes.ensures s d spot stands at in
-    let is : IsValue c.evaluate.result (value (expr_view means.tree) (lanes_at c.args.depth (now s d)) (state_at c.args.depth (now s d))) =
+    let is : IsValue c.value_of.result (value (expr_view means.tree) (lanes_at c.args.depth (now s d)) (state_at c.args.depth (now s d))) =
     is_value history g.row.W m.entry m.compiled c.self.invariant.lie.compiled_is.runnable m.lines.items m.words s d here c.args.depth c.in-Some.active next.0 next.1
-    (c.in-Some.ensures.place _ shown) spot at written type rate c.args.code.now means c.lanes_shown-lanes.result lanes_are c.evaluate.result c.evaluate.ensures in
+    (c.in-Some.ensures.place _ shown) spot at written type rate c.args.code.now means c.lanes_shown-lanes.result lanes_are c.value_of.result c.value_of.ensures in
     subst (λ r. IsValue r (value (expr_view means.tree) (lanes_at c.args.depth (now s d)) (state_at c.args.depth (now s d)))) (c.in-Err-Fault.is ∙ ap Err c.in-Err-Fault.field-0-is) is
     ∙ ap₂ (λ name lane. Err (fault_view (record { name = name; lane = lane }))) (sym c.in-Err-Fault.name-is) (sym c.in-Err-Fault.lane-is)
 
@@ -67,7 +67,7 @@ returns-in-Err-NoRoom g c s d spot written type rate stands at means =
     let shown = shown_here history g.row.W m.entry m.compiled m.lines.items m.words c.self.invariant s d here in
     let next = c.in-Some.ensures.step in
     let lanes_are = c.lanes_shown-lanes.ensures s d spot stands at in
-    let is : IsValue c.evaluate.result (value (expr_view means.tree) (lanes_at c.args.depth (now s d)) (state_at c.args.depth (now s d))) =
+    let is : IsValue c.value_of.result (value (expr_view means.tree) (lanes_at c.args.depth (now s d)) (state_at c.args.depth (now s d))) =
     is_value history g.row.W m.entry m.compiled c.self.invariant.lie.compiled_is.runnable m.lines.items m.words s d here c.args.depth c.in-Some.active next.0 next.1
-    (c.in-Some.ensures.place _ shown) spot at written type rate c.args.code.now means c.lanes_shown-lanes.result lanes_are c.evaluate.result c.evaluate.ensures in
+    (c.in-Some.ensures.place _ shown) spot at written type rate c.args.code.now means c.lanes_shown-lanes.result lanes_are c.value_of.result c.value_of.ensures in
     absurd (subst (λ r. IsValue r (value (expr_view means.tree) (lanes_at c.args.depth (now s d)) (state_at c.args.depth (now s d)))) (c.in-Err-NoRoom.is ∙ ap Err c.in-Err-NoRoom.field-0-is) is)

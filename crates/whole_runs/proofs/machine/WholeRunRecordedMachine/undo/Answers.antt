@@ -20,15 +20,15 @@ returns-in_err-event-clause-undo g c s d whole =
     let stands = g.M.RecordedMachine.stands in
     let copies = g.M.BeginsAgain.copies in
     let m = c.self.inside in
-    let run = whole_of m.inner (noted_of m.notes) m.start.items m.copies.all.items m.is_stale m.moves.count in
+    let run = whole_of m.inner (noted_of m.notes) m.start.items m.copies.all.items m.copies.plan.most m.is_stale m.moves.count in
     let here = subst (λ run. StandsWhole stands copies run s d) (sym c.self.view_is) whole in
     let (none, pokes, steps, kept) = c.in_err-event.ensures.forgets in
     let notes_are = same_noted (noted_of c.forget_last.new.self) (noted_of m.notes) pokes steps kept c.in_err-event.ensures.limit in
     let count = c.count_one.new.self.count in
-    let there = subst (λ notes. StandsWhole stands copies (whole_of m.inner notes m.start.items m.copies.all.items m.is_stale count) s d) (sym notes_are)
+    let there = subst (λ notes. StandsWhole stands copies (whole_of m.inner notes m.start.items m.copies.all.items m.copies.plan.most m.is_stale count) s d) (sym notes_are)
     (still stands copies run s d here m.inner (λ words s d copy. copy) count here.there) in
     let (fault, err, same) = err_from_is_err_and c.from_residual.result c.from_residual.ensures.1 in
-    subst (λ r. Undoes (StandsWhole stands copies) s d r (whole_of m.inner (noted_of c.forget_last.new.self) m.start.items m.copies.all.items m.is_stale count)) (sym err) (here.kept ∙ none, there)
+    subst (λ r. Undoes (StandsWhole stands copies) s d r (whole_of m.inner (noted_of c.forget_last.new.self) m.start.items m.copies.all.items m.copies.plan.most m.is_stale count)) (sym err) (here.kept ∙ none, there)
 
 pub take_last_back-requires : goal.take_last_back-requires
 take_last_back-requires g c =
@@ -44,7 +44,7 @@ returns-clause-undo g c s d whole =
     let stands = g.M.RecordedMachine.stands in
     let copies = g.M.BeginsAgain.copies in
     let m = c.self.inside in
-    let run = whole_of m.inner (noted_of m.notes) m.start.items m.copies.all.items m.is_stale m.moves.count in
+    let run = whole_of m.inner (noted_of m.notes) m.start.items m.copies.all.items m.copies.plan.most m.is_stale m.moves.count in
     let here = subst (λ run. StandsWhole stands copies run s d) (sym c.self.view_is) whole in
     let new = noted_of c.forget_last.new.self in
     let machine = c.take_last_back.new.machine in
@@ -62,14 +62,14 @@ returns-clause-undo g c s d whole =
     let stays = c.take_last_back.ensures.stays.1 in
     let begins = subst (λ words. copies m.inner words s (with_events here.older 0 0 d)) (sym c.deref.ensures.value) here.begins in
     let there = c.take_last_back.ensures.back s d here.older d.events here.there (ap (drop 1) left.is) back begins left.noted_are left.gone in
-    taken stands copies run s d here machine stays c.count_one.new.self.count new c.in_ok-event.event left c.in_ok-event.ensures.limit all
+    taken stands copies run s d here machine stays c.count_one.new.self.count new c.in_ok-event.event left c.in_ok-event.ensures.limit all c.take_last_back.new.copies.plan.most
     (copied_stays stands copies m.inner machine s d here.older new.pokes new.steps all stays fewer) there
 
 pub returns-clause-words : goal.returns-clause-words
 returns-clause-words g c =
     let m = c.self.inside in
     let new = noted_of c.forget_last.new.self in
-    let after = whole_of c.take_last_back.new.machine new m.start.items c.take_last_back.new.copies.all.items true c.count_one.new.self.count in
+    let after = whole_of c.take_last_back.new.machine new m.start.items c.take_last_back.new.copies.all.items c.take_last_back.new.copies.plan.most true c.count_one.new.self.count in
     subst (λ run. UndoesWords (history_of run) (Ok c.in_ok-event.event) (history_of after)) c.self.view_is
     (undo_words (noted_of m.notes) new c.in_ok-event.event c.in_ok-event.ensures.limit c.in_ok-event.ensures.forgets)
 
