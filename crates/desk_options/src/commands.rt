@@ -278,7 +278,7 @@ fn with_profile<'a>(alloc: Global, command: Command<'a>) -> Result<Command<'a>, 
             "how many rows the table has at most, up to 65536",
         ))?
         .arg(option(alloc, "by", "WHAT").help(
-            "what the rows of the table are [default: line] [possible values: line, function, form, access]",
+            "what the rows of the table are [default: line] [possible values: line, function, form, access, parting]",
         ))?
         .arg(when_colored(alloc))?
         .arg(flag(alloc, "annotate").help(

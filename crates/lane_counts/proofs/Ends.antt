@@ -1,13 +1,13 @@
 -- A tally before the first step, and behind the last one.
-use Rattle.std.proofs.Common.{◌≡◌, refl, ap, ◌∙◌, ℕ, zero, suc, ◌+◌, Bool, true, List, [], arith}
+use Rattle.std.proofs.Common.{◌≡◌, refl, ap, ◌∙◌, ℕ, zero, suc, ◌+◌, Bool, true, List, [], None, arith}
 use Rattle.std.specs.Prelude.{◌==◌}
 use Rattle.foreach_forms.specs.declared.forms.Form.{Form}
 use Rattle.lane_counts.specs.declared.counts.Counts.{Counts}
 use Rattle.lane_counts.specs.declared.tally.Tally.{Tally}
 use Rattle.lane_counts.specs.Counted.{counts_at, none}
 use Rattle.lane_counts.specs.Formed.{is_inside, is_round}
-use Rattle.lane_counts.specs.Steps.{Stand, at_line, each, in_frame, in_function, lane_steps, partings, short_steps, steps}
-use Rattle.lane_counts.specs.Tallies.{IsBegun, all_with, counts_of, inside_with, line_with, own_with, rounds_with, unparted_of, unparted_with, whole_with, with_later}
+use Rattle.lane_counts.specs.Steps.{Stand, at_line, called, each, in_frame, in_function, lane_steps, partings, short_steps, steps}
+use Rattle.lane_counts.specs.Tallies.{IsBegun, all_with, calls_with, counts_of, inside_with, line_with, own_with, rounds_with, unparted_of, unparted_with, whole_with, with_later}
 use Rattle.lane_counts.proofs.Noting.{same_counts}
 use Rattle.lane_counts.proofs.Parting.{nothing_left}
 
@@ -54,6 +54,11 @@ module _ (tally : Tally) where
     whole_begun number name stands =
         ap (λ c. unparted_with c (in_frame name) stands) (begun_at tally.whole.rows.items number begun.whole) ∙ from_unparted (in_frame name) stands
 
+    pub calls_begun : (number : ℕ) (name : List ℕ) (stands : List Stand) → calls_with tally number name stands ≡ unparted_of (in_function name) (called None stands)
+    calls_begun number name stands =
+        ap (λ before. unparted_with (counts_at tally.calls.rows.items number) (in_function name) (called before stands)) begun.last_depth
+        ∙ ap (λ c. unparted_with c (in_function name) (called None stands)) (begun_at tally.calls.rows.items number begun.calls) ∙ from_unparted (in_function name) (called None stands)
+
     pub rounds_begun : (number : ℕ) (form : Form) (stands : List Stand) → rounds_with tally number form stands ≡ unparted_of (λ stand. is_round form stand.spot) stands
     rounds_begun number form stands =
         ap (λ c. unparted_with c (λ stand. is_round form stand.spot) stands) (begun_at tally.forms.rounds.rows.items number begun.rounds) ∙ from_unparted (λ stand. is_round form stand.spot) stands
@@ -73,6 +78,9 @@ module _ (tally : Tally) where
 
   pub whole_done : (number : ℕ) (name : List ℕ) → whole_with tally number name [] ≡ counts_at tally.whole.rows.items number
   whole_done number name = to_unparted (counts_at tally.whole.rows.items number) (in_frame name)
+
+  pub calls_done : (number : ℕ) (name : List ℕ) → calls_with tally number name [] ≡ counts_at tally.calls.rows.items number
+  calls_done number name = to_unparted (counts_at tally.calls.rows.items number) (in_function name)
 
   pub rounds_done : (number : ℕ) (form : Form) → rounds_with tally number form [] ≡ counts_at tally.forms.rounds.rows.items number
   rounds_done number form = to_unparted (counts_at tally.forms.rounds.rows.items number) (λ stand. is_round form stand.spot)

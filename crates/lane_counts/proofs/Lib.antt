@@ -5,4 +5,4 @@ mod Numbered
 mod Standing
 pub mod Ends
 pub mod Named
-mod Worked
+pub mod Worked

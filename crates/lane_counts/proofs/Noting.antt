@@ -54,6 +54,19 @@ with_unparted chosen c new is_counted lanes width stand later is here does wide 
     same_counts _ _ _ _ _ _ _ _ (omega (arith, steps_here)) (omega (arith, lanes_here)) (omega (arith, short_here)) (omega arith)
     ∙ ap (λ n. unparted_with n chosen later) (sym is)
 
+-- a step that is not counted changes nothing
+pub not_noted : (c : Counts) (lanes width : ℕ) → c ≡ noted false lanes width 0 c
+not_noted c lanes width =
+    same_counts c.steps c.lane_steps c.short_steps c.partings (c.steps + 0) (c.lane_steps + 0) (c.short_steps + 0) (c.partings + 0) (omega arith) (omega arith) (omega arith) (omega arith)
+
+-- the same of a call, if the step is the first one of its frame
+pub with_called : (chosen : Stand → Bool) (c new : Counts) (is_call is_counted : Bool) (lanes width : ℕ) (stand : Stand) (later : List Stand)
+    → new ≡ noted (is_call && is_counted) lanes width 0 c → chosen stand ≡ is_counted → active stand.lanes ≡ lanes → length stand.lanes ≡ width
+    → unparted_with c chosen (if is_call then stand ∷ later else later) ≡ unparted_with new chosen later
+with_called chosen c new true is_counted lanes width stand later is here does wide = with_unparted chosen c new is_counted lanes width stand later is here does wide
+with_called chosen c new false is_counted lanes width stand later is here does wide =
+    ap (λ x. unparted_with x chosen later) (not_noted c lanes width ∙ sym is)
+
 pub one_few : (b : Bool) → one_if b ≤ 1
 one_few true = omega arith
 one_few false = omega arith

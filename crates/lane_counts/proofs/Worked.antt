@@ -1,32 +1,32 @@
 -- What is counted of some steps, worked out.
-use Rattle.std.specs.Prelude.{◌≡◌, refl, ℕ, true, false, List, [], ◌∷◌, codes}
+use Rattle.std.specs.Prelude.{◌≡◌, refl, ℕ, true, false, List, [], ◌∷◌, None, codes}
 use Rattle.gang_types.specs.Lanes.{Lanes}
 use Rattle.gang_types.specs.declared.places.Spot.{Spot}
 use Rattle.foreach_forms.specs.declared.forms.Form.{Form}
 use Rattle.foreach_forms.specs.declared.forms.Word.TheVariants as word
 use Rattle.lane_counts.specs.Formed.{is_inside, is_round}
-use Rattle.lane_counts.specs.Steps.{Stand, at_line, each, in_frame, lane_steps, partings, short_steps, steps}
+use Rattle.lane_counts.specs.Steps.{Stand, at_line, called, each, in_frame, in_function, lane_steps, partings, short_steps, steps}
 use Rattle.lane_counts.specs.Tallies.{unparted_of}
 
-abbrev go : List ℕ
+abbrev pub go : List ℕ
 go = codes "go"
 
-abbrev f : List ℕ
+abbrev pub f : List ℕ
 f = codes "f"
 
-abbrev step_of : ℕ → ℕ → Spot
+abbrev pub step_of : ℕ → ℕ → Spot
 step_of function number = record { function = record { 0 = function }; number = number }
 
-abbrev at : ℕ → List (List ℕ) → Lanes → Stand
+abbrev pub at : ℕ → List (List ℕ) → Lanes → Stand
 at line functions lanes = record { line = line; spot = step_of 0 line; functions = functions; lanes = lanes }
 
-abbrev all : Lanes
+abbrev pub all : Lanes
 all = true ∷ true ∷ true ∷ true ∷ []
 
-abbrev first_two : Lanes
+abbrev pub first_two : Lanes
 first_two = true ∷ true ∷ false ∷ false ∷ []
 
-abbrev last_two : Lanes
+abbrev pub last_two : Lanes
 last_two = false ∷ false ∷ true ∷ true ∷ []
 
 abbrev last_one : Lanes
@@ -71,6 +71,13 @@ the_call_parts = refl
 its_own_line_parts : partings (at_line 2) call ≡ 1
 its_own_line_parts = refl
 
+-- it is called once, by all lanes: its second step is none of a new frame, nor is that of the caller behind it
+its_calls : unparted_of (in_function f) (called None call) ≡ record { steps = 1; lane_steps = 4; short_steps = 0; partings = 0 }
+its_calls = refl
+
+the_first_step_is_no_call : unparted_of (in_function go) (called None call) ≡ record { steps = 0; lane_steps = 0; short_steps = 0; partings = 0 }
+the_first_step_is_no_call = refl
+
 -- the last step of a frame that is left parts nothing
 abbrev left : List Stand
 left = at 2 (f ∷ go ∷ []) all ∷ at 9 (go ∷ []) first_two ∷ []
@@ -103,3 +110,7 @@ with_what_it_calls = refl
 
 by_lanes_of_the_callee : lane_steps (in_frame f) deeper ≡ 3
 by_lanes_of_the_callee = refl
+
+-- each frame of a recursion is called by itself, by the lanes of its own first step
+calls_in_a_recursion : unparted_of (in_function f) (called None deeper) ≡ record { steps = 2; lane_steps = 3; short_steps = 2; partings = 0 }
+calls_in_a_recursion = refl

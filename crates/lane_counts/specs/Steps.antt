@@ -43,6 +43,16 @@ abbrev pub parts : Lanes → Option Stand → Bool
 parts lanes None = false
 parts lanes (Some next) = nat_lt 0 (active (and lanes next.lanes)) && nat_lt (active (and lanes next.lanes)) (active lanes)
 
+-- whether a step is the first one of its frame, by how many frames there were at the step before it: nothing is known of the first step of all
+abbrev pub begins_frame : (before : Option ℕ) → Stand → Bool
+begins_frame None stand = false
+begins_frame (Some deep) stand = nat_lt deep (depth stand)
+
+-- the calls of a run: the steps that are the first ones of their frames
+abbrev pub called : (before : Option ℕ) → List Stand → List Stand
+called before [] = []
+called before (stand ∷ later) = if begins_frame before stand then stand ∷ called (Some (depth stand)) later else called (Some (depth stand)) later
+
 -- ---- of the steps that are chosen
 
 -- how many there are

@@ -1,5 +1,5 @@
 -- What a tally has counted, and what it comes to with the steps to come.
-use Rattle.std.specs.Prelude.{◌≡◌, ℕ, Bool, true, ◌+◌, ◌*◌, ◌==◌, List, [], ◌∷◌, ◌++◌, drop, Option, Some}
+use Rattle.std.specs.Prelude.{◌≡◌, ℕ, Bool, true, ◌+◌, ◌*◌, ◌==◌, List, [], ◌∷◌, ◌++◌, drop, Option, Some, None}
 use Rattle.gang_types.specs.Masks.{lanes_of}
 use Rattle.foreach_forms.specs.declared.forms.Form.{Form}
 use Rattle.lane_counts.specs.declared.counts.Counts.{Counts}
@@ -7,7 +7,7 @@ use Rattle.lane_counts.specs.declared.frames.LastStep.{LastStep}
 use Rattle.lane_counts.specs.declared.names.Names.{Names}
 use Rattle.lane_counts.specs.declared.tally.StepAt.{StepAt}
 use Rattle.lane_counts.specs.declared.tally.Tally.{Tally}
-use Rattle.lane_counts.specs.Steps.{Stand, at_line, depth, each, in_frame, in_function, lane_steps, partings, short_steps, steps}
+use Rattle.lane_counts.specs.Steps.{Stand, at_line, called, depth, each, in_frame, in_function, lane_steps, partings, short_steps, steps}
 use Rattle.lane_counts.specs.Counted.{AreFew, IsFew, counts_at, none}
 use Rattle.lane_counts.specs.Formed.{is_inside, is_round}
 use Rattle.lane_counts.specs.Naming.{AreDistinct, name_at}
@@ -57,6 +57,10 @@ all_with tally later = with_later tally.all (pending (λ last. true) 1 tally.fra
 abbrev pub whole_with : Tally → (number : ℕ) → (name : List ℕ) → List Stand → Counts
 whole_with tally number name later = unparted_with (counts_at tally.whole.rows.items number) (in_frame name) later
 
+-- what it has of the calls of the function of a number, which has this name, with later steps
+abbrev pub calls_with : Tally → (number : ℕ) → (name : List ℕ) → List Stand → Counts
+calls_with tally number name later = unparted_with (counts_at tally.calls.rows.items number) (in_function name) (called tally.last_depth later)
+
 -- what it has of the rounds of the form of a number, with later steps
 abbrev pub rounds_with : Tally → (number : ℕ) → Form → List Stand → Counts
 rounds_with tally number form later = unparted_with (counts_at tally.forms.rounds.rows.items number) (λ stand. is_round form stand.spot) later
@@ -94,6 +98,7 @@ pub record IsSound (tally : Tally) : Type 0 where
   pub own : AreFew (16 * tally.all.steps) tally.own.rows.items
   pub names : AreDistinct tally.names
   pub whole : AreFew (16 * tally.all.steps) tally.whole.rows.items
+  pub calls : AreFew (16 * tally.all.steps) tally.calls.rows.items
   pub rounds : AreFew (16 * tally.all.steps) tally.forms.rounds.rows.items
   pub inside : AreFew (16 * tally.all.steps) tally.forms.inside.rows.items
 
@@ -104,6 +109,8 @@ pub record IsBegun (tally : Tally) : Type 0 where
   pub lines : tally.lines.rows.items ≡ []
   pub own : tally.own.rows.items ≡ []
   pub whole : tally.whole.rows.items ≡ []
+  pub calls : tally.calls.rows.items ≡ []
+  pub last_depth : tally.last_depth ≡ None
   pub rounds : tally.forms.rounds.rows.items ≡ []
   pub inside : tally.forms.inside.rows.items ≡ []
   pub frames : IsQuiet tally.frames.lasts.items

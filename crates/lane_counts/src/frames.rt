@@ -24,20 +24,8 @@ impl LastStep {
         ensures { let both = active (and (last_lanes self) (lanes_of (width_of gang) next)) in result ≡ (nat_lt 0 both && nat_lt both (active (last_lanes self))) }
     {
         let all = self.gang.count(self.lanes);
-        let both = self.both(gang, next);
+        let both = self.gang.both(self.lanes, gang, next);
         0 < both && both < all
-    }
-
-    /// How many of the lanes are in another set.
-    fn both(self, gang: Gang, next: Mask) -> usize
-        ensures { result ≡ active (and (last_lanes self) (lanes_of (width_of gang) next)) }
-    {
-        let both = self.lanes.and(next);
-        if self.gang.width() <= gang.width() {
-            self.gang.count(both)
-        } else {
-            gang.count(both)
-        }
     }
 }
 

@@ -1,5 +1,6 @@
 //! How many lanes a gang has.
 ghost use Rattle.std.specs.Prelude.{◌≡◌, ◌≤◌};
+ghost use Rattle.gang_types.specs.Lanes.{and};
 ghost use Rattle.gang_types.specs.Masks.{IsGangWidth, lanes_of};
 ghost use Rattle.lane_counts.specs.Pending.{width_of};
 ghost use Rattle.lane_counts.specs.Steps.{active};
@@ -39,7 +40,7 @@ impl Gang {
     }
 
     /// How many of its lanes are in a set.
-    pub(crate) fn count(self, lanes: Mask) -> usize
+    pub fn count(self, lanes: Mask) -> usize
         ensures value { result ≡ active (lanes_of (width_of self) lanes) }
         ensures within { result ≤ 16 }
     {
@@ -47,6 +48,18 @@ impl Gang {
             Gang::Four => lanes.count::<4>(),
             Gang::Eight => lanes.count::<8>(),
             Gang::Sixteen => lanes.count::<16>(),
+        }
+    }
+
+    /// How many lanes are in a set of this gang and in one of another gang.
+    pub fn both(self, lanes: Mask, other: Gang, next: Mask) -> usize
+        ensures { result ≡ active (and (lanes_of (width_of self) lanes) (lanes_of (width_of other) next)) }
+    {
+        let both = lanes.and(next);
+        if self.width() <= other.width() {
+            self.count(both)
+        } else {
+            other.count(both)
         }
     }
 }

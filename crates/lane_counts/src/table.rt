@@ -54,6 +54,30 @@ impl Table {
         self.add_step(number, lanes, width)
     }
 
+    /// Counts a step at a number, if it is one that counts.
+    ///
+    /// # Errors
+    ///
+    /// Out of memory.
+    pub(crate) fn add_if(
+        &mut self,
+        is_counted: bool,
+        number: usize,
+        lanes: usize,
+        width: usize,
+    ) -> Result<(), AllocError>
+        requires few { AreFew (2 ^ 39) self.old.rows.items }
+        requires lanes { lanes ≤ 16 }
+        ensures { IfOk result (λ _. (k : ℕ) → counts_at self.new.rows.items k
+            ≡ noted (is_counted && number == k) lanes width 0 (counts_at self.old.rows.items k)) }
+    {
+        if is_counted {
+            self.add(number, None, lanes, width)
+        } else {
+            Ok(())
+        }
+    }
+
     /// Counts a step of the frames that stand at the number of each function of theirs, up to a number.
     ///
     /// # Errors

@@ -6,8 +6,8 @@ ghost use Rattle.lane_counts.specs.Counted.{hits, none};
 ghost use Rattle.lane_counts.specs.Naming.{AreDistinct, Extends, HasName, name_at};
 ghost use Rattle.lane_counts.specs.declared.names.Names.{Names};
 ghost use Rattle.lane_counts.specs.Pending.{IsQuiet, hit, parting_of, width_of};
-ghost use Rattle.lane_counts.specs.Steps.{Stand, depth as depth_of};
-ghost use Rattle.lane_counts.specs.Tallies.{Follows, HasFrames, IsAt, IsBegun, IsSound, all_with, inside_with, line_with, own_with, rounds_with, whole_with};
+ghost use Rattle.lane_counts.specs.Steps.{Stand, begins_frame, depth as depth_of};
+ghost use Rattle.lane_counts.specs.Tallies.{Follows, HasFrames, IsAt, IsBegun, IsSound, all_with, calls_with, inside_with, line_with, own_with, rounds_with, whole_with};
 
 use crate::counts::Counts;
 use crate::forms::FormCounts;
@@ -31,17 +31,20 @@ pub struct StepAt<'a> {
     pub lanes: Mask,
 }
 
-/// What is counted of the steps of a run: of all, of each line, of each function, its own steps and those done while a frame of it stands,
-/// and of each foreach form.
+/// What is counted of the steps of a run: of all, of each line, of each function, its own steps, those done while a frame of it stands, and its
+/// calls, and of each foreach form.
 #[derive(Drop)]
 pub struct Tally {
     all: Counts,
     lines: Table,
     own: Table,
     whole: Table,
+    calls: Table,
     forms: FormCounts,
     names: Names,
     frames: Frames,
+    /// How many frames there were at the step that was counted last.
+    last_depth: Option<usize>,
 }
 
 impl Tally {
@@ -56,9 +59,11 @@ impl Tally {
             lines: Table::new(alloc),
             own: Table::new(alloc),
             whole: Table::new(alloc),
+            calls: Table::new(alloc),
             forms: FormCounts::new(alloc, forms),
             names: Names::new(alloc),
             frames: Frames::new(alloc),
+            last_depth: None,
         }
     }
 
@@ -95,6 +100,13 @@ impl Tally {
         ensures { result.now ≡ self.now.whole.rows.items }
     {
         self.whole.rows()
+    }
+
+    /// What is counted of the calls of each function, by its number: of the first step of each of its frames. Partings are not counted.
+    pub fn calls(&self) -> &[Counts]
+        ensures { result.now ≡ self.now.calls.rows.items }
+    {
+        self.calls.rows()
     }
 
     /// What is counted of the steps inside each foreach form.
@@ -134,6 +146,8 @@ impl Tally {
             → (stand : Stand) (later : List Stand) → IsAt at.entry stand → own_with self.old number name (stand ∷ later) ≡ own_with self.new number name later) }
         ensures whole { IfOk result (λ _. (final : Names) (number : ℕ) (name : List ℕ) → Extends self.new.names final → AreDistinct final → name_at final number ≡ Some name
             → (stand : Stand) (later : List Stand) → IsAt at.entry stand → Follows self.old stand → whole_with self.old number name (stand ∷ later) ≡ whole_with self.new number name later) }
+        ensures calls { IfOk result (λ _. (final : Names) (number : ℕ) (name : List ℕ) → Extends self.new.names final → AreDistinct final → name_at final number ≡ Some name
+            → (stand : Stand) (later : List Stand) → IsAt at.entry stand → calls_with self.old number name (stand ∷ later) ≡ calls_with self.new number name later) }
         ensures frames { IfOk result (λ _. (stand : Stand) → IsAt at.entry stand → Follows self.old stand → HasFrames self.new stand.functions) }
         ensures kept { IfOk result (λ _. Extends self.old.names self.new.names) }
         ensures all { IfOk result (λ _. (stand : Stand) (later : List Stand) → IsAt at.entry stand
@@ -162,9 +176,22 @@ impl Tally {
         self.own.add(function, function_of(parted), lanes, width)?;
         self.whole
             .add_each(self.names.count(), &self.frames, lanes, width)?;
+        let is_call = begins_frame(self.last_depth, at.depth);
+        self.calls.add_if(is_call, function, lanes, width)?;
+        self.last_depth = Some(at.depth);
         self.forms.note(at.spot, lanes, width)?;
         self.all = self.all.noted(parted.is_some(), lanes, width);
         Ok(())
+    }
+}
+
+/// Whether a step is the first one of its frame, by how many frames there were at the step before it.
+fn begins_frame(before: Option<usize>, depth: usize) -> bool
+    ensures { (stand : Stand) → depth_of stand ≡ depth → result ≡ begins_frame before stand }
+{
+    match before {
+        Some(deep) => deep < depth,
+        None => false,
     }
 }
 

@@ -1,8 +1,9 @@
 -- The steps that are left of a run.
-use Rattle.std.proofs.Common.{◌≡◌, refl, sym, ap, ◌∙◌, subst, ℕ, zero, suc, ◌+◌, ◌-◌, ◌<◌, ◌≤◌, true, List, [], ◌∷◌, map, Some, arith}
+use Rattle.std.proofs.Common.{◌≡◌, refl, sym, ap, ◌∙◌, subst, ℕ, zero, suc, ◌+◌, ◌-◌, ◌<◌, ◌≤◌, ◌^◌, Bool, true, List, [], ◌∷◌, length, map, Option, Some, arith}
+use Rattle.std.proofs.lemmas.List.{length-map}
 use Rattle.gang_model.specs.Types.Tree.{Program}
 use Rattle.gang_model.specs.Running.State.{State}
-use Rattle.gang_model.specs.Running.Step.{Goes, step}
+use Rattle.gang_model.specs.Running.Step.{Stepped, Fails, Goes, Over, step}
 use Rattle.gang_model.specs.Debugger.Events.{gone}
 use Rattle.gang_model.specs.Debugger.Debugger.{Debugger, Setting, has_ended, now}
 use Rattle.lane_picture.specs.declared.columns.StepsEnd.{StepsEnd}
@@ -15,6 +16,9 @@ use Rattle.gang_model.specs.Texts.Text.{Bytes}
 use Rattle.lane_counts.specs.declared.names.Names.{Names}
 use Rattle.lane_counts.specs.Naming.{Extends, HasName}
 use Rattle.lane_counts.specs.Steps.{Stand}
+use Rattle.lane_meetings.specs.Partings.{Measure, parted}
+use Rattle.lane_meetings.specs.Pending.{Fits}
+use Rattle.lane_meetings.proofs.Ends.{fits_parted}
 use Rattle.lane_profile.specs.Counted.{IsNamed}
 use Rattle.lane_profile.specs.Stands.{stand_of, stands_of, states_tried, tried_at}
 
@@ -61,3 +65,20 @@ module _ (p : Program) (most : ℕ) (first : State) where
         let fails = ap (step p) (sym stood) ∙ ap (λ q. step q (now s d)) (sym is) ∙ came in
         ap (λ n. stands_of p n at) next_of ∙ ap (λ st. map (stand_of p) (tried_at st at (states_tried p (most - (taken + 1))))) fails ∙ ap (λ st. stand_of p st ∷ []) (sym stood)
     last_left s d e end.StepLimit is stood came = absurd came
+
+-- ---- how many steps there are
+
+few_at : (most : ℕ) (came : Stepped) (state : State) (next : State → List State) → ((new : State) → length (next new) ≤ most) → length (tried_at came state next) ≤ suc most
+few_at most Over state next few = omega arith
+few_at most (Fails fault) state next few = omega arith
+few_at most (Goes new) state next few = omega (arith, few new)
+
+few_tried : (p : Program) (most : ℕ) (state : State) → length (states_tried p most state) ≤ most
+few_tried p zero state = omega arith
+few_tried p (suc most) state = few_at most (step p state) state (states_tried p most) (few_tried p most)
+
+-- no sum over the partings of a run is past the words
+pub fits_run : (p : Program) (most : ℕ) (first : State) → most < 2 ^ 32 → (measure : Measure) (chosen : ℕ → Option ℕ → Bool) → Fits (parted measure chosen (stands_of p most first))
+fits_run p most first few measure chosen =
+    let all : length (stands_of p most first) ≡ length (states_tried p most first) = length-map (states_tried p most first) (stand_of p) in
+    fits_parted measure chosen (stands_of p most first) (omega (arith, all, few_tried p most first, few))

@@ -1,15 +1,14 @@
 -- What the accesses of a run touch, step by step.
-use Rattle.std.proofs.Common.{◌≡◌, refl, sym, ap, ◌∙◌, subst, ℕ, zero, suc, ◌+◌, ◌-◌, ◌*◌, ◌^◌, ◌<◌, ◌≤◌, Bool, true, false, List, [], ◌∷◌, ◌++◌, drop, length, map, Option, Some, None, Result, Ok, Err, arith}
-use Rattle.std.specs.Prelude.{◌==◌, ◌&&◌, if◌then◌else◌, nat_lt, slice_get, unwrap_or}
+use Rattle.std.proofs.Common.{◌≡◌, refl, sym, ap, ◌∙◌, subst, ℕ, zero, suc, ◌+◌, ◌-◌, ◌*◌, ◌^◌, ◌<◌, ◌≤◌, Bool, true, false, List, [], ◌∷◌, ◌++◌, drop, length, Option, Some, Result, Ok, Err, arith}
+use Rattle.std.specs.Prelude.{◌==◌, ◌&&◌, if◌then◌else◌, nat_lt, unwrap_or}
 use Rattle.std.proofs.lemmas.Bool.Decides.{nat_tests}
 use Rattle.std.proofs.lemmas.List.{length-map}
 use Rattle.gang_types.specs.Lanes.{Lanes}
-use Rattle.gang_types.specs.declared.places.FuncId.{FuncId}
 use Rattle.gang_types.specs.declared.places.Spot.{Spot}
 use Rattle.gang_types.specs.declared.types.IntType.{IntType}
 use Rattle.gang_types.specs.declared.types.Rate.{Rate}
 use Rattle.gang_model.specs.Source.Parsed.{ParsedExpr}
-use Rattle.gang_model.specs.Types.Tree.{Expr, Program}
+use Rattle.gang_model.specs.Types.Tree.{Program}
 use Rattle.gang_model.specs.Types.Typing.{expression}
 use Rattle.expression_runs.specs.Correct.{Computes}
 use Rattle.gang_model.specs.Running.Lanes.{Fault}

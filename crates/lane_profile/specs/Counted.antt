@@ -22,7 +22,7 @@ use Rattle.lane_counts.specs.declared.tally.Tally.{Tally}
 use Rattle.lane_counts.specs.Counted.{counts_at}
 use Rattle.lane_counts.specs.Formed.{is_inside, is_round}
 use Rattle.lane_counts.specs.Naming.{HasName, name_at}
-use Rattle.lane_counts.specs.Steps.{at_line, each, in_frame, in_function}
+use Rattle.lane_counts.specs.Steps.{at_line, called, each, in_frame, in_function}
 use Rattle.lane_counts.specs.Tallies.{IsAt, counts_of, unparted_of}
 use Rattle.lane_profile.specs.Stands.{stand_of, stands_of, states_done}
 
@@ -31,11 +31,12 @@ abbrev pub IsNamed : Names → List Bytes → Type 0
 IsNamed names [] = Unit {0}
 IsNamed names (name ∷ below) = HasName names name
 
--- a tally has the counts of the steps of a run: of each line, of the own steps of each function that it names, of all of them, and of the
--- rounds and the steps inside each foreach form; and it names each function that has a step
+-- a tally has the counts of the steps of a run: of each line, of the own steps and of the calls of each function that it names, of all of them,
+-- and of the rounds and the steps inside each foreach form; and it names each function that has a step
 pub record HasCounted (p : Program) (most : ℕ) (first : State) (tally : Tally) : Type 0 where
   pub lines : (line : ℕ) → counts_at tally.lines.rows.items line ≡ counts_of (at_line line) (stands_of p most first)
   pub own : (number : ℕ) (name : Bytes) → name_at tally.names number ≡ Some name → counts_at tally.own.rows.items number ≡ counts_of (in_function name) (stands_of p most first)
+  pub calls : (number : ℕ) (name : Bytes) → name_at tally.names number ≡ Some name → counts_at tally.calls.rows.items number ≡ unparted_of (in_function name) (called None (stands_of p most first))
   pub named : All (λ stand. IsNamed tally.names stand.functions) (stands_of p most first)
   pub all : tally.all ≡ counts_of each (stands_of p most first)
   pub forms : tally.forms.forms.items ≡ forms_of p

@@ -1,14 +1,16 @@
 //! A run, step by step, with its counts.
 ghost use Rattle.element_accesses.specs.Rows.{IsNoted};
-ghost use Rattle.std.specs.Prelude.{◌≡◌, ℕ, ◌<◌, ◌≤◌, ◌-◌, IfOk, OnErr, drop, length, slice_get};
+ghost use Rattle.std.specs.Prelude.{◌≡◌, ℕ, ◌<◌, ◌≤◌, ◌-◌, Bool, Option, IfOk, OnErr, [], drop, length, slice_get};
 ghost use Rattle.debug_traits.specs.Frames.{frames_at};
 ghost use Rattle.foreach_forms.specs.Forms.{forms_of};
 ghost use Rattle.gang_model.specs.Debugger.Debugger.{Debugger, Setting, now};
 ghost use Rattle.debug_session.specs.Sessions.{StandsFor};
 ghost use Rattle.lane_counts.specs.Tallies.{HasFrames, IsBegun};
+ghost use Rattle.lane_meetings.specs.Partings.{Measure, AreDistinct, HaveCounted, parted};
+ghost use Rattle.lane_meetings.specs.Pending.{counted_with};
 ghost use Rattle.lane_picture.specs.Tries.{HasBegun, HasRun};
 ghost use Rattle.lane_profile.specs.Counted.{HasCounted, HasCountedWhole, HasTouched, IsNext};
-ghost use Rattle.lane_profile.specs.Stands.{functions_of, name_of};
+ghost use Rattle.lane_profile.specs.Stands.{functions_of, name_of, stands_of};
 ghost use Rattle.typed_tree.specs.Views.{program_view};
 
 use debug_session::Session;
@@ -17,12 +19,13 @@ use foreach_forms::forms_of;
 use frame_expressions::ExpressionMachine;
 use gang_types::Spot;
 use lane_counts::{Gang, StepAt, Tally};
+use lane_meetings::Meetings;
 use lane_picture::{StepsEnd, end_after, try_step};
 use std::alloc::{AllocError, Global};
 use typed_tree::Program;
 
 /// Tries one step after another, so many at most, and counts each before it is tried. Of each of some accesses it counts what it touches at
-/// the steps that are done.
+/// the steps that are done, and of the steps where lanes part and where they meet again.
 ///
 /// # Errors
 ///
@@ -32,7 +35,7 @@ pub fn count_run<M: ExpressionMachine>(
     session: &mut Session<M>,
     accesses: &mut Accesses,
     most_steps: u32,
-) -> Result<(Tally, StepsEnd), AllocError>
+) -> Result<(Tally, StepsEnd, Meetings), AllocError>
     ensures run { IfOk result (λ counted. (s : Setting) (d : Debugger) → StandsFor M.stands session.old s d
         → HasRun M.stands s most_steps d counted.1 session.new) }
     ensures counted { IfOk result (λ counted. (s : Setting) (d : Debugger) → StandsFor M.stands session.old s d → 1 ≤ s.limit
@@ -41,23 +44,53 @@ pub fn count_run<M: ExpressionMachine>(
         → HasCountedWhole s.program most_steps (now s d) counted.0) }
     ensures accesses { IfOk result (λ counted. (s : Setting) (d : Debugger) → StandsFor M.stands session.old s d → 1 ≤ s.limit
         → HasTouched s.program most_steps (now s d) accesses.old accesses.new) }
+    ensures meetings { IfOk result (λ counted. (s : Setting) (d : Debugger) → StandsFor M.stands session.old s d → 1 ≤ s.limit
+        → HaveCounted (stands_of s.program most_steps (now s d)) counted.2.rows.rows.items) }
+    ensures memory { OnErr result ((s : Setting) (d : Debugger) → StandsFor M.stands session.old s d
+        → HasBegun M.stands s most_steps d session.new) }
+{
+    let (tally, end, mut meetings) = count_steps(alloc, session, accesses, most_steps)?;
+    meetings.finish()?;
+    Ok((tally, end, meetings))
+}
+
+/// Counts the steps; the partings whose lanes have not met again are still open.
+fn count_steps<M: ExpressionMachine>(
+    alloc: Global,
+    session: &mut Session<M>,
+    accesses: &mut Accesses,
+    most_steps: u32,
+) -> Result<(Tally, StepsEnd, Meetings), AllocError>
+    ensures run { IfOk result (λ counted. (s : Setting) (d : Debugger) → StandsFor M.stands session.old s d
+        → HasRun M.stands s most_steps d counted.1 session.new) }
+    ensures counted { IfOk result (λ counted. (s : Setting) (d : Debugger) → StandsFor M.stands session.old s d → 1 ≤ s.limit
+        → HasCounted s.program most_steps (now s d) counted.0) }
+    ensures whole { IfOk result (λ counted. (s : Setting) (d : Debugger) → StandsFor M.stands session.old s d → 1 ≤ s.limit → length s.first.frames ≤ 1
+        → HasCountedWhole s.program most_steps (now s d) counted.0) }
+    ensures accesses { IfOk result (λ counted. (s : Setting) (d : Debugger) → StandsFor M.stands session.old s d → 1 ≤ s.limit
+        → HasTouched s.program most_steps (now s d) accesses.old accesses.new) }
+    ensures meetings { IfOk result (λ counted. (s : Setting) (d : Debugger) → StandsFor M.stands session.old s d → 1 ≤ s.limit
+        → (measure : Measure) (chosen : ℕ → Option ℕ → Bool) → counted_with measure chosen counted.2 [] ≡ parted measure chosen (stands_of s.program most_steps (now s d))) }
+    ensures distinct { IfOk result (λ counted. AreDistinct counted.2.rows.rows.items) }
     ensures memory { OnErr result ((s : Setting) (d : Debugger) → StandsFor M.stands session.old s d
         → HasBegun M.stands s most_steps d session.new) }
 {
     let mut tally = begun_at(alloc, session.machine())?;
+    let mut meetings = Meetings::new(alloc);
     for _count in 0..most_steps {
         let Some(at) = next_step(session.machine()) else {
-            return Ok((tally, StepsEnd::Ended));
+            return Ok((tally, StepsEnd::Ended, meetings));
         };
         tally.note(alloc, at)?;
+        meetings.note(at)?;
         note_touches(session, at.depth, at.spot, accesses);
         if let Some(end) = try_step(session) {
-            return Ok((tally, end));
+            return Ok((tally, end, meetings));
         }
         accesses.keep();
     }
     let end = end_after(session.machine());
-    Ok((tally, end))
+    Ok((tally, end, meetings))
 }
 
 /// Notes what the accesses of a step touch, where the top frame stands.

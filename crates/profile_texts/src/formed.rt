@@ -5,7 +5,7 @@ use crate::colours::{ink, plain};
 use crate::parts::Part::{Left, Right, Share, Text};
 use crate::parts::write_parts;
 use crate::profile::Subject;
-use crate::rows::Row;
+use crate::rows::{Row, counts_at};
 use crate::tables::write_end;
 use debug_traits::{AnswerWriter, WriteFault};
 use foreach_forms::Word;
@@ -52,10 +52,7 @@ fn write_form<O: AnswerWriter>(
         Some(form) => (form.line, text_of(form.word)),
         None => (0, text_of(Word::ForEach)),
     };
-    let rounds = match tally.forms().rounds().get(row.number) {
-        Some(rounds) => *rounds,
-        None => Counts::none(),
-    };
+    let rounds = counts_at(tally.forms().rounds(), row.number);
     write_parts(
         writer,
         &[Right(u64::from(line), 5), Text(b" "), Left(word, WORD_ROOM)],

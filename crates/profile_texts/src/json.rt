@@ -5,33 +5,35 @@ use crate::accessed::way_of;
 use crate::formed::text_of;
 use crate::parts::Part::{Number, Percents, Text};
 use crate::parts::write_parts;
-use crate::profile::Subject;
+use crate::profile::{Counted, Subject};
+use crate::rows::counts_at;
 use crate::tables::fault_words;
 use debug_traits::{AnswerWriter, WriteFault};
 use element_accesses::Access;
 use foreach_forms::Form;
 use lane_counts::{Counts, Tally, lost, share, share_of};
+use lane_meetings::Parting;
 use lane_picture::StepsEnd;
 use std::str;
 
-/// Writes the counts of all steps, of each line, of each function, of each foreach form and of each access.
+/// Writes the counts of all steps, of each line, of each function, of each foreach form, of each access and of the partings.
 pub(crate) fn write_json<O: AnswerWriter>(
-    tally: &Tally,
-    accesses: &[Access],
-    end: StepsEnd,
+    counted: &Counted<'_>,
+    partings: &[Parting],
     subject: &Subject<'_>,
     writer: &mut O,
 ) -> Result<(), WriteFault>
     requires works { O.has_failed writer.old ≡ false }
     ensures failed { O.has_failed writer.new ≡ is_err result }
 {
+    let tally = counted.tally;
     writer.write_all(b"{\"source\":")?;
     write_string(subject.title, writer)?;
     write_parts(
         writer,
         &[Text(b",\"width\":"), Number(subject.width as u64)],
     )?;
-    write_end(end, writer)?;
+    write_end(counted.end, writer)?;
     writer.write_all(b",\"all\":{")?;
     write_counts(tally.all(), subject.width, writer)?;
     writer.write_all(b"},\n\"lines\":[")?;
@@ -41,7 +43,9 @@ pub(crate) fn write_json<O: AnswerWriter>(
     writer.write_all(b"],\n\"forms\":[")?;
     write_forms(tally, subject.width, writer)?;
     writer.write_all(b"],\n\"accesses\":[")?;
-    write_accesses(accesses, writer)?;
+    write_accesses(counted.accesses, writer)?;
+    writer.write_all(b"],\n\"partings\":[")?;
+    write_partings(partings, writer)?;
     writer.write_all(b"]}\n")
 }
 
@@ -100,10 +104,8 @@ fn write_functions<O: AnswerWriter>(
         write_string(tally.names().name(number), writer)?;
         writer.write_all(b",")?;
         write_counts(*counts, width, writer)?;
-        let whole = match tally.whole().get(number) {
-            Some(whole) => *whole,
-            None => *counts,
-        };
+        let whole = counts_at(tally.whole(), number);
+        let calls = counts_at(tally.calls(), number);
         let parts = [
             Text(b",\"steps_with_calls\":"),
             Number(whole.steps),
@@ -111,6 +113,10 @@ fn write_functions<O: AnswerWriter>(
             Number(whole.lane_steps),
             Text(b",\"share_with_calls\":"),
             Percents(share(whole, width)),
+            Text(b",\"calls\":"),
+            Number(calls.steps),
+            Text(b",\"call_lanes\":"),
+            Number(calls.lane_steps),
             Text(b"}"),
         ];
         write_parts(writer, &parts)?;
@@ -202,12 +208,40 @@ fn write_touches<O: AnswerWriter>(access: &Access, writer: &mut O) -> Result<(),
     write_parts(writer, &parts)
 }
 
-/// The counts of a number.
-fn counts_at(rows: &[Counts], number: usize) -> Counts {
-    match rows.get(number) {
-        Some(counts) => *counts,
-        None => Counts::none(),
+/// Writes where lanes part and where they meet again, in the order of the source.
+fn write_partings<O: AnswerWriter>(partings: &[Parting], writer: &mut O) -> Result<(), WriteFault>
+    requires works { O.has_failed writer.old ≡ false }
+    ensures failed { O.has_failed writer.new ≡ is_err result }
+{
+    let mut is_first = true;
+    for parting in partings {
+        write_comma(is_first, writer)?;
+        write_parting(*parting, writer)?;
+        is_first = false;
     }
+    Ok(())
+}
+
+fn write_parting<O: AnswerWriter>(parting: Parting, writer: &mut O) -> Result<(), WriteFault>
+    requires works { O.has_failed writer.old ≡ false }
+    ensures failed { O.has_failed writer.new ≡ is_err result }
+{
+    let met = match parting.meets_at {
+        Some(line) => Number(line as u64),
+        None => Text(b"null"),
+    };
+    let parts = [
+        Text(b"{\"line\":"),
+        Number(parting.line as u64),
+        Text(b",\"meets_at\":"),
+        met,
+        Text(b",\"times\":"),
+        Number(parting.times),
+        Text(b",\"steps_between\":"),
+        Number(parting.between),
+        Text(b"}"),
+    ];
+    write_parts(writer, &parts)
 }
 
 /// Writes the members of a form's place and rounds.

@@ -1,4 +1,4 @@
-//! What the counts of a run tell: a table of the lines, the functions, the foreach forms or the accesses, the source with its counts, and JSON.
+//! What the counts of a run tell: a table of the lines, the functions, the foreach forms, the accesses or the partings, the source with its counts, and JSON.
 #![tactic(auto)]
 
 mod accessed;
@@ -8,10 +8,11 @@ mod comparing;
 mod formed;
 mod json;
 mod lines;
+mod parted;
 mod parts;
 mod profile;
 mod rows;
 mod tables;
 
 pub use comparing::{Compared, write_comparison};
-pub use profile::{Form, Subject, write_profile};
+pub use profile::{Counted, Form, Subject, write_profile};

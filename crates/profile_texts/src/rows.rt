@@ -10,6 +10,14 @@ pub(crate) struct Row {
     pub(crate) lost: u64,
 }
 
+/// The counts of a number.
+pub(crate) fn counts_at(rows: &[Counts], number: usize) -> Counts {
+    match rows.get(number) {
+        Some(counts) => *counts,
+        None => Counts::none(),
+    }
+}
+
 /// The rows that have steps, those first where most places for lanes are lost.
 ///
 /// # Errors

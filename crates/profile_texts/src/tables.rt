@@ -6,7 +6,7 @@ use crate::lines::{front_of, line_at};
 use crate::parts::Part::{Left, Number, Right, Share, Shown, Text};
 use crate::parts::write_parts;
 use crate::profile::Subject;
-use crate::rows::Row;
+use crate::rows::{Row, counts_at};
 use debug_traits::{AnswerWriter, Fault, WriteFault};
 use gang_types::FaultName;
 use lane_counts::{Counts, Tally, lost, share};
@@ -80,22 +80,21 @@ pub(crate) fn write_functions<O: AnswerWriter>(
     ensures failed { O.has_failed writer.new ≡ is_err result }
 {
     writer.write_all(
-        b"function             steps lane-steps  share      short  parted       lost   in all  share\n",
+        b"function             steps lane-steps  share      short  parted       lost   in all  share     calls      lanes\n",
     )?;
     for (index, row) in rows.iter().enumerate() {
         if index < subject.most_rows {
-            let whole = match tally.whole().get(row.number) {
-                Some(whole) => *whole,
-                None => row.counts,
-            };
+            let whole = counts_at(tally.whole(), row.number);
             write_parts(writer, &[Left(tally.names().name(row.number), NAME_ROOM)])?;
             write_counts(row.counts, subject, writer)?;
             write_whole(whole, subject, writer)?;
+            write_calls(counts_at(tally.calls(), row.number), writer)?;
         }
     }
     write_parts(writer, &[Left(b"all", NAME_ROOM)])?;
     write_counts(tally.all(), subject, writer)?;
     write_whole(tally.all(), subject, writer)?;
+    writer.write_all(b"\n")?;
     write_end(tally, end, subject, writer)
 }
 
@@ -114,6 +113,18 @@ fn write_whole<O: AnswerWriter>(
         Text(ink(share, subject.has_colours)),
         Share(share),
         Text(plain(subject.has_colours)),
+    ];
+    write_parts(writer, &parts)
+}
+
+/// Writes how often a function was called, and by how many lanes.
+fn write_calls<O: AnswerWriter>(calls: Counts, writer: &mut O) -> Result<(), WriteFault>
+    requires works { O.has_failed writer.old ≡ false }
+    ensures failed { O.has_failed writer.new ≡ is_err result }
+{
+    let parts = [
+        Right(calls.steps, 10),
+        Right(calls.lane_steps, 11),
         Text(b"\n"),
     ];
     write_parts(writer, &parts)

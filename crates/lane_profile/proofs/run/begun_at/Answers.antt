@@ -1,4 +1,4 @@
-use Rattle.std.proofs.Common.{◌≡◌, ◌∙◌, ◌+◌, ◌-◌, length, drop, [], ◌∷◌, ap, refl, sym, subst, arith}
+use Rattle.std.proofs.Common.{◌≡◌, ◌∙◌, ◌+◌, ◌-◌, length, refl, sym, subst, arith}
 use Rattle.gang_model.specs.Debugger.Debugger.{now}
 use Rattle.debug_traits.specs.Frames.{frames_at}
 use Rattle.lane_counts.specs.Tallies.{HasFrames}

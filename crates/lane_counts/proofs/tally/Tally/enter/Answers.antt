@@ -1,4 +1,4 @@
-use Rattle.std.proofs.Common.{◌∙◌, sym, ap, Some}
+use Rattle.std.proofs.Common.{◌∙◌, ap}
 use Rattle.lane_counts.specs.Naming.{name_at}
 use Rattle.lane_counts.proofs.Standing.{kept}
 use Rattle.lane_counts.proofs.tally.Tally.enter.Goals as goal

@@ -1,5 +1,5 @@
 use Rattle.std.proofs.Common.{◌≡◌, ◌∙◌, ap, sym, subst, arith, suc, ◌+◌, ◌*◌, ◌≤◌, true, Bool, ◌∷◌, ◌++◌, drop, length, Some, refl}
-use Rattle.std.specs.Prelude.{◌==◌, ◌&&◌, nat_lt, slice_get}
+use Rattle.std.specs.Prelude.{◌==◌, ◌&&◌, if◌then◌else◌, nat_lt, slice_get}
 use Rattle.lane_counts.specs.declared.counts.Counts.{Counts}
 use Rattle.lane_counts.specs.declared.frames.LastStep.{LastStep}
 use Rattle.lane_counts.specs.Counted.{counts_at, hits}
@@ -7,12 +7,12 @@ use Rattle.lane_counts.specs.Pending.{has_function, pending, width_of}
 use Rattle.lane_counts.specs.declared.forms.Part.TheVariants as part
 use Rattle.lane_counts.specs.Formed.{has_part, is_inside, is_round}
 use Rattle.lane_counts.specs.Naming.{name_at}
-use Rattle.lane_counts.specs.Steps.{active, at_line, each, in_frame, in_function, is_first, next_in_frame, one_if, parts}
-use Rattle.lane_counts.specs.Tallies.{AreFrames}
+use Rattle.lane_counts.specs.Steps.{active, at_line, begins_frame, called, depth, each, in_frame, in_function, is_first, next_in_frame, one_if, parts}
+use Rattle.lane_counts.specs.Tallies.{AreFrames, unparted_with}
 use Rattle.lane_counts.proofs.Numbered.{part_of}
 use Rattle.lane_counts.proofs.Standing.{above, counted_whole, enough, stepped}
 use Rattle.lane_counts.proofs.Named.{numbered, some_same}
-use Rattle.lane_counts.proofs.Noting.{few_noted, hit_some, hits_few, lanes_length, one_few, with_noted, with_unparted}
+use Rattle.lane_counts.proofs.Noting.{few_noted, hit_some, hits_few, lanes_length, one_few, with_called, with_noted, with_unparted}
 use Rattle.lane_counts.proofs.tally.Tally.note.Goals as goal
 
 pub returns-clause-lines : goal.returns-clause-lines
@@ -82,6 +82,24 @@ returns-clause-whole c final number name extends distinct is stand later at foll
     (ap active at.lanes ∙ sym c.count-lanes.ensures.value)
     (ap length at.lanes ∙ lanes_length (width_of c.args.at.gang) c.args.at.lanes ∙ sym c.width-width.ensures.value)
 
+pub returns-clause-calls : goal.returns-clause-calls
+returns-clause-calls c final number name extends distinct is stand later at =
+    let given = c.in_ok-function.function in
+    let first = c.args.at.function.now in
+    let before = c.args.self.now.last_depth in
+    let has = extends given first c.in_ok-function.ensures.named in
+    let back : first ≡ name → given ≡ number = λ e. distinct given number name (has ∙ ap Some e) is in
+    let same : given ≡ number → first ≡ name = λ e. some_same first name (sym has ∙ ap (name_at final) e ∙ is) in
+    let old = counts_at c.args.self.now.calls.rows.items number in
+    let new = counts_at c.add_if.new.self.rows.items number in
+    let rest = called (Some (depth stand)) later in
+    let is_call : begins_frame before stand ≡ c.begins_frame-is_call.result = sym (c.begins_frame-is_call.ensures stand at.deep) in
+    ap (λ b. unparted_with old (in_function name) (if b then stand ∷ rest else rest)) is_call
+    ∙ with_called (in_function name) old new c.begins_frame-is_call.result (given == number) c.count-lanes.result c.width-width.result stand rest
+    (c.in_ok-add_if.ensures number) (ap (is_first name) at.function.1 ∙ numbered given number first name same back) (ap active at.lanes ∙ sym c.count-lanes.ensures.value)
+    (ap length at.lanes ∙ lanes_length (width_of c.args.at.gang) c.args.at.lanes ∙ sym c.width-width.ensures.value)
+    ∙ ap (λ n. unparted_with new (in_function name) (called (Some n) later)) at.deep
+
 pub returns-clause-rounds : goal.returns-clause-rounds
 returns-clause-rounds c k form there stand later at =
     with_unparted (λ stand. is_round form stand.spot) _ _ (nat_lt k (length c.args.self.now.forms.forms.items) && has_part part.Rounds (slice_get c.args.self.now.forms.forms.items k) c.args.at.spot)
@@ -117,6 +135,8 @@ returns-clause-sound c =
       inside = λ k. few_noted (counts_at c.args.self.now.forms.inside.rows.items k) (counts_at c.note.new.self.inside.rows.items k) old new
           (nat_lt k (length c.args.self.now.forms.forms.items) && has_part part.Inside (slice_get c.args.self.now.forms.forms.items k) c.args.at.spot) c.count-lanes.result
           c.width-width.result 0 (c.in_ok-note.ensures.inside k) c.count-lanes.ensures.within (omega arith) more (c.requires.sound.inside k);
+      calls = λ k. few_noted (counts_at c.args.self.now.calls.rows.items k) (counts_at c.add_if.new.self.rows.items k) old new (c.begins_frame-is_call.result && (c.in_ok-function.function == k)) c.count-lanes.result
+          c.width-width.result 0 (c.in_ok-add_if.ensures k) c.count-lanes.ensures.within (omega arith) more (c.requires.sound.calls k);
       whole = λ k. few_noted (counts_at c.args.self.now.whole.rows.items k) (counts_at c.add_each.new.self.rows.items k) old new (nat_lt k c.count.result && has_function k c.put.new.self.lasts.items) c.count-lanes.result
           c.width-width.result 0 (c.in_ok-add_each.ensures k) c.count-lanes.ensures.within (omega arith) more (c.requires.sound.whole k);
     }

@@ -1,5 +1,5 @@
 -- as many steps were tried and done as rounds were made, and what the tally has comes with the steps that are left to what is to be counted
-use Rattle.std.proofs.Common.{◌≡◌, ℕ, ◌≤◌, List, Some, length}
+use Rattle.std.proofs.Common.{◌≡◌, ℕ, ◌≤◌, Bool, List, Option, Some, None, length}
 use Rattle.std.specs.List.{All}
 use Rattle.std.specs.Prelude.{slice_get}
 use Rattle.element_touches.specs.Counted.{none}
@@ -11,15 +11,17 @@ use Rattle.debug_session.specs.Sessions.{StandsFor}
 use Rattle.lane_counts.specs.declared.names.Names.{Names}
 use Rattle.lane_counts.specs.Formed.{is_inside, is_round}
 use Rattle.lane_counts.specs.Naming.{AreDistinct, Extends, name_at}
-use Rattle.lane_counts.specs.Steps.{at_line, each, in_frame, in_function}
-use Rattle.lane_counts.specs.Tallies.{Follows, IsSound, all_with, counts_of, inside_with, line_with, own_with, rounds_with, unparted_of, whole_with}
+use Rattle.lane_counts.specs.Steps.{at_line, called, each, in_frame, in_function}
+use Rattle.lane_counts.specs.Tallies.{Follows, IsSound, all_with, calls_with, counts_of, inside_with, line_with, own_with, rounds_with, unparted_of, whole_with}
+use Rattle.lane_meetings.specs.Partings.{Measure, parted, AreDistinct as AreDistinctRows}
+use Rattle.lane_meetings.specs.Pending.{counted_with}
 use Rattle.lane_picture.proofs.Counting.{SoFar}
 use Rattle.lane_profile.specs.Counted.{IsNamed}
 use Rattle.lane_picture.specs.Seen.{state_after}
 use Rattle.lane_profile.specs.Stands.{stand_of, stands_of}
 use Rattle.lane_profile.proofs.Left.{stands_left}
 use Rattle.lane_profile.proofs.Touching.{SoTouched}
-use Rattle.lane_profile.proofs.run.count_run.Given as goal
+use Rattle.lane_profile.proofs.run.count_steps.Given as goal
 
 abbrev pub invariant-loop-count : goal.invariant-loop-count
 invariant-loop-count g l = record {
@@ -32,6 +34,9 @@ invariant-loop-count g l = record {
   own : (s : Setting) (d : Debugger) → StandsFor g.M.RecordedMachine.stands l.initial.session s d → 1 ≤ s.limit → (final : Names) (number : ℕ) (name : List ℕ)
       → Extends l.tally.names final → AreDistinct final → name_at final number ≡ Some name
       → own_with l.tally number name (stands_left s.program l.most_steps (now s d) l._count) ≡ counts_of (in_function name) (stands_of s.program l.most_steps (now s d));
+  calls : (s : Setting) (d : Debugger) → StandsFor g.M.RecordedMachine.stands l.initial.session s d → 1 ≤ s.limit → (final : Names) (number : ℕ) (name : List ℕ)
+      → Extends l.tally.names final → AreDistinct final → name_at final number ≡ Some name
+      → calls_with l.tally number name (stands_left s.program l.most_steps (now s d) l._count) ≡ unparted_of (in_function name) (called None (stands_of s.program l.most_steps (now s d)));
   whole : (s : Setting) (d : Debugger) → StandsFor g.M.RecordedMachine.stands l.initial.session s d → 1 ≤ s.limit → length s.first.frames ≤ 1 → (final : Names) (number : ℕ) (name : List ℕ)
       → Extends l.tally.names final → AreDistinct final → name_at final number ≡ Some name
       → whole_with l.tally number name (stands_left s.program l.most_steps (now s d) l._count) ≡ unparted_of (in_frame name) (stands_of s.program l.most_steps (now s d));
@@ -48,4 +53,7 @@ invariant-loop-count g l = record {
   accesses : (s : Setting) (d : Debugger) → StandsFor g.M.RecordedMachine.stands l.initial.session s d → 1 ≤ s.limit → (k : ℕ) (access : Access)
       → slice_get l.initial.accesses.rows.items k ≡ Some access → access.done ≡ none → access.tried ≡ none
       → (so_far : Access) × (slice_get l.accesses.rows.items k ≡ Some so_far) × SoTouched s.program l.most_steps (now s d) l._count access so_far;
+  meetings : (s : Setting) (d : Debugger) → StandsFor g.M.RecordedMachine.stands l.initial.session s d → 1 ≤ s.limit → (measure : Measure) (chosen : ℕ → Option ℕ → Bool)
+      → counted_with measure chosen l.meetings (stands_left s.program l.most_steps (now s d) l._count) ≡ parted measure chosen (stands_of s.program l.most_steps (now s d));
+  distinct : AreDistinctRows l.meetings.rows.rows.items;
 }

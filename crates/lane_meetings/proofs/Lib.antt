@@ -1,0 +1,4 @@
+pub mod Meeting
+pub mod Counting
+pub mod Ends
+mod Worked
