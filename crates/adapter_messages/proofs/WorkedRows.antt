@@ -9,13 +9,14 @@ use Rattle.adapter_requests.specs.declared.reply.Breakpoint.TheVariants.{Stands,
 use Rattle.adapter_requests.specs.declared.reply.BreakpointFault.TheVariants as fault
 use Rattle.adapter_requests.specs.declared.reply.StopReason.TheVariants as reason
 use Rattle.adapter_messages.specs.Faults.{missing}
-use Rattle.adapter_messages.specs.Messages.{natural}
+use Rattle.adapter_messages.specs.Messages.{error_body, natural, shows_user}
+use Rattle.adapter_messages.specs.Names.{named}
 use Rattle.adapter_requests.specs.declared.reply.VariableKind.TheVariants as kind
 use Rattle.adapter_requests.specs.declared.request.Context.TheVariants.{Hover, Watch}
 use Rattle.adapter_requests.specs.declared.request.Filter.TheVariants as filter
 use Rattle.adapter_requests.specs.declared.request.Way.TheVariants.{Backwards, Forwards}
 use Rattle.adapter_messages.specs.Arguments.{breakpoint_in, context_in, filter_in, time_number, time_of, unmarked, watch_in}
-use Rattle.adapter_messages.specs.Replies.{breakpoint, file_name, only, stop_body, time, times, variable_of}
+use Rattle.adapter_messages.specs.Replies.{breakpoint, file_name, hint, moved, only, stop_body, time, times, variable_of}
 
 -- a path with folders, one without, and one without a last part
 behind_folders : file_name (codes "examples/first.ispc") ≡ codes "first.ispc"
@@ -141,8 +142,30 @@ no_times = refl
 
 -- a constant cannot be set
 a_constant : get (codes "presentationHint") (variable_of kind.Plain true (codes "n") (codes "5") (codes "uniform int8") 0)
-    ≡ Some (only (codes "attributes") (array (item (string (codes "constant")) (item (string (codes "readOnly")) no_items))))
+    ≡ Some (object (member (codes "attributes") (array (item (string (codes "constant")) (item (string (codes "readOnly")) no_items))) (member (codes "kind") (string (codes "data")) no_members)))
 a_constant = refl
+
+a_range_of_elements : hint kind.Range false ≡ object (member (codes "attributes") (array no_items) (member (codes "kind") (string (codes "virtual")) no_members))
+a_range_of_elements = refl
+
+-- braces in a text stand in the variable of the format; why nothing is under the mouse is not shown to the user
+in_braces : error_body (codes "evaluate") (codes "{x}")
+    ≡ only (codes "error") (object
+    (member (codes "format") (string (codes "{text}"))
+    (member (codes "id") (natural 1)
+    (member (codes "showUser") (boolean false)
+    (member (codes "variables") (only (codes "text") (string (codes "{x}"))) no_members)))))
+in_braces = refl
+
+a_refused_launch : shows_user (named (codes "launch")) ≡ true
+a_refused_launch = refl
+
+-- of moves `continue` alone is told that all threads go on
+a_continue : moved (codes "continue") ≡ only (codes "allThreadsContinued") (boolean true)
+a_continue = refl
+
+a_step : moved (codes "next") ≡ object no_members
+a_step = refl
 
 -- words of contexts and filters, and another one
 under_the_mouse : context_in (Some (codes "hover")) ≡ Hover

@@ -229,7 +229,7 @@ IsRequestNamed name.DataBreakpointInfo message (request.DataBreakpointInfo text)
 IsRequestNamed name.SetDataBreakpoints message (request.SetDataBreakpoints targets) = map asked_text targets.items ≡ each_asked watch_in (breakpoints_of message)
 IsRequestNamed name.ConfigurationDone message request.ConfigurationDone = Unit {0}
 IsRequestNamed name.Threads message request.Threads = Unit {0}
-IsRequestNamed name.StackTrace message request.StackTrace = Unit {0}
+IsRequestNamed name.StackTrace message (request.StackTrace start levels) = (number_at (codes "/arguments/startFrame") message ≡ start) × (number_at (codes "/arguments/levels") message ≡ levels)
 IsRequestNamed name.Scopes message (request.Scopes frame) = number_at (codes "/arguments/frameId") message ≡ Some frame
 IsRequestNamed name.Variables message (request.Variables reference page) = (number_at (codes "/arguments/variablesReference") message ≡ Some reference) × (page ≡ page_in message)
 IsRequestNamed name.SetVariable message (request.SetVariable reference text value) =

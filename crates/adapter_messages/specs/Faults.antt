@@ -29,6 +29,13 @@ page_options message =
     ∷ (codes "filter", is_right (text_at (codes "/arguments/filter") message) (pointer (codes "/arguments/filter") message))
     ∷ []
 
+-- which of the frames are asked for, which may be left out too
+abbrev pub stack_options : Data → List (Bytes × Bool)
+stack_options message =
+    (codes "startFrame", is_right (number_at (codes "/arguments/startFrame") message) (pointer (codes "/arguments/startFrame") message))
+    ∷ (codes "levels", is_right (number_at (codes "/arguments/levels") message) (pointer (codes "/arguments/levels") message))
+    ∷ []
+
 -- the arguments that a request of a name needs, in their order, and whether a message has each of the right type
 abbrev pub needs : Name → Data → List (Bytes × Bool)
 needs name.Launch message = (codes "program", is_some (text_at (codes "/arguments/program") message)) ∷ launch_options message
@@ -36,6 +43,7 @@ needs name.BreakpointLocations message = (codes "line", is_some (line_at (codes 
 needs name.GotoTargets message = (codes "line", is_some (line_at (codes "/arguments/line") message)) ∷ []
 needs name.Goto message = (codes "targetId", is_some (time_in message)) ∷ []
 needs name.DataBreakpointInfo message = (codes "name", is_some (text_at (codes "/arguments/name") message)) ∷ []
+needs name.StackTrace message = stack_options message
 needs name.Scopes message = (codes "frameId", is_some (number_at (codes "/arguments/frameId") message)) ∷ []
 needs name.Variables message = (codes "variablesReference", is_some (number_at (codes "/arguments/variablesReference") message)) ∷ page_options message
 needs name.SetVariable message = (codes "variablesReference", is_some (number_at (codes "/arguments/variablesReference") message)) ∷ (codes "name", is_some (text_at (codes "/arguments/name") message)) ∷ (codes "value", is_some (text_at (codes "/arguments/value") message)) ∷ []

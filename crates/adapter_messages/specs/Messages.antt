@@ -1,9 +1,12 @@
 -- The messages of the protocol.
-use Rattle.std.specs.Prelude.{ℕ, true, false, codes}
+use Rattle.std.specs.Prelude.{ℕ, Bool, true, false, Option, Some, codes}
 use Rattle.serde_json.specs.Data.{Data, boolean, member, no_members, number, object, string, unsigned}
 use Rattle.gang_model.specs.Texts.Text.{Bytes}
 use Rattle.adapter_requests.specs.declared.reply.StopReason.{StopReason}
 use Rattle.adapter_requests.specs.declared.reply.StopReason.TheVariants as reason
+use Rattle.adapter_messages.specs.declared.names.Name.{Name}
+use Rattle.adapter_messages.specs.declared.names.Name.TheVariants as name
+use Rattle.adapter_messages.specs.Names.{named}
 
 -- a number
 abbrev pub natural : ℕ → Data
@@ -19,14 +22,34 @@ response seq request command body = object
     (member (codes "success") (boolean true)
     (member (codes "type") (string (codes "response")) no_members))))))
 
+-- whether the user is shown why a request was refused: what editors ask for by themselves, or show in the place of a value, is refused quietly
+abbrev pub shows_user : Option Name → Bool
+shows_user (Some name.BreakpointLocations) = false
+shows_user (Some name.ExceptionInfo) = false
+shows_user (Some name.DataBreakpointInfo) = false
+shows_user (Some name.StackTrace) = false
+shows_user (Some name.Scopes) = false
+shows_user (Some name.Variables) = false
+shows_user (Some name.Completions) = false
+shows_user (Some name.Evaluate) = false
+shows_user other = true
+
+-- an error by its text, which is that of the one variable of its format: braces in the text name none
+abbrev pub error : (shows_user : Bool) → (text : Bytes) → Data
+error shows_user text = object
+    (member (codes "format") (string (codes "{text}"))
+    (member (codes "id") (natural 1)
+    (member (codes "showUser") (boolean shows_user)
+    (member (codes "variables") (object (member (codes "text") (string text) no_members)) no_members))))
+
 -- what a refused request is told
-abbrev pub error_body : (text : Bytes) → Data
-error_body text = object (member (codes "error") (object (member (codes "format") (string text) (member (codes "id") (natural 1) no_members))) no_members)
+abbrev pub error_body : (command text : Bytes) → Data
+error_body command text = object (member (codes "error") (error (shows_user (named command)) text) no_members)
 
 -- the reply to a request that is refused
 abbrev pub failure : (seq request : ℕ) → (command text : Bytes) → Data
 failure seq request command text = object
-    (member (codes "body") (error_body text)
+    (member (codes "body") (error_body command text)
     (member (codes "command") (string command)
     (member (codes "message") (string text)
     (member (codes "request_seq") (natural request)

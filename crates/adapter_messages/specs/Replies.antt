@@ -1,8 +1,9 @@
 -- What a request is told: the body of each reply, and of the events of a stop and of an output. Members stand in the order of their keys.
-use Rattle.std.specs.Prelude.{ℕ, Bool, true, false, List, ◌++◌, decimal, map, Option, Some, None, codes, length, string_bytes, unwrap_or}
+use Rattle.std.specs.Prelude.{ℕ, Bool, true, false, List, ◌++◌, decimal, map, Option, Some, None, codes, if◌then◌else◌, string_bytes, unwrap_or}
 use Rattle.std.specs.Path.{path_file_name}
 use Rattle.serde_json.specs.Data.{Data, Items, Members, array, boolean, item, member, no_items, no_members, null, object, put, string}
 use Rattle.serde_json.specs.View.{items_of}
+use Rattle.gang_model.specs.Source.Names.{same_text}
 use Rattle.gang_model.specs.Texts.Text.{Bytes}
 use Rattle.adapter_requests.specs.declared.reply.Breakpoint.{Breakpoint}
 use Rattle.adapter_requests.specs.declared.reply.Breakpoint.TheVariants.{Stands, Refused}
@@ -67,8 +68,9 @@ with_others members =
     (able (codes "supportsSetExpression")
     (able (codes "supportsHitConditionalBreakpoints")
     (able (codes "supportsEvaluateForHovers")
+    (able (codes "supportsDelayedStackTraceLoading")
     (able (codes "supportsDataBreakpoints")
-    (able (codes "supportsConditionalBreakpoints") members))))))
+    (able (codes "supportsConditionalBreakpoints") members)))))))
 
 -- what the adapter can do
 abbrev pub capabilities : Data
@@ -113,7 +115,7 @@ abbrev pub times : Option ℕ → Items
 times None = no_items
 times (Some line) = item (time line Forwards) (item (time line Backwards) no_items)
 
--- a name that can stand in a text, in place of so many bytes from a column on
+-- a name that can stand in a text, in place of so many units from a column on
 abbrev pub completion : Completion → Data
 completion shown = object
     (member (codes "label") (string (string_bytes shown.name))
@@ -146,20 +148,21 @@ file_name path = unwrap_or (path_file_name path) path
 abbrev pub source : (program : Bytes) → Data
 source program = object (member (codes "name") (string (file_name program)) (member (codes "path") (string program) no_members))
 
--- a frame, whose number is its depth; lines and columns count from 1
+-- a frame of the program, whose number is its depth; lines and columns count from 1
 abbrev pub frame : (program : Bytes) → Frame → Data
 frame program shown = object
     (member (codes "column") (natural shown.column)
     (member (codes "id") (natural shown.depth)
     (member (codes "line") (natural shown.line)
     (member (codes "name") (string (string_bytes shown.name))
-    (member (codes "source") (source program) no_members)))))
+    (member (codes "presentationHint") (string (codes "normal"))
+    (member (codes "source") (source program) no_members))))))
 
--- the frames, the top one first, and how many there are
-abbrev pub frames : (program : Bytes) → List Frame → Data
-frames program shown = object
+-- the frames that were asked for, the top one first, and how many there are
+abbrev pub frames : (program : Bytes) → List Frame → (total : ℕ) → Data
+frames program shown total = object
     (member (codes "stackFrames") (array_of (frame program) shown)
-    (member (codes "totalFrames") (natural (length shown)) no_members))
+    (member (codes "totalFrames") (natural total) no_members))
 
 -- a scope of a name and a reference, of which the protocol knows the kind
 abbrev pub known_scope : (name kind : Bytes) → (reference : ℕ) → Data
@@ -184,15 +187,24 @@ scopes shown = array
     (item (file_scope shown.file) no_items)))
 
 -- that what is shown can be set, or cannot since it is a constant
-abbrev pub hint : (is_constant : Bool) → Data
-hint false = only (codes "attributes") (array no_items)
-hint true = only (codes "attributes") (array (item (string (codes "constant")) (item (string (codes "readOnly")) no_items)))
+abbrev pub attributes : (is_constant : Bool) → Items
+attributes false = no_items
+attributes true = item (string (codes "constant")) (item (string (codes "readOnly")) no_items)
 
--- a variable by its name, whether it is constant, its type and its value; the reference is that of its lanes or elements, 0 if it has none
-abbrev pub named_so : (is_constant : Bool) → (name value type : Bytes) → (reference : ℕ) → Members
-named_so is_constant name value type reference =
+-- the protocol's word for what is shown: a range of elements stands for no value of the program
+abbrev pub kind_text : VariableKind → Bytes
+kind_text kind.Range = codes "virtual"
+kind_text other = codes "data"
+
+-- how a variable is shown
+abbrev pub hint : VariableKind → (is_constant : Bool) → Data
+hint shown is_constant = object (member (codes "attributes") (array (attributes is_constant)) (member (codes "kind") (string (kind_text shown)) no_members))
+
+-- a variable by its name, its kind, whether it is constant, its type and its value; the reference is that of its lanes or elements, 0 if it has none
+abbrev pub named_so : VariableKind → (is_constant : Bool) → (name value type : Bytes) → (reference : ℕ) → Members
+named_so shown is_constant name value type reference =
     member (codes "name") (string name)
-    (member (codes "presentationHint") (hint is_constant)
+    (member (codes "presentationHint") (hint shown is_constant)
     (member (codes "type") (string type)
     (member (codes "value") (string value)
     (member (codes "variablesReference") (natural reference) no_members))))
@@ -200,11 +212,11 @@ named_so is_constant name value type reference =
 -- A variable of a kind. Behind the name and the value of a lane that is not active stands a mark, which its expression has not; of an array it is told how
 -- many elements it has; and no expression shows a range of elements.
 abbrev pub variable_of : VariableKind → (is_constant : Bool) → (name value type : Bytes) → (reference : ℕ) → Data
-variable_of kind.Plain is_constant name value type reference = object (member (codes "evaluateName") (string name) (named_so is_constant name value type reference))
-variable_of kind.Waits is_constant name value type reference = object (member (codes "evaluateName") (string name) (named_so is_constant (name ++ mark) (value ++ mark) type reference))
+variable_of kind.Plain is_constant name value type reference = object (member (codes "evaluateName") (string name) (named_so kind.Plain is_constant name value type reference))
+variable_of kind.Waits is_constant name value type reference = object (member (codes "evaluateName") (string name) (named_so kind.Waits is_constant (name ++ mark) (value ++ mark) type reference))
 variable_of (kind.Array elements) is_constant name value type reference =
-    object (member (codes "evaluateName") (string name) (member (codes "indexedVariables") (natural elements) (named_so is_constant name value type reference)))
-variable_of kind.Range is_constant name value type reference = object (named_so is_constant name value type reference)
+    object (member (codes "evaluateName") (string name) (member (codes "indexedVariables") (natural elements) (named_so (kind.Array elements) is_constant name value type reference)))
+variable_of kind.Range is_constant name value type reference = object (named_so kind.Range is_constant name value type reference)
 
 -- a variable
 abbrev pub variable : Variable → Data
@@ -222,24 +234,28 @@ exception shown = object
     (member (codes "details") (only (codes "typeName") (string (string_bytes shown.name)))
     (member (codes "exceptionId") (string (string_bytes shown.name)) no_members))))
 
--- what a reply tells of the program at a path
-abbrev pub body_of : (program : Bytes) → Reply → Data
-body_of program reply.Capabilities = capabilities
-body_of program (reply.Breakpoints asked) = only (codes "breakpoints") (array_of breakpoint asked.items)
-body_of program (reply.Locations lines) = only (codes "breakpoints") (array_of location lines.items)
-body_of program (reply.Targets line) = only (codes "targets") (array (times line))
-body_of program (reply.Completions shown) = only (codes "targets") (array_of completion shown.items)
-body_of program (reply.Watchable target) = watchable (string_bytes target)
-body_of program reply.NotWatchable = not_watchable
-body_of program reply.Threads = only (codes "threads") (array (item gang no_items))
-body_of program (reply.Frames shown) = frames program shown.items
-body_of program (reply.Scopes shown) = only (codes "scopes") (scopes shown)
-body_of program (reply.Variables shown) = only (codes "variables") (array_of variable shown.items)
-body_of program (reply.Set value) = only (codes "value") (string (string_bytes value))
-body_of program (reply.Evaluated text reason) = evaluated (string_bytes text)
-body_of program (reply.Exception shown) = exception shown
-body_of program (reply.Moved stop) = only (codes "allThreadsContinued") (boolean true)
-body_of program reply = object no_members
+-- what a move is told: only the reply to `continue` has a member
+abbrev pub moved : (command : Bytes) → Data
+moved command = object (if same_text command (codes "continue") then member (codes "allThreadsContinued") (boolean true) no_members else no_members)
+
+-- what a reply to a command tells of the program at a path
+abbrev pub body_of : (command program : Bytes) → Reply → Data
+body_of command program reply.Capabilities = capabilities
+body_of command program (reply.Breakpoints asked) = only (codes "breakpoints") (array_of breakpoint asked.items)
+body_of command program (reply.Locations lines) = only (codes "breakpoints") (array_of location lines.items)
+body_of command program (reply.Targets line) = only (codes "targets") (array (times line))
+body_of command program (reply.Completions shown) = only (codes "targets") (array_of completion shown.items)
+body_of command program (reply.Watchable target) = watchable (string_bytes target)
+body_of command program reply.NotWatchable = not_watchable
+body_of command program reply.Threads = only (codes "threads") (array (item gang no_items))
+body_of command program (reply.Frames shown total) = frames program shown.items total
+body_of command program (reply.Scopes shown) = only (codes "scopes") (scopes shown)
+body_of command program (reply.Variables shown) = only (codes "variables") (array_of variable shown.items)
+body_of command program (reply.Set value) = only (codes "value") (string (string_bytes value))
+body_of command program (reply.Evaluated text reason) = evaluated (string_bytes text)
+body_of command program (reply.Exception shown) = exception shown
+body_of command program (reply.Moved stop) = moved command
+body_of command program reply = object no_members
 
 -- why a reply refuses its request, if it does
 abbrev pub refusal : Reply → Option Bytes
@@ -254,7 +270,7 @@ refused_or (Some text) seq request command body = failure seq request command te
 
 -- the whole message of a reply
 abbrev pub message_of : (seq request : ℕ) → (command program : Bytes) → Reply → Data
-message_of seq request command program reply = refused_or (refusal reply) seq request command (body_of program reply)
+message_of seq request command program reply = refused_or (refusal reply) seq request command (body_of command program reply)
 
 -- the number of the breakpoint or the watch at which the program stands still, before other members
 abbrev pub hit_before : StopReason → Members → Members

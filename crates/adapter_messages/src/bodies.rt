@@ -1,24 +1,28 @@
 //! What replies tell, as JSON.
-ghost use Rattle.std.specs.Prelude.{◌≡◌, ◌≤◌, ◌++◌, IfOk, OnOk, codes, string_bytes};
+ghost use Rattle.std.specs.Prelude.{◌≡◌, ◌≤◌, IfOk, OnOk, codes};
 ghost use Rattle.serde_json.specs.Data.{array, no_members, object};
 ghost use Rattle.serde_json.specs.View.{members_view, view};
-ghost use Rattle.adapter_messages.specs.Replies.{able, array_of, body_of, breakpoint, capabilities, completion, exception_filter, fault_text, file_name, file_scope, frames, hint, known_scope, location, not_watchable, only, scopes, source, time, times, variable, variable_of, watchable, way_text, with_filters, with_others, with_requests};
+ghost use Rattle.adapter_messages.specs.Replies.{able, array_of, body_of, breakpoint, capabilities, completion, exception_filter, fault_text, file_name, file_scope, frames, known_scope, location, moved, not_watchable, only, scopes, source, time, times, watchable, way_text, with_filters, with_others, with_requests};
 ghost use Rattle.adapter_messages.specs.Replies as spec;
-ghost use Rattle.adapter_messages.specs.Arguments.{mark, way_number};
-ghost use Rattle.adapter_requests.specs.declared.reply.VariableKind.TheVariants as kind;
+ghost use Rattle.adapter_messages.specs.Arguments.{way_number};
 
-use crate::arguments::MARK;
+use crate::variables::variables;
 use adapter_requests::{
-    Breakpoint, BreakpointFault, Completion, Exception, Frame, Reply, Scopes, Variable,
-    VariableKind, Way,
+    Breakpoint, BreakpointFault, Completion, Exception, Frame, Reply, Scopes, Way,
 };
+use debug_words::is_same;
 use serde_json::{Map, Value, json, push, put};
 use std::alloc::{AllocError, Global};
 use std::path::Path;
 
-/// What a reply tells; an object without members where it tells nothing.
-pub(crate) fn body_of(alloc: Global, program: &str, reply: &Reply) -> Result<Value, AllocError>
-    ensures { IfOk result (λ v. view v ≡ body_of program.now reply.now) }
+/// What a reply to a command tells; an object without members where it tells nothing.
+pub(crate) fn body_of(
+    alloc: Global,
+    command: &str,
+    program: &str,
+    reply: &Reply,
+) -> Result<Value, AllocError>
+    ensures { IfOk result (λ v. view v ≡ body_of command.now program.now reply.now) }
 {
     match reply {
         Reply::Capabilities => capabilities(alloc),
@@ -29,7 +33,10 @@ pub(crate) fn body_of(alloc: Global, program: &str, reply: &Reply) -> Result<Val
         Reply::Watchable(target) => watchable(alloc, target.as_str()),
         Reply::NotWatchable => not_watchable(alloc),
         Reply::Threads => json!(in alloc; {"threads": [{"id": 1u64, "name": "gang"}]}),
-        Reply::Frames(made) => frames(alloc, program, made),
+        Reply::Frames {
+            frames: made,
+            total,
+        } => frames(alloc, program, made, *total),
         Reply::Scopes(shown) => scopes(alloc, shown),
         Reply::Variables(found) => variables(alloc, found),
         Reply::Set(value) => json!(in alloc; {"value": value.as_str()}),
@@ -37,7 +44,7 @@ pub(crate) fn body_of(alloc: Global, program: &str, reply: &Reply) -> Result<Val
             json!(in alloc; {"result": text.as_str(), "variablesReference": 0u64})
         }
         Reply::Exception(exception) => exception_value(alloc, exception),
-        Reply::Moved(_) => json!(in alloc; {"allThreadsContinued": true}),
+        Reply::Moved(_) => moved(alloc, command),
         Reply::Done | Reply::Ended | Reply::Refused(_) | Reply::OutOfMemory => {
             Ok(nothing(alloc))
         }
@@ -49,6 +56,17 @@ fn nothing(alloc: Global) -> Value
     ensures { view result ≡ object no_members }
 {
     Value::Object(Map::new(alloc))
+}
+
+/// What a move is told: only the reply to `continue` has a member.
+fn moved(alloc: Global, command: &str) -> Result<Value, AllocError>
+    ensures { IfOk result (λ v. view v ≡ moved command.now) }
+{
+    if is_same(command.as_bytes(), b"continue") {
+        json!(in alloc; {"allThreadsContinued": true})
+    } else {
+        Ok(nothing(alloc))
+    }
 }
 
 /// What the adapter can do.
@@ -90,6 +108,7 @@ fn put_others(alloc: Global, members: &mut Map<String, Value>) -> Result<(), All
 {
     put_able(alloc, members, "supportsConditionalBreakpoints")?;
     put_able(alloc, members, "supportsDataBreakpoints")?;
+    put_able(alloc, members, "supportsDelayedStackTraceLoading")?;
     put_able(alloc, members, "supportsEvaluateForHovers")?;
     put_able(alloc, members, "supportsHitConditionalBreakpoints")?;
     put_able(alloc, members, "supportsSetExpression")?;
@@ -287,16 +306,15 @@ fn not_watchable(alloc: Global) -> Result<Value, AllocError>
     })
 }
 
-/// The frames, the top one first.
-fn frames(alloc: Global, program: &str, made: &[Frame]) -> Result<Value, AllocError>
-    ensures { IfOk result (λ v. view v ≡ frames program.now made.now) }
+/// The frames that were asked for, the top one first, and how many there are.
+fn frames(alloc: Global, program: &str, made: &[Frame], total: usize) -> Result<Value, AllocError>
+    ensures { IfOk result (λ v. view v ≡ frames program.now made.now total) }
 {
     let mut list = Vec::new(alloc);
     for frame in made {
         let shown = frame_value(alloc, program, frame)?;
         push(&mut list, shown)?;
     }
-    let total = made.len();
     json!(in alloc; {"stackFrames": Value::Array(list), "totalFrames": total})
 }
 
@@ -310,6 +328,7 @@ fn frame_value(alloc: Global, program: &str, frame: &Frame) -> Result<Value, All
         "id": frame.depth,
         "line": frame.line,
         "name": frame.name.as_str(),
+        "presentationHint": "normal",
         "source": source
     })
 }
@@ -359,113 +378,4 @@ fn file_scope(alloc: Global, reference: u64) -> Result<Value, AllocError>
     ensures { IfOk result (λ v. view v ≡ file_scope reference) }
 {
     json!(in alloc; {"expensive": false, "name": "File", "variablesReference": reference})
-}
-
-/// Variables.
-fn variables(alloc: Global, found: &[Variable]) -> Result<Value, AllocError>
-    ensures { IfOk result (λ v. view v ≡ only (codes "variables") (array_of variable found.now)) }
-{
-    let mut list = Vec::new(alloc);
-    for variable in found {
-        let shown = variable_value(alloc, variable)?;
-        push(&mut list, shown)?;
-    }
-    json!(in alloc; {"variables": Value::Array(list)})
-}
-
-/// A variable.
-fn variable_value(alloc: Global, variable: &Variable) -> Result<Value, AllocError>
-    ensures { IfOk result (λ v. view v ≡ spec.variable variable.now) }
-{
-    match variable.kind {
-        VariableKind::Plain => plain_value(alloc, variable),
-        VariableKind::Waits => waiting_value(alloc, variable),
-        VariableKind::Array(elements) => array_value(alloc, variable, elements),
-        VariableKind::Range => range_value(alloc, variable),
-    }
-}
-
-/// That what is shown can be set, or cannot since it is a constant.
-fn hint_value(alloc: Global, is_constant: bool) -> Result<Value, AllocError>
-    ensures { IfOk result (λ v. view v ≡ hint is_constant) }
-{
-    if is_constant {
-        json!(in alloc; {"attributes": ["constant", "readOnly"]})
-    } else {
-        json!(in alloc; {"attributes": []})
-    }
-}
-
-/// A scalar, a lane that is active or an element.
-fn plain_value(alloc: Global, variable: &Variable) -> Result<Value, AllocError>
-    ensures { IfOk result (λ v. view v ≡ variable_of kind.Plain variable.now.is_constant (string_bytes variable.now.name) (string_bytes variable.now.value) (string_bytes variable.now.type_name) variable.now.reference) }
-{
-    let hint = hint_value(alloc, variable.is_constant)?;
-    let name = variable.name.as_str();
-    let reference = variable.reference;
-    json!(in alloc; {
-        "evaluateName": name,
-        "name": name,
-        "presentationHint": hint,
-        "type": variable.type_name.as_str(),
-        "value": variable.value.as_str(),
-        "variablesReference": reference
-    })
-}
-
-/// A lane that is not active.
-fn waiting_value(alloc: Global, variable: &Variable) -> Result<Value, AllocError>
-    ensures { IfOk result (λ v. view v ≡ variable_of kind.Waits variable.now.is_constant (string_bytes variable.now.name) (string_bytes variable.now.value) (string_bytes variable.now.type_name) variable.now.reference) }
-{
-    let hint = hint_value(alloc, variable.is_constant)?;
-    let name = marked(alloc, variable.name.as_str())?;
-    let value = marked(alloc, variable.value.as_str())?;
-    json!(in alloc; {
-        "evaluateName": variable.name.as_str(),
-        "name": name.as_str(),
-        "presentationHint": hint,
-        "type": variable.type_name.as_str(),
-        "value": value.as_str(),
-        "variablesReference": variable.reference
-    })
-}
-
-/// A text with the mark of a lane that is not active.
-fn marked(alloc: Global, text: &str) -> Result<String, AllocError>
-    ensures { IfOk result (λ marked. string_bytes marked ≡ text.now ++ mark) }
-{
-    let mut marked = String::from_str(alloc, text)?;
-    marked.push_str(MARK)?;
-    Ok(marked)
-}
-
-/// An array of so many elements.
-fn array_value(alloc: Global, variable: &Variable, elements: usize) -> Result<Value, AllocError>
-    ensures { IfOk result (λ v. view v ≡ variable_of (kind.Array elements) variable.now.is_constant (string_bytes variable.now.name) (string_bytes variable.now.value) (string_bytes variable.now.type_name) variable.now.reference) }
-{
-    let hint = hint_value(alloc, variable.is_constant)?;
-    let name = variable.name.as_str();
-    json!(in alloc; {
-        "evaluateName": name,
-        "indexedVariables": elements,
-        "name": name,
-        "presentationHint": hint,
-        "type": variable.type_name.as_str(),
-        "value": variable.value.as_str(),
-        "variablesReference": variable.reference
-    })
-}
-
-/// A range of elements.
-fn range_value(alloc: Global, variable: &Variable) -> Result<Value, AllocError>
-    ensures { IfOk result (λ v. view v ≡ variable_of kind.Range variable.now.is_constant (string_bytes variable.now.name) (string_bytes variable.now.value) (string_bytes variable.now.type_name) variable.now.reference) }
-{
-    let hint = hint_value(alloc, variable.is_constant)?;
-    json!(in alloc; {
-        "name": variable.name.as_str(),
-        "presentationHint": hint,
-        "type": variable.type_name.as_str(),
-        "value": variable.value.as_str(),
-        "variablesReference": variable.reference
-    })
 }

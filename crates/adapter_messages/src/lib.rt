@@ -6,6 +6,7 @@ mod bodies;
 mod names;
 mod replies;
 mod requests;
+mod variables;
 
 pub use replies::{event_message, failure_message, output_body, reply_message, stop_body};
 pub use requests::{Head, RequestFault, read_head, read_request};

@@ -1,10 +1,11 @@
 //! Replies and events as JSON.
 ghost use Rattle.std.specs.Prelude.{◌≡◌, IfOk, option_map};
 ghost use Rattle.serde_json.specs.View.{view};
-ghost use Rattle.adapter_messages.specs.Messages.{event, failure, reason_text, response};
+ghost use Rattle.adapter_messages.specs.Messages.{error, event, failure, reason_text, response, shows_user};
 ghost use Rattle.adapter_messages.specs.Replies.{message_of, output_body, refusal, stop_body};
 
 use crate::bodies::body_of;
+use crate::names::{Name, named};
 use crate::requests::Head;
 use adapter_requests::{Reply, StopReason};
 use serde_json::{Value, json};
@@ -27,7 +28,7 @@ pub fn reply_message(
     if let Some(text) = refusal(reply) {
         return failure_message(alloc, number, head, text);
     }
-    let body = body_of(alloc, program, reply)?;
+    let body = body_of(alloc, head.command, program, reply)?;
     response_message(alloc, number, head, body)
 }
 
@@ -72,6 +73,7 @@ pub fn failure_message(
 ) -> Result<Value, AllocError>
     ensures { IfOk result (λ v. view v ≡ failure number head.entry.number head.entry.command.now text.now) }
 {
+    let error = error_value(alloc, shows_user(named(head.command)), text)?;
     let request = head.number;
     let command = head.command;
     json!(in alloc; {
@@ -81,8 +83,40 @@ pub fn failure_message(
         "success": false,
         "command": command,
         "message": text,
-        "body": {"error": {"id": 1u64, "format": text}}
+        "body": {"error": error}
     })
+}
+
+/// An error by its text, in which braces name no variable.
+fn error_value(alloc: Global, shows_user: bool, text: &str) -> Result<Value, AllocError>
+    ensures { IfOk result (λ v. view v ≡ error shows_user text.now) }
+{
+    json!(in alloc; {
+        "id": 1u64,
+        "format": "{text}",
+        "variables": {"text": text},
+        "showUser": shows_user
+    })
+}
+
+/// Whether the user is shown why a request was refused: what editors ask for by themselves, or show in the place of a value, is
+/// refused quietly.
+fn shows_user(name: Option<Name>) -> bool
+    ensures { result ≡ shows_user name }
+{
+    !matches!(
+        name,
+        Some(
+            Name::BreakpointLocations
+                | Name::ExceptionInfo
+                | Name::DataBreakpointInfo
+                | Name::StackTrace
+                | Name::Scopes
+                | Name::Variables
+                | Name::Completions
+                | Name::Evaluate
+        )
+    )
 }
 
 /// An event of this name, with what it tells.

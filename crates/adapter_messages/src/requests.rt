@@ -3,7 +3,7 @@ ghost use Rattle.std.specs.Prelude.{◌≡◌, IfErr, IfNone, IfOk, IfSome, None
 ghost use Rattle.serde_json.specs.Find.{as_number, as_str, as_u64, get, pointer};
 ghost use Rattle.serde_json.specs.View.{view};
 ghost use Rattle.adapter_messages.specs.Arguments.{IsRequest, IsRequestNamed, flag_at, head_of, is_right, number_at, text_at, text_of, unmarked};
-ghost use Rattle.adapter_messages.specs.Faults.{IsRefused, IsRefusedNamed, NamesArgument, first_missing, launch_options, missing, needs, page_options};
+ghost use Rattle.adapter_messages.specs.Faults.{IsRefused, IsRefusedNamed, NamesArgument, first_missing, launch_options, missing, needs, page_options, stack_options};
 ghost use Rattle.adapter_messages.specs.declared.requests.RequestFault.TheVariants.{Memory};
 
 use crate::arguments::{
@@ -83,7 +83,7 @@ pub fn read_request<'a>(
         Name::SetDataBreakpoints => read_watches(alloc, message),
         Name::ConfigurationDone => Ok(Request::ConfigurationDone),
         Name::Threads => Ok(Request::Threads),
-        Name::StackTrace => Ok(Request::StackTrace),
+        Name::StackTrace => read_stack(message),
         Name::Scopes => read_scopes(message),
         Name::Variables => read_variables(message),
         Name::SetVariable => read_set_variable(message),
@@ -277,6 +277,34 @@ fn wrong_page(message: &Value) -> Option<&'static str>
     let wrong = wrong_or(filter, "filter", None);
     let wrong = wrong_or(is_right_number(message, "/arguments/count"), "count", wrong);
     wrong_or(is_right_number(message, "/arguments/start"), "start", wrong)
+}
+
+/// The frames.
+fn read_stack(message: &Value) -> Result<Request<'_>, RequestFault>
+    ensures accepted { IfOk result (λ request. IsRequestNamed Name.StackTrace (view message.now) request) }
+    ensures complete { OnOk result (first_missing (needs Name.StackTrace (view message.now)) ≡ None) }
+    ensures refused { IfErr result (IsRefusedNamed Name.StackTrace (view message.now)) }
+{
+    if let Some(argument) = wrong_stack(message) {
+        return Err(RequestFault::Argument(argument));
+    }
+    Ok(Request::StackTrace {
+        start: number_at(message, "/arguments/startFrame"),
+        levels: number_at(message, "/arguments/levels"),
+    })
+}
+
+/// The first of the arguments for frames which is there by a wrong type.
+fn wrong_stack(message: &Value) -> Option<&'static str>
+    ensures { text_of result ≡ first_missing (stack_options (view message.now)) }
+{
+    let levels = is_right_number(message, "/arguments/levels");
+    let wrong = wrong_or(levels, "levels", None);
+    wrong_or(
+        is_right_number(message, "/arguments/startFrame"),
+        "startFrame",
+        wrong,
+    )
 }
 
 /// The scopes of a frame.

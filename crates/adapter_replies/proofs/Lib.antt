@@ -1,5 +1,6 @@
 pub mod ActiveLanes
 pub mod CallFrames
+pub mod ColumnUnits
 pub mod Completing
 pub mod LaneValues
 pub mod Numbered

@@ -66,7 +66,7 @@ map_limited f None xs = refl
 map_limited f (Some zero) xs = refl
 map_limited f (Some (suc n)) xs = map_front f (suc n) xs
 
-map_paged : {A B : Type 0} (f : A → B) (page : Page) (xs : List A) → map f (paged page xs) ≡ paged page (map f xs)
+pub map_paged : {A B : Type 0} (f : A → B) (page : Page) (xs : List A) → map f (paged page xs) ≡ paged page (map f xs)
 map_paged f page xs =
     let start = unwrap_or page.start 0 in
     map_limited f page.count (drop start xs) ∙ ap (limited page.count) (map_behind f start xs)

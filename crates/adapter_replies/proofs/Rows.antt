@@ -1,7 +1,7 @@
 -- Worked rows of what an editor is told.
 use Rattle.std.proofs.Common.{◌≡◌, refl, ap, ℕ, true, false, List, [], ◌∷◌, ◌++◌, Some, None, Ok, Err, codes, map, string_bytes, arith}
 use Rattle.std.specs.Fmt.{digits}
-use Rattle.std.specs.Prelude.{length, nat_lt}
+use Rattle.std.specs.Prelude.{Option, length, nat_lt}
 use Rattle.std.specs.List.{filter, join_by}
 use Rattle.std.proofs.lemmas.Str.{IsUtf8-from_ascii, utf8_lossy-IsUtf8}
 use Rattle.std.proofs.lemmas.Str.Ascii.{IsAscii-cons, IsAscii-nil}
@@ -29,8 +29,9 @@ use Rattle.adapter_requests.specs.declared.request.Request.TheVariants as reques
 use Rattle.adapter_requests.specs.declared.request.LineBreakpoint.{LineBreakpoint}
 use Rattle.adapter_replies.specs.declared.places.Place.TheVariants as place
 use Rattle.adapter_replies.specs.Breakpoints.{breakpoint_of, is_part, told_breakpoint, watches_target}
-use Rattle.adapter_replies.specs.Completions.{command_names, completed, frame_or, front, name_length}
-use Rattle.adapter_replies.specs.Frames.{all_frames, call_frame, call_told, calls_told, frame_name, standing_frame}
+use Rattle.adapter_replies.specs.Columns.{front, utf16_length}
+use Rattle.adapter_replies.specs.Completions.{command_names, completed, frame_or, name_length}
+use Rattle.adapter_replies.specs.Frames.{ToldFrame, all_frames, asked_frames, call_frame, call_told, calls_told, frame_name, standing_frame}
 use Rattle.adapter_replies.specs.declared.places.Scope.TheVariants.{Locals, Arguments}
 use Rattle.adapter_replies.specs.References.{is_set_there, place_now, place_of}
 use Rattle.adapter_replies.specs.Shown.{shown_text, without_end}
@@ -184,6 +185,25 @@ name_of_frame = ap (λ name. name ++ codes " [" ++ bits some_lanes ++ codes "]")
 ended : (p : Program) → all_frames p [] ≡ []
 ended p = refl
 
+-- two frames behind the first of four; a place behind all of them has none; and no number and 0 are all
+abbrev a_frame : ℕ → ToldFrame
+a_frame deep = record { depth = deep; name = codes "f [1]"; place = codes "3:5" }
+
+abbrev four_frames : List ToldFrame
+four_frames = a_frame 4 ∷ a_frame 3 ∷ a_frame 2 ∷ a_frame 1 ∷ []
+
+two_behind_the_first : asked_frames (Some 1) (Some 2) four_frames ≡ a_frame 3 ∷ a_frame 2 ∷ []
+two_behind_the_first = refl
+
+behind_all : asked_frames (Some 4) (Some 2) four_frames ≡ []
+behind_all = refl
+
+all_from_the_third : asked_frames (Some 2) (Some 0) four_frames ≡ a_frame 2 ∷ a_frame 1 ∷ []
+all_from_the_third = refl
+
+all_of_them : asked_frames None None four_frames ≡ four_frames
+all_of_them = refl
+
 no_function : (standing : Standing) → standing_frame (Some standing) None 2 some_lanes ≡ []
 no_function standing = refl
 
@@ -202,8 +222,8 @@ only_frame p frame = refl
 threads : fixed_reply request.Threads ≡ Some reply.Threads
 threads = refl
 
-frames_differ : fixed_reply request.StackTrace ≡ None
-frames_differ = refl
+frames_differ : (start levels : Option ℕ) → fixed_reply (request.StackTrace start levels) ≡ None
+frames_differ start levels = refl
 
 no_move : (text : Bytes) → IsMoveTold None text reply.Done
 no_move text = refl
@@ -307,6 +327,27 @@ its_name = refl
 
 two_of_three : completed the_front 1 (codes "total" ∷ codes "k" ∷ codes "table" ∷ []) ≡ record { name = codes "total"; start = 5; many = 1 } ∷ record { name = codes "table"; start = 5; many = 1 } ∷ []
 two_of_three = refl
+
+-- U+00E9 (two bytes), U+20AC (three) and U+1D11E (four) have one unit, one and two; before the third column stand the first two
+abbrev letters : Bytes
+letters = 195 ∷ 169 ∷ 226 ∷ 130 ∷ 172 ∷ 240 ∷ 157 ∷ 132 ∷ 158 ∷ []
+
+four_units : utf16_length letters ≡ 4
+four_units = refl
+
+two_letters : front letters 3 ≡ 195 ∷ 169 ∷ 226 ∷ 130 ∷ 172 ∷ []
+two_letters = refl
+
+-- no character is cut: one of two units stands behind a column in its midst
+not_cut : front letters 4 ≡ front letters 3
+not_cut = refl
+
+all_letters : front letters 5 ≡ letters
+all_letters = refl
+
+-- a name behind them begins at their units, not at their bytes
+behind_letters : completed (letters ++ codes "ta") 2 (codes "table" ∷ []) ≡ record { name = codes "table"; start = 5; many = 2 } ∷ []
+behind_letters = refl
 
 -- each name can stand where nothing is
 anything : completed [] 0 (codes "x" ∷ []) ≡ record { name = codes "x"; start = 1; many = 0 } ∷ []

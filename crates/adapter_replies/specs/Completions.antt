@@ -9,9 +9,10 @@ use Rattle.adapter_requests.specs.declared.reply.Completion.{Completion}
 use Rattle.adapter_replies.specs.declared.places.Place.TheVariants as place
 use Rattle.adapter_replies.specs.declared.places.Scope.{Scope}
 use Rattle.adapter_replies.specs.declared.places.Scope.TheVariants.{Arguments, Locals}
+use Rattle.adapter_replies.specs.Columns.{utf16_length}
 use Rattle.adapter_replies.specs.Variables.{ToldVariable, scope_list, told_each}
 
--- a name in place of so many bytes from a column on; columns count from 1
+-- a name in place of so many units from a column on; columns count from 1
 pub record ToldCompletion : Type 0 where
   pub name : Bytes
   pub start : ℕ
@@ -19,10 +20,6 @@ pub record ToldCompletion : Type 0 where
 
 abbrev pub completion_view : Completion → ToldCompletion
 completion_view c = record { name = string_bytes c.name; start = c.start; many = c.many }
-
--- the text before a column
-abbrev pub front : Bytes → (column : ℕ) → Bytes
-front text column = take (column - 1) text
 
 -- how many bytes the name at the end of a text has
 abbrev pub is_name_byte : ℕ → Bool
@@ -33,7 +30,11 @@ name_length text = suffix_len is_name_byte text
 
 -- a name in place of so many bytes at the end of a text
 abbrev pub in_place : (front : Bytes) → (many : ℕ) → (name : Bytes) → ToldCompletion
-in_place front many name = record { name = name; start = length front - many + 1; many = many }
+in_place front many name = record {
+  name = name;
+  start = utf16_length (take (length front - many) front) + 1;
+  many = utf16_length (drop (length front - many) front);
+}
 
 -- those of some names that begin with so many bytes at the end of a text, in their place
 abbrev pub completed : (front : Bytes) → (many : ℕ) → (names : List Bytes) → List ToldCompletion

@@ -1,5 +1,5 @@
 -- The frames that an editor is told.
-use Rattle.std.specs.Prelude.{ℕ, zero, suc, List, [], ◌∷◌, ◌++◌, length, Option, Some, None, slice_get, codes, string_bytes, if◌then◌else◌, ◌==◌}
+use Rattle.std.specs.Prelude.{ℕ, zero, suc, List, [], ◌∷◌, ◌++◌, length, Option, Some, None, slice_get, codes, drop, string_bytes, unwrap_or, if◌then◌else◌, ◌==◌}
 use Rattle.std.specs.Str.Lossy.{utf8_lossy}
 use Rattle.gang_types.specs.declared.places.Spot.{Spot}
 use Rattle.gang_types.specs.Lanes.{Lanes}
@@ -10,6 +10,7 @@ use Rattle.gang_model.specs.Debugger.Positions.{frame_spot, frame_lanes, spot_in
 use Rattle.gang_model.specs.Texts.Text.{Bytes, bits, line_and_column}
 use Rattle.debug_traits.specs.declared.machine.Position.{Position}
 use Rattle.adapter_requests.specs.declared.reply.Frame.{Frame}
+use Rattle.adapter_replies.specs.Pages.{limited}
 
 -- a frame: its depth, its function's name with the lanes behind it, and LINE:COL of its place
 pub record ToldFrame : Type 0 where
@@ -53,6 +54,10 @@ outer_frames p inner (frame ∷ frames) = call_frame p inner.call frame.function
 abbrev pub all_frames : Program → List model.Frame → List ToldFrame
 all_frames p [] = []
 all_frames p (frame ∷ frames) = top_frame p (frame ∷ frames) ++ outer_frames p frame frames
+
+-- so many of the frames from a place on; from the top one where no place is given, and all where no number is or 0
+abbrev pub asked_frames : (start levels : Option ℕ) → List ToldFrame → List ToldFrame
+asked_frames start levels frames = limited levels (drop (unwrap_or start 0) frames)
 
 -- ---- one position
 

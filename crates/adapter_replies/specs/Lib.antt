@@ -1,4 +1,5 @@
 pub mod Breakpoints
+pub mod Columns
 pub mod Completions
 pub mod Exceptions
 pub mod Expressions

@@ -1,5 +1,5 @@
 -- What each request is told.
-use Rattle.std.specs.Prelude.{◌≡◌, ◌⊎◌, ℕ, Bool, true, false, not, ◌&&◌, is_some, List, [], ◌++◌, map, codes, string_bytes, Option, Some, None}
+use Rattle.std.specs.Prelude.{◌≡◌, ◌⊎◌, ℕ, Bool, true, false, not, ◌&&◌, is_some, List, [], ◌++◌, length, map, codes, string_bytes, Option, Some, None}
 use Rattle.gang_model.specs.Running.State.{State}
 use Rattle.gang_model.specs.Debugger.Debugger as model
 use Rattle.gang_model.specs.Types.Tree.{Variable}
@@ -25,9 +25,10 @@ use Rattle.adapter_requests.specs.declared.request.Request.{Request}
 use Rattle.adapter_requests.specs.declared.request.Request.TheVariants as request
 use Rattle.adapter_replies.specs.Exceptions.{no_fault}
 use Rattle.adapter_replies.specs.Breakpoints.{IsWatchableTold, is_watchable, told_breakpoint, told_watch}
-use Rattle.adapter_replies.specs.Completions.{ToldCompletion, completion_view, completions, frame_or, front}
+use Rattle.adapter_replies.specs.Columns.{front}
+use Rattle.adapter_replies.specs.Completions.{ToldCompletion, completion_view, completions, frame_or}
 use Rattle.adapter_replies.specs.Expressions.{expression_text, is_memory, no_value_text, shown_in}
-use Rattle.adapter_replies.specs.Frames.{ToldFrame, all_frames, frame_view}
+use Rattle.adapter_replies.specs.Frames.{ToldFrame, all_frames, asked_frames, frame_view}
 use Rattle.adapter_replies.specs.Locations.{goto_line, told_places}
 use Rattle.adapter_replies.specs.References.{is_frame, place_of, within}
 use Rattle.adapter_replies.specs.declared.places.Place.{Place}
@@ -37,10 +38,14 @@ use Rattle.adapter_replies.specs.Shown.{shown_text}
 use Rattle.adapter_replies.specs.Stopped.{goto_reason, reason_of}
 use Rattle.adapter_replies.specs.Variables.{ToldVariable, told_now, values, variable_view, words_at}
 
--- the frames of a reply
-abbrev pub told_frames : Reply → Option (List ToldFrame)
-told_frames (reply.Frames frames) = Some (map frame_view frames.items)
+-- the frames of a reply, and how many it says there are
+abbrev pub told_frames : Reply → Option (List ToldFrame × ℕ)
+told_frames (reply.Frames frames total) = Some (map frame_view frames.items, total)
 told_frames other = None
+
+-- what a request for frames is told: those that it asks for, and how many there are in all
+abbrev pub AreFramesTold : (start levels : Option ℕ) → (all : List ToldFrame) → Reply → Type 0
+AreFramesTold start levels all told = told_frames told ≡ Some (asked_frames start levels all, length all)
 
 -- the variables of a reply
 abbrev pub told_variables : Reply → Option (List ToldVariable)
@@ -146,7 +151,7 @@ IsLookedUp s d None (Some frame) context text told = IsNameToldIn (is_frame (dep
 
 -- what a request is told where a machine stands for a debugger
 abbrev pub IsToldOf : Setting → Debugger → (last : Option Answer) → Request → Reply → Type 0
-IsToldOf s d last request.StackTrace told = told_frames told ≡ Some (all_frames s.program (now s d).frames)
+IsToldOf s d last (request.StackTrace start levels) told = AreFramesTold start levels (all_frames s.program (now s d).frames) told
 IsToldOf s d last (request.Scopes frame) told = AreScopesTold (is_frame (depth (now s d)) frame) frame told
 IsToldOf s d last (request.Variables reference page) told = AreVariablesTold (told_now page s d reference) told
 IsToldOf s d last (request.Evaluate expression frame context) told = IsLookedUp s d last frame context expression.now told

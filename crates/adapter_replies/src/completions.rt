@@ -7,6 +7,7 @@ ghost use Rattle.adapter_replies.specs.Completions as spec;
 ghost use Rattle.adapter_replies.specs.Completions.{completed, completion_view, is_name_byte, named};
 ghost use Rattle.adapter_replies.specs.Variables.{variable_view};
 
+use crate::columns::utf16_length;
 use crate::places::{Scope, depth_of};
 use crate::scopes::{of_file, of_frame};
 use adapter_requests::{Completion, Variable};
@@ -93,14 +94,6 @@ fn push_file<M: FramedMachine>(
     push_variables(alloc, front, variables.as_slice(), told)
 }
 
-/// The text before a column.
-pub(crate) fn front_of(text: &[u8], column: u64) -> &[u8]
-    ensures { result.now ≡ spec.front text.now column }
-{
-    let end = column.saturating_sub(1) as usize;
-    if end < text.len() { &text[..end] } else { text }
-}
-
 /// Puts those commands behind others that can stand in place of a text.
 fn push_commands(
     alloc: Global,
@@ -149,8 +142,8 @@ fn push_name(
     if name.as_bytes().starts_with(&front[place..]) {
         told.push(Completion {
             name: String::from_str(alloc, name)?,
-            start: place + 1,
-            many,
+            start: utf16_length(&front[..place]) + 1,
+            many: utf16_length(&front[place..]),
         })?;
     }
     Ok(())

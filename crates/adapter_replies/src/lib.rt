@@ -2,6 +2,7 @@
 #![tactic(auto)]
 
 mod breakpoints;
+mod columns;
 mod completions;
 mod exceptions;
 mod expressions;

@@ -58,8 +58,8 @@ pub(crate) fn named_of(
     }
 }
 
-/// Those of some variables for which a page asks.
-fn paged(alloc: Global, told: Vec<Variable>, page: Page) -> Result<Vec<Variable>, AllocError>
+/// Those for which a page asks.
+pub(crate) fn paged<T: Drop>(alloc: Global, told: Vec<T>, page: Page) -> Result<Vec<T>, AllocError>
     ensures { IfOk result (λ kept. kept.items ≡ paged page told.items) }
 {
     let mut kept = behind(alloc, told, start_of(page))?;
@@ -72,8 +72,8 @@ fn paged(alloc: Global, told: Vec<Variable>, page: Page) -> Result<Vec<Variable>
     }
 }
 
-/// The variables from a place on.
-fn behind(alloc: Global, told: Vec<Variable>, start: usize) -> Result<Vec<Variable>, AllocError>
+/// Those from a place on.
+fn behind<T: Drop>(alloc: Global, told: Vec<T>, start: usize) -> Result<Vec<T>, AllocError>
     ensures { IfOk result (λ kept. kept.items ≡ drop start told.items) }
 {
     told.into_iter().skip(start).collect(alloc)

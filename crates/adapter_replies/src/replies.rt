@@ -6,24 +6,28 @@ ghost use Rattle.gang_model.specs.Texts.Text.{text};
 ghost use Rattle.debug_traits.specs.Frames.{found_at};
 ghost use Rattle.debug_answers.specs.Meanings.{AreStops, Means};
 ghost use Rattle.debug_session.specs.Sessions.{is_refused};
-ghost use Rattle.adapter_replies.specs.Completions.{frame_or, front};
+ghost use Rattle.adapter_replies.specs.Columns.{front};
+ghost use Rattle.adapter_replies.specs.Completions.{frame_or};
+ghost use Rattle.adapter_replies.specs.Frames.{all_frames};
 ghost use Rattle.adapter_replies.specs.References.{is_frame, place_of, within};
 ghost use Rattle.adapter_replies.specs.Variables.{told_now};
 ghost use Rattle.adapter_replies.specs.declared.places.Place.TheVariants as place;
 ghost use Rattle.adapter_replies.specs.declared.places.Scope.TheVariants.{Arguments, Locals};
-ghost use Rattle.adapter_replies.specs.Told.{AreBreakpointsTold, AreCompletionsToldIn, AreScopesTold, AreVariablesTold, IsAnswered, IsEvaluated, IsGotoTold, IsLineTold, IsLookedUp, IsMoveTold, IsNameTold, IsSetTold, IsTextTold, IsToldOf, IsValueTold, MeansLast, fixed_reply, is_ended, is_expression, is_line, is_unnamed, refusal_text, shown_values, told_stop};
+ghost use Rattle.adapter_replies.specs.Told.{AreBreakpointsTold, AreCompletionsToldIn, AreFramesTold, AreScopesTold, AreVariablesTold, IsAnswered, IsEvaluated, IsGotoTold, IsLineTold, IsLookedUp, IsMoveTold, IsNameTold, IsSetTold, IsTextTold, IsToldOf, IsValueTold, MeansLast, fixed_reply, is_ended, is_expression, is_line, is_unnamed, refusal_text, shown_values, told_stop};
 
 use crate::breakpoints::{breakpoints, watchable, watches};
-use crate::completions::{completions, front_of};
+use crate::columns::front_of;
+use crate::completions::completions;
 use crate::exceptions::NO_FAULT;
 use crate::expressions::{expression_reply, shown_in};
 use crate::frames::frames;
 use crate::locations::{goto_line, locations};
+use crate::pages::paged;
 use crate::places::{Place, Scope, depth_of, is_frame, reference_of};
 use crate::scopes::variables;
 use crate::stops::{goto_reason, stop_of};
 use crate::texts::{answer_text, value_text, value_text_at};
-use adapter_requests::{Context, Page, Reply, Request, Scopes, Stop, StopReason};
+use adapter_requests::{Context, Filter, Page, Reply, Request, Scopes, Stop, StopReason};
 use debug_answers::{Answer, NumberedStop, Refusal};
 use debug_commands::read_command;
 use debug_traits::{FramedMachine, RecordedMachine};
@@ -97,7 +101,7 @@ pub fn reply_to<M: ExpressionMachine>(
         | Request::StepBack
         | Request::ReverseContinue => moved(alloc, machine, stops, last),
         Request::Goto { .. } => gone(alloc, machine, stops, last),
-        Request::StackTrace => Ok(Reply::Frames(frames(alloc, machine)?)),
+        Request::StackTrace { start, levels } => stack(alloc, machine, *start, *levels),
         Request::Variables { reference, page } => shown(alloc, machine, *reference, *page),
         Request::Completions {
             text,
@@ -130,6 +134,28 @@ fn shown<M: FramedMachine>(
         Some(variables) => Ok(Reply::Variables(variables)),
         None => refused(alloc, "nothing has this reference now"),
     }
+}
+
+/// So many frames from a place on, and how many there are.
+fn stack<M: RecordedMachine>(
+    alloc: Global,
+    machine: &M,
+    start: Option<u64>,
+    levels: Option<u64>,
+) -> Result<Reply, AllocError>
+    ensures { (s : Setting) (d : Debugger) → M.stands machine.now s d → IfOk result (AreFramesTold start levels (all_frames s.program (now s d).frames)) }
+{
+    let all = frames(alloc, machine)?;
+    let total = all.len();
+    let page = Page {
+        start,
+        count: levels,
+        filter: Filter::All,
+    };
+    Ok(Reply::Frames {
+        frames: paged(alloc, all, page)?,
+        total,
+    })
 }
 
 /// The scopes of the frame of a number, or a refusal where there is no such frame.

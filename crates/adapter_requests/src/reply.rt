@@ -113,11 +113,11 @@ pub struct Exception {
     pub text: String,
 }
 
-/// A name that can stand in a text, in place of so many bytes from a column on.
+/// A name that can stand in a text, in place of so many units of UTF-16 from a column on.
 #[derive(Drop)]
 pub struct Completion {
     pub name: String,
-    /// Columns count from 1.
+    /// Columns count such units, from 1.
     pub start: usize,
     pub many: usize,
 }
@@ -140,7 +140,11 @@ pub enum Reply {
     /// The variable cannot be watched.
     NotWatchable,
     Threads,
-    Frames(Vec<Frame>),
+    /// Those frames that were asked for, and how many there are.
+    Frames {
+        frames: Vec<Frame>,
+        total: usize,
+    },
     Scopes(Scopes),
     Variables(Vec<Variable>),
     /// The value that a variable was given.

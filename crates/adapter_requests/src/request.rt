@@ -109,7 +109,11 @@ pub enum Request<'a> {
     },
     ConfigurationDone,
     Threads,
-    StackTrace,
+    /// The frames from a place on, the first one where there is none: so many, all where there is no number or 0.
+    StackTrace {
+        start: Option<u64>,
+        levels: Option<u64>,
+    },
     /// What can be shown of the frame of this number.
     Scopes {
         frame: u64,
@@ -134,7 +138,7 @@ pub enum Request<'a> {
     /// The names that can stand in a text before a column, in the frame of this number; in the top one where there is none.
     Completions {
         text: &'a str,
-        /// Columns count from 1.
+        /// Columns count units of UTF-16, from 1.
         column: u64,
         frame: Option<u64>,
     },

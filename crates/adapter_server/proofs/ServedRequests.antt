@@ -79,7 +79,7 @@ module _ {M : Type 0} (stands : M → Setting → Debugger → Type 0) where
     alone (request.SetDataBreakpoints targets) run = refl
     alone request.ConfigurationDone run = inl refl
     alone request.Threads run = refl
-    alone request.StackTrace run = refl
+    alone (request.StackTrace start levels) run = refl
     alone (request.Scopes frame) run = refl
     alone (request.Variables reference page) run = refl
     alone (request.SetVariable reference name value) run = refl

@@ -82,7 +82,7 @@ pub fn command_lines(
         | Request::DataBreakpointInfo { .. }
         | Request::ConfigurationDone
         | Request::Threads
-        | Request::StackTrace
+        | Request::StackTrace { .. }
         | Request::Scopes { .. }
         | Request::Variables { .. }
         | Request::Completions { .. }

@@ -8,9 +8,10 @@ use frame_expressions::ExpressionMachine;
 use gang_types::{FuncId, Mask, Spot};
 use ispc_debugger::ProgramSession;
 use lane_counts::{Gang, StepAt, Tally};
+use lane_meetings::Meetings;
 use lane_picture::StepsEnd;
 use lane_profile::count_run;
-use profile_texts::{Compared, Form, Subject, write_comparison, write_profile};
+use profile_texts::{Compared, Counted, Form, Subject, write_comparison, write_profile};
 use std::alloc::Global;
 use tests_devices::PieceWriter;
 
@@ -21,6 +22,8 @@ pub(crate) fn call(alloc: Global, name: &str) -> Option<Ended> {
         "lane_counts::Tally::enter" => Some(enter_frame(alloc)),
         "lane_counts::Tally::note" => Some(note_step(alloc)),
         "element_accesses::Accesses::of" => Some(find_accesses(alloc, &session(alloc)?)),
+        "lane_meetings::Meetings::note" => Some(note_parting(alloc)),
+        "lane_meetings::Meetings::finish" => Some(end_of(&parted(alloc)?.finish())),
         "lane_profile::count_run" => Some(count(alloc, &mut session(alloc)?)),
         "profile_texts::write_profile" => Some(write_table(alloc, &tally(alloc)?)),
         "profile_texts::write_comparison" => Some(compare(alloc, &tally(alloc)?)),
@@ -50,7 +53,25 @@ fn enter_frame(alloc: Global) -> Ended {
 
 /// Counts one step.
 fn note_step(alloc: Global) -> Ended {
-    let at = StepAt {
+    end_of(&Tally::new(alloc, Vec::new(alloc)).note(alloc, step_of(Mask::none())))
+}
+
+/// Notes one step where lanes may part.
+fn note_parting(alloc: Global) -> Ended {
+    end_of(&Meetings::new(alloc).note(step_of(Mask::all::<4>())))
+}
+
+/// Lanes that have parted, if there is memory for them.
+fn parted(alloc: Global) -> Option<Meetings> {
+    let mut meetings = Meetings::new(alloc);
+    meetings.note(step_of(Mask::all::<4>())).ok()?;
+    meetings.note(step_of(Mask::only::<4>(1))).ok()?;
+    Some(meetings)
+}
+
+/// A step that these lanes do.
+fn step_of(lanes: Mask) -> StepAt<'static> {
+    StepAt {
         line: 4,
         spot: Spot {
             function: FuncId(0),
@@ -59,15 +80,14 @@ fn note_step(alloc: Global) -> Ended {
         function: b"go",
         depth: 1,
         gang: Gang::Four,
-        lanes: Mask::none(),
-    };
-    end_of(&Tally::new(alloc, Vec::new(alloc)).note(alloc, at))
+        lanes,
+    }
 }
 
 /// The counts of the run, if there is memory for them.
 fn tally(alloc: Global) -> Option<Tally> {
     match count_run(alloc, &mut session(alloc)?, &mut Accesses::none(alloc), 100) {
-        Ok((tally, _)) => Some(tally),
+        Ok((tally, _, _)) => Some(tally),
         Err(_) => None,
     }
 }
@@ -82,16 +102,14 @@ fn write_table(alloc: Global, tally: &Tally) -> Ended {
         most_rows: 100,
         has_colours: true,
     };
-    let mut writer = PieceWriter::new(512, 512);
-    end_of(&write_profile(
-        alloc,
-        Form::Lines,
+    let counted = Counted {
         tally,
-        &[],
-        StepsEnd::Ended,
-        &subject,
-        &mut writer,
-    ))
+        accesses: &[],
+        partings: &[],
+        end: StepsEnd::Ended,
+    };
+    let mut writer = PieceWriter::new(512, 512);
+    end_of(&write_profile(alloc, Form::Lines, &counted, &subject, &mut writer))
 }
 
 /// Writes the shares at three widths.

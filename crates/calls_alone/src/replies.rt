@@ -78,7 +78,17 @@ fn begin(alloc: Global) -> Option<Ended> {
 /// Replies the frames.
 fn list_frames(alloc: Global, session: &ProgramSession<4>) -> Ended {
     let (machine, stops) = (session.machine(), session.stops());
-    end_of(&reply_to(alloc, machine, stops, &Request::StackTrace, true, None))
+    end_of(&reply_to(
+        alloc,
+        machine,
+        stops,
+        &Request::StackTrace {
+            start: None,
+            levels: None,
+        },
+        true,
+        None,
+    ))
 }
 
 /// Replies which fault the last stop was at.

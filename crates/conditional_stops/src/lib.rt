@@ -14,6 +14,6 @@ pub use asking::ask_breakpoints;
 pub use going::{Direction, MoveEnd, Moved, continue_on};
 pub use judging::{HoldingLanes, Verdict, judge_condition};
 pub use reasons::{CountedStop, Reason};
-pub use sights::{FrameWatch, LONGEST_NAME};
+pub use sights::{FrameWatch, LONGEST_NAME, Sight, differ, sight, words_of};
 pub use table::{ConditionRefusal, Conditions, LONGEST_CONDITION};
 pub use walking::walk_on;

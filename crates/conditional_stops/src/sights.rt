@@ -24,7 +24,7 @@ const WIDEST: usize = 16;
 type Words = ArrayVec<u64, WIDEST>;
 
 /// What a watch shows, where its frame is there and its variable in scope.
-pub(crate) type Sight = Option<Words>;
+pub type Sight = Option<Words>;
 
 /// What each watch showed, in their order.
 pub(crate) type Sights = Vec<Sight>;
@@ -85,7 +85,7 @@ pub(crate) fn noted_sight(sights: &Sights, place: usize) -> Option<&[u64]>
 }
 
 /// The words that were noted, if any were.
-fn words_of(noted: &Sight) -> Option<&[u64]>
+pub fn words_of(noted: &Sight) -> Option<&[u64]>
     ensures { option_map (λ words. words.now) result ≡ sight_view noted.now }
 {
     match noted {
@@ -95,7 +95,7 @@ fn words_of(noted: &Sight) -> Option<&[u64]>
 }
 
 /// What a watch shows.
-fn sight<M: FramedMachine>(machine: &M, watch: &FrameWatch) -> Sight
+pub fn sight<M: FramedMachine>(machine: &M, watch: &FrameWatch) -> Sight
     ensures { (s : Setting) (d : Debugger) → M.stands machine.now s (bare d) → sight_view result ≡ spec.sight s d watch.now }
 {
     if watch.depth > top_depth(machine) {
@@ -122,7 +122,7 @@ pub(crate) fn differs<M: FramedMachine>(
 }
 
 /// Whether other words were shown before; where none were, or none are, nothing changed.
-fn differ(old: Option<&[u64]>, new: &Sight) -> bool
+pub fn differ(old: Option<&[u64]>, new: &Sight) -> bool
     ensures { result ≡ spec.differ (option_map (λ words. words.now) old.entry) (sight_view new.now) }
 {
     match (old, new) {

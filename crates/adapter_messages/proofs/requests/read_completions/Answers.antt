@@ -1,4 +1,4 @@
-use Rattle.std.proofs.Common.{Some, codes, ap, sym, ◌∙◌, is_some}
+use Rattle.std.proofs.Common.{codes, ap, sym, ◌∙◌, is_some}
 use Rattle.std.specs.Prelude.{[], ◌∷◌}
 use Rattle.serde_json.specs.View.{view}
 use Rattle.adapter_messages.specs.Arguments.{number_at}

@@ -1,5 +1,6 @@
 use Rattle.std.proofs.Common.{IfOk, ◌∙◌, ap, subst}
-use Rattle.adapter_replies.specs.Completions.{frame_or, front}
+use Rattle.adapter_replies.specs.Columns.{front}
+use Rattle.adapter_replies.specs.Completions.{frame_or}
 use Rattle.adapter_replies.specs.Told.{AreCompletionsToldIn}
 use Rattle.adapter_replies.proofs.replies.completed.Goals as goal
 

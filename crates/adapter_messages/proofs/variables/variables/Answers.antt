@@ -1,6 +1,6 @@
 use Rattle.adapter_messages.specs.Replies.{variable}
 use Rattle.adapter_messages.proofs.Lists.{shown_next}
-use Rattle.adapter_messages.proofs.bodies.variables.Goals as goal
+use Rattle.adapter_messages.proofs.variables.variables.Goals as goal
 
 pub loop-variable-preserved : goal.loop-variable-preserved
 loop-variable-preserved c =

@@ -1,0 +1,140 @@
+//! Variables as JSON.
+ghost use Rattle.std.specs.Prelude.{◌≡◌, ◌++◌, IfOk, codes, string_bytes};
+ghost use Rattle.serde_json.specs.Data.{array};
+ghost use Rattle.serde_json.specs.View.{view};
+ghost use Rattle.adapter_messages.specs.Replies.{array_of, attributes, hint, kind_text, only, variable, variable_of};
+ghost use Rattle.adapter_messages.specs.Replies as spec;
+ghost use Rattle.adapter_messages.specs.Arguments.{mark};
+ghost use Rattle.adapter_requests.specs.declared.reply.VariableKind.TheVariants as kind;
+
+use crate::arguments::MARK;
+use adapter_requests::{Variable, VariableKind};
+use serde_json::{Value, json, push};
+use std::alloc::{AllocError, Global};
+
+/// What is told of variables.
+pub(crate) fn variables(alloc: Global, found: &[Variable]) -> Result<Value, AllocError>
+    ensures { IfOk result (λ v. view v ≡ only (codes "variables") (array_of variable found.now)) }
+{
+    let mut list = Vec::new(alloc);
+    for variable in found {
+        let shown = variable_value(alloc, variable)?;
+        push(&mut list, shown)?;
+    }
+    json!(in alloc; {"variables": Value::Array(list)})
+}
+
+/// A variable.
+fn variable_value(alloc: Global, variable: &Variable) -> Result<Value, AllocError>
+    ensures { IfOk result (λ v. view v ≡ spec.variable variable.now) }
+{
+    match variable.kind {
+        VariableKind::Plain => plain_value(alloc, variable),
+        VariableKind::Waits => waiting_value(alloc, variable),
+        VariableKind::Array(elements) => array_value(alloc, variable, elements),
+        VariableKind::Range => range_value(alloc, variable),
+    }
+}
+
+/// How a variable is shown.
+fn hint_value(alloc: Global, kind: VariableKind, is_constant: bool) -> Result<Value, AllocError>
+    ensures { IfOk result (λ v. view v ≡ hint kind is_constant) }
+{
+    let attributes = attributes_value(alloc, is_constant)?;
+    json!(in alloc; {"attributes": attributes, "kind": kind_text(kind)})
+}
+
+/// That what is shown can be set, or cannot since it is a constant.
+fn attributes_value(alloc: Global, is_constant: bool) -> Result<Value, AllocError>
+    ensures { IfOk result (λ v. view v ≡ array (attributes is_constant)) }
+{
+    if is_constant {
+        json!(in alloc; ["constant", "readOnly"])
+    } else {
+        json!(in alloc; [])
+    }
+}
+
+/// The protocol's word for what is shown: a range of elements stands for no value of the program.
+fn kind_text(kind: VariableKind) -> &'static str
+    ensures { result.now ≡ kind_text kind }
+{
+    match kind {
+        VariableKind::Range => "virtual",
+        VariableKind::Plain | VariableKind::Waits | VariableKind::Array(_) => "data",
+    }
+}
+
+/// A scalar, a lane that is active or an element.
+fn plain_value(alloc: Global, variable: &Variable) -> Result<Value, AllocError>
+    ensures { IfOk result (λ v. view v ≡ variable_of kind.Plain variable.now.is_constant (string_bytes variable.now.name) (string_bytes variable.now.value) (string_bytes variable.now.type_name) variable.now.reference) }
+{
+    let hint = hint_value(alloc, VariableKind::Plain, variable.is_constant)?;
+    let name = variable.name.as_str();
+    let reference = variable.reference;
+    json!(in alloc; {
+        "evaluateName": name,
+        "name": name,
+        "presentationHint": hint,
+        "type": variable.type_name.as_str(),
+        "value": variable.value.as_str(),
+        "variablesReference": reference
+    })
+}
+
+/// A lane that is not active.
+fn waiting_value(alloc: Global, variable: &Variable) -> Result<Value, AllocError>
+    ensures { IfOk result (λ v. view v ≡ variable_of kind.Waits variable.now.is_constant (string_bytes variable.now.name) (string_bytes variable.now.value) (string_bytes variable.now.type_name) variable.now.reference) }
+{
+    let hint = hint_value(alloc, VariableKind::Waits, variable.is_constant)?;
+    let name = marked(alloc, variable.name.as_str())?;
+    let value = marked(alloc, variable.value.as_str())?;
+    json!(in alloc; {
+        "evaluateName": variable.name.as_str(),
+        "name": name.as_str(),
+        "presentationHint": hint,
+        "type": variable.type_name.as_str(),
+        "value": value.as_str(),
+        "variablesReference": variable.reference
+    })
+}
+
+/// A text with the mark of a lane that is not active.
+fn marked(alloc: Global, text: &str) -> Result<String, AllocError>
+    ensures { IfOk result (λ marked. string_bytes marked ≡ text.now ++ mark) }
+{
+    let mut marked = String::from_str(alloc, text)?;
+    marked.push_str(MARK)?;
+    Ok(marked)
+}
+
+/// An array of so many elements.
+fn array_value(alloc: Global, variable: &Variable, elements: usize) -> Result<Value, AllocError>
+    ensures { IfOk result (λ v. view v ≡ variable_of (kind.Array elements) variable.now.is_constant (string_bytes variable.now.name) (string_bytes variable.now.value) (string_bytes variable.now.type_name) variable.now.reference) }
+{
+    let hint = hint_value(alloc, VariableKind::Array(elements), variable.is_constant)?;
+    let name = variable.name.as_str();
+    json!(in alloc; {
+        "evaluateName": name,
+        "indexedVariables": elements,
+        "name": name,
+        "presentationHint": hint,
+        "type": variable.type_name.as_str(),
+        "value": variable.value.as_str(),
+        "variablesReference": variable.reference
+    })
+}
+
+/// A range of elements.
+fn range_value(alloc: Global, variable: &Variable) -> Result<Value, AllocError>
+    ensures { IfOk result (λ v. view v ≡ variable_of kind.Range variable.now.is_constant (string_bytes variable.now.name) (string_bytes variable.now.value) (string_bytes variable.now.type_name) variable.now.reference) }
+{
+    let hint = hint_value(alloc, VariableKind::Range, variable.is_constant)?;
+    json!(in alloc; {
+        "name": variable.name.as_str(),
+        "presentationHint": hint,
+        "type": variable.type_name.as_str(),
+        "value": variable.value.as_str(),
+        "variablesReference": variable.reference
+    })
+}
