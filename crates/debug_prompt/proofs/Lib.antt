@@ -1,13 +1,4 @@
-mod AnswersMean
-mod Displays
-mod DoneCommands
-mod LanesSoFar
-mod MomentLaws
-mod Numbered
-mod PieceLaws
 mod PlainLines
-mod StepsBack
-mod StopNumbers
-mod StopPieces
 mod WorkedLines
+mod WorkedLists
 mod WorkedNumbers

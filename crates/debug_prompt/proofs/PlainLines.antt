@@ -10,9 +10,10 @@ use Rattle.prompt_lines.specs.declared.line.Kind.{Kind}
 use Rattle.prompt_lines.specs.declared.line.Kind.TheVariants as kind
 use Rattle.prompt_lines.specs.Sources.{Sheet}
 use Rattle.prompt_lines.specs.Words.{Spelled, is_alone}
+use Rattle.prompt_scenes.specs.Holding.{Held}
+use Rattle.prompt_going.specs.GoingOn.{Does, DoesOwn, DoesTyped, way_of}
 use Rattle.debug_prompt.specs.Doing.{changed_by, commands_by, commands_of, held_after, meant}
-use Rattle.debug_prompt.specs.Holding.{Held}
-use Rattle.debug_prompt.specs.Lines.{Does, DoesKind, DoesLine, DoesOwn, DoesRun, DoesTyped, way_of}
+use Rattle.debug_prompt.specs.Lines.{DoesKind, DoesLine, DoesRun}
 
 module _ {M : Type 0} (stands : M → Setting → Debugger → Type 0) (sheet : Sheet) (s : Setting) (d : Debugger) (h : Held) (session : Session M) where
   plain_kind : (new : Held) (kind : Kind) (text : List ℕ) → h.table ≡ nothing → h.frames ≡ [] → DoesKind stands kind sheet s d h text session new → Does stands s d (commands_by kind sheet s d h text) (changed_by kind sheet s d h text) session new

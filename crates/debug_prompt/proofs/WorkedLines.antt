@@ -11,13 +11,20 @@ use Rattle.prompt_lines.specs.Sources.{Sheet}
 use Rattle.conditional_stops.specs.declared.going.Direction.TheVariants as direction
 use Rattle.conditional_stops.specs.declared.sights.FrameWatch.{FrameWatch}
 use Rattle.conditional_stops.specs.Tables.{Table, nothing}
-use Rattle.debug_prompt.specs.Doing.{begun, changes_named, commands_of, follows, held_after, kept_after, numbered, step_noted, watched_as}
-use Rattle.debug_prompt.specs.FrameWatches.{ended, known}
-use Rattle.debug_prompt.specs.Lines.{walks_by, way_by}
-use Rattle.debug_prompt.specs.Moments.{all_back, at_first, is_unset, is_whole, to_moment}
-use Rattle.debug_prompt.specs.Holding.{Held, held_at_start, nothing_kept}
 use Rattle.conditional_stops.specs.Watching.{is_watch}
-use Rattle.debug_prompt.specs.Pieces.{at_breakpoint, continued}
+use Rattle.prompt_scenes.specs.Readings.{changes_named}
+use Rattle.prompt_scenes.specs.Changes.{step_noted}
+use Rattle.prompt_scenes.specs.FrameWatches.{ended, known}
+use Rattle.prompt_scenes.specs.Holding.{Held, held_at_start, nothing_kept}
+use Rattle.prompt_scenes.specs.declared.holding.LastMove.TheVariants as last
+use Rattle.prompt_moves.specs.Following.{begun, follows}
+use Rattle.prompt_moves.specs.Moments.{all_back, at_first, is_unset, is_whole, to_moment}
+use Rattle.prompt_moves.specs.Pieces.{at_breakpoint, continued}
+use Rattle.prompt_stops.specs.Breaking.{numbered, watched_as}
+use Rattle.prompt_past.specs.FramePast.{is_kept, is_later}
+use Rattle.prompt_going.specs.GoingOn.{walks_by, way_by}
+use Rattle.debug_prompt.specs.Doing.{commands_of, held_after, kept_after}
+use Rattle.debug_prompt.specs.Lines.{known_within}
 
 -- a source with two functions, of which one calls the other
 source : Sheet
@@ -32,7 +39,7 @@ at_start s d line = commands_of source nothing_kept held_at_start s d line
 
 -- two temporary breakpoints are there, and x is displayed
 some_held : Held
-some_held = record { temporaries = 2 ∷ 5 ∷ []; displays = (1, codes "print  x") ∷ []; next = 2; has_begun = true; frame = 0; checkpoints = (3, 7) ∷ []; next_checkpoint = 4; table = nothing; frames = [] }
+some_held = record { temporaries = 2 ∷ 5 ∷ []; displays = (1, codes "print  x") ∷ []; next = 2; has_begun = true; frame = 0; checkpoints = (3, 7) ∷ []; next_checkpoint = 4; table = nothing; frames = []; last_move = last.Still }
 
 temporary_row : (s : Setting) (d : Debugger) → at_start s d (codes "tbreak 7") ≡ DoBreak 7 ∷ []
 unfolding at_start
@@ -101,7 +108,7 @@ refused_row : follows some_held (Refused Ended) ≡ []
 unfolding some_held
 refused_row = refl
 
-undisplay_row : (s : Setting) (d : Debugger) → held_after source nothing_kept some_held s d (codes "undisplay 1") ≡ record { temporaries = 2 ∷ 5 ∷ []; displays = []; next = 2; has_begun = true; frame = 0; checkpoints = (3, 7) ∷ []; next_checkpoint = 4; table = nothing; frames = [] }
+undisplay_row : (s : Setting) (d : Debugger) → held_after source nothing_kept some_held s d (codes "undisplay 1") ≡ record { temporaries = 2 ∷ 5 ∷ []; displays = []; next = 2; has_begun = true; frame = 0; checkpoints = (3, 7) ∷ []; next_checkpoint = 4; table = nothing; frames = []; last_move = last.Still }
 unfolding some_held
 undisplay_row s d = refl
 
@@ -232,6 +239,33 @@ other_run_row : ended (known kind.Run (codes "run") 2) watching ≡ held_at_star
 unfolding watching in_depth
 other_run_row = refl
 
+-- `last` of a variable of a frame goes back within it: the watches of that frame stay, and those of deeper ones end
+within_row : known_within (Some 2) kind.Last (codes "watch  v") 3 ≡ 2
+within_row = refl
+
+file_last_row : known_within None kind.Last (codes "watch  total") 3 ≡ 1
+file_last_row = refl
+
+-- the way back goes on while all lanes show the same; a word that differs in one lane, or a variable that is not there, ends it
+same_row : is_kept (Some (7 ∷ 7 ∷ 9 ∷ [])) (Some (7 ∷ 7 ∷ 9 ∷ [])) ≡ true
+same_row = refl
+
+one_lane_row : is_kept (Some (7 ∷ 7 ∷ 9 ∷ [])) (Some (7 ∷ 8 ∷ 9 ∷ [])) ≡ false
+one_lane_row = refl
+
+not_shown_row : is_kept (Some (7 ∷ [])) None ≡ false
+not_shown_row = refl
+
+-- an inner variable of the name was declared behind it, an outer one before it; one of the file hides nothing
+inner_row : is_later (id.Local 2) (id.Local 5) ≡ true
+inner_row = refl
+
+behind_row : is_later (id.Local 5) (id.Local 2) ≡ false
+behind_row = refl
+
+of_file_row : is_later (id.Local 0) (id.File 3) ≡ false
+of_file_row = refl
+
 walk_row : walks_by watching (Some DoReverseContinue) ≡ Some direction.Backward
 unfolding watching
 walk_row = refl
@@ -244,7 +278,7 @@ some_table : Table
 some_table = record { conditions = (2, codes "i == 3") ∷ []; counts = (2, 2) ∷ []; disabled = [] }
 
 said : Held
-said = record { temporaries = 2 ∷ []; displays = []; next = 1; has_begun = true; frame = 0; checkpoints = []; next_checkpoint = 1; table = some_table; frames = [] }
+said = record { temporaries = 2 ∷ []; displays = []; next = 1; has_begun = true; frame = 0; checkpoints = []; next_checkpoint = 1; table = some_table; frames = []; last_move = last.Still }
 
 -- breakpoint 2 is there, and no other
 two_there : Debugger

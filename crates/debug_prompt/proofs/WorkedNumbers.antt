@@ -7,9 +7,9 @@ use Rattle.conditional_stops.specs.declared.going.Direction.TheVariants as direc
 use Rattle.conditional_stops.specs.declared.sights.FrameWatch.{FrameWatch}
 use Rattle.conditional_stops.specs.Tables.{nothing}
 use Rattle.prompt_lines.specs.Sources.{Sheet}
+use Rattle.prompt_scenes.specs.Holding.{Held, held_at_start, nothing_kept}
+use Rattle.prompt_going.specs.GoingOn.{way_by}
 use Rattle.debug_prompt.specs.Doing.{commands_of, held_after}
-use Rattle.debug_prompt.specs.Holding.{Held, held_at_start, nothing_kept}
-use Rattle.debug_prompt.specs.Lines.{way_by}
 
 source : Sheet
 source = record { name = codes "go.ispc"; text = codes "export void go() {}" }

@@ -1,10 +1,4 @@
-pub mod Holding
-pub mod Moments
-pub mod Numbers
+pub mod Printing
 pub mod Doing
-pub mod FrameWatches
-pub mod Given
-pub mod Conditions
 pub mod Lines
-pub mod Pieces
-pub mod LanesTold
+pub mod Taking

@@ -1,9 +1,9 @@
 //! Which lines of the source are listed.
-use crate::readings::line_of;
 use debug_session::Session;
 use debug_traits::RecordedMachine;
 use debug_words::is_blank_line;
 use prompt_lines::{argument, breaking_line, is_alone};
+use prompt_scenes::line_of;
 use prompt_texts::Source;
 
 /// How many lines are listed at once.

@@ -3,31 +3,31 @@ ghost use Rattle.std.specs.Prelude.{◌≡◌};
 ghost use Rattle.gang_model.specs.Debugger.Debugger.{Debugger, Setting};
 ghost use Rattle.debug_session.specs.Sessions.{StandsFor};
 ghost use Rattle.prompt_lines.specs.declared.line.Kind.TheVariants as kind;
+ghost use Rattle.prompt_scenes.specs.Holding.{held, sheet};
+ghost use Rattle.prompt_scenes.specs.SelectedFrame as selection;
 ghost use Rattle.debug_prompt.specs.Doing as spec;
-ghost use Rattle.debug_prompt.specs.Holding.{held, sheet};
 
 use crate::copies_told::tell_copies;
-use crate::forms::form_of;
-use crate::frames::{frame_above, frame_below, frame_named, select, selected_depth};
-use crate::holding::Holding;
 use crate::listing::{Lines, Listed, lines_of};
-use crate::moments::show_checkpoints;
-use crate::readings::{delete_of, is_move, line_of, print_of};
 use crate::settings::show_layout;
-use crate::telling::tell_watch_conditions;
-use crate::turning::Scene;
-use crate::watches::list_frames;
 use debug_answers::{NumberedStop, Stop};
 use debug_commands::read_command;
 use debug_session::Session;
 use debug_traits::{AnswerWriter, FramedMachine, RecordedMachine};
 use debug_words::is_blank_line;
 use prompt_lines::{Kind, Look, PromptLine, is_alone};
+use prompt_moves::show_checkpoints;
+use prompt_scenes::{
+    Holding, ListedLine, Scene, delete_of, frame_above, frame_below, frame_named, is_move, line_of,
+    print_of, select, selected_depth,
+};
+use prompt_stops::{list_frames, tell_watch_lines};
 use prompt_texts::{
     Page, list_lines, show_arguments, show_displayed, show_frame, show_frames, show_full_frames,
     show_help, show_here, show_line, show_lists, show_locals, show_recording, show_source,
     show_text, show_type, show_variables, show_watches, tell_unknown,
 };
+use prompt_values::{form_of, tell_watch_conditions};
 use whole_runs::TellsCopies;
 
 /// From which line on and up to which one the source was listed last, and whether the history was ever full.
@@ -79,7 +79,7 @@ impl Looking {
             Look::Frames | Look::Full | Look::Here | Look::Line | Look::Source => look_at_program(
                 look, text, scene, session, page,
             ),
-            Look::Watches => look_at_watches(holding, session, page),
+            Look::Watches => look_at_watches(scene.listed, holding, session, page),
             Look::Layout => show_layout(text, scene, page),
             Look::Checkpoints => show_checkpoints(holding, page),
             Look::Type | Look::Locals | Look::Arguments | Look::Variables | Look::Displays => {
@@ -159,7 +159,7 @@ fn go_to<M: RecordedMachine, O: AnswerWriter + Drop>(
     session: &Session<M>,
     page: &mut Page<O>,
 )
-    ensures { (s : Setting) (d : Debugger) → StandsFor M.stands session.now s d → held holding.new ≡ spec.selected s d (held holding.old) number }
+    ensures { (s : Setting) (d : Debugger) → StandsFor M.stands session.now s d → held holding.new ≡ selection.selected s d (held holding.old) number }
 {
     select(number, holding, session);
     match number {
@@ -192,8 +192,9 @@ fn look_at_program<M: FramedMachine, O: AnswerWriter + Drop>(
     }
 }
 
-/// Shows the watches, with their conditions and counts.
+/// Shows the watches, with their conditions, counts and lines.
 fn look_at_watches<M: RecordedMachine, O: AnswerWriter + Drop>(
+    listed: &[ListedLine],
     holding: &Holding,
     session: &Session<M>,
     page: &mut Page<O>,
@@ -203,6 +204,7 @@ fn look_at_watches<M: RecordedMachine, O: AnswerWriter + Drop>(
     }
     tell_watch_conditions(holding, session, page);
     list_frames(holding, page);
+    tell_watch_lines(listed, holding, session, page);
 }
 
 /// Whether a variable of the file is watched.

@@ -7,22 +7,26 @@ ghost use Rattle.debug_commands.specs.Views.{target_view};
 ghost use Rattle.debug_session.specs.Sessions.{StandsFor};
 ghost use Rattle.debug_traits.specs.Frames.{found_at};
 ghost use Rattle.prompt_lines.specs.Words.{is_alone, setting_text};
-ghost use Rattle.debug_prompt.specs.Doing as spec;
-ghost use Rattle.debug_prompt.specs.Holding.{held};
+ghost use Rattle.prompt_scenes.specs.Holding.{held};
+ghost use Rattle.prompt_scenes.specs.Readings as readings;
+ghost use Rattle.prompt_scenes.specs.SelectedFrame as selection;
+ghost use Rattle.prompt_moves.specs.Following as following;
+ghost use Rattle.debug_prompt.specs.Printing as printing;
 
-use crate::expressions::{print_expression, show_instead, value_instead};
-use crate::forms::{show_form, show_formatted};
-use crate::frames::{find_part, may_set, selected_depth};
-use crate::holding::Holding;
-use crate::readings::{delete_of, is_shown, print_of};
-use crate::turning::{Scene, show_displays};
-use crate::values::{do_and_show, show_target, tell_answer};
 use debug_commands::{Command, Target, read_command};
 use debug_session::Session;
 use debug_traits::{AnswerWriter, FramedMachine, RecordedMachine};
 use frame_expressions::ExpressionMachine;
 use prompt_lines::{HELD, is_alone, setting_line};
+use prompt_moves::show_displays;
+use prompt_scenes::{
+    Holding, Scene, delete_of, find_part, is_shown, may_set, print_of, selected_depth,
+};
 use prompt_texts::{Digits, Page, tell_refused, tell_unknown};
+use prompt_values::{
+    do_and_show, print_expression, show_form, show_formatted, show_instead, show_target,
+    tell_answer, value_instead,
+};
 
 /// Why a local variable of an outer frame is not set.
 const SETS_TOP: &[u8] =
@@ -37,7 +41,7 @@ pub(crate) fn print<M: ExpressionMachine, O: AnswerWriter + Drop>(
     page: &mut Page<O>,
 )
     ensures { (s : Setting) (d : Debugger) → StandsFor M.stands session.old s d
-        → HasDone M.stands s (spec.printed_or_set s d (held holding.now) (spec.print_of (command_of text.now)) (command_of (setting_text text.now))) d session.new }
+        → HasDone M.stands s (printing.printed_or_set s d (held holding.now) (readings.print_of (command_of text.now)) (command_of (setting_text text.now))) d session.new }
 {
     if let Some(target) = print_of(text) {
         print_named(target, text, holding, scene, session, page);
@@ -56,7 +60,7 @@ fn print_named<M: ExpressionMachine, O: AnswerWriter + Drop>(
     page: &mut Page<O>,
 )
     ensures { (s : Setting) (d : Debugger) → StandsFor M.stands session.old s d
-        → HasDone M.stands s (spec.in_top (held holding.now) (DoPrint (target_view target.entry) ∷ [])) d session.new }
+        → HasDone M.stands s (selection.in_top (held holding.now) (DoPrint (target_view target.entry) ∷ [])) d session.new }
 {
     if let Some(value) = value_instead(target.name, text, holding, scene, session) {
         print_silently(target, holding, session);
@@ -73,7 +77,7 @@ fn print_silently<M: RecordedMachine>(
     session: &mut Session<M>,
 )
     ensures { (s : Setting) (d : Debugger) → StandsFor M.stands session.old s d
-        → HasDone M.stands s (spec.in_top (held holding.now) (DoPrint (target_view target.entry) ∷ [])) d session.new }
+        → HasDone M.stands s (selection.in_top (held holding.now) (DoPrint (target_view target.entry) ∷ [])) d session.new }
 {
     if holding.is_top() {
         let _ = session.do_command(Command::Print(target));
@@ -89,7 +93,7 @@ fn set_or_print<M: ExpressionMachine, O: AnswerWriter + Drop>(
     page: &mut Page<O>,
 )
     ensures { (s : Setting) (d : Debugger) → StandsFor M.stands session.old s d
-        → HasDone M.stands s (spec.set_by s d (held holding.now) (command_of (setting_text text.now))) d session.new }
+        → HasDone M.stands s (printing.set_by s d (held holding.now) (command_of (setting_text text.now))) d session.new }
 {
     match read_command(setting_line(text).as_slice()) {
         Some(Command::Set { target, value }) => {
@@ -108,8 +112,8 @@ fn print_target<M: FramedMachine, O: AnswerWriter + Drop>(
     page: &mut Page<O>,
 ) -> bool
     ensures { (s : Setting) (d : Debugger) → StandsFor M.stands session.old s d
-        → HasDone M.stands s (spec.in_top (held holding.now) (DoPrint (target_view target.entry) ∷ [])) d session.new
-        × (result ≡ spec.shows s d (held holding.now) (target_view target.entry)) }
+        → HasDone M.stands s (selection.in_top (held holding.now) (DoPrint (target_view target.entry) ∷ [])) d session.new
+        × (result ≡ selection.shows s d (held holding.now) (target_view target.entry)) }
 {
     if holding.is_top() {
         print_here(target, scene, session, page)
@@ -128,7 +132,7 @@ fn print_here<M: FramedMachine, O: AnswerWriter + Drop>(
 ) -> bool
     ensures { (s : Setting) (d : Debugger) → StandsFor M.stands session.old s d
         → HasDone M.stands s (DoPrint (target_view target.entry) ∷ []) d session.new
-        × (result ≡ spec.is_shown (do_command s (DoPrint (target_view target.entry)) d).answer) }
+        × (result ≡ readings.is_shown (do_command s (DoPrint (target_view target.entry)) d).answer) }
 {
     let answer = session.do_command(Command::Print(target));
     tell_answer(&answer, scene, session, page);
@@ -144,7 +148,7 @@ fn print_at<M: FramedMachine, O: AnswerWriter + Drop>(
     page: &mut Page<O>,
 ) -> bool
     ensures { (s : Setting) (d : Debugger) → StandsFor M.stands session.now s d
-        → result ≡ spec.can_show s d depth (target_view target.entry) (found_at s.program depth (now s d) (target_view target.entry).name) }
+        → result ≡ selection.can_show s d depth (target_view target.entry) (found_at s.program depth (now s d) (target_view target.entry).name) }
 {
     match find_part(target, depth, session.machine()) {
         Ok(shown) => {
@@ -168,7 +172,7 @@ pub(crate) fn set_spelled<M: FramedMachine, O: AnswerWriter + Drop>(
     page: &mut Page<O>,
 )
     ensures { (s : Setting) (d : Debugger) → StandsFor M.stands session.old s d
-        → HasDone M.stands s (spec.set_by s d (held holding.now) (command_of text.now)) d session.new }
+        → HasDone M.stands s (printing.set_by s d (held holding.now) (command_of text.now)) d session.new }
 {
     match read_command(text) {
         Some(Command::Set { target, value }) => {
@@ -188,7 +192,7 @@ fn set_target<M: FramedMachine, O: AnswerWriter + Drop>(
     page: &mut Page<O>,
 )
     ensures { (s : Setting) (d : Debugger) → StandsFor M.stands session.old s d
-        → HasDone M.stands s (if spec.may_set s d (held holding.now) (target_view target.entry).name then DoSet (target_view target.entry) value ∷ [] else []) d session.new }
+        → HasDone M.stands s (if selection.may_set s d (held holding.now) (target_view target.entry).name then DoSet (target_view target.entry) value ∷ [] else []) d session.new }
 {
     if may_set(target.name, holding, session) {
         do_and_show(Command::Set { target, value }, scene, session, page);
@@ -221,8 +225,8 @@ pub(crate) fn display<M: ExpressionMachine, O: AnswerWriter + Drop>(
     page: &mut Page<O>,
 )
     ensures { (s : Setting) (d : Debugger) → StandsFor M.stands session.old s d
-        → HasDone M.stands s (spec.in_top (held holding.old) (if is_alone text.now then spec.shown (held holding.old).displays else spec.printed (spec.print_of (command_of text.now)))) d session.new
-        × (held holding.new ≡ (if is_alone text.now then held holding.old else spec.after_print s d (held holding.old) text.now (spec.print_of (command_of text.now)))) }
+        → HasDone M.stands s (selection.in_top (held holding.old) (if is_alone text.now then following.shown (held holding.old).displays else following.printed (readings.print_of (command_of text.now)))) d session.new
+        × (held holding.new ≡ (if is_alone text.now then held holding.old else printing.after_print s d (held holding.old) text.now (readings.print_of (command_of text.now)))) }
 {
     if is_alone(text) {
         display_all(holding, scene, session, page);
@@ -239,7 +243,7 @@ fn display_all<M: ExpressionMachine, O: AnswerWriter + Drop>(
     page: &mut Page<O>,
 )
     ensures { (s : Setting) (d : Debugger) → StandsFor M.stands session.old s d
-        → HasDone M.stands s (spec.in_top (held holding.now) (spec.shown (held holding.now).displays)) d session.new }
+        → HasDone M.stands s (selection.in_top (held holding.now) (following.shown (held holding.now).displays)) d session.new }
 {
     if holding.displays().is_empty() {
         page.put(b"nothing is displayed\n");
@@ -274,8 +278,8 @@ fn display_target<M: ExpressionMachine, O: AnswerWriter + Drop>(
     page: &mut Page<O>,
 )
     ensures { (s : Setting) (d : Debugger) → StandsFor M.stands session.old s d
-        → HasDone M.stands s (spec.in_top (held holding.old) (spec.printed (spec.print_of (command_of text.now)))) d session.new
-        × (held holding.new ≡ spec.after_print s d (held holding.old) text.now (spec.print_of (command_of text.now))) }
+        → HasDone M.stands s (selection.in_top (held holding.old) (following.printed (readings.print_of (command_of text.now)))) d session.new
+        × (held holding.new ≡ printing.after_print s d (held holding.old) text.now (readings.print_of (command_of text.now))) }
 {
     if print_new(text, holding, scene, session, page) {
         holding.add_display(text);
@@ -292,8 +296,8 @@ fn print_new<M: ExpressionMachine, O: AnswerWriter + Drop>(
     page: &mut Page<O>,
 ) -> bool
     ensures { (s : Setting) (d : Debugger) → StandsFor M.stands session.old s d
-        → HasDone M.stands s (spec.in_top (held holding.now) (spec.printed (spec.print_of (command_of text.now)))) d session.new
-        × (result ≡ spec.is_displayed s d (held holding.now) text.now (spec.print_of (command_of text.now))) }
+        → HasDone M.stands s (selection.in_top (held holding.now) (following.printed (readings.print_of (command_of text.now)))) d session.new
+        × (result ≡ printing.is_displayed s d (held holding.now) text.now (readings.print_of (command_of text.now))) }
 {
     if let Some(target) = print_of(text) {
         print_target(target, holding, scene, session, page)
@@ -322,7 +326,7 @@ pub(crate) fn undisplay<O: AnswerWriter + Drop>(
     scene: Scene<'_>,
     page: &mut Page<O>,
 )
-    ensures { held holding.new ≡ spec.after_delete (held holding.old) (spec.delete_of (command_of text.now)) }
+    ensures { held holding.new ≡ printing.after_delete (held holding.old) (readings.delete_of (command_of text.now)) }
 {
     if let Some(number) = delete_of(text) {
         holding.remove_display(number);

@@ -3,37 +3,31 @@ ghost use Rattle.std.specs.Prelude.{◌≡◌};
 ghost use Rattle.gang_model.specs.Debugger.Debugger.{Debugger, Setting};
 ghost use Rattle.debug_session.specs.Sessions.{StandsFor};
 ghost use Rattle.prompt_lines.specs.Readings.{spelled};
-ghost use Rattle.debug_prompt.specs.Doing as spec;
-ghost use Rattle.debug_prompt.specs.Holding.{held, held_at_start, nothing_kept, sheet};
+ghost use Rattle.prompt_scenes.specs.Holding.{held, held_at_start, nothing_kept, sheet};
 ghost use Rattle.debug_prompt.specs.Lines.{DoesKind, DoesLine};
+ghost use Rattle.debug_prompt.specs.Doing as spec;
 
-use crate::asking::tell_when;
-use crate::beginning::start;
-use crate::breaking::{
-    break_temporarily, change_condition, clear, delete, ignore, make_break, make_watch,
-};
-use crate::doing::{finish, go_until};
-use crate::forms::show_formatted;
-use crate::frames::depth;
-use crate::going::{do_typed, run_to_stop};
-use crate::holding::Holding;
-use crate::lanes_told::tell_lanes;
 use crate::looking::Looking;
-use crate::moments::{forget, go_to_step, note_moment, restart};
-use crate::numbers::{disable, enable};
-use crate::past::{go_to_last, tell_changes};
 use crate::printing::{display, print, set_spelled, undisplay};
-use crate::readings::{command_repeats, sets};
+use crate::running::run_to_stop;
 use crate::settings::{USUAL, layout_after};
-use crate::turning::Scene;
-use crate::watches::tell_ended;
-use crate::watching::known;
+use crate::within::{depth_within, known_within};
 use debug_commands::{Command, read_command};
 use debug_session::Session;
 use debug_traits::{AnswerWriter, RecordedMachine};
 use frame_expressions::ExpressionMachine;
+use prompt_going::{do_typed, finish, go_until};
 use prompt_lines::{Kind, Look, PromptLine, Text, read_line};
+use prompt_moves::{forget, go_to_step, note_moment, restart, start};
+use prompt_past::{go_to_last, tell_changes};
+use prompt_scenes::{Holding, ListedLine, Scene, command_repeats, depth, sets};
+use prompt_stops::{
+    break_temporarily, change_condition, clear, delete, disable, enable, ignore, make_break,
+    make_watch, tell_ended,
+};
 use prompt_texts::{Layout, Page, Source, show_here};
+use prompt_values::show_formatted;
+use prompt_walks::{tell_lanes, tell_when};
 use std::alloc::Global;
 use std::mem::replace;
 use whole_runs::TellsCopies;
@@ -52,8 +46,8 @@ pub enum Turn {
 /// looked at and how much of an array is told.
 #[derive(Drop)]
 pub struct Prompt {
-    kept: PromptLine,
-    holding: Holding,
+    pub(crate) kept: PromptLine,
+    pub(crate) holding: Holding,
     looking: Looking,
     most_steps: u32,
     layout: Layout,
@@ -87,11 +81,12 @@ impl Prompt {
 
     /// Does a line, its line feed not included, by the debugger's commands, and shows what they came to. Where conditions or counts
     /// are there, or something is disabled, `continue`, `reverse-continue` and `run` go on to a stop that counts. A long `continue` shows on a terminal how
-    /// many moves it has made. Where the writer has failed, the commands are done, and nothing is shown any more.
+    /// many moves it has made. `info breakpoints` lists the lines of breakpoints and watches too. Where the writer has failed, the commands are done, and nothing is shown any more.
     pub fn do_line<M: ExpressionMachine + TellsCopies, O: AnswerWriter + Drop>(
         &mut self,
         alloc: Global,
         line: &[u8],
+        listed: &[ListedLine],
         source: Source<'_>,
         session: &mut Session<M>,
         page: &mut Page<O>,
@@ -112,11 +107,13 @@ impl Prompt {
             } else {
                 line
             },
+            listed,
             source,
             most_steps: self.most_steps,
             layout: self.layout,
         };
         let steps = session.machine().kept_steps();
+        let within = depth_within(&meant, &self.holding, session);
         do_meant(
             &meant,
             is_again,
@@ -126,7 +123,7 @@ impl Prompt {
             session,
             page,
         );
-        let deepest = known(&meant, depth(session));
+        let deepest = known_within(within, &meant, depth(session));
         tell_ended(deepest, steps, &self.holding, session, page);
         self.holding.end_frames(deepest);
         self.looking.note(&meant, session);
@@ -138,7 +135,7 @@ impl Prompt {
 }
 
 /// A blank line, which does nothing.
-fn nothing() -> PromptLine
+pub(crate) fn nothing() -> PromptLine
     ensures { spelled result ≡ nothing_kept }
 {
     PromptLine {
@@ -235,7 +232,7 @@ fn do_meant<M: ExpressionMachine + TellsCopies, O: AnswerWriter + Drop>(
         Kind::Goto => go_to_step(text, holding, scene, session, page),
         Kind::Restart => restart(text, holding, scene, session, page),
         Kind::Last => go_to_last(text, holding, scene, session, page),
-        Kind::Changes => tell_changes(text, scene, session, page),
+        Kind::Changes => tell_changes(text, holding, scene, session, page),
         Kind::When => tell_when(text, scene, session, page),
         Kind::Lanes => tell_lanes(text, holding, scene, session, page),
         Kind::Checkpoint => note_moment(text, holding, scene, session, page),

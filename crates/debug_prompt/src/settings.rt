@@ -1,7 +1,7 @@
 //! How much of an array is told.
-use crate::turning::Scene;
 use debug_traits::AnswerWriter;
 use prompt_lines::{index, split_word};
+use prompt_scenes::Scene;
 use prompt_texts::{Layout, Page, tell_unknown};
 
 /// What is told at first, as by GDB.

@@ -9,7 +9,7 @@ pub(crate) struct Reason(
 );
 
 /// The first words of commands.
-const COMMANDS: [Reason; 15] = [
+const COMMANDS: [Reason; 14] = [
     Reason(
         &[b"kill", b"k"],
         b"There is no process to kill: the program runs inside the debugger; `quit` ends it.",
@@ -37,10 +37,6 @@ const COMMANDS: [Reason; 15] = [
     Reason(
         &[b"inferior", b"inferiors", b"add-inferior"],
         b"There is one program.",
-    ),
-    Reason(
-        &[b"commands"],
-        b"Breakpoints have no commands: `display T` shows a value after each move, and `break N if EXPRESSION` stops only where that holds.",
     ),
     Reason(
         &[b"clear"],

@@ -109,7 +109,7 @@ const FIRST: [Topic; 16] = [
 ];
 
 /// The other commands.
-const OTHERS: [Topic; 20] = [
+const OTHERS: [Topic; 21] = [
     Topic {
         names: &[b"undisplay"],
         usage: b"undisplay [N]",
@@ -139,6 +139,11 @@ const OTHERS: [Topic; 20] = [
         names: &[b"ignore"],
         usage: b"ignore N COUNT",
         text: b"passes so many stops of breakpoint or watch N.",
+    },
+    Topic {
+        names: &[b"commands"],
+        usage: b"commands [N ..]",
+        text: b"is followed by lines up to a line `end`: they are done each time one of these breakpoints and watches, or the last one, has stopped a move. No lines take those away that it had.",
     },
     Topic {
         names: &[b"delete", b"d", b"del"],
@@ -222,7 +227,7 @@ const MOMENTS: [Topic; 7] = [
     Topic {
         names: &[b"last"],
         usage: b"last T",
-        text: b"goes back to the statement that changed a variable of the file, a lane or an element last.",
+        text: b"goes back to the statement that changed a variable, a lane or an element last; of a variable of a function within its frame, to its declaration or to where the frame began.",
     },
     Topic {
         names: &[b"changes"],

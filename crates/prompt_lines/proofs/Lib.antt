@@ -1,5 +1,5 @@
 mod HeldTexts
-mod Prefixes
+pub mod Prefixes
 mod Rows
 mod WorkedLines
 mod Places

@@ -19,6 +19,17 @@ set_var_row = refl
 hexadecimal_row : line_of (codes "p/x x") ≡ record { kind = kind.Formatted; text = codes "print/x  x" }
 hexadecimal_row = refl
 
+-- a letter behind a blank
+parted_row : line_of (codes "print /x x") ≡ record { kind = kind.Formatted; text = codes "print/x  x" }
+parted_row = refl
+
+parted_display_row : line_of (codes "display /t x[1]") ≡ record { kind = kind.Display; text = codes "print/t  x[1]" }
+parted_display_row = refl
+
+-- a longer word is no letter
+no_letter_row : line_of (codes "p /xy") ≡ record { kind = kind.Print; text = codes "print  /xy" }
+no_letter_row = refl
+
 binary_row : line_of (codes "print/t x[1]") ≡ record { kind = kind.Formatted; text = codes "print/t  x[1]" }
 binary_row = refl
 

@@ -23,6 +23,30 @@ pub record Row : Type 0 where
 abbrev pub row : List Word → Kind → List ℕ → Row
 row words kind own = record { words = words; kind = kind; own = own }
 
+-- the words before the letter of digits, with a blank between
+abbrev pub letters : List Row
+letters =
+    row (codes "print" ∷ codes "/d" ∷ []) kind.Print (codes "print")
+    ∷ row (codes "print" ∷ codes "/x" ∷ []) kind.Formatted (codes "print/x")
+    ∷ row (codes "print" ∷ codes "/t" ∷ []) kind.Formatted (codes "print/t")
+    ∷ row (codes "print" ∷ codes "/o" ∷ []) kind.Formatted (codes "print/o")
+    ∷ row (codes "print" ∷ codes "/u" ∷ []) kind.Formatted (codes "print/u")
+    ∷ row (codes "print" ∷ codes "/c" ∷ []) kind.Formatted (codes "print/c")
+    ∷ row (codes "p" ∷ codes "/d" ∷ []) kind.Print (codes "print")
+    ∷ row (codes "p" ∷ codes "/x" ∷ []) kind.Formatted (codes "print/x")
+    ∷ row (codes "p" ∷ codes "/t" ∷ []) kind.Formatted (codes "print/t")
+    ∷ row (codes "p" ∷ codes "/o" ∷ []) kind.Formatted (codes "print/o")
+    ∷ row (codes "p" ∷ codes "/u" ∷ []) kind.Formatted (codes "print/u")
+    ∷ row (codes "p" ∷ codes "/c" ∷ []) kind.Formatted (codes "print/c")
+    ∷ row (codes "output" ∷ codes "/x" ∷ []) kind.Formatted (codes "print/x")
+    ∷ row (codes "display" ∷ codes "/d" ∷ []) kind.Display (codes "print")
+    ∷ row (codes "display" ∷ codes "/x" ∷ []) kind.Display (codes "print/x")
+    ∷ row (codes "display" ∷ codes "/t" ∷ []) kind.Display (codes "print/t")
+    ∷ row (codes "display" ∷ codes "/o" ∷ []) kind.Display (codes "print/o")
+    ∷ row (codes "display" ∷ codes "/u" ∷ []) kind.Display (codes "print/u")
+    ∷ row (codes "display" ∷ codes "/c" ∷ []) kind.Display (codes "print/c")
+    ∷ []
+
 -- all words that people type for what is done, beside the debugger's own
 abbrev pub rows : List Row
 rows =
@@ -197,10 +221,19 @@ abbrev pub own_or : Option Spelled → List ℕ → Spelled
 own_or None text = record { kind = kind.Own; text = held_text text }
 own_or (Some line) text = line
 
+-- a text by the tables of what is done and what is looked at, else the debugger's own words
+abbrev pub done_or_own : List ℕ → Spelled
+done_or_own text = own_or (option_or (found_by rows text) (found_by looks text)) text
+
+-- a text with a letter behind a blank, else one that is read by the other tables
+abbrev pub letters_or : Option Spelled → List ℕ → Spelled
+letters_or None text = done_or_own text
+letters_or (Some line) text = line
+
 -- a text that has no blank at its beginning
 abbrev pub text_spelled : List ℕ → Spelled
 text_spelled [] = record { kind = kind.Again; text = [] }
-text_spelled (byte ∷ bytes) = own_or (option_or (found_by rows (byte ∷ bytes)) (found_by looks (byte ∷ bytes))) (byte ∷ bytes)
+text_spelled (byte ∷ bytes) = letters_or (found_by letters (byte ∷ bytes)) (byte ∷ bytes)
 
 -- what a line stands for, its LF not included
 abbrev pub line_of : List ℕ → Spelled

@@ -8,7 +8,7 @@ ghost use Rattle.prompt_lines.specs.Readings.{bytes_option, row_view, spelled, s
 ghost use Rattle.prompt_lines.specs.Words as spec;
 
 use crate::line::{HELD, Kind, PromptLine, Text};
-use crate::table::{LOOKS, ROWS, Row};
+use crate::table::{LETTERS, LOOKS, ROWS, Row};
 use debug_words::{Marks, Radix, digits_number, is_blank, next_word};
 
 /// The word that prints.
@@ -31,6 +31,16 @@ pub fn read_line(line: &[u8]) -> PromptLine
             text: Text::new(),
         };
     }
+    match found_by(&LETTERS, text) {
+        Some(line) => line,
+        None => done_or_own(text),
+    }
+}
+
+/// What is done, else what is looked at or the debugger's own words.
+fn done_or_own(text: &[u8]) -> PromptLine
+    ensures { spelled result ≡ spec.done_or_own text.now }
+{
     match found_by(&ROWS, text) {
         Some(line) => line,
         None => look_or_own(text),

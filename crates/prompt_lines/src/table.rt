@@ -9,6 +9,29 @@ pub(crate) struct Row(
     pub(crate) &'static [u8],
 );
 
+/// The words before the letter of digits, with a blank between. A line that begins with none of these is read by the other tables.
+pub(crate) const LETTERS: [Row; 19] = [
+    Row(&[b"print", b"/d"], Kind::Print, b"print"),
+    Row(&[b"print", b"/x"], Kind::Formatted, b"print/x"),
+    Row(&[b"print", b"/t"], Kind::Formatted, b"print/t"),
+    Row(&[b"print", b"/o"], Kind::Formatted, b"print/o"),
+    Row(&[b"print", b"/u"], Kind::Formatted, b"print/u"),
+    Row(&[b"print", b"/c"], Kind::Formatted, b"print/c"),
+    Row(&[b"p", b"/d"], Kind::Print, b"print"),
+    Row(&[b"p", b"/x"], Kind::Formatted, b"print/x"),
+    Row(&[b"p", b"/t"], Kind::Formatted, b"print/t"),
+    Row(&[b"p", b"/o"], Kind::Formatted, b"print/o"),
+    Row(&[b"p", b"/u"], Kind::Formatted, b"print/u"),
+    Row(&[b"p", b"/c"], Kind::Formatted, b"print/c"),
+    Row(&[b"output", b"/x"], Kind::Formatted, b"print/x"),
+    Row(&[b"display", b"/d"], Kind::Display, b"print"),
+    Row(&[b"display", b"/x"], Kind::Display, b"print/x"),
+    Row(&[b"display", b"/t"], Kind::Display, b"print/t"),
+    Row(&[b"display", b"/o"], Kind::Display, b"print/o"),
+    Row(&[b"display", b"/u"], Kind::Display, b"print/u"),
+    Row(&[b"display", b"/c"], Kind::Display, b"print/c"),
+];
+
 /// The words of what is done, mostly by their names in GDB. Of two that a line begins with the first one counts.
 pub(crate) const ROWS: [Row; 66] = [
     Row(&[b"set", b"var"], Kind::Set, b"set var"),

@@ -1,16 +1,19 @@
 //! Which variables a move changed.
 use crate::answers::put_target;
 use crate::forms::Digits;
+use crate::frames::lanes_at;
+use crate::items::put_item;
 use crate::moments::step_of;
 use crate::page::Page;
 use crate::places::put_place_alone;
 use crate::source::Source;
+use crate::told::{is_of_lanes, lane_item};
 use crate::values::put_word;
 use arrayvec::ArrayVec;
 use debug_commands::Target;
 use debug_session::Session;
 use debug_traits::{AnswerWriter, NamedVariable, RecordedMachine, Shown};
-use gang_types::{IntType, VarId};
+use gang_types::{IntType, Mask, VarId};
 
 /// The most lanes of a gang.
 const WIDEST: usize = 16;
@@ -21,19 +24,27 @@ const MOST: usize = 64;
 /// The words of a scalar.
 type Words = ArrayVec<u64, WIDEST>;
 
-/// What the scalars in sight showed before a move.
+/// How much of a function's name is noted.
+const NAME: usize = 256;
+
+/// What the scalars in sight showed before a move; of the top frame, whose variables they are, its depth, its function and the lanes that were
+/// active.
 #[derive(Drop)]
 pub struct Before {
     depth: usize,
+    function: ArrayVec<u8, NAME>,
+    lanes: Mask,
     ids: ArrayVec<u64, MOST>,
     words: ArrayVec<Words, MOST>,
 }
 
 impl Before {
-    /// Notes what the scalars in sight show: those of the file, and the locals of the top frame.
+    /// Notes what the scalars in sight show: those of the file, and the parameters and locals of the top frame.
     pub fn note<M: RecordedMachine>(machine: &M) -> Self {
         let mut before = Before {
             depth: depth(machine),
+            function: function(machine),
+            lanes: lanes_at(depth(machine), machine),
             ids: ArrayVec::new(),
             words: ArrayVec::new(),
         };
@@ -42,14 +53,31 @@ impl Before {
                 before.add(named.shown, machine);
             }
         }
+        before.add_parameters(machine);
+        before.add_locals(machine);
+        before
+    }
+
+    /// Notes what the parameters of the top frame show.
+    fn add_parameters<M: RecordedMachine>(&mut self, machine: &M) {
+        let mut place = 0;
+        for _ in 0..MOST {
+            if let Some(parameter) = machine.next_parameter(place) {
+                self.add(parameter.variable.shown, machine);
+                place = parameter.next;
+            }
+        }
+    }
+
+    /// Notes what the locals of the top frame show.
+    fn add_locals<M: RecordedMachine>(&mut self, machine: &M) {
         let mut place = 0;
         for _ in 0..MOST {
             if let Some(local) = machine.next_local(place) {
-                before.add(local.variable.shown, machine);
+                self.add(local.variable.shown, machine);
                 place = local.next;
             }
         }
-        before
     }
 
     /// Notes a scalar, where there is room.
@@ -60,7 +88,8 @@ impl Before {
         }
     }
 
-    /// Writes a line for each scalar in sight that is new or shows other words than before. Locals are those of the same depth.
+    /// Writes a line for each scalar in sight that is new or shows other words than before. The variables of a function are those of a frame of
+    /// the same depth and function: other ones have the same numbers.
     pub fn tell_changes<M: RecordedMachine, O: AnswerWriter + Drop>(
         &self,
         machine: &M,
@@ -71,9 +100,38 @@ impl Before {
                 self.tell_change(named, machine, page);
             }
         }
-        if depth(machine) != self.depth {
-            return;
+        if self.is_of_top(machine) {
+            self.tell_parameters(machine, page);
+            self.tell_locals(machine, page);
         }
+    }
+
+    /// Whether a frame of the same function is at the top, at the same depth.
+    fn is_of_top<M: RecordedMachine>(&self, machine: &M) -> bool {
+        depth(machine) == self.depth && function(machine).as_slice() == self.function.as_slice()
+    }
+
+    /// Writes a line for each parameter that shows other words than before.
+    fn tell_parameters<M: RecordedMachine, O: AnswerWriter + Drop>(
+        &self,
+        machine: &M,
+        page: &mut Page<O>,
+    ) {
+        let mut place = 0;
+        for _ in 0..MOST {
+            if let Some(parameter) = machine.next_parameter(place) {
+                self.tell_change(parameter.variable, machine, page);
+                place = parameter.next;
+            }
+        }
+    }
+
+    /// Writes a line for each local that is new or shows other words than before.
+    fn tell_locals<M: RecordedMachine, O: AnswerWriter + Drop>(
+        &self,
+        machine: &M,
+        page: &mut Page<O>,
+    ) {
         let mut place = 0;
         for _ in 0..MOST {
             if let Some(local) = machine.next_local(place) {
@@ -98,16 +156,14 @@ impl Before {
             Some(old) if old == now.as_slice() => {}
             Some(old) => {
                 put_name(named, page);
-                put_all(named.shown.value_type, old, page);
+                put_shown(named.shown, self.lanes, old, page);
                 page.put(b" ->");
-                put_all(named.shown.value_type, now.as_slice(), page);
-                page.put(b"\n");
+                put_now(named.shown, now.as_slice(), machine, page);
             }
             None if self.ids.is_full() => {}
             None => {
                 put_name(named, page);
-                put_all(named.shown.value_type, now.as_slice(), page);
-                page.put(b"\n");
+                put_now(named.shown, now.as_slice(), machine, page);
             }
         }
     }
@@ -120,7 +176,16 @@ impl Before {
     }
 }
 
-/// What a variable of the file, or a lane or an element of one, shows; and whether a later change was told.
+/// Where the way back ends that found no change of a variable of a frame: at the statement that declares it, where its frame began, or where
+/// the history goes back no further.
+#[derive(Clone, Copy)]
+pub enum Beginning {
+    Declaration,
+    Entry,
+    Start,
+}
+
+/// What a variable, or a lane or an element of one, shows; and whether a later change was told.
 #[derive(Drop)]
 pub struct Watched<'a> {
     target: Target<'a>,
@@ -130,14 +195,25 @@ pub struct Watched<'a> {
 }
 
 impl<'a> Watched<'a> {
-    /// Notes what a target shows.
-    pub fn note<M: RecordedMachine>(target: Target<'a>, machine: &M) -> Self {
-        let mut watched = Watched {
+    /// What a target shows: words of a type, so many at most as a gang can have lanes.
+    pub fn showing(target: Target<'a>, value_type: IntType, shown: &[u64]) -> Self {
+        let mut words = Words::new();
+        for word in shown {
+            if !words.is_full() {
+                words.push(*word);
+            }
+        }
+        Watched {
             target,
-            value_type: IntType::Int32,
-            words: Words::new(),
+            value_type,
+            words,
             is_told: false,
-        };
+        }
+    }
+
+    /// Notes what a target shows, a variable of the file.
+    pub fn note<M: RecordedMachine>(target: Target<'a>, machine: &M) -> Self {
+        let mut watched = Watched::showing(target, IntType::Int32, &[]);
         let Some(number) = machine.find_in_file(target.name) else {
             return watched;
         };
@@ -157,27 +233,28 @@ impl<'a> Watched<'a> {
         self.target
     }
 
-    /// Writes what the statement at the place changed.
-    pub fn tell_last<M: RecordedMachine, O: AnswerWriter + Drop>(
-        &self,
-        machine: &M,
-        page: &mut Page<O>,
-    ) {
+    /// What the same target shows: other words.
+    pub fn with_words(&self, shown: &[u64]) -> Self {
+        Watched::showing(self.target, self.value_type, shown)
+    }
+
+    /// Writes what the statement at the place changed, where the target shows the older words.
+    pub fn tell_last<O: AnswerWriter + Drop>(&self, older: &Self, page: &mut Page<O>) {
         put_target(self.target, page);
         page.put(b" =");
-        Watched::note(self.target, machine).put_before(self, page);
+        older.put_before(self, page);
         page.put(b" by this statement:\n");
     }
 
-    /// Writes a line for the place, if the statement there changed what is shown; gives what it shows there.
+    /// Writes a line for the place, if the statement there changed what is shown, where the target shows the older words; gives these.
     pub fn tell_change<M: RecordedMachine, O: AnswerWriter + Drop>(
         self,
+        mut older: Self,
         source: Source<'_>,
         session: &Session<M>,
         page: &mut Page<O>,
     ) -> Self {
         let machine = session.machine();
-        let mut older = Watched::note(self.target, machine);
         older.is_told = self.is_told;
         if older.words.as_slice() != self.words.as_slice() {
             put_change_place(source, machine, page);
@@ -207,6 +284,26 @@ impl<'a> Watched<'a> {
         }
     }
 
+    /// Writes what is shown where the way back within a frame ends.
+    pub fn tell_beginning<M: RecordedMachine, O: AnswerWriter + Drop>(
+        &self,
+        beginning: Beginning,
+        source: Source<'_>,
+        session: &Session<M>,
+        page: &mut Page<O>,
+    ) {
+        match beginning {
+            Beginning::Start => return self.tell_first(session, page),
+            Beginning::Declaration => {
+                put_change_place(source, session.machine(), page);
+                page.put(b" declared,");
+            }
+            Beginning::Entry => page.put(b"when its frame was entered:"),
+        }
+        put_all(self.value_type, self.words.as_slice(), page);
+        page.put(b"\n");
+    }
+
     /// Writes what is shown, and what was shown then.
     fn put_before<O: AnswerWriter + Drop>(&self, newer: &Self, page: &mut Page<O>) {
         put_all(self.value_type, self.words.as_slice(), page);
@@ -227,6 +324,22 @@ pub fn tell_never_changed<M: RecordedMachine, O: AnswerWriter + Drop>(
     } else {
         b" has had its value since the first step that is kept\n"
     });
+}
+
+/// Writes since when a variable of a frame has had its value: where the program stands.
+pub fn tell_since<M: RecordedMachine, O: AnswerWriter + Drop>(
+    target: Target<'_>,
+    beginning: Beginning,
+    session: &Session<M>,
+    page: &mut Page<O>,
+) {
+    let since: &[u8] = match beginning {
+        Beginning::Start => return tell_never_changed(target, session, page),
+        Beginning::Declaration => b" has had its value since it was declared, by this step:\n",
+        Beginning::Entry => b" has had its value since its frame was entered:\n",
+    };
+    put_target(target, page);
+    page.put(since);
 }
 
 /// Whether the way back leads to the start.
@@ -255,6 +368,29 @@ fn word_at<M: RecordedMachine>(shown: Shown, index: usize, machine: &M) -> Words
     words
 }
 
+/// Writes what a scalar shows now, and ends the line.
+fn put_now<M: RecordedMachine, O: AnswerWriter + Drop>(
+    shown: Shown,
+    words: &[u64],
+    machine: &M,
+    page: &mut Page<O>,
+) {
+    put_shown(shown, lanes_at(depth(machine), machine), words, page);
+    page.put(b"\n");
+}
+
+/// Writes a blank and the value of each word of a scalar, in brackets where it is of a lane that waits.
+fn put_shown<O: AnswerWriter + Drop>(shown: Shown, lanes: Mask, words: &[u64], page: &mut Page<O>) {
+    if !is_of_lanes(shown.is_array, shown.rate) {
+        put_all(shown.value_type, words, page);
+        return;
+    }
+    for (lane, word) in words.iter().enumerate() {
+        let item = lane_item(lanes, lane, *word);
+        put_item(Digits::Decimal, shown.value_type, item, page);
+    }
+}
+
 /// Writes a blank and the value of each word.
 fn put_all<O: AnswerWriter + Drop>(value_type: IntType, words: &[u64], page: &mut Page<O>) {
     for word in words {
@@ -277,7 +413,21 @@ fn depth<M: RecordedMachine>(machine: &M) -> usize {
     }
 }
 
-/// A number for each variable: twice its own, and one more for a local.
+/// The name of the function of the top frame, its first bytes; none where the program has ended.
+fn function<M: RecordedMachine>(machine: &M) -> ArrayVec<u8, NAME> {
+    let mut name = ArrayVec::new();
+    let Some(position) = machine.position() else {
+        return name;
+    };
+    for byte in position.function {
+        if !name.is_full() {
+            name.push(*byte);
+        }
+    }
+    name
+}
+
+/// A number for each variable: twice its own, and one more for one of a function.
 fn key(id: VarId) -> u64 {
     match id {
         VarId::File(number) => (number as u64).wrapping_mul(2),

@@ -104,7 +104,7 @@ fn put_head<O: AnswerWriter + Drop>(size: usize, place: usize, index: usize, pag
 }
 
 /// Writes a blank and an item.
-fn put_item<O: AnswerWriter + Drop>(
+pub(crate) fn put_item<O: AnswerWriter + Drop>(
     digits: Digits,
     value_type: IntType,
     item: Item,

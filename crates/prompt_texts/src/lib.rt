@@ -24,7 +24,7 @@ mod values;
 pub use answers::{tell, tell_move};
 pub use asked::{Asked, show_moment, tell_asked};
 pub use causes::{tell_refused, tell_refused_here};
-pub use changes::{Before, Watched, tell_never_changed};
+pub use changes::{Before, Beginning, Watched, tell_never_changed, tell_since};
 pub use expressions::{Spelled, show_expression, show_faulty, tell_no_value};
 pub use forms::Digits;
 pub use frames::{

@@ -87,7 +87,7 @@ fn told_words(
 }
 
 /// Whether a variable has a word for each lane.
-fn is_of_lanes(is_array: bool, rate: Rate) -> bool
+pub(crate) fn is_of_lanes(is_array: bool, rate: Rate) -> bool
     ensures { result ≡ spec.is_of_lanes is_array rate }
 {
     !is_array && rate == Rate::Varying
@@ -116,7 +116,7 @@ fn told_lanes(
 }
 
 /// The item of a lane.
-fn lane_item(lanes: Mask, lane: usize, word: u64) -> Item
+pub(crate) fn lane_item(lanes: Mask, lane: usize, word: u64) -> Item
     ensures { result ≡ spec.lane_item (lanes_of 16 lanes) lane word }
 {
     Item {

@@ -6,8 +6,8 @@ ghost use Rattle.ispc_debugger.specs.Runs.{lanes_of};
 use crate::files::read_texts;
 use crate::refusing::{Texts, read_fault, refuse, refuse_program, write_fault};
 use crate::terminal::{Lines, Screen};
-use crate::typed_lines::{Typed, read_line};
-use debug_prompt::{Prompt, Turn};
+use crate::typed_lines::{Next, Typed, TypedLines};
+use debug_prompt::{Dialogue, Turn};
 use debug_streams::StreamWriter;
 use debug_traits::AnswerWriter;
 use desk_options::{Debugged, Program};
@@ -59,8 +59,8 @@ fn debug_wide<const W: usize>(
     match open_whole_session::<W>(rt.alloc(), source, input, &program.options) {
         Err(refusal) => refuse_program(rt, &refusal, program, texts),
         Ok(mut session) => {
-            let prompt = Prompt::new(program.options.steps);
-            talk::<W>(rt, texts.source, prompt, screen, &mut session)
+            let dialogue = Dialogue::new(program.options.steps);
+            talk::<W>(rt, texts.source, dialogue, screen, &mut session)
         }
     }
 }
@@ -69,26 +69,29 @@ fn debug_wide<const W: usize>(
 fn talk<const W: usize>(
     rt: &HostRuntime,
     source: Source<'_>,
-    prompt: Prompt,
+    dialogue: Dialogue,
     screen: Screen,
     session: &mut WholeSession<W>,
 ) -> ExitCode {
+    let Ok(typed) = TypedLines::new(rt) else {
+        return refuse(rt, &Refusal::Memory);
+    };
     let pages = Cell::new(Pages::new(screen.height));
     let shown = ShownSource::new(source, &pages, screen.height);
     if screen.is_terminal || screen.has_colours {
-        let writer = StreamWriter::new(Lines::new(rt, &pages, screen.has_colours));
+        let writer = StreamWriter::new(Lines::new(rt, &typed, &pages, screen.has_colours));
         let page = if screen.is_terminal {
             Page::on_terminal(writer)
         } else {
             Page::new(writer)
         };
-        return talk_on::<W, _>(rt, shown, prompt, session, page);
+        return talk_on::<W, _>(rt, &typed, shown, dialogue, session, page);
     }
     match LineWriter::new(rt.alloc(), rt.stdout()) {
         Err(_) => refuse(rt, &Refusal::Memory),
         Ok(lines) => {
             let page = Page::new(StreamWriter::new(lines));
-            talk_on::<W, _>(rt, shown, prompt, session, page)
+            talk_on::<W, _>(rt, &typed, shown, dialogue, session, page)
         }
     }
 }
@@ -120,53 +123,82 @@ impl<'a> ShownSource<'a> {
     }
 }
 
-/// Does the lines of standard input, up to one that quits or the end.
+/// Does the lines of standard input, up to one that quits or the end; and those of breakpoints and watches, before another one is read.
 fn talk_on<const W: usize, O: AnswerWriter + Drop>(
     rt: &HostRuntime,
+    typed: &TypedLines,
     shown: ShownSource<'_>,
-    prompt: Prompt,
+    dialogue: Dialogue,
     session: &mut WholeSession<W>,
     page: Page<O>,
 ) -> ExitCode {
-    let mut prompt = prompt;
+    let mut dialogue = dialogue;
     let mut page = page;
     let mut line = Vec::new(rt.alloc());
-    let mut reader = rt.reader();
     let is_asked = rt.stdin().is_terminal();
-    prompt.begin(shown.source, session, &mut page);
+    dialogue.begin(shown.source, session, &mut page);
     for _ in 0..u64::MAX {
-        ask(rt, is_asked);
-        match read_line(&mut reader, &mut line) {
+        ask(rt, is_asked, &dialogue);
+        let turn = match typed.next_of(&dialogue, &mut line) {
             Err(fault) => return refuse_reading(rt, &fault),
-            Ok(Typed::End) => {
+            Ok(Next::Read(Typed::End)) => {
                 leave(rt, is_asked);
-                return ExitCode::SUCCESS;
+                return end(rt, &dialogue, &mut page);
             }
-            Ok(Typed::TooLong) => {
-                page.put(TOO_LONG);
-                if page.has_failed() {
-                    return write_fault(rt);
-                }
-            }
-            Ok(Typed::Line) => {
+            Ok(Next::Read(Typed::TooLong)) => tell_too_long(&mut page),
+            Ok(Next::Read(Typed::Line)) => {
                 let text = without_feed(line.as_slice());
                 shown.begin(text);
-                match prompt.do_line(rt.alloc(), text, shown.source, session, &mut page) {
-                    Turn::Goes => {}
-                    Turn::Quits => return ExitCode::SUCCESS,
-                    Turn::Fails => return write_fault(rt),
-                }
+                dialogue.do_line(rt.alloc(), text, shown.source, session, &mut page)
             }
+            Ok(Next::Waiting) => {
+                shown.begin(&[]);
+                dialogue.do_first(rt.alloc(), shown.source, session, &mut page)
+            }
+        };
+        match turn {
+            Turn::Goes => {}
+            Turn::Quits => return ExitCode::SUCCESS,
+            Turn::Fails => return write_fault(rt),
         }
     }
     ExitCode::SUCCESS
 }
 
-/// Writes the words that a terminal shows before a line.
-fn ask(rt: &HostRuntime, is_asked: bool) {
-    if is_asked {
-        let _ = print!(rt; "(rinddecade) ");
+/// Ends where no line came.
+fn end<O: AnswerWriter + Drop>(
+    rt: &HostRuntime,
+    dialogue: &Dialogue,
+    page: &mut Page<O>,
+) -> ExitCode {
+    dialogue.end(page);
+    if page.has_failed() {
+        write_fault(rt)
+    } else {
+        ExitCode::SUCCESS
     }
+}
+
+/// Tells that nothing is done for a line that has too many bytes.
+fn tell_too_long<O: AnswerWriter + Drop>(page: &mut Page<O>) -> Turn {
+    page.put(TOO_LONG);
+    if page.has_failed() {
+        Turn::Fails
+    } else {
+        Turn::Goes
+    }
+}
+
+/// Writes the words that a terminal shows before a line that is read, or `>` before a line of a list.
+fn ask(rt: &HostRuntime, is_asked: bool, dialogue: &Dialogue) {
+    if !is_asked || dialogue.is_waiting() {
+        return;
+    }
+    let _ = if dialogue.is_reading() {
+        print!(rt; ">")
+    } else {
+        print!(rt; "(rinddecade) ")
+    };
 }
 
 /// Ends the line on a terminal where no line came.

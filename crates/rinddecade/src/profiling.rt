@@ -17,9 +17,10 @@ use ispc_debugger::{ProgramSession, open_session};
 use ispc_options::{Options, Width};
 use ispc_refusals::Refusal;
 use lane_counts::Tally;
+use lane_meetings::Meetings;
 use lane_picture::StepsEnd;
 use lane_profile::count_run;
-use profile_texts::{Compared, Form, Subject, write_comparison, write_profile};
+use profile_texts::{Compared, Counted as Told, Form, Subject, write_comparison, write_profile};
 use std::alloc::{AllocError, Global};
 use std::fs;
 use std::io::{IsTerminal, LineWriter, Write};
@@ -31,7 +32,7 @@ const OVER_OTHER: &[u8] = b"only --force writes over a file that holds something
 
 const ONE_FORM: &[u8] = b"only one of --by, --annotate, --json and --compare may be given";
 
-const NO_ROWS: &[u8] = b"--by takes line, function, form or access, and not ";
+const NO_ROWS: &[u8] = b"--by takes line, function, form, access or parting, and not ";
 
 /// What is shown.
 #[derive(Clone, Copy, Debug, PartialEq, Eq)]
@@ -54,6 +55,7 @@ enum Counted {
 struct Run {
     tally: Tally,
     accesses: Accesses,
+    meetings: Meetings,
     end: StepsEnd,
 }
 
@@ -140,6 +142,7 @@ fn shown_as(rt: &HostRuntime, profile: &Profile<'_>) -> Result<Shown, ExitCode> 
         (Some("function"), false, false, false) => Ok(Shown::Run(Form::Functions)),
         (Some("form"), false, false, false) => Ok(Shown::Run(Form::Forms)),
         (Some("access"), false, false, false) => Ok(Shown::Run(Form::Accesses)),
+        (Some("parting"), false, false, false) => Ok(Shown::Run(Form::Partings)),
         (Some(other), false, false, false) => Err(refuse_because(rt, NO_ROWS, other.as_bytes())),
         (None, true, false, false) => Ok(Shown::Run(Form::Annotated)),
         (None, false, true, false) => Ok(Shown::Run(Form::Json)),
@@ -228,10 +231,11 @@ fn run_counted<const W: usize>(
     } else {
         Accesses::none(alloc)
     };
-    let (tally, end) = count_run(alloc, session, &mut accesses, most)?;
+    let (tally, end, meetings) = count_run(alloc, session, &mut accesses, most)?;
     Ok(Run {
         tally,
         accesses,
+        meetings,
         end,
     })
 }
@@ -276,15 +280,13 @@ fn write_on<O: Write + Drop>(
                 most_rows: profile.top as usize,
                 has_colours: is_coloured,
             };
-            write_profile(
-                rt.alloc(),
-                *form,
-                &run.tally,
-                run.accesses.rows(),
-                run.end,
-                &subject,
-                &mut writer,
-            )
+            let told = Told {
+                tally: &run.tally,
+                accesses: run.accesses.rows(),
+                partings: run.meetings.rows(),
+                end: run.end,
+            };
+            write_profile(rt.alloc(), *form, &told, &subject, &mut writer)
         }
         Counted::Widths(four, eight, sixteen) => {
             let compared = Compared {

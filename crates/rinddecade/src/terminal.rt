@@ -1,6 +1,6 @@
 //! Standard output as people see it: lines in colours, and a long list that waits.
 use crate::refusing::refuse_because;
-use crate::typed_lines::{Typed, read_line};
+use crate::typed_lines::{Typed, TypedLines};
 use desk_options::Debugged;
 use std::cell::Cell;
 use std::env;
@@ -79,15 +79,22 @@ fn height(rt: &HostRuntime) -> u32 {
 #[derive(Drop)]
 pub(crate) struct Lines<'a> {
     rt: &'a HostRuntime,
+    typed: &'a TypedLines,
     pages: &'a Cell<Pages>,
     has_colours: bool,
     line: Vec<u8>,
 }
 
 impl<'a> Lines<'a> {
-    pub(crate) fn new(rt: &'a HostRuntime, pages: &'a Cell<Pages>, has_colours: bool) -> Self {
+    pub(crate) fn new(
+        rt: &'a HostRuntime,
+        typed: &'a TypedLines,
+        pages: &'a Cell<Pages>,
+        has_colours: bool,
+    ) -> Self {
         Lines {
             rt,
+            typed,
             pages,
             has_colours,
             line: Vec::new(rt.alloc()),
@@ -123,10 +130,10 @@ impl<'a> Lines<'a> {
     /// Asks whether the list goes on, and waits for a line. At the end of the input the list ends.
     fn wait(&self) -> io::Result<Pages> {
         self.rt.stdout().write_all(MORE.as_bytes())?;
-        let mut typed = Vec::new(self.rt.alloc());
-        let answer = match read_line(&mut self.rt.reader(), &mut typed)? {
+        let mut line = Vec::new(self.rt.alloc());
+        let answer = match self.typed.next(&mut line)? {
             Typed::End => b"q".as_slice(),
-            Typed::Line | Typed::TooLong => typed.as_slice(),
+            Typed::Line | Typed::TooLong => line.as_slice(),
         };
         Ok(self.pages.get().answered(answer))
     }

@@ -1,0 +1,30 @@
+use Rattle.std.proofs.Common.{◌≡◌, replicate, ◌++◌, subst, ap, ◌∙◌}
+use Rattle.command_lists.specs.Lists.{HasDone}
+use Rattle.conditional_stops.specs.Going.{answer_of, command_of, times}
+use Rattle.conditional_stops.specs.Views.{table_of}
+use Rattle.prompt_scenes.specs.Holding.{Held, held}
+use Rattle.prompt_moves.specs.GivenMoves.{begun, follows}
+use Rattle.prompt_moves.proofs.DoneCommands.{list_then}
+use Rattle.prompt_going.proofs.going.go_to_stop.Goals as goal
+
+pub returns : goal.returns
+returns g c s d st =
+    let stands = g.M.RecordedMachine.stands in
+    let moved = c.go_by_pieces-moved.result in
+    let there = c.go_by_pieces-moved.new.session in
+    let table = table_of c.go_by_pieces-moved.new.conditions in
+    let h : Held = record (held c.args.holding.now) { table = table } in
+    let goes = c.go_by_pieces-moved.ensures s d st in
+    let is : c.answer-answer.result ≡ answer_of moved.end = c.answer-answer.ensures in
+    let first = replicate (times moved.passed moved.end) (command_of c.args.direction) in
+    record {
+      moved = moved;
+      there = there;
+      table = table;
+      goes = goes;
+      does = (
+        subst (λ answer. HasDone stands s (first ++ follows h answer) d c.follow.new.session) is
+            (list_then stands s d first (follows h c.answer-answer.result) there c.follow.new.session goes.done (λ e at. c.follow.ensures.done s e at)),
+        c.follow.ensures.begun ∙ ap (begun h) is,
+      );
+    }

@@ -1,0 +1,15 @@
+-- what is left of the changes leads on from here
+use Rattle.std.proofs.Common.{◌≡◌}
+use Rattle.gang_model.specs.Debugger.Debugger.{Debugger, Setting}
+use Rattle.debug_session.specs.Sessions.{StandsFor}
+use Rattle.prompt_moves.specs.Moments.{led}
+use Rattle.prompt_past.specs.FramePast.{changes_back}
+use Rattle.prompt_past.proofs.frame_past.tell_back.Given as goal
+
+abbrev pub invariant-loop-left : goal.invariant-loop-left
+invariant-loop-left g l =
+    (s : Setting) (d : Debugger) → StandsFor g.M.RecordedMachine.stands l.initial.session s d
+    → (e : Debugger) × StandsFor g.M.RecordedMachine.stands l.session s e × (led s (changes_back l.most s l.watch d) d ≡ led s (changes_back l.left s l.watch e) e)
+
+abbrev pub decreases-loop-left : goal.decreases-loop-left
+decreases-loop-left g l = l.left

@@ -1,0 +1,2 @@
+pub mod FramePast
+pub mod Past

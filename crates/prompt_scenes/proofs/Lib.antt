@@ -1,0 +1,2 @@
+pub mod AnswersMean
+mod Entries

@@ -1,0 +1,97 @@
+-- Watches of variables of frames, as lines make them and end them.
+use Rattle.std.specs.Prelude.{ℕ, ◌==◌, ◌&&◌, Bool, true, false, not, nat_le, nat_lt, List, [], ◌∷◌, ◌++◌, filter, length, Option, Some, None, is_none, if◌then◌else◌}
+use Rattle.std.specs.List.{list_any}
+use Rattle.gang_types.specs.declared.places.VarId.{VarId}
+use Rattle.gang_types.specs.declared.types.Rate.{Rate}
+use Rattle.gang_model.specs.Debugger.Debugger.{Command, Debugger, DoNext, DoReverseNext, DoReverseStep, DoStep, Setting, Target, bad_part, now, shown_words}
+use Rattle.gang_model.specs.Running.State.{State}
+use Rattle.gang_model.specs.Texts.CommandText.{command_of}
+use Rattle.gang_model.specs.Types.Tree.{Variable}
+use Rattle.debug_traits.specs.Frames.{found_at, state_at}
+use Rattle.conditional_stops.specs.declared.sights.FrameWatch.{FrameWatch}
+use Rattle.conditional_stops.specs.Tables.{Table, without}
+use Rattle.prompt_lines.specs.declared.line.Kind.{Kind}
+use Rattle.prompt_lines.specs.Words.{is_alone}
+use Rattle.gang_types.specs.declared.places.VarId.TheVariants as id
+use Rattle.prompt_lines.specs.declared.line.Kind.TheVariants as kind
+use Rattle.prompt_scenes.specs.Holding.{Held}
+
+-- ---- what can be watched
+
+-- whether a variable is of a function, by its number
+abbrev pub is_local : VarId → Bool
+is_local (id.File number) = false
+is_local (id.Local number) = true
+
+-- whether a target can be watched, where its name stands for a variable of a function: a scalar, a lane or an element
+abbrev pub can_watch : VarId → (is_array : Bool) → Rate → (words : ℕ) → Target → Bool
+can_watch number is_array rate words target =
+    is_local number && is_none (bad_part false target.at is_array rate words) && nat_le (length target.name) 256
+
+abbrev pub if_watched : State → Target → Option Variable → Option VarId
+if_watched state target None = None
+if_watched state target (Some v) = if can_watch v.id v.is_array v.rate (length (shown_words state v)) target then Some v.id else None
+
+-- the variable of the frame at a depth that a target watches, if it is of a function
+abbrev pub local_named : Setting → Debugger → (depth : ℕ) → Target → Option VarId
+local_named s d deep target = if_watched (state_at deep (now s d)) target (found_at s.program deep (now s d) target.name)
+
+-- ---- the watches that are held
+
+-- whether a watch of a frame has a number
+abbrev pub is_frame : ℕ → Held → Bool
+is_frame number h = list_any (λ w. w.number == number) h.frames
+
+-- a watch of a variable of the frame at a depth
+abbrev pub part_watch : ℕ → Target → (depth : ℕ) → VarId → FrameWatch
+part_watch number target deep v = record { number = number; depth = deep; id = v; at = target.at; name = record { items = target.name } }
+
+-- what a number was found for is watched from now on, where fewer than 16 are
+abbrev pub with_frame : Option ℕ → Target → (depth : ℕ) → VarId → Held → Held
+with_frame None target deep v h = h
+with_frame (Some number) target deep v h =
+    if nat_lt (length h.frames) 16 && nat_le (length target.name) 256 then record h { frames = h.frames ++ part_watch number target deep v ∷ [] } else h
+
+-- what was deleted is watched no more: one watch, or all
+abbrev pub without_frames : Option (Option ℕ) → Held → Held
+without_frames None h = h
+without_frames (Some None) h = record h { frames = [] }
+without_frames (Some (Some n)) h = record h { frames = filter (λ w. not (w.number == n)) h.frames }
+
+-- ---- which of them end with a line
+
+-- one move leaves frames only where it ends; more than one may leave one and enter another one, and then the entry's frame alone is known
+abbrev pub if_one : ℕ → (depth : ℕ) → ℕ
+if_one n deep = if nat_le n 1 then deep else 1
+
+-- the depth up to which frames are known to be those of before, after a command that led to this depth
+abbrev pub known_after : Option Command → (depth : ℕ) → ℕ
+known_after (Some (DoStep n)) deep = if_one n deep
+known_after (Some (DoNext n)) deep = if_one n deep
+known_after (Some (DoReverseStep n)) deep = if_one n deep
+known_after (Some (DoReverseNext n)) deep = if_one n deep
+known_after command deep = deep
+
+-- the same after a line: `run` and `start` begin another run, and the way to another moment may leave each frame but the entry's
+abbrev pub known : Kind → (text : List ℕ) → (depth : ℕ) → ℕ
+known kind.Own text deep = known_after (command_of text) deep
+known kind.Run text deep = if is_alone text then 0 else deep
+known kind.Start text deep = if is_alone text then 0 else deep
+known kind.Until text deep = if is_alone text then deep else 1
+known kind.Goto text deep = 1
+known kind.Restart text deep = 1
+known kind.Last text deep = 1
+known other text deep = deep
+
+-- what was said of a watch is forgotten, where it is deeper
+abbrev pub forgotten_if : (known : ℕ) → FrameWatch → Table → Table
+forgotten_if deepest w table = if nat_lt deepest w.depth then without w.number table else table
+
+-- the same of each
+abbrev pub forgotten_deeper : (known : ℕ) → List FrameWatch → Table → Table
+forgotten_deeper deepest [] table = table
+forgotten_deeper deepest (w ∷ watches) table = forgotten_deeper deepest watches (forgotten_if deepest w table)
+
+-- the watches of frames that are deeper end
+abbrev pub ended : (known : ℕ) → Held → Held
+ended deepest h = record h { frames = filter (λ w. nat_le w.depth deepest) h.frames; table = forgotten_deeper deepest h.frames h.table }

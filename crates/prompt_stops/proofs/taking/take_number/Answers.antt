@@ -1,0 +1,42 @@
+use Rattle.std.proofs.Common.{◌≡◌, None, Some, sym, subst, ap, ◌∙◌}
+use Rattle.gang_model.specs.Debugger.Debugger.{DoBreak, Reply, do_command}
+use Rattle.command_lists.specs.Lists.{HasDone}
+use Rattle.command_lists.proofs.DoneLists.{done_nothing}
+use Rattle.prompt_scenes.specs.Readings.{made_number}
+use Rattle.prompt_scenes.proofs.AnswersMean.{made_number-means}
+use Rattle.prompt_moves.proofs.DoneCommands.{only_reply}
+use Rattle.prompt_moves.proofs.MomentLaws.{led_one, one_led}
+use Rattle.prompt_stops.specs.Breaking.{cleared}
+use Rattle.prompt_stops.proofs.taking.take_number.Goals as goal
+
+pub returns-in-Some : goal.returns-in-Some
+returns-in-Some g c s d st =
+    let stands = g.M.RecordedMachine.stands in
+    let may_want = g.M.RecordedMachine.may_want in
+    let command = DoBreak 1 in
+    let made = do_command s command d in
+    let new = c.delete_made.new.session in
+    let replies = c.do_command-answer.ensures.replied s d st in
+    let is = only_reply may_want s command d replies.reply (λ may. may) (λ sets. sets) replies.is_reply in
+    let there = led_one stands s may_want command d c.do_command-answer.result c.do_command-answer.new.self replies is in
+    let number : Some c.in-Some.number ≡ made_number made.answer =
+    sym c.in-Some.is ∙ c.made_number.ensures ∙ made_number-means s replies.reply.next c.do_command-answer.result replies.reply.answer replies.replied.means ∙ ap (λ (r : Reply). made_number r.answer) is in (
+      one_led stands s command (cleared (made_number made.answer)) d new (subst (λ n. HasDone stands s (cleared n) made.next new) number (c.delete_made.ensures s made.next there)),
+      number,
+    )
+
+pub returns-in-None : goal.returns-in-None
+returns-in-None g c s d st =
+    let stands = g.M.RecordedMachine.stands in
+    let may_want = g.M.RecordedMachine.may_want in
+    let command = DoBreak 1 in
+    let made = do_command s command d in
+    let new = c.do_command-answer.new.self in
+    let replies = c.do_command-answer.ensures.replied s d st in
+    let is = only_reply may_want s command d replies.reply (λ may. may) (λ sets. sets) replies.is_reply in
+    let there = led_one stands s may_want command d c.do_command-answer.result new replies is in
+    let number : None ≡ made_number made.answer =
+    sym c.in-None.is ∙ c.made_number.ensures ∙ made_number-means s replies.reply.next c.do_command-answer.result replies.reply.answer replies.replied.means ∙ ap (λ (r : Reply). made_number r.answer) is in (
+      one_led stands s command (cleared (made_number made.answer)) d new (subst (λ n. HasDone stands s (cleared n) made.next new) number (done_nothing stands s made.next new there)),
+      number,
+    )

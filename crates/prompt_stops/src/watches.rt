@@ -1,0 +1,144 @@
+//! What is told of watches of variables of frames.
+use conditional_stops::{CountedStop, FrameWatch, MoveEnd, Moved, Reason};
+use debug_commands::Target;
+use debug_session::Session;
+use debug_traits::{AnswerWriter, FramedMachine, RecordedMachine};
+use prompt_scenes::{Holding, Scene, depth};
+use prompt_texts::{Digits, Page};
+use prompt_values::{show_target, tell_moved, tell_said};
+
+/// Tells the watch that was made by a number, if it was.
+pub(crate) fn tell_made<O: AnswerWriter + Drop>(
+    number: Option<u32>,
+    holding: &Holding,
+    page: &mut Page<O>,
+) {
+    for watch in holding.frames.as_slice() {
+        if Some(watch.number) == number {
+            page.put(b"watch ");
+            put_watch(watch, b": ", page);
+            page.put(b", while this frame is there\n");
+        }
+    }
+}
+
+/// Tells that a breakpoint or watch was deleted.
+pub(crate) fn tell_deleted<O: AnswerWriter + Drop>(number: Option<u32>, page: &mut Page<O>) {
+    if let Some(number) = number {
+        page.put(b"deleted ");
+        page.put_number(i128::from(number));
+        page.put(b"\n");
+    }
+}
+
+/// Lists the watches of frames, with what is said of them.
+pub fn list_frames<O: AnswerWriter + Drop>(holding: &Holding, page: &mut Page<O>) {
+    for watch in holding.frames.as_slice() {
+        put_watch(watch, b"  watch, ", page);
+        page.put(b", of the frame at depth ");
+        page.put_number(watch.depth as i128);
+        page.put(b"\n");
+        tell_said(watch.number, holding, page);
+    }
+}
+
+/// Tells what a move by single steps came to: what a watch shows that stopped it, and what is told of conditions.
+pub fn tell_walked<M: FramedMachine, O: AnswerWriter + Drop>(
+    moved: &Moved<'_>,
+    holding: &Holding,
+    scene: Scene<'_>,
+    session: &Session<M>,
+    page: &mut Page<O>,
+) {
+    match &moved.end {
+        MoveEnd::Stopped(
+            CountedStop {
+                reason: Reason::Watch(number),
+                ..
+            },
+        ) => show_watched(*number, holding, scene, session, page),
+        MoveEnd::Stopped(_) | MoveEnd::Answered(_) | MoveEnd::MostPassed | MoveEnd::NoMemory => {}
+    }
+    let told = Moved {
+        end: moved.end,
+        passed: 0,
+    };
+    tell_moved(&told, holding, page);
+}
+
+/// Shows a lane or an element that is watched by a number, or a variable of an outer frame; what changed of the top one is shown behind a
+/// move in any case.
+fn show_watched<M: FramedMachine, O: AnswerWriter + Drop>(
+    number: u32,
+    holding: &Holding,
+    scene: Scene<'_>,
+    session: &Session<M>,
+    page: &mut Page<O>,
+) {
+    let top = depth(session);
+    for watch in holding.frames.as_slice() {
+        if watch.number == number && (watch.at.is_some() || watch.depth != top) {
+            show_watch(watch, scene, session.machine(), page);
+        }
+    }
+}
+
+/// Shows what is watched.
+fn show_watch<M: FramedMachine, O: AnswerWriter + Drop>(
+    watch: &FrameWatch,
+    scene: Scene<'_>,
+    machine: &M,
+    page: &mut Page<O>,
+) {
+    let name = watch.name.as_slice();
+    if let Some(shown) = machine.find_at(watch.depth, name) {
+        let target = Target { name, at: watch.at };
+        page.put(b"  ");
+        show_target(
+            target,
+            Digits::Decimal,
+            shown,
+            watch.depth,
+            scene,
+            machine,
+            page,
+        );
+    }
+}
+
+/// Tells which watches of frames end with a line: their frame is not there, or may be another one.
+pub fn tell_ended<M: RecordedMachine, O: AnswerWriter + Drop>(
+    known: usize,
+    steps: usize,
+    holding: &Holding,
+    session: &Session<M>,
+    page: &mut Page<O>,
+) {
+    let top = depth(session);
+    let is_back = session.machine().kept_steps() < steps;
+    for watch in holding.frames.as_slice() {
+        if watch.depth > known {
+            page.put(b"watch ");
+            put_watch(watch, b" of ", page);
+            page.put(if watch.depth <= top {
+                b" ends: this line may have left its frame\n"
+            } else if is_back {
+                b" ends: its frame is not yet entered here\n"
+            } else {
+                b" ends: its frame has been left\n"
+            });
+        }
+    }
+}
+
+/// Writes the number of a watch, and what it watches.
+fn put_watch<O: AnswerWriter + Drop>(watch: &FrameWatch, between: &[u8], page: &mut Page<O>) {
+    page.put_number(i128::from(watch.number));
+    page.put(between);
+    page.put_masked(watch.name.as_slice());
+    if let Some(index) = watch.at {
+        page.put(b"[");
+        page.put_number(i128::from(index));
+        page.put(b"]");
+    }
+}

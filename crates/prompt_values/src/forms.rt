@@ -1,0 +1,175 @@
+//! What is shown in other digits, and expressions that are displayed. The debugger does nothing for them.
+use crate::expressions::print_written;
+use crate::slices::{show_slice, slice_of};
+use crate::values::show_target;
+use debug_answers::Refusal;
+use debug_commands::Target;
+use debug_session::Session;
+use debug_traits::AnswerWriter;
+use frame_expressions::ExpressionMachine;
+use frame_values::{NoValue, value_of_expression};
+use prompt_lines::{HELD, is_alone, printing_line};
+use prompt_scenes::{Displayed, Holding, Scene, depth, find_part, print_of, selected_depth};
+use prompt_texts::{
+    Digits, Page, show_expression, show_faulty, tell_refused, tell_refused_here, tell_unknown,
+};
+
+/// The word that a command line begins with which prints.
+const PRINT: &[u8] = b"print";
+
+/// What a command line that prints names: its digits, and a target or an expression.
+#[derive(Clone, Copy)]
+pub struct Form<'a> {
+    pub digits: Digits,
+    pub text: &'a [u8],
+}
+
+/// What a command line names that begins with `print`, or with `print/` and a letter.
+pub fn form_of(text: &[u8]) -> Option<Form<'_>> {
+    match text.strip_prefix(PRINT)? {
+        [b'/', letter, rest @ ..] => Some(Form {
+            digits: digits_of(*letter)?,
+            text: rest,
+        }),
+        rest => Some(Form {
+            digits: Digits::Decimal,
+            text: rest,
+        }),
+    }
+}
+
+/// The digits of a letter.
+fn digits_of(letter: u8) -> Option<Digits> {
+    match letter {
+        b'x' => Some(Digits::Hexadecimal),
+        b'o' => Some(Digits::Octal),
+        b't' => Some(Digits::Binary),
+        b'u' => Some(Digits::Unsigned),
+        b'c' => Some(Digits::Character),
+        _ => None,
+    }
+}
+
+/// Shows a target or an expression in the digits that a command line names, in the frame that is selected.
+pub fn show_formatted<M: ExpressionMachine, O: AnswerWriter + Drop>(
+    text: &[u8],
+    holding: &Holding,
+    scene: Scene<'_>,
+    session: &Session<M>,
+    page: &mut Page<O>,
+) {
+    match form_of(text) {
+        Some(form) if text.len() < HELD && !is_alone(text) => {
+            show_named_form(form, holding, scene, session, page);
+        }
+        _ => tell_unknown(scene.line, page),
+    }
+}
+
+/// Shows a target or an expression in the frame that is selected, or tells why it is not shown.
+fn show_named_form<M: ExpressionMachine, O: AnswerWriter + Drop>(
+    form: Form<'_>,
+    holding: &Holding,
+    scene: Scene<'_>,
+    session: &Session<M>,
+    page: &mut Page<O>,
+) {
+    let line = printing_line(form.text);
+    let depth = selected_depth(holding, session);
+    match print_of(line.as_slice()) {
+        None => print_written(form.text, form.digits, holding, scene, session, page),
+        Some(target) => {
+            match show_found(form, target, depth, scene, session.machine(), page) {
+                Ok(()) => {}
+                Err(refusal) if holding.is_top() => {
+                    tell_refused_here(refusal, scene.line, session.machine(), page);
+                }
+                Err(refusal) => tell_refused(refusal, scene.line, page),
+            }
+        }
+    }
+}
+
+/// Shows a target of the frame at a depth; where its name stands for no variable, what it is as an expression.
+fn show_found<M: ExpressionMachine, O: AnswerWriter + Drop>(
+    form: Form<'_>,
+    target: Target<'_>,
+    depth: usize,
+    scene: Scene<'_>,
+    machine: &M,
+    page: &mut Page<O>,
+) -> Result<(), Refusal> {
+    match find_part(target, depth, machine) {
+        Ok(shown) => show_target(target, form.digits, shown, depth, scene, machine, page),
+        Err(refusal) => match value_of_expression(scene.alloc, form.text, depth, machine) {
+            Ok(value) => show_expression(form.text.trim_ascii(), form.digits, &value, page),
+            Err(_) => return Err(refusal),
+        },
+    }
+    Ok(())
+}
+
+/// Shows what is displayed by a number, of the top frame.
+pub fn show_form_here<M: ExpressionMachine, O: AnswerWriter + Drop>(
+    displayed: &Displayed,
+    scene: Scene<'_>,
+    session: &Session<M>,
+    page: &mut Page<O>,
+) {
+    show_form(displayed, depth(session), scene, session.machine(), page);
+}
+
+/// Shows what is displayed by a number, of the frame at a depth. What is not in scope there is left out.
+pub fn show_form<M: ExpressionMachine, O: AnswerWriter + Drop>(
+    displayed: &Displayed,
+    depth: usize,
+    scene: Scene<'_>,
+    machine: &M,
+    page: &mut Page<O>,
+) {
+    let Some(form) = form_of(displayed.text.as_slice()) else {
+        return;
+    };
+    let line = printing_line(form.text);
+    if let Some(target) = print_of(line.as_slice()) {
+        if let Ok(shown) = find_part(target, depth, machine) {
+            put_number(displayed.number, page);
+            show_target(target, form.digits, shown, depth, scene, machine, page);
+            return;
+        }
+    }
+    show_written(displayed.number, form, depth, scene, machine, page);
+}
+
+/// Shows the expression that is displayed by a number, of the frame at a depth, or its fault. Where it has no meaning it is left out.
+fn show_written<M: ExpressionMachine, O: AnswerWriter + Drop>(
+    number: u32,
+    form: Form<'_>,
+    depth: usize,
+    scene: Scene<'_>,
+    machine: &M,
+    page: &mut Page<O>,
+) {
+    if let Some(Ok(slice)) = slice_of(form.text, depth, scene, machine) {
+        put_number(number, page);
+        show_slice(&slice, form.digits, depth, scene, machine, page);
+        return;
+    }
+    match value_of_expression(scene.alloc, form.text, depth, machine) {
+        Ok(value) => {
+            put_number(number, page);
+            show_expression(form.text.trim_ascii(), form.digits, &value, page);
+        }
+        Err(NoValue::Fault(fault)) => {
+            put_number(number, page);
+            show_faulty(form.text.trim_ascii(), fault, page);
+        }
+        Err(NoValue::NoFrame | NoValue::Refused(_)) => {}
+    }
+}
+
+/// Writes the number of what is displayed.
+fn put_number<O: AnswerWriter + Drop>(number: u32, page: &mut Page<O>) {
+    page.put_number(i128::from(number));
+    page.put(b": ");
+}

@@ -1,0 +1,16 @@
+//! What a prompt shows of values: variables, elements, expressions, other digits, and what conditions come to.
+#![tactic(auto)]
+
+mod expressions;
+mod forms;
+mod slices;
+mod telling;
+mod values;
+
+pub use expressions::{print_expression, show_instead, value_instead};
+pub use forms::{Form, form_of, show_form, show_form_here, show_formatted};
+pub use telling::{
+    tell_condition, tell_conditions, tell_counted, tell_missing, tell_moved, tell_no_stop,
+    tell_passes, tell_said, tell_unheld, tell_watch_conditions,
+};
+pub use values::{do_and_show, show_target, tell_answer};

@@ -1,0 +1,116 @@
+//! What a variable shows: its lanes or its elements, or some of them.
+ghost use Rattle.std.specs.Prelude.{◌∷◌, []};
+ghost use Rattle.gang_model.specs.Debugger.Debugger.{Debugger, Setting};
+ghost use Rattle.command_lists.specs.Lists.{HasDone};
+ghost use Rattle.debug_commands.specs.Views.{command_view};
+ghost use Rattle.debug_session.specs.Sessions.{StandsFor};
+
+use debug_answers::Answer;
+use debug_commands::{Command, Target};
+use debug_session::Session;
+use debug_traits::{AnswerWriter, FramedMachine, Shown};
+use prompt_scenes::{Scene, depth};
+use prompt_texts::{Digits, Page, lanes_at, put_told, show_value, tell, told_variable};
+
+/// What is said where memory runs out.
+const NO_MEMORY: &[u8] = b"C12 Memory: there is no memory to show this.\n";
+
+/// Shows a target of the frame at a depth.
+pub fn show_target<M: FramedMachine, O: AnswerWriter + Drop>(
+    target: Target<'_>,
+    digits: Digits,
+    shown: Shown,
+    depth: usize,
+    scene: Scene<'_>,
+    machine: &M,
+    page: &mut Page<O>,
+) {
+    let (from, to) = match target.at {
+        None => (0, shown.count),
+        Some(index) => (index as usize, index as usize + 1),
+    };
+    let lanes = lanes_at(depth, machine);
+    match told_variable(
+        scene.alloc,
+        scene.layout,
+        shown,
+        lanes,
+        from,
+        to,
+        depth,
+        machine,
+    ) {
+        Ok(told) => show_value(target, digits, &told, page),
+        Err(_) => page.put(NO_MEMORY),
+    }
+}
+
+/// Shows the elements of an array from one on up to another, of the frame at a depth, behind what was typed for them.
+pub(crate) fn show_elements<M: FramedMachine, O: AnswerWriter + Drop>(
+    typed: &[u8],
+    digits: Digits,
+    shown: Shown,
+    from: usize,
+    to: usize,
+    depth: usize,
+    scene: Scene<'_>,
+    machine: &M,
+    page: &mut Page<O>,
+) {
+    let lanes = lanes_at(depth, machine);
+    match told_variable(
+        scene.alloc,
+        scene.layout,
+        shown,
+        lanes,
+        from,
+        to,
+        depth,
+        machine,
+    ) {
+        Ok(told) => {
+            page.put_masked(typed);
+            page.put(b" =");
+            put_told(digits, &told, page);
+        }
+        Err(_) => page.put(NO_MEMORY),
+    }
+}
+
+/// Tells what a command that moves nothing came to, in the top frame.
+pub fn tell_answer<M: FramedMachine, O: AnswerWriter + Drop>(
+    answer: &Answer<'_>,
+    scene: Scene<'_>,
+    session: &Session<M>,
+    page: &mut Page<O>,
+) {
+    match answer {
+        Answer::Shows { target, shown } => {
+            let machine = session.machine();
+            show_target(
+                *target,
+                Digits::Decimal,
+                *shown,
+                depth(session),
+                scene,
+                machine,
+                page,
+            );
+        }
+        other => tell(other, scene.line, scene.source, session, page),
+    }
+}
+
+/// Does a command that does not move, and shows what it came to.
+pub fn do_and_show<M: FramedMachine, O: AnswerWriter + Drop>(
+    command: Command<'_>,
+    scene: Scene<'_>,
+    session: &mut Session<M>,
+    page: &mut Page<O>,
+)
+    ensures { (s : Setting) (d : Debugger) → StandsFor M.stands session.old s d
+        → HasDone M.stands s (command_view command.entry ∷ []) d session.new }
+{
+    let answer = session.do_command(command);
+    tell_answer(&answer, scene, session, page);
+}

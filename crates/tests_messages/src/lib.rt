@@ -1,0 +1,5 @@
+//! Tests of the frames of messages.
+#![tactic(auto)]
+
+#[cfg(test)]
+mod flushing;
