@@ -56,7 +56,7 @@ _rinddecade() {
                 --input|--to) _rinddecade_files; return ;;
                 --entry|--history|--steps|--from|--most|--top) return ;;
                 --width) COMPREPLY=($(compgen -W "4 8 16" -- "$word")); return ;;
-                --by) COMPREPLY=($(compgen -W "line function form access" -- "$word")); return ;;
+                --by) COMPREPLY=($(compgen -W "line function form access parting" -- "$word")); return ;;
                 --color) COMPREPLY=($(compgen -W "auto always never" -- "$word")); return ;;
             esac
             case "$word" in

@@ -12,7 +12,7 @@ import tempfile
 
 from testing.whole_runs import FAULT, SPOILS, SPOILT
 
-from . import works
+from . import counted, works
 from .timed import NotRun
 
 ROUNDS = 3
@@ -24,6 +24,7 @@ NAME = "long.ispc"
 # The last statement of the run sets t, so that going back with its watch goes over that alone; s is set by the first.
 TEXT = works.loop(TURNS).replace("uniform int t = 0;\n", "uniform int t = 0;\nuniform int s = 0;\n").replace("int i = 0;\n", "s = 1;\nint i = 0;\n")
 TO_THE_END = [f"step {STEPS}"]
+COUNTED_STEPS = 50_000  # of which the instructions are counted
 BACK, ONE_BY_ONE = ["watch s", "reverse-continue", "delete"], ["reverse-step"] * SINGLE
 # From where single steps are made.
 PLACES = {"the end": STEPS, "three quarters": 3 * STEPS // 4, "the middle": MIDDLE, "a quarter": STEPS // 4, "the start": 2 * SINGLE}
@@ -176,6 +177,22 @@ def beside_plain(program, script, folder):
     yield Figure(sorted(one / other for one, other in rounds)[ALTERNATED // 2], f"times these in the middle one of {ALTERNATED} rounds")
 
 
+def instructions(words, steps, folder):
+    """The instructions of a program that does so many steps, counted by valgrind."""
+    run = subprocess.run([*counted.VALGRIND, *words], input=f"step {steps}\n".encode(), capture_output=True, cwd=folder)
+    found = counted.COUNTED.search(run.stderr)
+    if run.returncode or not found:
+        raise NotRun(f"status {run.returncode}, and no count of instructions")
+    return int(found[1])
+
+
+def counted_beside_plain(program, script, folder):
+    """The instructions of a step forward beside those without a whole run: the same on a busy machine as on an idle one."""
+    plain = [script, NAME, "--history", "65536", "--steps", "10000000"]
+    own, other = (instructions(it, 1 + COUNTED_STEPS, folder) - instructions(it, 1, folder) for it in (debugged(program), plain))
+    yield Figure(own / other, f"times the instructions of the program for scripts, over {COUNTED_STEPS:,} steps (by valgrind)", 1.05, ".3f")
+
+
 def copies(program, folder):
     """How many copies there are, and what one takes: of the large allocations of one size those that are the most at one time."""
     library, told = pathlib.Path(folder, "allocations.so"), pathlib.Path(folder, "allocations")
@@ -187,29 +204,42 @@ def copies(program, folder):
     yield Figure(size / 1024, "kilobytes a copy", form=".0f")
 
 
-def of_profile(program, folder):
+def of_profile(program, folder, name, steps, words=()):
     """The seconds of a whole run of a profile."""
-    ended = subprocess.Popen([program, "profile", NAME, "--most", str(STEPS)], cwd=folder, env={}, stdout=subprocess.PIPE)
+    words = [program, "profile", name, "--most", str(steps), *words]
+    ended = subprocess.Popen(words, cwd=folder, env={}, stdout=subprocess.PIPE)
     text = ended.stdout.read()
     _, status, used = os.wait4(ended.pid, 0)
     ended.returncode = os.waitstatus_to_exitcode(status)
-    if ended.returncode or str(STEPS).encode() not in text:
+    if ended.returncode or str(steps).encode() not in text:
         raise NotRun(f"a profile ends with status {ended.returncode}")
     return used.ru_utime + used.ru_stime
 
 
-def of_run(program, folder):
+def of_run(program, folder, name, steps, words=()):
     """The seconds of a whole run to the end."""
-    with begun(debugged(program), folder) as desk:
-        desk.done(TO_THE_END)
+    with begun([*debugged(program, name), *words], folder) as desk:
+        desk.done([f"step {steps}"])
         return desk.used()
 
 
 def profile(program, folder):
     """What a profile of the run takes beside the run."""
-    run, counted = least((of_run(program, folder), of_profile(program, folder)) for _ in range(ROUNDS))
+    run, counted = least((of_run(program, folder, NAME, STEPS), of_profile(program, folder, NAME, STEPS)) for _ in range(ROUNDS))
     yield Figure(counted, f"seconds for a profile of {STEPS:,} steps", 6)
     yield Figure(counted / run, "times the run, for its profile", 2)
+
+
+def by_access(program, folder):
+    """What a profile of accesses takes beside the run, where two of five steps have one: of a whole run, and of shorter ones by wider gangs."""
+    for width, turns in ((4, TURNS), (8, TURNS // 5), (16, TURNS // 5)):
+        name, steps, words = f"touching_{turns}.ispc", works.steps_of_loop(turns) + 1, ["--width", str(width)]
+        pathlib.Path(folder, name).write_text(works.touching(turns))
+        counting = [*words, "--by", "access"]
+        run, counted = least((of_run(program, folder, name, steps, words), of_profile(program, folder, name, steps, counting)) for _ in range(ROUNDS))
+        if turns == TURNS:
+            yield Figure(counted, f"seconds for a profile by access of {steps:,} steps, {width} lanes", 6)
+        yield Figure(counted / run, f"times the run, for its profile by access, {width} lanes", 2)
 
 
 def with_condition(program, folder):
@@ -236,7 +266,8 @@ def told(program, script):
     with tempfile.TemporaryDirectory(prefix="bench-whole-") as folder:
         pathlib.Path(folder, NAME).write_text(TEXT)
         parts = [back(program, folder), *([beside_plain(program, script, folder)] if script else [])]
-        for part in (*parts, to_what_spoiled(program, folder), copies(program, folder), profile(program, folder), condition(program, folder)):
+        parts += [counted_beside_plain(program, script, folder)] if script and counted.is_there() else []
+        for part in (*parts, to_what_spoiled(program, folder), copies(program, folder), profile(program, folder), by_access(program, folder), condition(program, folder)):
             try:
                 yield from part
             except (NotRun, OSError, subprocess.CalledProcessError) as why:

@@ -35,6 +35,12 @@ def steps_of_loop(turns):
     return 2 + 5 * turns + 2
 
 
+def touching(turns):
+    """The like, whose turns load an element of an array in each lane and store one: two accesses in five statements."""
+    body = "x = a[p];\na[p + 16] = x;\nx ^= 5;\ni += 1;\n"
+    return f"uniform int a[32];\nexport void go() {{\nint i = 0;\nint x = 0;\nint p = programIndex;\nwhile (i < {turns}) {{\n{body}}}\nx = 1;\n}}\n"
+
+
 def elements(length, statement="a[{}] += i;", turns=TURNS):
     """A loop whose turns gather elements of an array of so many, a power of 2, scatter them, or do both in one statement."""
     changed = statement.format(f"(i * 5 + programIndex * 3) & {length - 1}")

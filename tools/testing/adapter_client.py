@@ -11,11 +11,14 @@ import subprocess
 import sys
 import threading
 
-from .adapter_members import EVENTS, MEMBERS, NUMBER, TEXT, THREAD, TRUTH, Wrong, need, need_body, need_capabilities, need_members, need_stop, same
+from .adapter_members import (
+    EVENTS, MEMBERS, NUMBER, QUIET, TEXT, THREAD, TRUTH, VARIABLE, Wrong, need, need_body, need_capabilities, need_members, need_stop, same,
+)
 from .adapter_conditions import CONDITION_CHECKS
 from .adapter_frames import FRAME_CHECKS, written
 from .adapter_launches import LAUNCH_CHECKS
 from .adapter_moves import MOVE_CHECKS
+from .adapter_programs import PROGRAM_CHECKS
 from .adapter_values import VALUE_CHECKS
 from .tried import Result
 
@@ -119,8 +122,10 @@ class Client:
         need(not message["success"] and "message" in message, f"{command} is not refused: {message}")
         need_members("the body of a refusal", message.get("body"), {"error": MEMBERS}, {})
         error = message["body"]["error"]
-        need_members("the error", error, {"id": NUMBER, "format": TEXT}, {})
-        need(error["format"] == message["message"], f"two texts: {message}")
+        need_members("the error", error, {"id": NUMBER, "format": TEXT, "variables": MEMBERS, "showUser": TRUTH}, {})
+        text = VARIABLE.sub(lambda it: error["variables"][it[1]], error["format"])
+        need(text == message["message"], f"two texts: {message}")
+        need(error["showUser"] == (command not in QUIET), f"whether the user is shown why {command} is refused: {message}")
         return message["message"]
 
     def launch(self, source, **arguments):
@@ -432,7 +437,7 @@ def wrong_requests(client, examples):
     client.end()
 
 
-CHECKS = [steps_and_back, watches, breaks, locations, variables, frames, faults, filters, the_end, wrong_requests, *FRAME_CHECKS, *LAUNCH_CHECKS, *VALUE_CHECKS, *MOVE_CHECKS, *CONDITION_CHECKS]
+CHECKS = [steps_and_back, watches, breaks, locations, variables, frames, faults, filters, the_end, wrong_requests, *FRAME_CHECKS, *LAUNCH_CHECKS, *VALUE_CHECKS, *MOVE_CHECKS, *CONDITION_CHECKS, *PROGRAM_CHECKS]
 
 
 def check(root, command):

@@ -137,4 +137,32 @@ def references(client, examples):
         client.end()
 
 
-FRAME_CHECKS = [own_variables(4), own_variables(8), own_variables(16), outer_frames, references]
+def frames_by_pieces(client, examples):
+    """So many frames from a place on, the top one first; and how many there are always."""
+    with written(RECURSION) as source:
+        at_depth_3(client, source, 8)
+        for start in (None, 0, 1, 2, 3, 4, 2**31 - 1):
+            for levels in (None, 0, 1, 2, 3, 20):
+                given = {name: it for name, it in (("startFrame", start), ("levels", levels)) if it is not None}
+                body = client.ask("stackTrace", threadId=1, **given)
+                same([it["id"] for it in body["stackFrames"]], [3, 2, 1][start or 0 :][: levels or None])
+                same(body["totalFrames"], 3)
+        same(client.refused("stackTrace", threadId=1, startFrame="1"), wrong("startFrame"))
+        same(client.refused("stackTrace", threadId=1, startFrame=0, levels=-1), wrong("levels"))
+        client.end()
+
+
+def wrong(argument):
+    return f"the argument `{argument}` is missing or of a wrong type"
+
+
+def texts_with_braces(client, examples):
+    """Braces in the text of a refusal stand for no variable."""
+    with written(RECURSION) as source:
+        at_depth_3(client, source, 16)
+        for name in ("{x}", "{", "}", "{text}", "{{text}}"):
+            same(client.refused(name), f"no request {name}")
+        client.end()
+
+
+FRAME_CHECKS = [own_variables(4), own_variables(8), own_variables(16), outer_frames, references, frames_by_pieces, texts_with_braces]

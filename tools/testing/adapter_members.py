@@ -1,5 +1,7 @@
 """What the Debug Adapter Protocol says of the members of each reply and event, of their types and of their values."""
 
+import re
+
 TEXT, NUMBER, TRUTH, LIST, MEMBERS = str, int, bool, list, dict
 
 # The members that each body must have, and those that it may have, with their types.
@@ -9,7 +11,7 @@ BODIES = {
     "setBreakpoints": ({"breakpoints": LIST}, {}),
     "breakpointLocations": ({"breakpoints": LIST}, {}),
     "gotoTargets": ({"targets": LIST}, {}),
-    "goto": ({}, {"allThreadsContinued": TRUTH}),
+    "goto": ({}, {}),
     "setExceptionBreakpoints": ({}, {}),
     "exceptionInfo": ({"exceptionId": TEXT, "breakMode": TEXT}, {"description": TEXT, "details": MEMBERS}),
     "dataBreakpointInfo": ({"dataId": (TEXT, type(None)), "description": TEXT}, {"accessTypes": LIST, "canPersist": TRUTH}),
@@ -23,11 +25,11 @@ BODIES = {
     "setExpression": ({"value": TEXT}, {}),
     "completions": ({"targets": LIST}, {}),
     "evaluate": ({"result": TEXT, "variablesReference": NUMBER}, {}),
-    "next": ({}, {"allThreadsContinued": TRUTH}),
-    "stepIn": ({}, {"allThreadsContinued": TRUTH}),
-    "stepOut": ({}, {"allThreadsContinued": TRUTH}),
-    "stepBack": ({}, {"allThreadsContinued": TRUTH}),
-    "reverseContinue": ({}, {"allThreadsContinued": TRUTH}),
+    "next": ({}, {}),
+    "stepIn": ({}, {}),
+    "stepOut": ({}, {}),
+    "stepBack": ({}, {}),
+    "reverseContinue": ({}, {}),
     "continue": ({"allThreadsContinued": TRUTH}, {}),
     "restart": ({}, {}),
     "disconnect": ({}, {}),
@@ -40,6 +42,7 @@ CAPABILITIES = [
     "supportsConditionalBreakpoints",
     "supportsConfigurationDoneRequest",
     "supportsDataBreakpoints",
+    "supportsDelayedStackTraceLoading",
     "supportsEvaluateForHovers",
     "supportsExceptionInfoRequest",
     "supportsGotoTargetsRequest",
@@ -62,7 +65,7 @@ EVENTS = {
 ITEMS = {
     "breakpoints": ({"verified": TRUTH}, {"id": NUMBER, "line": NUMBER, "message": TEXT}),
     "threads": ({"id": NUMBER, "name": TEXT}, {}),
-    "stackFrames": ({"id": NUMBER, "name": TEXT, "line": NUMBER, "column": NUMBER, "source": MEMBERS}, {}),
+    "stackFrames": ({"id": NUMBER, "name": TEXT, "line": NUMBER, "column": NUMBER, "source": MEMBERS, "presentationHint": TEXT}, {}),
     "scopes": ({"name": TEXT, "variablesReference": NUMBER, "expensive": TRUTH}, {"presentationHint": TEXT}),
     "variables": ({"name": TEXT, "value": TEXT, "variablesReference": NUMBER}, {"type": TEXT, "evaluateName": TEXT, "indexedVariables": NUMBER, "presentationHint": MEMBERS}),
 }
@@ -77,6 +80,10 @@ ACCESSES = ["write"]
 BREAK_MODES = ["never", "always", "unhandled", "userUnhandled"]
 GREATEST = 2**31 - 1
 THREAD = 1
+# The requests that editors make by themselves, or whose refusal they show in the place of a value.
+QUIET = ["breakpointLocations", "exceptionInfo", "dataBreakpointInfo", "stackTrace", "scopes", "variables", "completions", "evaluate"]
+# A variable of the format of an error.
+VARIABLE = re.compile(r"\{(\w+)\}")
 # What stands behind the name and the value of a lane that is not active.
 WAITS = " (waits)"
 
@@ -119,6 +126,7 @@ def need_breakpoint(item):
 def need_frame(item):
     """A frame has a place that counts from 1, and the path of its source with its last part as the name."""
     need(item["line"] >= 1 and item["column"] >= 1, f"the place of the frame {item}")
+    need(item["presentationHint"] == "normal", f"the hint of the frame {item}")
     source = item["source"]
     need_members("the source of a frame", source, {"name": TEXT, "path": TEXT}, {})
     need(source["name"] == source["path"].rpartition("/")[2], f"the name of the source {source}")
@@ -135,7 +143,9 @@ def need_variable(item):
     need(is_marked == item["value"].endswith(WAITS), f"the marks of the variable {item}")
     name = item["name"][: -len(WAITS)] if is_marked else item["name"]
     is_range = ".." in name
+    need_members("the hint of a variable", item["presentationHint"], {"attributes": LIST, "kind": TEXT}, {})
     need(item["presentationHint"]["attributes"] in ATTRIBUTES, f"the hint of the variable {item}")
+    need(item["presentationHint"]["kind"] == ("virtual" if is_range else "data"), f"the kind of the variable {item}")
     need(("evaluateName" in item) != is_range and item.get("evaluateName", name) == name, f"the variable {item}")
     is_array = item["type"].endswith("]")
     need(("indexedVariables" in item) == is_array, f"the number of the elements of {item}")
@@ -219,4 +229,6 @@ def need_body(command, arguments, body):
     if command == "evaluate":
         need_reference("an answer", body["variablesReference"], 0)
     if command == "stackTrace":
-        need(body.get("totalFrames") == len(body["stackFrames"]), f"the number of the frames: {body}")
+        start, levels, total = arguments.get("startFrame") or 0, arguments.get("levels") or 0, body["totalFrames"]
+        left = max(total - start, 0)
+        need(len(body["stackFrames"]) == (min(left, levels) if levels else left), f"the number of the frames: {body}")

@@ -124,7 +124,13 @@ COMMANDS = [
 def completed(client, text, column, **frame):
     """The texts that a completion makes of one, each by its name."""
     told = client.ask("completions", text=text, column=column, **frame)["targets"]
-    return [(it["label"], text[: it["start"] - 1] + it["label"] + text[it["start"] - 1 + it["length"] :]) for it in told]
+    return [(it["label"], replaced(text, it["start"] - 1, it["length"], it["label"])) for it in told]
+
+
+def replaced(text, start, length, name):
+    """A text in which a name stands in the place of so many units of UTF-16, each of two bytes."""
+    units = text.encode("utf-16-le")
+    return (units[: start * 2] + name.encode("utf-16-le") + units[(start + length) * 2 :]).decode("utf-16-le")
 
 
 def completions(client, examples):
@@ -145,4 +151,22 @@ def completions(client, examples):
         client.end()
 
 
-MOVE_CHECKS = [goto_targets, goes, goes_by_breakpoints, sets_expressions, constants, completions]
+# Texts before a name, by how many units of UTF-16 they have: letters of two bytes and of three count one, those of four bytes two.
+BEFORE = [("\u00e9 + ", 4), ("\u20ac\u20ac", 2), ("\U0001d11e ", 3), ("\u00e9\U0001d11e\u20ac(", 5)]
+
+
+def columns(client, examples):
+    """Columns count units of UTF-16, before the name that is completed and up to the cursor."""
+    with written(RECURSION) as path:
+        at_depth_3(client, path, 16)
+        for text, units in BEFORE:
+            same(completed(client, text + "to", units + 3), [("total", text + "total")])
+            same(completed(client, text + "to - " + text, units + 2), [("total", text + "totalo - " + text), ("table", text + "tableo - " + text)])
+            told = client.ask("completions", text=text + "tab" + text, column=units + 4)["targets"]
+            same(told, [{"label": "table", "start": units + 1, "length": 3}])
+        same(completed(client, "to\u20ac", 3), [("total", "total\u20ac")])
+        same(completed(client, "k\U0001d11e", 3), completed(client, "k\U0001d11e", 2))
+        client.end()
+
+
+MOVE_CHECKS = [goto_targets, goes, goes_by_breakpoints, sets_expressions, constants, completions, columns]

@@ -130,6 +130,9 @@ class Session:
     def several(self, call):
         return [call() for _ in range(self.draw.randrange(4))]
 
+    def frames_asked(self):
+        return self.draw.choice([{}, {"startFrame": 0, "levels": 20}, {"startFrame": self.draw.randrange(4), "levels": self.draw.randrange(4)}])
+
     def place(self):
         return {"path": self.draw.choice([self.source, self.source, self.source, "/another.ispc"])}
 
@@ -145,7 +148,7 @@ class Session:
         makes = {
             "next": lambda: thread, "stepIn": lambda: {**thread, "granularity": "statement"}, "stepOut": lambda: thread, "stepBack": lambda: thread,
             "continue": lambda: thread, "reverseContinue": lambda: thread, "goto": lambda: {**thread, "targetId": draw.choice(self.targets)},
-            "threads": lambda: None, "stackTrace": lambda: {**thread, "startFrame": 0, "levels": 20},
+            "threads": lambda: None, "stackTrace": lambda: {**thread, **self.frames_asked()},
             "scopes": lambda: {"frameId": draw.choice(self.frames)},
             "variables": lambda: {"variablesReference": self.reference(), **self.page()},
             "setVariable": lambda: {"variablesReference": self.reference(), "name": draw.choice(self.names), "value": draw.choice(("7", "-3", "true", "x"))},
@@ -166,7 +169,7 @@ class Session:
         return command, makes[command]()
 
     def completed(self):
-        text = self.draw.choice(("", "x", "pr", "info l", "print ta", "2 * ", "é + to", "reverse-s", self.draw.choice(self.names)))
+        text = self.draw.choice(("", "x", "pr", "info l", "print ta", "2 * ", "é + to", "\U0001d11e to", "reverse-s", self.draw.choice(self.names)))
         return {"text": text, "column": self.draw.randrange(1, len(text) + 2), **self.frame()}
 
     def rare(self):

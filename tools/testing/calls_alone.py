@@ -62,6 +62,8 @@ CALLS = {
     "element_accesses::Accesses::of": 0,
     "lane_counts::Tally::enter": 0,
     "lane_counts::Tally::note": 0,
+    "lane_meetings::Meetings::finish": 0,
+    "lane_meetings::Meetings::note": 0,
     "lane_profile::count_run": 0,
     "profile_texts::write_profile": 0,
     "profile_texts::write_comparison": 0,
@@ -78,7 +80,7 @@ CALLS = {
     "adapter_messages::event_message": 0,
     "adapter_messages::stop_body": 0,
     "adapter_messages::output_body": 0,
-    "adapter_replies::reply_to": 0,
+    "adapter_replies::reply_to": 1,
     "adapter_replies::exception_reply": 0,
     "adapter_replies::answer_text": 0,
     "adapter_replies::no_value_text": 0,
@@ -92,11 +94,12 @@ NONE_TAKEN = {
     "adapter_server::Connection::new",
     "element_accesses::Accesses::none",
     "lane_counts::Tally::new",
+    "lane_meetings::Meetings::new",
     "whole_runs::Copies::none",
     "whole_runs::Notes::none",
 }
 # These show on their page that memory was wanting: hostile.py refuses the first each of its allocations, and it calls the others.
-ON_A_PAGE = {"debug_prompt::Prompt::do_line", "prompt_texts::show_arguments", "prompt_texts::show_full_frames", "prompt_texts::show_locals"}
+ON_A_PAGE = {"debug_prompt::Dialogue::do_first", "debug_prompt::Dialogue::do_line", "debug_prompt::Prompt::do_line", "prompt_texts::show_arguments", "prompt_texts::show_full_frames", "prompt_texts::show_locals"}
 # These are made by `tokens` and `check`.
 INNER = {"ispc_lexer::first_step", "type_check::typed_program"}
 # The parts of a layer, whose calls are made by those of the crate with the plain name; and the crates of tests.

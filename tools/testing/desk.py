@@ -17,11 +17,14 @@ FIRST, RATE, HIDDEN = program.FIRST, program.RATE, program.HIDDEN
 FILES = {"first.ispc": FIRST}
 OF_A_RUN = (b"<SOURCE>", b"--input <FILE>", b"--entry <NAME>", b"--width <W>", b"--history <N>", b"[default: 65536]", b"--steps <N>")
 OF_A_PICTURE = (b"--commands <FILE>", b"--watch <T>", b"--from <N>", b"--most <N>", b"--row <N>", b"[default: 60]", b"--to <FILE>", b"--force")
-OF_A_PROFILE = (b"--from <N>", b"--most <N>", b"--top <N>", b"--by <WHAT>", b"line, function, form, access", b"--color <WHEN>", b"--annotate", b"--json", b"--compare")
+OF_A_PROFILE = (b"--from <N>", b"--most <N>", b"--top <N>", b"--by <WHAT>", b"line, function, form, access, parting", b"--color <WHEN>", b"--annotate", b"--json", b"--compare")
 PICTURE = b'<svg xmlns="http://www.w3.org/2000/svg" width="'
 MOST_COMMANDS = 1_048_576
 MOST_TYPED = 4_096
 TOO_LONG = b"C1 BadCommand: the line has more than 4096 bytes, so nothing is done for it.\n"
+# The most bytes of a text that `echo` writes.
+ECHOED = 254
+NO_ECHO = b"C1 BadCommand: `echo` writes at most 254 bytes, so nothing is done for this line.\n"
 
 # One breakpoint more than there is room for.
 STOPS = 64
@@ -167,7 +170,11 @@ def typed_lines():
     stops = lambda lines: lambda text: [] if (text.count(TOO_LONG), text.count(b"C1 ")) == lines else [f"it answers {text[-300:]!r}"]
     long = b"x" * (MOST_TYPED + 1)
     is_full = lambda text: [] if text.count(FULL) == 1 and text.endswith(FULL + b"    break 3\n    ^\n") else [f"it ends {text[-300:]!r}"]
+    echoed = lambda count: b"echo " + b"z" * count + b"\n"
+    is_echoed = lambda text: [] if text.endswith(b"\n" + b"z" * ECHOED + b"\n" + NO_ECHO) else [f"it ends {text[-400:]!r}"]
     return [
+        Run("the longest text of `echo`, and one of a byte more", echoed(ECHOED) + echoed(ECHOED + 1), words, is_echoed, b"", 0, FILES),
+        Run("a NUL in a line, and a line without its end", b"echo a\0b\nprint z", words, has_words(b"\na?b\n", b"C2 "), b"", 0, FILES),
         Run("a breakpoint more than there is room for", b"break 2\n" * STOPS + b"break 3\n", words, is_full, b"", 0, FILES),
         Run("a line of the most bytes", b"x" * MOST_TYPED + b"\n", words, stops((0, 1)), b"", 0, FILES),
         Run("a line of one byte more", long + b"\nquit\n", words, stops((1, 1)), b"", 0, FILES),

@@ -3,83 +3,24 @@
 A variable of the file has one value, a local one a value in each lane, of which some wait where the program stands at last.
 """
 
+from meaning.printed import lanes_text, sized, text_of, value_in
+
 from .tried import Run, shown
 
-TYPES = {
-    "bool": (1, False),
-    "int8": (8, True),
-    "int16": (16, True),
-    "int": (32, True),
-    "int64": (64, True),
-    "unsigned int8": (8, False),
-    "unsigned int16": (16, False),
-    "unsigned int": (32, False),
-    "unsigned int64": (64, False),
-}
+TYPES = ("bool", "int8", "int16", "int", "int64", "unsigned int8", "unsigned int16", "unsigned int", "unsigned int64")
 LETTERS = ["", "/x", "/t", "/o", "/u", "/c"]
-ESCAPES = {7: "a", 8: "b", 9: "t", 10: "n", 11: "v", 12: "f", 13: "r", 39: "'", 92: "\\"}
 ACTIVE = 3  # the lanes that are active where values of expressions are asked for
-NARROW = 3  # the columns of a value of which sixteen stand in a row
-
-
-def value_in(number, bits, is_signed):
-    """The number of a type that is congruent to this one."""
-    low = number % (1 << bits)
-    return low - (1 << bits) if is_signed and low >= 1 << (bits - 1) else low
-
-
-def character(byte):
-    if byte in ESCAPES:
-        return "\\" + ESCAPES[byte]
-    return chr(byte) if 32 <= byte <= 126 else f"\\{byte:03o}"
-
-
-def text_of(value, name, letter):
-    """A value of a type in the digits of a letter."""
-    bits, is_signed = TYPES[name]
-    word = value % (1 << bits)
-    if letter == "/x":
-        return f"0x{word:x}"
-    if letter == "/t":
-        return f"{word:b}"
-    if letter == "/o":
-        return f"0{word:o}" if word else "0"
-    if letter == "/u":
-        return str(word)
-    if letter == "/c":
-        return f"{value_in(value, 8, is_signed)} '{character(value % 256)}'"
-    return ("false", "true")[value] if name == "bool" else str(value)
-
-
-def rows_of(items, narrow):
-    """Items on a line, or in rows of which each begins with an index."""
-    size = 16 if narrow else 8
-    if len(items) <= size:
-        return "".join(f" {text}" for _, text in items)
-    rows = [items[at : at + size] for at in range(0, len(items), size)]
-    return "".join(f"\n[{row[0][0]}]" + "".join(f" {text}" for _, text in row) for row in rows)
-
-
-def is_narrow(texts, name, letter):
-    return not letter and name != "bool" and all(len(text) <= NARROW for text in texts)
-
-
-def lanes_text(values, active, name, letter=""):
-    """What is printed of a varying variable, of which some lanes wait."""
-    texts = [text_of(value, name, letter) for value in values]
-    items = [(lane, text if lane in active else f"({text})") for lane, text in enumerate(texts)]
-    return rows_of(items, is_narrow(texts, name, letter))
 
 
 def of_file(name, number):
     """The value of the variable of the file of a type."""
-    bits, is_signed = TYPES[name]
+    bits, is_signed = sized(name)
     return number % 2 if name == "bool" else value_in(number, bits, is_signed)
 
 
 def of_lane(name, lane):
     """The value of the local variable of a type in a lane."""
-    bits, is_signed = TYPES[name]
+    bits, is_signed = sized(name)
     return lane % 2 if name == "bool" else value_in(lane * 37 - 5, bits, is_signed)
 
 

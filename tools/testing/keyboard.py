@@ -128,6 +128,7 @@ def of_debugger(program):
     return [
         tried("one Ctrl-D ends the debugger", debug, SOURCE, [(PROMPT, CTRL_D)]),
         tried("one Ctrl-D behind a line ends the debugger", debug, SOURCE, [(PROMPT, b"step\n"), (SHOWN, CTRL_D)]),
+        tried("one Ctrl-D behind lines ends the debugger", debug, SOURCE, [(PROMPT, b"step\nstep\nprint x\n" + CTRL_D), (b"x = 1 4 7 10\n", b"")]),
         # The second one hands the line over, behind which the third stands on an empty line.
         tried("Ctrl-D behind a text ends the debugger the third time", debug, SOURCE, [(PROMPT, b"step" + CTRL_D), (b"", CTRL_D), (SHOWN, CTRL_D)]),
         tried("one Ctrl-D ends a list that waits, and the next one the debugger", debug, LINES, [(PROMPT, b"list 1,19\n"), (MORE, CTRL_D), (b"", CTRL_D)]),

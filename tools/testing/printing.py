@@ -3,39 +3,10 @@
 What is wanted is worked out here from the values, by the rules of GDB's manual and of docs/FROM_GDB.md: by lists, not as the program does it.
 """
 
-import itertools
+from meaning.printed import array_text, lanes_text, sized, text_of, value_in
 
-from .digits import TYPES, is_narrow, lanes_text, rows_of, text_of, value_in
+from .digits import TYPES
 from .tried import Run, shown
-
-ELEMENTS, REPEATS = 200, 10
-
-
-def grouped(values, repeats):
-    """Each value and how often it is told, with its first index: a run of more than so many once, other values one by one."""
-    found, index = [], 0
-    for value, run in itertools.groupby(values):
-        count = len(list(run))
-        for size in [count] if count > repeats else [1] * count:
-            found.append((index, value, size))
-            index += size
-    return found
-
-
-def cut(groups, most, repeats):
-    """The groups that begin before so many elements are counted, a run as the threshold."""
-    begins = list(itertools.accumulate([repeats if size > 1 else 1 for _, _, size in groups], initial=0))
-    return [group for group, begin in zip(groups, begins) if begin < most]
-
-
-def array_text(values, name, letter="", first=0, most=ELEMENTS, repeats=REPEATS):
-    """What is printed of the elements of an array, from one on."""
-    groups = grouped(values, repeats)
-    kept = cut(groups, most, repeats)
-    texts = [text_of(value, name, letter) for _, value, _ in kept]
-    times = [f" <repeats {size} times>" if size > 1 else "" for _, _, size in kept]
-    items = [(first + index, text + time) for (index, _, _), text, time in zip(kept, texts, times)]
-    return rows_of(items, is_narrow(texts, name, letter)) + (" ..." if len(kept) < len(groups) else "")
 
 
 def asks(name, source, typed, wanted, width=4):
@@ -63,7 +34,7 @@ def element(place, index):
 
 
 def of_type(number, name):
-    bits, is_signed = TYPES[name]
+    bits, is_signed = sized(name)
     return number % 2 if name == "bool" else value_in(number, bits, is_signed)
 
 

@@ -13,11 +13,12 @@ import random
 import re
 
 from meaning.debugging import Debugger
+from meaning.printed import array_text
 from meaning.source import Node
 from meaning.values import Fault
 
-from . import examples, meant, touches
-from .printing import array_text
+from . import examples, meant, partings, touches
+from .profile_sources import CALLED, DEEP, EMPTY, ENDLESS, FORMED, HOSTILE, MIXED
 from .program import begins_with, has_words
 from .random_programs import Written
 from .tried import Run
@@ -32,143 +33,9 @@ MOST_OF_KERNEL = 1500
 # How many random programs are profiled, and how many steps of each.
 RANDOM, MOST_OF_RANDOM = 60, 300
 
-# Calls in loops and in branches, two functions of one name, recursion, a parting in each form, lanes that leave together, and a fault at the end.
-MIXED = """uniform int a[8];
-int half(int x) {
-    if (x > 5) {
-        return x - 5;
-    }
-    return x;
-}
-int half(uniform int x) { return x; }
-uniform int down(uniform int n) {
-    if (n > 0) {
-        uniform int below = down(n - 1);
-        return below + 1;
-    }
-    return 0;
-}
-export void go() {
-    int i = programIndex;
-    int x = 0;
-    while (i < 9) {
-        int h = half(i);
-        i += h + 1;
-        if (i % 2 == 0) continue;
-        x++;
-    }
-    if (programIndex < 3) {
-        x = x + 1;
-        x = x + 2;
-    } else {
-        x = 0;
-    }
-    uniform int d = 0;
-    int e = 0;
-    switch (x % 3) {
-    case 0:
-        x = 7;
-        break;
-    case 1:
-        x = 8;
-    default:
-        x = half(x);
-        d = down(3);
-        e = half(2);
-        x += d + e;
-    }
-    foreach (k = 0 ... 11)
-        a[k % 8] += k;
-    x = 5 / (programIndex - 2);
-}
-"""
-# Each foreach form: in one another, in a called function, in a branch, without a round, and left by `continue`.
-FORMED = """uniform int a[64];
-void fill(uniform int n) {
-    foreach (k = 0 ... n)
-        a[k] = k;
-}
-export void go() {
-    int x = programIndex;
-    foreach (i = 3 ... 14) {
-        if (i > 9) continue;
-        a[i] += i;
-    }
-    foreach_tiled (row = 0 ... 3, column = 0 ... 5) {
-        a[row * 8 + column] = row;
-        foreach_active (lane) {
-            a[lane] += 1;
-        }
-    }
-    foreach (none = 5 ... 5)
-        a[none] = 1;
-    if (programIndex % 3 != 0) {
-        foreach_unique (value in x / 3) {
-            x += value;
-            x += 1;
-        }
-    } else {
-        foreach_active (lane)
-            x -= lane;
-    }
-    for (uniform int turn = 1; turn < 4; ++turn)
-        fill(turn * 5);
-    switch (x & 1) {
-    case 0:
-        foreach (j = 0 ... 2, k = 0 ... 3)
-            a[j + k] += 1;
-        break;
-    default:
-        foreach (j = 0 ... 20)
-            x += 1;
-    }
-}
-"""
-# Tabs, controls, letters of several bytes that a table's column cuts, and bytes that are no text; and a comment that is not closed by its line.
-HOSTILE = b"""export void go() { // \xff\x00\x1b[31m
-\tint x = 1;\t// \t"\\
-    x = 2; // 45678901234567890123456789012345678901234\xc3\xa9\xe2\x82\xac\xe2\x82\xac
-    x = 3; // 4567890123456789012345678901234567890123456789
-}
-"""
-# A recursion three deep in some lanes, which two functions do in turn, negative numbers, and two functions of one name.
-DEEP = """uniform int total = 0;
-int odd(int n) {
-    if (n >= -1)
-        return 0;
-    int less = even(n + 1);
-    return less + 1;
-}
-int even(int n) {
-    if (n >= -1)
-        return 0;
-    int less = odd(n + 1);
-    return less + 1;
-}
-int twice(int x) { return x * 2; }
-uniform int twice(uniform int x) { return x - 2; }
-export void go() {
-    int n = -programIndex;
-    int x = 0;
-    uniform int k = 0;
-    while (n < 0) {
-        int y = 0;
-        y = even(n > -4 ? n : -4);
-        x += y;
-        n += 3;
-    }
-    x = twice(x);
-    k = twice(k);
-    if (x < k)
-        x = odd(-3);
-}
-"""
-EMPTY = "export void go() {\n}\n"
-ENDLESS = "export void go() {\n    int x = 0;\n    while (true) {\n        x += programIndex;\n    }\n}\n"
-
 KEYS = ("steps", "lane_steps", "short_steps", "partings")
 LINES = b" line     steps lane-steps  share      short  parted       lost  source\n"
-FUNCTIONS = b"function             steps lane-steps  share      short  parted       lost   in all  share\n"
+FUNCTIONS = b"function             steps lane-steps  share      short  parted       lost   in all  share     calls      lanes\n"
 FORM_HEAD = b" line form              rounds       full   full     steps lane-steps  share      short       lost\n"
 FORMS = {"domain": "foreach", "each lane": "foreach_active", "each value": "foreach_unique"}
 FILES = {"mixed.ispc": MIXED.encode(), "held.txt": b"something\n"}
@@ -229,6 +96,7 @@ class Counted:
         if not debugger.state.frames:
             self.end = ["ended"]
         self.parted = [self.is_parting(at) for at in range(len(self.steps))]
+        self.partings = partings.rows_of(self.steps, self.parted)
 
     def is_parting(self, at):
         _, names, lanes, _ = self.steps[at]
@@ -254,6 +122,8 @@ class Counted:
         for name in dict.fromkeys([*standing, *(it[1][-1] for it in self.steps)]):
             own, whole = self.counts(lambda step: step[1][-1] == name), self.counts(lambda step: name in step[1])
             found[name] = own | {f"{key}_with_calls": whole[key] for key in ("steps", "lane_steps", "share")}
+            calls = [step[2] for before, step in zip(self.steps, self.steps[1:]) if len(before[1]) < len(step[1]) and step[1][-1] == name]
+            found[name] |= {"calls": len(calls), "call_lanes": sum(map(len, calls))}
         return found
 
     def by_form(self):
@@ -286,7 +156,7 @@ def wanted_json(counted, name):
         own = {key: value for key, value in row.items() if key != "partings"}
         forms.append({"line": line, "form": word, "full_share": share_of(row["full"], row["rounds"])} | own)
     found = {"source": name, "width": counted.width} | end | {"all": counted.all(), "lines": lines, "functions": functions, "forms": forms}
-    return found | {"accesses": touches.wanted_members(counted.accesses)}
+    return found | {"accesses": touches.wanted_members(counted.accesses), "partings": partings.wanted_members(counted.partings)}
 
 
 def columns(row):
@@ -304,9 +174,9 @@ def wanted_lines(counted, top):
 
 
 def wanted_functions(counted, top):
-    whole = lambda row, key="": f"{row['steps' + key]:9}{row['share' + key]:6.1f}%\n"
-    rows = [f"{name:16}{columns(row)}{whole(row, '_with_calls')}" for name, row in dearest(counted.functions(), top)]
-    return FUNCTIONS + ("".join(rows) + f"{'all':16}{columns(counted.all())}{whole(counted.all())}" + counted.told_end()).encode()
+    whole = lambda row, key="": f"{row['steps' + key]:9}{row['share' + key]:6.1f}%"
+    rows = [f"{name:16}{columns(row)}{whole(row, '_with_calls')}{row['calls']:10}{row['call_lanes']:11}\n" for name, row in dearest(counted.functions(), top)]
+    return FUNCTIONS + ("".join(rows) + f"{'all':16}{columns(counted.all())}{whole(counted.all())}\n" + counted.told_end()).encode()
 
 
 def wanted_forms(counted, top):
@@ -323,6 +193,10 @@ def wanted_accesses(counted, top):
     return touches.wanted_table(counted.accesses, counted.source, top, counted.told_end())
 
 
+def wanted_partings(counted, top):
+    return partings.wanted_table(counted.partings, counted.source, top, counted.told_end())
+
+
 def wanted_annotated(counted):
     rows, text = counted.lines(), ""
     for number, line in enumerate(counted.source.splitlines(), 1):
@@ -330,7 +204,7 @@ def wanted_annotated(counted):
         if number in rows:
             row = rows[number]
             filled = int(row["share"] * 8 // 100)
-            front = f"{row['steps']:10}{row['share']:6.1f}%  {'#' * filled}{'.' * (8 - filled)}{' <' if row['partings'] else '  '}"
+            front = f"{row['steps']:10}{row['share']:6.1f}%  {'#' * filled}{'.' * (8 - filled)}{partings.marks(counted.partings, number, row['partings'])}"
         text += f"{front}{number:6}  {line}\n"
     return (text + counted.told_end()).encode()
 
@@ -346,13 +220,13 @@ def wanted_comparison(runs):
 
 # ---- runs
 
-def is_json(wanted):
+def is_json(wanted, is_all=True):
     def judged(text):
         if not text:
             return ["nothing is written"]
         came = json.loads(text)
         return [f"{key}: {came.get(key)}, and {value} is wanted" for key, value in wanted.items() if came.get(key) != value] + (
-            [] if list(came) == list(wanted) else [f"members {list(came)}"]
+            [] if not is_all or list(came) == list(wanted) else [f"members {list(came)}"]
         )
 
     return judged
@@ -375,6 +249,8 @@ def runs_of(name, source, words=(), options=None, data=None, most=10_000_000, wi
             ("--by", "form"): wanted_forms(counted, 20),
             ("--by", "access"): wanted_accesses(counted, 20),
             ("--by", "access", "--top", "2"): wanted_accesses(counted, 2),
+            ("--by", "parting"): wanted_partings(counted, 20),
+            ("--by=parting", "--top", "2"): wanted_partings(counted, 2),
             ("--annotate",): wanted_annotated(counted),
         }
         for form, wanted in forms.items():
@@ -431,7 +307,7 @@ def shown_runs(root):
         elif "--annotate" in words:
             wanted = wanted_annotated(counted)
         else:
-            tables = {"form": wanted_forms, "access": wanted_accesses, "line": wanted_lines}
+            tables = {"form": wanted_forms, "function": wanted_functions, "access": wanted_accesses, "parting": wanted_partings, "line": wanted_lines}
             wanted = tables[value("--by", "line")](counted, top)
         if not shown.startswith("rinddecade") and shown.encode() not in wanted:
             wanted = shown.encode()
@@ -455,16 +331,28 @@ def known_runs():
     return found + runs_of("known", touches.KNOWN)
 
 
+def called_runs():
+    """How often a function is called, and by how many lanes, by arithmetic: in round i of three by those whose number is above i, and then by all."""
+    found = []
+    for width in WIDTHS:
+        own = {"half": (4, 3 * width - 6 + width), "last": (1, width), "go": (0, 0)}
+        judged = lambda text, own=own: [f"{it['name']}: {it}" for it in json.loads(text)["functions"] if (it["calls"], it["call_lanes"]) != own[it["name"]]]
+        words = ["profile", "called.ispc", "--json", "--width", str(width)]
+        found.append(Run(f"calls by arithmetic, {width} lanes", b"", words, judged, b"", data={"called.ispc": CALLED.encode()}))
+    return found + runs_of("called", CALLED)
+
+
 def random_runs():
-    """What the accesses of random programs touch. Not all steps of an endless one are counted."""
+    """What the accesses of random programs touch, and where their lanes part and meet again. Not all steps of an endless one are counted."""
     found = []
     for number in range(RANDOM):
         source = "\n".join(Written(random.Random(f"profile {number}")).lines) + "\n"
         for width in WIDTHS:
             counted = Counted(source, {"width": width}, MOST_OF_RANDOM)
-            judged = lambda text, wanted=touches.wanted_members(counted.accesses): [] if json.loads(text)["accesses"] == wanted else [f"{json.loads(text)['accesses']}, and {wanted} is wanted"]
+            wanted = wanted_json(counted, "random.ispc")
+            judged = is_json({key: wanted[key] for key in ("accesses", "partings")}, False)
             words = ["profile", "random.ispc", "--json", "--width", str(width), "--most", str(MOST_OF_RANDOM)]
-            found.append(Run(f"accesses of random program {number}, {width} lanes", b"", words, judged, b"", data={"random.ispc": source.encode()}))
+            found.append(Run(f"accesses and partings of random program {number}, {width} lanes", b"", words, judged, b"", data={"random.ispc": source.encode()}))
     return found
 
 
@@ -515,7 +403,7 @@ def coloured(text):
         code = b"31" if share < 25 else b"33" if share < 75 else b"32"
         return b"\x1b[" + code + b"m" + found[0] + b"\x1b[0m"
 
-    return re.sub(rb"( {0,3})(\d{1,3}\.\d)%(  [#.]{8}(?= [ <] {4}))?", painted, text)
+    return re.sub(rb"( {0,3})(\d{1,3}\.\d)%(  [#.]{8}(?=[ >][ <>] {4}))?", painted, text)
 
 
 def wrong_runs():
@@ -528,7 +416,7 @@ def wrong_runs():
     found += [Run(f"wrong profile: {' '.join(it)}", b"", ["profile", "mixed.ispc", *it], b"", has_words(one), 2, FILES) for it in several]
     far = has_words(b"--from: the run ends before this step, or --steps is less")
     found += [Run(f"wrong profile: {' '.join(it)}", b"", ["profile", "mixed.ispc", *it], b"", far, 2, FILES) for it in (["--from", "9999"], ["--from", "10000000", "--compare"])]
-    by = has_words(b"--by takes line, function, form or access, and not lanes")
+    by = has_words(b"--by takes line, function, form, access or parting, and not lanes")
     return [*found, Run("wrong profile: --by lanes", b"", ["profile", "mixed.ispc", "--by", "lanes"], b"", by, 2, FILES)]
 
 
@@ -561,6 +449,8 @@ def runs(root):
     own = runs_of("mixed", MIXED) + runs_of("empty", EMPTY) + runs_of("endless", ENDLESS, most=50)
     cut = [run for most in (1, 2, 7, 30) for run in runs_of("mixed", MIXED, most=most, widths=(8,))]
     late = [run for first in (2, 9, 23, 40, 61) for run in runs_of("mixed", MIXED, widths=(8,), first=first)] + runs_of("mixed", MIXED, most=12, first=30)
-    own += known_runs() + random_runs() + runs_of("forms", FORMED) + runs_of("deep", DEEP) + coloured_runs()
+    own += [run for name, source in partings.SOURCES.items() for run in runs_of(name, source)] + partings.known_runs()
+    own += [run for most in (9, 14, 21, 33) for run in runs_of("deep_partings", partings.SOURCES["deep_partings"], most=most, widths=(8,))]
+    own += known_runs() + called_runs() + random_runs() + runs_of("forms", FORMED) + runs_of("deep", DEEP) + coloured_runs()
     other = [*shown_runs(root), *result_runs(root), *hostile_runs()]
     return [*own, *cut, *late, *other, *example_runs(root), *kernel_runs(root), *wrong_runs(), *file_runs()]

@@ -162,7 +162,7 @@ class Dialogue:
             return [it for target in body["targets"] for it in outside(arguments, target)]
         if command == "stackTrace":
             self.frames |= {it["id"] for it in body["stackFrames"]}
-            return twice("frames", [it["id"] for it in body["stackFrames"]])
+            return twice("frames", [it["id"] for it in body["stackFrames"]]) + too_many(arguments, body)
         if command == "scopes":
             self.references |= {it["variablesReference"] for it in body["scopes"]}
             return twice("scopes", [it["variablesReference"] for it in body["scopes"]])
@@ -186,6 +186,13 @@ class Dialogue:
 is_reference = SCALARS["reference"]
 
 
+def too_many(arguments, body):
+    """As many frames are told as are asked for and there are, from the place that is asked for on."""
+    start, levels, total, told = arguments.get("startFrame") or 0, arguments.get("levels") or 0, body["totalFrames"], len(body["stackFrames"])
+    left = max(total - start, 0)
+    return [] if told == (min(left, levels) if levels else left) else [f"{told} frames of {total} for {arguments}"]
+
+
 def twice(what, keys):
     return [f"two {what} are alike: {keys}"] if len(set(keys)) < len(keys) else []
 
@@ -197,9 +204,10 @@ def one_for_each(command, arguments, told):
 
 
 def outside(arguments, target):
-    """What a completion takes the place of lies in the text. Columns count units of UTF-16, and the adapter's count bytes: of ASCII both are one."""
+    """What a completion takes the place of lies in the text before the cursor. Columns count units of UTF-16."""
     text, start, length = arguments["text"], target.get("start", 1), target.get("length", 0)
-    return [] if not text.isascii() or start - 1 + length <= len(text) else [f"the completion {target} lies outside of {text!r}"]
+    units = min(len(text.encode("utf-16-le", "surrogatepass")) // 2, max(arguments["column"] - 1, 0))
+    return [] if start - 1 + length <= units else [f"the completion {target} lies outside of {text!r}"]
 
 
 def judged(log):

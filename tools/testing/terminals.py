@@ -1,5 +1,6 @@
 """The prompt on a terminal: colours, which without their codes leave each session of sessions/prompts as it is and come only where they are wanted;
-and long lists, which wait behind each page where both ends are a terminal, go on by an empty line, end by `q` and go on to their end by `c`."""
+and long lists, which wait behind each page where both ends are a terminal, go on by an empty line, end by `q` and go on to their end by `c`, also
+where these were typed ahead of them."""
 
 import os
 import pathlib
@@ -7,6 +8,7 @@ import re
 import subprocess
 import tempfile
 import termios
+import tty
 
 from . import prompts
 from .program import begins_with
@@ -30,13 +32,13 @@ IN_COLOURS = b"""go at go.ispc:4:9, step 2, lanes \x1b[90m.\x1b[32m#\x1b[90m..\x
 \x1b[36m->\x1b[0m     4          x = 2;
                   \x1b[36m^\x1b[0m
        5  }
-  x = \x1b[33m1\x1b[0m \x1b[33m1\x1b[0m \x1b[33m1\x1b[0m \x1b[33m1\x1b[0m
+  x = \x1b[33m(1)\x1b[0m \x1b[33m1\x1b[0m \x1b[33m(1)\x1b[0m \x1b[33m(1)\x1b[0m
 go at go.ispc:5:1, step 3, lanes \x1b[32m####\x1b[0m
        3      if (programIndex == 1)
        4          x = 2;
 \x1b[36m->\x1b[0m     5  }
           \x1b[36m^\x1b[0m
-  x = 1 1 1 1 -> \x1b[33m1\x1b[0m \x1b[33m2\x1b[0m \x1b[33m1\x1b[0m \x1b[33m1\x1b[0m
+  x = (1) 1 (1) (1) -> \x1b[33m1\x1b[0m \x1b[33m2\x1b[0m \x1b[33m1\x1b[0m \x1b[33m1\x1b[0m
 """
 
 
@@ -59,7 +61,8 @@ def in_colours(session):
 
 
 def results(built):
-    return [coloured(built, *row) for row in WHERE] + [paged(built, *row) for row in PAGED]
+    ahead = [paged(built, f"{name}, typed at once", lines + b"quit\n", wanted, is_raw=True) for name, lines, wanted in PAGED[:-1]]
+    return [coloured(built, *row) for row in WHERE] + [paged(built, *row) for row in PAGED] + ahead
 
 
 # The environment, and whether a terminal then has colours.
@@ -97,17 +100,21 @@ PAGED = [
 ]
 
 
-def paged(built, name, lines, wanted):
+def paged(built, name, lines, wanted, is_raw=False):
     """A list on a terminal at both ends. What comes before the first prompt is not looked at."""
-    text = typed(built, LINES, lines, {"LINES": str(HEIGHT)}, is_both=True)
+    text = typed(built, LINES, lines, {"LINES": str(HEIGHT)}, is_both=True, is_raw=is_raw)
     came = text.partition(PROMPT)[2].rstrip(b"\n")
     return Result(f"a long list: {name}", came == wanted, differences("the terminal", came, wanted))
 
 
-def typed(built, source, lines, environment, is_both=False):
-    """What a terminal shows for lines that are typed there, or that come from a pipe. It shows nothing of what is typed itself."""
+def typed(built, source, lines, environment, is_both=False, is_raw=False):
+    """What a terminal shows for lines that are typed there, or that come from a pipe. It shows nothing of what is typed itself. A raw one hands over
+    all at once, and knows no end."""
     ours, theirs = os.openpty()
-    set_quiet(theirs)
+    if is_raw:
+        tty.setraw(theirs)
+    else:
+        set_quiet(theirs)
     text = b""
     with tempfile.TemporaryDirectory(prefix="terminal-") as folder:
         pathlib.Path(folder, "go.ispc").write_bytes(source)
@@ -115,7 +122,7 @@ def typed(built, source, lines, environment, is_both=False):
         with subprocess.Popen([built, "debug", "go.ispc"], **how) as process:
             os.close(theirs)
             if is_both:
-                os.write(ours, lines + b"\x04\x04")
+                os.write(ours, lines if is_raw else lines + b"\x04\x04")
             else:
                 process.stdin.write(lines)
                 process.stdin.close()

@@ -1,6 +1,7 @@
 """The wrong bodies of bodies.txt: each has a name, the subject whose tests are to find it, a file, and a text in place of one that stands there."""
 
 import pathlib
+import re
 
 from testing.tried import Result
 from testing.turned import Turn
@@ -9,6 +10,7 @@ from .subjects import SUBJECTS
 
 FILE = pathlib.Path(__file__).with_name("bodies.txt")
 HEAD, OLD, NEW = "=== ", "- ", "+ "
+PAGE, CITED = "docs/PROOFS.md", re.compile(r"\bbody `(\w+)`")
 
 
 class Body:
@@ -39,8 +41,15 @@ def faults(root, it, names):
     return why + it.turn.faults(root)
 
 
+def cited(root):
+    """The bodies that docs/PROOFS.md names."""
+    return CITED.findall((root / PAGE).read_text(encoding="utf-8"))
+
+
 def check(root):
-    """A result for each body: it can be turned."""
+    """A result for each body: it can be turned; and one for the page that names some: they are there."""
     found = listed()
     names = [it.name for it in found]
-    return [Result(it.name, not why, why) for it in found for why in [faults(root, it, names)]]
+    results = [Result(it.name, not why, why) for it in found for why in [faults(root, it, names)]]
+    gone = [f"the body {it} is not there" for it in cited(root) if it not in names]
+    return [*results, Result(f"the bodies of {PAGE}", not gone, gone)]

@@ -108,11 +108,11 @@ def turns_of(root, path, types):
             yield "arm", LineTurn(file, number, lines[number : number + 2], new)
 
 
-def drawn(root, count, seed):
-    """So many drawn bodies, of each kind about as many, whichever crates they stand in."""
+def drawn(root, count, seed, crates=()):
+    """So many drawn bodies, of each kind about as many, whichever of these crates they stand in, or of all."""
     chance, by_kind, types = random.Random(seed), {}, types_of(root)
     for subject, it in SUBJECTS.items():
-        for crate in it.crates:
+        for crate in (name for name in it.crates if not crates or name in crates):
             for path in sorted((root / "crates" / crate / "src").rglob("*.rt")):
                 for kind, turn in turns_of(root, path, types):
                     by_kind.setdefault(kind, []).append((subject, turn))

@@ -2,7 +2,8 @@
 
 import tempfile
 
-from testing import adapter_client, conditions, desk, disabling, explained, front_ends, hostile, lanes_so_far, pictures, profiles, prompts, run_pages, terminals
+from testing import adapter_client, adapter_sessions, conditions, desk, disabling, explained, front_ends, hostile, lanes_so_far, orders, pictures
+from testing import profiles, prompts, random_prompts, run_pages, stop_lines, terminals, watching
 from testing.built import ended
 from testing.calls import side_by_side
 from testing.parts import done
@@ -23,6 +24,10 @@ def of_runs(*calls):
     return tried
 
 
+def of_stops(root):
+    return conditions.runs() + disabling.runs() + stop_lines.runs() + watching.runs()
+
+
 def of_devices(name):
     """What is tried: the devices of a run fail, after each byte."""
 
@@ -35,12 +40,21 @@ def of_devices(name):
 
 def of_terminals(root, program):
     yield prompts.results(program)
+    yield conditions.results(program)
     yield terminals.results(program)
 
 
 def of_adapter(root, program):
     for it in adapter_client.CHECKS:
         yield [adapter_client.tried(it, root, [program, "adapter"])]
+    yield adapter_sessions.results(root, [program, "adapter"])
+    for task in orders.of_adapter(program, root):
+        yield [task()]
+
+
+def of_orders(root, program):
+    for task in orders.tasks(root, program):
+        yield [task()]
 
 
 def of_files(root, program):
@@ -71,19 +85,36 @@ class Subject:
 
 SUBJECTS = {
     "prompt": Subject(
-        ("debug_prompt", "conditional_stops", "prompt_texts", "prompt_lines", "prompt_help", "terminal_lines"),
-        of_runs(prompts.runs, lambda root: conditions.runs() + disabling.runs(), lanes_so_far.runs, terminals.runs),
+        (
+            "debug_prompt",
+            "prompt_going",
+            "prompt_walks",
+            "prompt_past",
+            "prompt_stops",
+            "prompt_moves",
+            "prompt_values",
+            "prompt_scenes",
+            "conditional_stops",
+            "prompt_texts",
+            "prompt_lines",
+            "prompt_help",
+            "terminal_lines",
+        ),
+        of_runs(prompts.runs, of_stops, lambda root: random_prompts.runs(), lanes_so_far.runs, terminals.runs),
         of_terminals,
         of_devices("lines at the prompt"),
     ),
     "picture": Subject(("lane_picture",), of_runs(pictures.runs)),
     "page": Subject(("run_page", "json_texts"), of_runs(run_pages.runs)),
-    "profile": Subject(("lane_counts", "lane_profile", "profile_texts"), of_runs(profiles.runs)),
+    "profile": Subject(
+        ("lane_counts", "lane_meetings", "lane_profile", "element_accesses", "element_touches", "profile_texts"), of_runs(profiles.runs)
+    ),
     "adapter": Subject(
         ("adapter_frames", "adapter_messages", "adapter_replies", "adapter_session", "adapter_server"),
         of_adapter,
         of_devices("an editor"),
     ),
     "explain": Subject(("refusal_pages",), of_runs(explained.runs)),
+    "program": Subject(("rinddecade",), of_orders, of_terminals, of_files, of_runs(lambda root: desk.runs(), prompts.runs)),
     "desk": Subject(("desk_options",), of_runs(lambda root: desk.runs()), of_files),
 }
