@@ -11,6 +11,8 @@ RUN = ("data", "stdin", "stdout", "args", "status")
 LARGEST = 4_000_000_000
 # The bytes of disk below which nothing more is kept: a landing needs them itself.
 LEFT_FREE = 6_000_000_000
+# The bytes of disk below which what is kept lies packed in the store alone, and no other copy of it stays.
+ROOMY = 20_000_000_000
 
 
 def files_in(folder, parts):
@@ -63,6 +65,10 @@ class Store:
             with open(f"{entry}/record.new", "w", encoding="utf-8") as it:
                 json.dump(passed, it)
             os.replace(f"{entry}/record.new", f"{entry}/record.json")
+
+    def is_short(self):
+        """Whether the disk has no room for unpacked copies of all that a landing keeps."""
+        return shutil.disk_usage(self.top).free < ROOMY
 
     def keep(self, name, digest, folder, part):
         """Keeps a part of a crate's out/ in the digest's entry, kept work only of the newest; returns whether the disk has room for it.

@@ -1,7 +1,7 @@
 """What a landing takes from proved.txt, on a small repository of two crates.
 
 Lines that stand spare the proofs, what changed is proved with all above it, and a line that was forged is found by the whole gate, and by a
-landing that draws its crate.
+landing that draws its crate. On a short disk the same is judged.
 """
 
 import os
@@ -60,6 +60,8 @@ proved.DRAWN, selftest.passes = int(sys.argv[2]), lambda *_: True
 sys.argv[1:] = sys.argv[3:]
 runpy.run_path(f"{tools}/prove", run_name="__main__")
 """
+# The same where no disk has room enough.
+LANDS_WITH_NO_ROOM = LANDS.replace("import proved, selftest\n", "import proved, selftest, store\nstore.ROOMY = 10**30\n")
 FORGES = """\
 import os, runpy, sys
 tools, sys.dont_write_bytecode = sys.argv[1], True
@@ -104,9 +106,9 @@ class Small:
         text = file.read_text(encoding="utf-8") if file.is_file() else ""
         return {it.split()[0]: it for it in text.splitlines() if not it.startswith("#")}
 
-    def lands(self, what, end, made, drawn=0):
+    def lands(self, what, end, made, drawn=0, program=LANDS):
         """A landing ends with this line, and makes these steps alone."""
-        said, _ = self.called(LANDS, str(drawn))
+        said, _ = self.called(program, str(drawn))
         found = sorted(re.findall(r"^ *\d+ s  (\w+: \w+)(?: \S+\.edit)? (?:passed|FAILED),", said, re.M))
         if said.rstrip().rpartition("\n")[2] != end or found != sorted(made):
             self.why += [f"{what}: it makes {', '.join(found) or 'nothing'}, and says:", *said.splitlines()[-12:]]
@@ -136,6 +138,15 @@ def lines_that_stand(small):
     small.must(f"with the lower one both are to be judged: {listed}", all(f"{it}: proof, 1 edits" in listed.splitlines() for it in SOURCES))
 
 
+def a_short_disk(small):
+    """Where the disk is short what is kept lies packed in the store alone, and each step is made all the same."""
+    small.forget()
+    steps = [f"{name}: {it}" for name in SOURCES for it in ("proof", "edit")]
+    small.lands("an empty store on a short disk", "4 passed, 0 failed", steps, program=LANDS_WITH_NO_ROOM)
+    kept = [len([*top.rglob(name)]) for top, name in ((small.root, "incremental"), (small.store, "incremental.tar.gz"))]
+    small.must(f"kept work lies in the store alone, and not in {kept[0]} and {kept[1]} places", kept == [0, len(SOURCES)])
+
+
 def forged_lines(small):
     """The lower one is not proved, and the file says that it was judged: a landing that does not draw it believes that, and nothing else does."""
     small.change(LOWER, *BODIES[LOWER])
@@ -151,11 +162,11 @@ def forged_lines(small):
 
 
 def check(root):
-    """A result for the lines that stand, and one for those that were forged."""
+    """A result for the lines that stand, one for a short disk, and one for lines that were forged."""
     found = []
     with tempfile.TemporaryDirectory(prefix="small-") as top:
         small = Small(root / "tools", pathlib.Path(os.path.realpath(top)))
-        for call in (lines_that_stand, forged_lines):
+        for call in (lines_that_stand, a_short_disk, forged_lines):
             small.why = []
             call(small)
             found.append(Result(call.__name__.replace("_", " "), not small.why, small.why))
