@@ -1,14 +1,13 @@
 -- The accesses of some statements, worked out.
-use Rattle.std.specs.Prelude.{◌≡◌, refl, Bool, true, false, [], ◌∷◌, Ok, Err, Some, None}
+use Rattle.std.specs.Prelude.{◌≡◌, refl, true, false, [], ◌∷◌, Ok, Err, Some, None}
 use Rattle.gang_types.specs.declared.faults.FaultName.TheVariants as name
 use Rattle.gang_types.specs.declared.types.IntType.TheVariants.{Int32}
 use Rattle.gang_types.specs.declared.types.Rate.TheVariants.{Uniform, Varying}
 use Rattle.gang_types.specs.declared.places.VarId.TheVariants.{File, Local}
-use Rattle.gang_model.specs.Types.Tree.{Var, Expr, Number, ProgramIndex, Read, Element, And, Choice, Reduce, ReduceMax, ElementOf, Scalar, Assign, Loop, Break, Then}
+use Rattle.gang_model.specs.Types.Tree.{Var, Number, ProgramIndex, Read, Element, And, Choice, Reduce, ReduceMax, ElementOf, Scalar, Assign, Loop, Break, Then}
 use Rattle.gang_model.specs.Debugger.Positions.{spot_in}
-use Rattle.element_accesses.specs.declared.reading.Way.{Way}
-use Rattle.element_accesses.specs.declared.reading.Way.TheVariants.{Reads, Writes, Changes}
-use Rattle.element_accesses.specs.Found.{Accessed, accesses_in, reads_in}
+use Rattle.element_accesses.specs.declared.reading.Way.TheVariants.{Reads, Writes}
+use Rattle.element_accesses.specs.Found.{accesses_in, reads_in}
 use Rattle.element_accesses.specs.Touched.{is_at, touch_of}
 
 abbrev i : Var

@@ -1,5 +1,6 @@
 pub mod Found
 pub mod Views
+pub mod StepRows
 pub mod Rows
 pub mod Touched
 pub mod Shown

@@ -1,5 +1,5 @@
 -- The accesses of a program with what is counted of each.
-use Rattle.std.specs.Prelude.{◌≡◌, ◌^◌, ◌+◌, ℕ, Bool, true, false, ◌&&◌, ◌==◌, List, [], ◌∷◌, Option, Some, None, if◌then◌else◌, slice_get}
+use Rattle.std.specs.Prelude.{◌≡◌, ◌^◌, ◌+◌, ℕ, Bool, true, false, ◌&&◌, List, [], ◌∷◌, Option, Some, None, slice_get}
 use Rattle.gang_types.specs.declared.places.Spot.{Spot}
 use Rattle.gang_types.specs.declared.types.IntType.{IntType}
 use Rattle.gang_types.specs.declared.types.Rate.{Rate}
@@ -19,6 +19,9 @@ use Rattle.element_touches.specs.Counted.{IsFew, none}
 use Rattle.element_accesses.specs.declared.accesses.Access.{Access}
 use Rattle.element_accesses.specs.Found.{Accessed}
 use Rattle.element_accesses.specs.Shown.{array_name, line_at}
+use Rattle.element_accesses.specs.declared.step_rows.FunctionRows.{FunctionRows}
+use Rattle.element_accesses.specs.declared.step_rows.Stretch.{Stretch}
+use Rattle.element_accesses.specs.StepRows.{is_within, stretch_at}
 use Rattle.element_accesses.specs.Touched.{is_same, with_value}
 
 -- an access of a program of which nothing is counted, with its line, the name of its array, and code that computes its index
@@ -65,3 +68,11 @@ pub record IsNotedOne {T : Type 0} (stands : T → Setting → Debugger → Type
 abbrev pub IsNoted : {T : Type 0} (stands : T → Setting → Debugger → Type 0) (machine : T) (depth : ℕ) (spot : Spot) → (old new : Option Access) → Type 0
 IsNoted stands machine depth spot None new = new ≡ None
 IsNoted stands machine depth spot (Some old) new = (access : Access) × (new ≡ Some access) × IsNotedOne stands machine depth spot old access
+
+-- each row is one of those of its step
+abbrev pub ArePlaced : List FunctionRows → List Access → Type 0
+ArePlaced functions rows = (row : ℕ) (access : Access) → slice_get rows row ≡ Some access → is_within (stretch_at functions access.spot.function.0 access.spot.number) row ≡ true
+
+-- of the rows that are not among these nothing was noted that was not kept
+abbrev pub AreSettled : (noted : Stretch) → List Access → Type 0
+AreSettled noted rows = (row : ℕ) (access : Access) → slice_get rows row ≡ Some access → is_within noted row ≡ false → access.tried ≡ access.done

@@ -1,5 +1,5 @@
 //! The accesses of a program with what a run has counted of each.
-ghost use Rattle.std.specs.Prelude.{◌≡◌, ℕ, ◌^◌, ◌+◌, IfOk, Some, [], option_map, slice_get};
+ghost use Rattle.std.specs.Prelude.{◌≡◌, ℕ, ◌^◌, ◌+◌, true, false, IfOk, Some, [], if◌then◌else◌, option_map, slice_get};
 ghost use Rattle.gang_types.specs.declared.places.Spot.{Spot};
 ghost use Rattle.gang_types.specs.declared.types.IntType.{IntType};
 ghost use Rattle.gang_types.specs.declared.types.Rate.{Rate};
@@ -12,13 +12,15 @@ ghost use Rattle.frame_expressions.specs.Lanes.{lanes_at};
 ghost use Rattle.frame_expressions.specs.Meanings.{Means, entries_at};
 ghost use Rattle.element_touches.specs.Counted.{IsFew, none};
 ghost use Rattle.element_accesses.specs.Found.{accesses_of};
-ghost use Rattle.element_accesses.specs.Rows.{AreRows, IsNoted, IsNotedOne, IsRow, kept, stands_at};
+ghost use Rattle.element_accesses.specs.Rows.{ArePlaced, AreRows, AreSettled, IsNoted, IsNotedOne, IsRow, kept, stands_at};
+ghost use Rattle.element_accesses.specs.StepRows.{is_within};
 ghost use Rattle.element_accesses.specs.Views.{found_view};
 ghost use Rattle.element_accesses.specs.Touched.{with_value};
 
 use crate::finding::accesses_of;
 use crate::reading::{Found, Way};
 use crate::shown::{array_name, line_at};
+use crate::step_rows::{StepRows, Stretch};
 use element_touches::{AccessCounts, touched};
 use expression_code::compile;
 use expression_instructions::Instruction;
@@ -91,6 +93,12 @@ impl Access {
 #[derive(Drop)]
 pub struct Accesses {
     rows: Vec<Access>,
+    /// The rows of each step.
+    steps: StepRows,
+    /// Of the rows that are not among these nothing was noted that was not kept.
+    noted: Stretch,
+    ghost placed: { ArePlaced steps.functions.items rows.items },
+    ghost settled: { AreSettled noted rows.items },
 }
 
 impl Accesses {
@@ -100,6 +108,8 @@ impl Accesses {
     {
         Accesses {
             rows: Vec::new(alloc),
+            steps: StepRows::new(alloc),
+            noted: Stretch::none(),
         }
     }
 
@@ -111,12 +121,13 @@ impl Accesses {
     pub fn of(alloc: Global, program: &Program) -> Result<Self, AllocError>
         ensures { IfOk result (λ accesses. AreRows program.now accesses.rows.items (accesses_of (program_view program.now))) }
     {
-        let found = accesses_of(alloc, program)?;
-        let mut rows = Vec::new(alloc);
-        for access in &found {
-            rows.push(begun(alloc, program, *access)?)?;
-        }
-        Ok(Accesses { rows })
+        let rows = rows_of(alloc, program)?;
+        let steps = steps_of(alloc, &rows)?;
+        Ok(Accesses {
+            rows,
+            steps,
+            noted: Stretch::none(),
+        })
     }
 
     /// The accesses, in the order of the program.
@@ -130,18 +141,66 @@ impl Accesses {
     pub fn note<M: ExpressionMachine>(&mut self, depth: usize, spot: Spot, machine: &M)
         ensures { (k : ℕ) → IsNoted M.stands machine.now depth spot (slice_get self.old.rows.items k) (slice_get self.new.rows.items k) }
     {
-        for number in 0..self.rows.len() {
-            self.rows[number].note_at(depth, spot, machine);
-        }
+        let of_step = self.steps.of_step(spot.function.0, spot.number);
+        self.noted = self.noted.and(of_step);
+        note_each(of_step, depth, spot, machine, &mut self.rows);
     }
 
     /// Keeps what was noted of a step that is done.
     pub fn keep(&mut self)
         ensures { (k : ℕ) → slice_get self.new.rows.items k ≡ option_map kept (slice_get self.old.rows.items k) }
     {
-        for number in 0..self.rows.len() {
-            self.rows[number].keep();
-        }
+        keep_each(self.noted, &mut self.rows);
+        self.noted = Stretch::none();
+    }
+}
+
+/// The accesses of a program, of which nothing is counted.
+fn rows_of(alloc: Global, program: &Program) -> Result<Vec<Access>, AllocError>
+    ensures { IfOk result (λ rows. AreRows program.now rows.items (accesses_of (program_view program.now))) }
+{
+    let found = accesses_of(alloc, program)?;
+    let mut rows = Vec::new(alloc);
+    for access in &found {
+        rows.push(begun(alloc, program, *access)?)?;
+    }
+    Ok(rows)
+}
+
+/// The rows of each step.
+fn steps_of(alloc: Global, rows: &[Access]) -> Result<StepRows, AllocError>
+    ensures { IfOk result (λ steps. ArePlaced steps.functions.items rows.now) }
+{
+    let mut steps = StepRows::new(alloc);
+    for row in 0..rows.len() {
+        let spot = rows[row].spot;
+        steps.put(alloc, spot.function.0, spot.number, row)?;
+    }
+    Ok(steps)
+}
+
+/// Notes what those of some accesses touch that are counted at a step.
+fn note_each<M: ExpressionMachine>(
+    of_step: Stretch,
+    depth: usize,
+    spot: Spot,
+    machine: &M,
+    rows: &mut Vec<Access>,
+)
+    ensures these { (k : ℕ) → is_within of_step k ≡ true → IsNoted M.stands machine.now depth spot (slice_get rows.old.items k) (slice_get rows.new.items k) }
+    ensures others { (k : ℕ) → is_within of_step k ≡ false → slice_get rows.new.items k ≡ slice_get rows.old.items k }
+{
+    for row in of_step.first..of_step.end_among(rows.len()) {
+        rows[row].note_at(depth, spot, machine);
+    }
+}
+
+/// Keeps what was noted of some accesses.
+fn keep_each(noted: Stretch, rows: &mut Vec<Access>)
+    ensures { (k : ℕ) → slice_get rows.new.items k ≡ (if is_within noted k then option_map kept (slice_get rows.old.items k) else slice_get rows.old.items k) }
+{
+    for row in noted.first..noted.end_among(rows.len()) {
+        rows[row].keep();
     }
 }
 

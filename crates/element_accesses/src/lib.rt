@@ -5,6 +5,7 @@ mod accesses;
 mod finding;
 mod reading;
 mod shown;
+mod step_rows;
 mod varying;
 
 pub use accesses::{Access, Accesses};

@@ -1,7 +1,6 @@
 use Rattle.std.proofs.Common.{◌≡◌, ◌∙◌, ◌++◌, ap, map, subst, sym}
 use Rattle.std.specs.Prelude.{IfOk}
 use Rattle.std.proofs.lemmas.List.{append-nil}
-use Rattle.gang_model.specs.Debugger.Positions.{spot_in}
 use Rattle.typed_tree.specs.Views.{arg_view, rounds_view, stmt_view}
 use Rattle.typed_tree.proofs.StatementRows.{view_block}
 use Rattle.element_accesses.specs.Found.{args_in, own_in, rounds_in}

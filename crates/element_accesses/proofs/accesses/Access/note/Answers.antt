@@ -1,4 +1,4 @@
-use Rattle.std.proofs.Common.{◌≡◌, ◌∙◌, sym, ap, subst, take, Ok, Err}
+use Rattle.std.proofs.Common.{◌∙◌, sym, ap, subst, take, Ok, Err}
 use Rattle.gang_model.specs.Running.Value.{value}
 use Rattle.gang_model.specs.Debugger.Debugger.{now}
 use Rattle.debug_traits.specs.Frames.{state_at}

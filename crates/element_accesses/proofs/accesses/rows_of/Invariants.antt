@@ -2,7 +2,7 @@
 use Rattle.std.proofs.Common.{take}
 use Rattle.element_accesses.specs.Rows.{AreRows}
 use Rattle.element_accesses.specs.Views.{founds_view}
-use Rattle.element_accesses.proofs.accesses.Accesses.of.Given as goal
+use Rattle.element_accesses.proofs.accesses.rows_of.Given as goal
 
 abbrev pub invariant-loop-access : goal.invariant-loop-access
 invariant-loop-access l = AreRows l.program l.rows.items (founds_view (take l.access-index l.access-items))
