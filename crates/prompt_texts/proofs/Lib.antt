@@ -1,6 +1,6 @@
 mod Groups
 mod Masking
-mod Putting
+pub mod Putting
 mod Rows
 mod Spelling
 mod WorkedForms

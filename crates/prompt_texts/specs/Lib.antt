@@ -2,3 +2,4 @@ pub mod Forms
 pub mod Items
 pub mod Shown
 pub mod LaneShares
+pub mod Moments

@@ -21,13 +21,6 @@ const LISTS: &[u8] =
 /// The most variables of a file that are shown.
 const VARIABLES: usize = 256;
 
-/// The most bytes of a text that is written, with two blanks before it.
-const MOST_BYTES: usize = 256;
-
-/// What is shown for a text that has more.
-const TOO_LONG: &[u8] =
-    b"C1 BadCommand: `echo` writes at most 254 bytes, so nothing is done for this line.\n";
-
 /// Writes lines of the source from one on up to another, that of the place with a mark.
 pub fn list_lines<M: RecordedMachine, O: AnswerWriter + Drop>(
     first: u32,
@@ -237,12 +230,8 @@ pub fn show_lists<O: AnswerWriter + Drop>(line: &[u8], page: &mut Page<O>) {
     }
 }
 
-/// Writes a text behind the blanks that it begins with, and ends the line; `\\n` ends a line too. Of one that was cut nothing is written.
+/// Writes a text behind the blanks that it begins with, and ends the line; `\\n` ends a line too.
 pub fn show_text<O: AnswerWriter + Drop>(text: &[u8], page: &mut Page<O>) {
-    if text.len() > MOST_BYTES {
-        page.put(TOO_LONG);
-        return;
-    }
     let blanks = text.iter().take_while(|byte| is_blank(**byte)).count();
     let mut rest = text.get(blanks..).unwrap_or(&[]);
     if let Some(front) = rest.strip_suffix(b"\\n") {

@@ -1,4 +1,7 @@
 //! Moments of a run: how many steps were made, and what can be taken back.
+ghost use Rattle.prompt_texts.specs.Moments as spec;
+ghost use Rattle.prompt_texts.specs.Shown.{Puts};
+
 use crate::page::Page;
 use crate::places::put_counted;
 use crate::refusals::put_refused_part;
@@ -103,7 +106,9 @@ pub fn tell_checkpoint<O: AnswerWriter + Drop>(number: u32, step: u64, page: &mu
 }
 
 /// Writes a moment that is noted: its number, and how many steps lead to it.
-pub fn show_checkpoint<O: AnswerWriter + Drop>(number: u32, step: u64, page: &mut Page<O>) {
+pub fn show_checkpoint<O: AnswerWriter + Drop>(number: u32, step: u64, page: &mut Page<O>)
+    ensures { Puts (spec.checkpoint_text number step) page.old.has_failed page.new.has_failed (O.written page.old.writer) (O.written page.new.writer) }
+{
     page.put_number(i128::from(number));
     page.put(b"  step ");
     page.put_number(i128::from(step));
