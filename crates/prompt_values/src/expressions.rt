@@ -1,4 +1,12 @@
 //! Expressions, in the frame that is selected.
+ghost use Rattle.std.specs.Prelude.{◌≡◌, drop};
+ghost use Rattle.gang_model.specs.Debugger.Debugger.{Debugger, Setting, now};
+ghost use Rattle.debug_session.specs.Sessions.{StandsFor};
+ghost use Rattle.debug_traits.specs.Frames.{found_at};
+ghost use Rattle.prompt_scenes.specs.Holding.{held};
+ghost use Rattle.prompt_scenes.specs.SelectedFrame.{depth_of};
+ghost use Rattle.prompt_values.specs.Instead.{IsInstead, IsValueOrNone};
+
 use crate::slices::{show_slice, slice_of, tell_no_slice};
 use debug_session::Session;
 use debug_traits::{AnswerWriter, FramedMachine};
@@ -12,7 +20,9 @@ use prompt_texts::{Digits, Page, Spelled, show_expression, tell_no_value, tell_u
 const WORD: usize = 5;
 
 /// The expression of a command line that begins with `print`.
-fn expression_text(text: &[u8]) -> &[u8] {
+fn expression_text(text: &[u8]) -> &[u8]
+    ensures { result.now ≡ drop 5 text.now }
+{
     text.get(WORD..).unwrap_or(&[])
 }
 
@@ -23,13 +33,44 @@ pub fn value_instead<M: ExpressionMachine>(
     holding: &Holding,
     scene: Scene<'_>,
     session: &Session<M>,
-) -> Option<ExpressionValue> {
+) -> Option<ExpressionValue>
+    ensures { (s : Setting) (d : Debugger) → StandsFor M.stands session.now s d
+        → IsInstead (found_at s.program (depth_of s d (held holding.now)) (now s d) name.now) (drop 5 text.now) s d (depth_of s d (held holding.now)) result }
+{
     let depth = selected_depth(holding, session);
-    let machine = session.machine();
-    if machine.find_at(depth, name).is_some() {
-        return None;
+    instead_at(name, expression_text(text), depth, scene, session.machine())
+}
+
+/// The value that a name has as an expression in the frame at a depth, where it stands for no variable there.
+fn instead_at<M: ExpressionMachine>(
+    name: &[u8],
+    written: &[u8],
+    depth: usize,
+    scene: Scene<'_>,
+    machine: &M,
+) -> Option<ExpressionValue>
+    ensures { (s : Setting) (d : Debugger) → M.stands machine.now s d
+        → IsInstead (found_at s.program depth (now s d) name.now) written.now s d depth result }
+{
+    match machine.find_at(depth, name) {
+        Some(_) => None,
+        None => value_or_none(written, depth, scene, machine),
     }
-    value_of_expression(scene.alloc, expression_text(text), depth, machine).ok()
+}
+
+/// The value of an expression in the frame at a depth, if it has one.
+fn value_or_none<M: ExpressionMachine>(
+    written: &[u8],
+    depth: usize,
+    scene: Scene<'_>,
+    machine: &M,
+) -> Option<ExpressionValue>
+    ensures { (s : Setting) (d : Debugger) → M.stands machine.now s d → IsValueOrNone written.now s d depth result }
+{
+    match value_of_expression(scene.alloc, written, depth, machine) {
+        Ok(value) => Some(value),
+        Err(_) => None,
+    }
 }
 
 /// Shows the value of the expression of a command line.

@@ -1,4 +1,9 @@
 //! What is shown in other digits, and expressions that are displayed. The debugger does nothing for them.
+ghost use Rattle.std.specs.Prelude.{◌≡◌, codes};
+ghost use Rattle.gang_model.specs.Texts.Spellings as spelling;
+ghost use Rattle.prompt_lines.specs.Readings.{bytes_option};
+ghost use Rattle.prompt_values.specs.Forms as spec;
+
 use crate::expressions::print_written;
 use crate::slices::{show_slice, slice_of};
 use crate::values::show_target;
@@ -25,21 +30,46 @@ pub struct Form<'a> {
 }
 
 /// What a command line names that begins with `print`, or with `print/` and a letter.
-pub fn form_of(text: &[u8]) -> Option<Form<'_>> {
-    match text.strip_prefix(PRINT)? {
-        [b'/', letter, rest @ ..] => Some(Form {
-            digits: digits_of(*letter)?,
-            text: rest,
-        }),
-        rest => Some(Form {
-            digits: Digits::Decimal,
-            text: rest,
-        }),
+pub fn form_of(text: &[u8]) -> Option<Form<'_>>
+    ensures { spec.form_option result ≡ spec.form_of text.now }
+{
+    match behind_print(text) {
+        Some(rest) => form_behind(rest),
+        None => None,
+    }
+}
+
+/// What follows the word that prints, in a text that begins with it.
+fn behind_print(text: &[u8]) -> Option<&[u8]>
+    ensures { bytes_option result ≡ spelling.behind (codes "print") text.now }
+{
+    text.strip_prefix(PRINT)
+}
+
+/// What is named behind the word that prints.
+fn form_behind(text: &[u8]) -> Option<Form<'_>>
+    ensures { spec.form_option result ≡ spec.form_behind text.now }
+{
+    match text {
+        [b'/', letter, rest @ ..] => form_in(digits_of(*letter), rest),
+        _ => form_in(Some(Digits::Decimal), text),
+    }
+}
+
+/// A text in digits, if there are any.
+fn form_in(digits: Option<Digits>, text: &[u8]) -> Option<Form<'_>>
+    ensures { spec.form_option result ≡ spec.form_in digits text.now }
+{
+    match digits {
+        Some(digits) => Some(Form { digits, text }),
+        None => None,
     }
 }
 
 /// The digits of a letter.
-fn digits_of(letter: u8) -> Option<Digits> {
+fn digits_of(letter: u8) -> Option<Digits>
+    ensures { result ≡ spec.digits_of letter }
+{
     match letter {
         b'x' => Some(Digits::Hexadecimal),
         b'o' => Some(Digits::Octal),
