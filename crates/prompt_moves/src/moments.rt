@@ -1,12 +1,13 @@
 //! Moments of the run, by how many steps lead to them.
-ghost use Rattle.std.specs.Prelude.{◌≡◌, ℕ, ◌≤◌, true, replicate, if◌then◌else◌};
+ghost use Rattle.std.specs.Prelude.{◌≡◌, ℕ, ◌≤◌, true, flat_map, map, replicate, if◌then◌else◌};
 ghost use Rattle.gang_model.specs.Debugger.Debugger.{Debugger, DoStep, DoReverseStep, Setting, kept_steps};
 ghost use Rattle.gang_model.specs.Texts.CommandText.{command_of};
 ghost use Rattle.command_lists.specs.Lists.{HasDone};
 ghost use Rattle.debug_commands.specs.Views.{command_view};
 ghost use Rattle.debug_session.specs.Sessions.{StandsFor};
 ghost use Rattle.prompt_lines.specs.Words.{is_alone};
-ghost use Rattle.prompt_scenes.specs.Holding.{held};
+ghost use Rattle.prompt_texts.specs.Shown.{Puts};
+ghost use Rattle.prompt_scenes.specs.Holding.{held, noted_of};
 ghost use Rattle.prompt_scenes.specs.Readings as readings;
 ghost use Rattle.prompt_scenes.specs.Changes as changes;
 ghost use Rattle.prompt_moves.specs.Noted as noted;
@@ -21,7 +22,7 @@ use debug_session::Session;
 use debug_traits::{AnswerWriter, RecordedMachine};
 use frame_expressions::ExpressionMachine;
 use prompt_lines::is_alone;
-use prompt_scenes::{Holding, Scene, delete_of, index_named, is_here, step_named};
+use prompt_scenes::{Checkpoint, Holding, Scene, delete_of, index_named, is_here, step_named};
 use prompt_texts::{
     Before, Page, show_checkpoint, tell_checkpoint, tell_move, tell_no_such_step, tell_not_whole,
     tell_usage,
@@ -237,11 +238,21 @@ fn forget_number<O: AnswerWriter + Drop>(
 }
 
 /// Writes the moments that were noted, by their numbers.
-pub fn show_checkpoints<O: AnswerWriter + Drop>(holding: &Holding, page: &mut Page<O>) {
+pub fn show_checkpoints<O: AnswerWriter + Drop>(holding: &Holding, page: &mut Page<O>)
+    ensures { Puts (noted.checkpoints_text (held holding.now).checkpoints) page.old.has_failed page.new.has_failed (O.written page.old.writer) (O.written page.new.writer) }
+{
     if holding.checkpoints().is_empty() {
         page.put(b"no checkpoints\n");
+    } else {
+        list_checkpoints(holding.checkpoints(), page);
     }
-    for checkpoint in holding.checkpoints() {
+}
+
+/// Writes a line for each of some moments.
+fn list_checkpoints<O: AnswerWriter + Drop>(checkpoints: &[Checkpoint], page: &mut Page<O>)
+    ensures { Puts (flat_map noted.line_text (map noted_of checkpoints.now)) page.old.has_failed page.new.has_failed (O.written page.old.writer) (O.written page.new.writer) }
+{
+    for checkpoint in checkpoints {
         show_checkpoint(checkpoint.number, checkpoint.step, page);
     }
 }

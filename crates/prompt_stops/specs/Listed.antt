@@ -4,6 +4,7 @@ use Rattle.std.specs.List.{list_any}
 use Rattle.arrayvec.specs.ArrayVec.{ArrayVec}
 use Rattle.gang_model.specs.Debugger.Debugger.{Debugger}
 use Rattle.gang_model.specs.Texts.Spellings.{Word, behind}
+use Rattle.gang_model.specs.Texts.Text.{Bytes}
 use Rattle.prompt_lines.specs.Conditions.{first_word}
 use Rattle.prompt_lines.specs.Numbers.{are_numbers}
 use Rattle.prompt_lines.specs.Words.{held_text, is_alone}
@@ -85,6 +86,10 @@ added line lists = with_line line (if begins_list line then record lists { depth
 -- what a line leads to where a list is read: `silent` is left out
 abbrev pub read : (line : List ℕ) → Lists → Lists
 read line lists = if is_word (codes "end") line then ended line lists else (if is_word (codes "silent") line then lists else added line lists)
+
+-- what is told where the input ends within a list
+abbrev pub unended : Bytes
+unended = codes "The input ends within a list, before its line `end`.\n"
 
 -- ---- lists that begin
 

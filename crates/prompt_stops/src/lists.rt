@@ -59,13 +59,10 @@ impl Lists {
     }
 
     /// The lines of breakpoints and watches.
-    pub fn lines(&self) -> &[ListedLine] {
+    pub fn lines(&self) -> &[ListedLine]
+        ensures { result.now ≡ (lists_of self.now).lines }
+    {
         self.lines.as_slice()
-    }
-
-    /// Those whose list is read.
-    pub fn numbers(&self) -> &[u32] {
-        self.numbers.as_slice()
     }
 
     /// Whether a list is read.

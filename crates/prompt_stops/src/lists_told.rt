@@ -1,4 +1,7 @@
 //! What is told of the lines of breakpoints and watches.
+ghost use Rattle.prompt_texts.specs.Shown.{Puts};
+ghost use Rattle.prompt_stops.specs.Listed as spec;
+
 use debug_answers::Stop;
 use debug_session::Session;
 use debug_traits::{AnswerWriter, RecordedMachine};
@@ -47,7 +50,9 @@ fn tell_numbers<O: AnswerWriter + Drop>(numbers: &[u32], page: &mut Page<O>) {
 }
 
 /// Tells that the input ends within a list.
-pub fn tell_unended<O: AnswerWriter + Drop>(page: &mut Page<O>) {
+pub fn tell_unended<O: AnswerWriter + Drop>(page: &mut Page<O>)
+    ensures { Puts spec.unended page.old.has_failed page.new.has_failed (O.written page.old.writer) (O.written page.new.writer) }
+{
     page.put(UNENDED);
 }
 
