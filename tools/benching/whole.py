@@ -25,6 +25,7 @@ NAME = "long.ispc"
 TEXT = works.loop(TURNS).replace("uniform int t = 0;\n", "uniform int t = 0;\nuniform int s = 0;\n").replace("int i = 0;\n", "s = 1;\nint i = 0;\n")
 TO_THE_END = [f"step {STEPS}"]
 COUNTED_STEPS = 50_000  # of which the instructions are counted
+OTHERS = 200  # accesses that a program has beside those that its run makes
 BACK, ONE_BY_ONE = ["watch s", "reverse-continue", "delete"], ["reverse-step"] * SINGLE
 # From where single steps are made.
 PLACES = {"the end": STEPS, "three quarters": 3 * STEPS // 4, "the middle": MIDDLE, "a quarter": STEPS // 4, "the start": 2 * SINGLE}
@@ -231,15 +232,17 @@ def profile(program, folder):
 
 
 def by_access(program, folder):
-    """What a profile of accesses takes beside the run, where two of five steps have one: of a whole run, and of shorter ones by wider gangs."""
-    for width, turns in ((4, TURNS), (8, TURNS // 5), (16, TURNS // 5)):
-        name, steps, words = f"touching_{turns}.ispc", works.steps_of_loop(turns) + 1, ["--width", str(width)]
-        pathlib.Path(folder, name).write_text(works.touching(turns))
+    """What a profile of accesses takes beside the run, where two of five steps have one: of a whole run, of shorter ones by wider gangs, and of one
+    of a program with many others."""
+    for width, turns, others in ((4, TURNS, 0), (8, TURNS // 5, 0), (16, TURNS // 5, 0), (4, TURNS // 5, OTHERS)):
+        name, steps, words = f"touching_{turns}_{others}.ispc", works.steps_of_loop(turns) + 1, ["--width", str(width)]
+        pathlib.Path(folder, name).write_text(works.touching(turns, others))
         counting = [*words, "--by", "access"]
         run, counted = least((of_run(program, folder, name, steps, words), of_profile(program, folder, name, steps, counting)) for _ in range(ROUNDS))
         if turns == TURNS:
             yield Figure(counted, f"seconds for a profile by access of {steps:,} steps, {width} lanes", 6)
-        yield Figure(counted / run, f"times the run, for its profile by access, {width} lanes", 2)
+        beside = f", beside {others} accesses that are not made" if others else ""
+        yield Figure(counted / run, f"times the run, for its profile by access, {width} lanes{beside}", 2)
 
 
 def with_condition(program, folder):

@@ -35,10 +35,11 @@ def steps_of_loop(turns):
     return 2 + 5 * turns + 2
 
 
-def touching(turns):
-    """The like, whose turns load an element of an array in each lane and store one: two accesses in five statements."""
+def touching(turns, others=0):
+    """The like, whose turns load an element of an array in each lane and store one: two accesses in five statements. So many others are never made."""
+    apart = f"void apart() {{\nint p = programIndex;\n{'a[p] = 1;' * others}\n}}\n" if others else ""
     body = "x = a[p];\na[p + 16] = x;\nx ^= 5;\ni += 1;\n"
-    return f"uniform int a[32];\nexport void go() {{\nint i = 0;\nint x = 0;\nint p = programIndex;\nwhile (i < {turns}) {{\n{body}}}\nx = 1;\n}}\n"
+    return f"uniform int a[32];\n{apart}export void go() {{\nint i = 0;\nint x = 0;\nint p = programIndex;\nwhile (i < {turns}) {{\n{body}}}\nx = 1;\n}}\n"
 
 
 def elements(length, statement="a[{}] += i;", turns=TURNS):
