@@ -1,9 +1,9 @@
 -- Elements one after another.
-use Rattle.std.proofs.Common.{◌≡◌, refl, sym, ap, ◌∙◌, ℕ, zero, suc, ◌+◌, ◌-◌, ◌<◌, ◌≤◌, Bool, true, false, List, [], ◌∷◌, ◌++◌, drop, get_or, length, map, arith}
+use Rattle.std.proofs.Common.{◌≡◌, refl, sym, ap, ◌∙◌, ℕ, zero, suc, ◌+◌, ◌<◌, ◌≤◌, Bool, true, List, [], ◌∷◌, drop, get_or, length, arith}
 use Rattle.std.specs.Prelude.{◌==◌, ◌&&◌, if◌then◌else◌, slice_index}
 use Rattle.std.specs.List.{list_all, list_any}
-use Rattle.std.proofs.lemmas.List.{append_assoc, drop_all, drop_more}
-use Rattle.gang_model.specs.Running.Lanes.{at, members_from}
+use Rattle.std.proofs.lemmas.List.{drop_more}
+use Rattle.gang_model.specs.Running.Lanes.{members_from}
 use Rattle.element_touches.specs.Touches.{different, is_consecutive, is_equal}
 
 -- from one place on, and from the next

@@ -1,5 +1,5 @@
 -- Counts with one touch after another.
-use Rattle.std.proofs.Common.{◌≡◌, refl, ap, ◌∙◌, ℕ, ◌+◌, List, [], ◌∷◌, arith}
+use Rattle.std.proofs.Common.{◌≡◌, ap, ◌∙◌, ℕ, List, [], ◌∷◌, arith}
 use Rattle.element_touches.specs.declared.counts.AccessCounts.{AccessCounts}
 use Rattle.element_touches.specs.Counted.{counts_of, none, with_touch, with_touches}
 

@@ -1,5 +1,5 @@
 -- The elements of an array that lanes touch together.
-use Rattle.std.specs.Prelude.{ℕ, suc, Bool, true, ◌&&◌, ◌+◌, ◌==◌, List, [], ◌∷◌, map, if◌then◌else◌}
+use Rattle.std.specs.Prelude.{ℕ, Bool, true, ◌&&◌, ◌+◌, ◌==◌, List, [], ◌∷◌, map, if◌then◌else◌}
 use Rattle.std.specs.List.{list_all, list_any}
 use Rattle.gang_types.specs.Lanes.{Lanes}
 use Rattle.gang_model.specs.Running.Lanes.{at, members}

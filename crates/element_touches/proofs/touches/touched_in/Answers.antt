@@ -1,4 +1,4 @@
-use Rattle.std.proofs.Common.{◌≡◌, ◌≤◌, ◌∙◌, ◌++◌, [], sym, ap, drop, length, map, take, arith}
+use Rattle.std.proofs.Common.{◌≤◌, ◌∙◌, ◌++◌, sym, ap, length, map, take, arith}
 use Rattle.std.proofs.lemmas.List.{append-nil, drop_all}
 use Rattle.gang_types.specs.Masks.{lanes_of}
 use Rattle.gang_types.specs.MaskLaws.{length-lanes_of_word}
