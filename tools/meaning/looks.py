@@ -241,7 +241,10 @@ class Looks(Debugger):
         return self.select(self.selected + int(count or 1))
 
     def down(self, count):
-        return self.select(self.selected - int(count or 1))
+        """Selects the frame so many calls below, the top one at the most; without a number there is none below that."""
+        if count is None and self.selected == 0 and self.state.frames:
+            return ["Bottom (innermost) frame selected; you can't go down."]
+        return self.select(max(0, self.selected - int(count or 1)))
 
 
 def lines(text):

@@ -215,8 +215,9 @@ class Prompt(Looks):
         if number is None:
             self.displayed = {}
             return ["nothing is displayed any more"]
-        del self.displayed[int(number)]
-        return [f"nothing is displayed by number {number}"]
+        if self.displayed.pop(int(number), None) is None:
+            return [f"nothing is displayed by number {number}"]
+        return [f"{number} is displayed no more"]
 
     def displays(self):
         """What is displayed, but for what is not in scope."""

@@ -23,8 +23,7 @@ MOST_COMMANDS = 1_048_576
 MOST_TYPED = 4_096
 TOO_LONG = b"C1 BadCommand: the line has more than 4096 bytes, so nothing is done for it.\n"
 # The most bytes of a text that `echo` writes.
-ECHOED = 254
-NO_ECHO = b"C1 BadCommand: `echo` writes at most 254 bytes, so nothing is done for this line.\n"
+ECHOED = MOST_TYPED - len("echo ")
 
 # One breakpoint more than there is room for.
 STOPS = 64
@@ -171,7 +170,7 @@ def typed_lines():
     long = b"x" * (MOST_TYPED + 1)
     is_full = lambda text: [] if text.count(FULL) == 1 and text.endswith(FULL + b"    break 3\n    ^\n") else [f"it ends {text[-300:]!r}"]
     echoed = lambda count: b"echo " + b"z" * count + b"\n"
-    is_echoed = lambda text: [] if text.endswith(b"\n" + b"z" * ECHOED + b"\n" + NO_ECHO) else [f"it ends {text[-400:]!r}"]
+    is_echoed = lambda text: [] if text.endswith(b"\n" + b"z" * ECHOED + b"\n" + TOO_LONG) else [f"it ends {text[-400:]!r}"]
     return [
         Run("the longest text of `echo`, and one of a byte more", echoed(ECHOED) + echoed(ECHOED + 1), words, is_echoed, b"", 0, FILES),
         Run("a NUL in a line, and a line without its end", b"echo a\0b\nprint z", words, has_words(b"\na?b\n", b"C2 "), b"", 0, FILES),

@@ -141,13 +141,13 @@ class Typed:
         of_file = self.target([it.name for it in self.prompt.program.globals])
         line, displayed = chance.randrange(1, self.prompt.line_count()), [*self.prompt.displayed]
         if displayed and chance.random() < 0.3:
-            return chance.choice(["info display", "undisplay", f"undisplay {chance.choice(displayed)}"])
+            return chance.choice(["info display", "undisplay", f"undisplay {chance.choice(displayed)}", "undisplay 99"])
         lines = [f"break {line}", f"tbreak {line}", f"tbreak {line}", f"watch {of_file}", "delete", f"delete {chance.randrange(1, 4)}"]
         return chance.choice([*lines, "info breakpoints"])
 
     def frame(self):
         chance, selected = self.chance, self.prompt.selected
-        down = ["down", f"down {chance.randrange(1, selected + 1)}"] if selected else []
+        down = ["down", f"down {chance.randrange(1, selected + 2)}"]
         return chance.choice(["up", "up", "frame", f"frame {chance.randrange(4)}", f"up {chance.randrange(1, 3)}", *down])
 
     def run(self):

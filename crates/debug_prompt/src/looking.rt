@@ -1,9 +1,11 @@
 //! What is looked at: the debugger does nothing.
 ghost use Rattle.std.specs.Prelude.{◌≡◌};
 ghost use Rattle.gang_model.specs.Debugger.Debugger.{Debugger, Setting};
+ghost use Rattle.gang_model.specs.Texts.CommandText.{command_of};
 ghost use Rattle.debug_session.specs.Sessions.{StandsFor};
 ghost use Rattle.prompt_lines.specs.declared.line.Kind.TheVariants as kind;
 ghost use Rattle.prompt_scenes.specs.Holding.{held, sheet};
+ghost use Rattle.prompt_scenes.specs.Readings as readings;
 ghost use Rattle.prompt_scenes.specs.SelectedFrame as selection;
 ghost use Rattle.debug_prompt.specs.Doing as spec;
 
@@ -29,6 +31,12 @@ use prompt_texts::{
 };
 use prompt_values::{form_of, tell_watch_conditions};
 use whole_runs::TellsCopies;
+
+/// Why there is no frame below.
+const BOTTOM: &[u8] = b"Bottom (innermost) frame selected; you can't go down.\n";
+
+/// The word before a text that is written.
+const ECHO: &[u8] = b"echo";
 
 /// From which line on and up to which one the source was listed last, and whether the history was ever full.
 #[derive(Drop)]
@@ -73,7 +81,7 @@ impl Looking {
         match look {
             Look::Frame => go_to(frame_named(holding, text), holding, scene, session, page),
             Look::Up => go_to(frame_above(holding, text), holding, scene, session, page),
-            Look::Down => go_to(frame_below(holding, text), holding, scene, session, page),
+            Look::Down => go_down(text, holding, scene, session, page),
             Look::List => self.list(text, is_again, holding, scene, session, page),
             Look::Recording => self.show_recording(text, scene, session, page),
             Look::Frames | Look::Full | Look::Here | Look::Line | Look::Source => look_at_program(
@@ -168,6 +176,26 @@ fn go_to<M: RecordedMachine, O: AnswerWriter + Drop>(
     }
 }
 
+/// Selects the frame so many calls below, and shows it; where the top frame is selected, `down` alone tells that there is none.
+fn go_down<M: RecordedMachine, O: AnswerWriter + Drop>(
+    text: &[u8],
+    holding: &mut Holding,
+    scene: Scene<'_>,
+    session: &Session<M>,
+    page: &mut Page<O>,
+)
+    ensures { (s : Setting) (d : Debugger) → StandsFor M.stands session.now s d
+        → held holding.new ≡ selection.selected s d (held holding.old) (selection.frame_below (held holding.old) (readings.count_of (command_of text.now))) }
+{
+    let number = frame_below(holding, text);
+    if holding.is_top() && is_alone(text) && session.machine().position().is_some() {
+        select(number, holding, session);
+        page.put(BOTTOM);
+    } else {
+        go_to(number, holding, scene, session, page);
+    }
+}
+
 /// Shows where the program stands, or what stops it.
 fn look_at_program<M: FramedMachine, O: AnswerWriter + Drop>(
     look: Look,
@@ -246,7 +274,7 @@ fn look_at_texts<O: AnswerWriter + Drop>(
     match look {
         Look::Help => show_help(topic(text), page),
         Look::Lists => show_lists(scene.line, page),
-        _ => show_text(text, page),
+        _ => show_text(echoed(scene.line), page),
     }
 }
 
@@ -260,6 +288,11 @@ fn show_displays<O: AnswerWriter + Drop>(holding: &Holding, page: &mut Page<O>) 
             show_displayed(displayed.number, form.digits, form.text.trim_ascii(), page);
         }
     }
+}
+
+/// What stands behind the word `echo` of a line.
+fn echoed(line: &[u8]) -> &[u8] {
+    line.trim_ascii_start().strip_prefix(ECHO).unwrap_or(&[])
 }
 
 /// A text, or nothing where it is blank.

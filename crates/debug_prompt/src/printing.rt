@@ -307,10 +307,26 @@ fn print_new<M: ExpressionMachine, O: AnswerWriter + Drop>(
     }
 }
 
-/// Writes what is displayed no more.
-fn tell_undisplayed<O: AnswerWriter + Drop>(number: Option<u32>, page: &mut Page<O>) {
+/// Whether something is displayed by a number.
+fn is_displayed(number: Option<u32>, holding: &Holding) -> bool {
+    holding
+        .displays()
+        .iter()
+        .any(|displayed| Some(displayed.number) == number)
+}
+
+/// Writes what is displayed no more, or that nothing was by a number.
+fn tell_undisplayed<O: AnswerWriter + Drop>(
+    number: Option<u32>,
+    was_there: bool,
+    page: &mut Page<O>,
+) {
     match number {
         None => page.put(b"nothing is displayed any more\n"),
+        Some(number) if was_there => {
+            page.put_number(i128::from(number));
+            page.put(b" is displayed no more\n");
+        }
         Some(number) => {
             page.put(b"nothing is displayed by number ");
             page.put_number(i128::from(number));
@@ -329,8 +345,9 @@ pub(crate) fn undisplay<O: AnswerWriter + Drop>(
     ensures { held holding.new ≡ printing.after_delete (held holding.old) (readings.delete_of (command_of text.now)) }
 {
     if let Some(number) = delete_of(text) {
+        let was_there = is_displayed(number, holding);
         holding.remove_display(number);
-        tell_undisplayed(number, page);
+        tell_undisplayed(number, was_there, page);
     } else {
         tell_unknown(scene.line, page);
     }
