@@ -71,6 +71,8 @@ CALLS = {
     "conditional_stops::ask_breakpoints": 0,
     "conditional_stops::continue_on": 0,
     "conditional_stops::walk_on": 0,
+    "log_points::write_here": 1,
+    "log_points::continue_writing": 1,
     "source_port::port": 0,
     "adapter_frames::FrameReader::next_message": 0,
     "adapter_frames::write_frame": 0,
@@ -95,6 +97,7 @@ NONE_TAKEN = {
     "element_accesses::Accesses::none",
     "lane_counts::Tally::new",
     "lane_meetings::Meetings::new",
+    "log_points::Written::new",
     "whole_runs::Copies::none",
     "whole_runs::Notes::none",
 }

@@ -5,6 +5,7 @@
 #![tactic(auto)]
 
 mod ends;
+mod logs;
 mod messages;
 mod profiles;
 mod programs;
@@ -39,6 +40,7 @@ fn call(rt: &HostRuntime, name: &str) -> &'static str {
         .or(runs::call(alloc, name))
         .or(profiles::call(alloc, name))
         .or(stops::call(alloc, name))
+        .or(logs::call(alloc, name))
         .or(messages::call(alloc, name))
         .or(replies::call(alloc, name));
     word(end)
