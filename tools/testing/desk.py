@@ -25,6 +25,9 @@ TOO_LONG = b"C1 BadCommand: the line has more than 4096 bytes, so nothing is don
 # The most bytes of a text that `echo` writes.
 ECHOED = MOST_TYPED - len("echo ")
 
+# What is written to files as it is on standard output.
+TO_FILES = (["page"], ["profile"], ["profile", "--json"], ["profile", "--compare"], ["port"])
+
 # One breakpoint more than there is room for.
 STOPS = 64
 FULL = b"C11 TableFull: 64 breakpoints and watches are there; `delete N` makes room.\n"
@@ -238,7 +241,8 @@ def of_written_files(built):
         ("the commands, by --force", ["--commands", "go.commands", "--to", "go.commands", "--force"], "go.commands", b"step\n", None),
     ]
     found = [written(built, name, words, file, before, front) for name, words, file, before, front in rows]
-    return [*found, written_twice(built, "new.svg"), written_twice(built, "new.html"), folder_as_file(built)]
+    found += [written_twice(built, "new.svg"), written_twice(built, "new.html"), folder_as_file(built)]
+    return found + [as_on_output(built, words) for words in TO_FILES]
 
 
 def drawn(built, folder, words):
@@ -279,3 +283,24 @@ def folder_as_file(built):
         ran = drawn(built, folder, ["--to", "pictures"])
     is_right = (ran.returncode, ran.stderr) == (2, b"cannot write pictures: it is a directory\n")
     return Result("a picture to a folder", is_right, [f"status {ran.returncode}, {ran.stderr!r}"])
+
+
+def as_on_output(built, words):
+    """A new file and an empty one have what standard output has, and by --force one that held something else, which is kept without; so is the source."""
+    verb, *options = words
+    called = lambda folder, *more: subprocess.run([built, verb, "first.ispc", *options, *more], cwd=folder, env={}, stdin=subprocess.DEVNULL, capture_output=True)
+    rows = [("new", None, [], True), ("empty", b"", [], True), ("other", b"other\n", [], False), ("forced", b"other\n" * 9999, ["--force"], True)]
+    rows += [("first.ispc", FIRST, force, False) for force in ([], ["--force"])]
+    with tempfile.TemporaryDirectory(prefix="desk-") as folder:
+        pathlib.Path(folder, "first.ispc").write_bytes(FIRST)
+        whole = called(folder).stdout
+        why = [] if whole else ["standard output has nothing"]
+        for file, before, force, is_written in rows:
+            path = pathlib.Path(folder, file)
+            if before is not None:
+                path.write_bytes(before)
+            ran = called(folder, "--to", file, *force)
+            after = path.read_bytes() if path.exists() else None
+            is_right = (ran.returncode, ran.stderr, after) == (0, b"", whole) if is_written else ran.returncode == 2 and ran.stderr.startswith(b"error: ") and after == before
+            why += [] if is_right and ran.stdout == b"" else [f"{file} {' '.join(force)}: status {ran.returncode}, {ran.stderr!r}, {(after or b'')[:100]!r}"]
+    return Result(f"files as standard output: {' '.join(words)}", not why, why)

@@ -68,12 +68,13 @@ def shapes(most=MOST_BYTES):
     yield "blanks", filled(EMPTY, lambda number: " ", "\n"), b""
 
 
-def ended(program, file, commands, words=(), space=None):
-    """The processor's seconds of a run, its status, its output and its errors; in an address space of so many bytes, if they are given."""
+def ended(words, commands, space=None, most=MOST_SECONDS):
+    """The processor's seconds of a run, of which it has so many at most, its status, its output and its errors; in an address space of so many
+    bytes, if they are given."""
     go_on()
 
     def limited():
-        resource.setrlimit(resource.RLIMIT_CPU, (MOST_SECONDS, MOST_SECONDS))
+        resource.setrlimit(resource.RLIMIT_CPU, (most, most))
         if space is not None:
             resource.setrlimit(resource.RLIMIT_AS, (space, space))
 
@@ -81,7 +82,7 @@ def ended(program, file, commands, words=(), space=None):
         given.write(commands)
         given.seek(0)
         streams = {"stdin": given, "stdout": output, "stderr": errors}
-        process = subprocess.Popen([program, file, *words], env={}, preexec_fn=limited, **streams)
+        process = subprocess.Popen(words, env={}, preexec_fn=limited, **streams)
         with ended_early(process):
             _, status, used = os.wait4(process.pid, 0)
         process.returncode = os.waitstatus_to_exitcode(status)
@@ -95,7 +96,7 @@ def quickest(program, folder, text, refusal, rounds):
     file, seconds, why = pathlib.Path(folder, "large.ispc"), [], []
     file.write_text(text)
     for _ in range(rounds):
-        spent, status, _, errors = ended(program, file, b"step\n")
+        spent, status, _, errors = ended([program, file], b"step\n")
         seconds.append(spent)
         why += [] if (status, errors) == (2 if refusal else 0, refusal) else [f"status {status}, {errors!r}"]
     return min(seconds), why
@@ -118,11 +119,11 @@ def compiled(program, folder, name, text, few, refusal):
 
 def least_space(program, file):
     """The least address space, up to a page, in which the lines are answered once; and their answers."""
-    _, status, once, _ = ended(program, file, LINES)
+    _, status, once, _ = ended([program, file], LINES)
     few, enough = 0, MOST_SPACE
     while enough - few > PAGE:
         space = (few + enough) // 2
-        if ended(program, file, LINES, space=space)[1:3] == (status, once):
+        if ended([program, file], LINES, space)[1:3] == (status, once):
             enough = space
         else:
             few = space
@@ -134,7 +135,7 @@ def many_commands(program, folder):
     file = pathlib.Path(folder, "first.ispc")
     file.write_text(GO + "int x = 3 * programIndex;\nx++;\n}\n")
     space, once = least_space(program, file)
-    _, status, output, _ = ended(program, file, LINES * TURNS, space=space + MORE_SPACE)
+    _, status, output, _ = ended([program, file], LINES * TURNS, space + MORE_SPACE)
     is_right = status == 0 and once.count(b"\n") == 4 and output == once * TURNS
     return Result("a million command lines", is_right, [f"status {status} in {space} bytes and 1 MB, {len(once)} and {len(output)} bytes"])
 
@@ -143,11 +144,11 @@ def inputs(program, folder):
     """As many values as an entry's arrays may have, the last of which is printed, read in two seconds; and one more: I4."""
     source, text = pathlib.Path(folder, "values.ispc"), pathlib.Path(folder, "values.input")
     source.write_text("export void go(uniform int8 a[]) { }\n")
-    commands, words = b"print a[%d]\n" % (MOST_VALUES - 1), ["--input", text]
+    commands, words = b"print a[%d]\n" % (MOST_VALUES - 1), [program, source, "--input", text]
     text.write_bytes(b"a =" + b" 1" * (MOST_VALUES - 1) + b" 7\n")
-    seconds, *most = ended(program, source, commands, words)
+    seconds, *most = ended(words, commands)
     text.write_bytes(b"a =" + b" 1" * (MOST_VALUES + 1) + b"\n")
-    _, *many = ended(program, source, commands, words)
+    _, *many = ended(words, commands)
     why = [] if most == [0, b"a[%d] = 7\n" % (MOST_VALUES - 1), b""] else [f"{MOST_VALUES} values: {most!r}"]
     why += [] if many == [2, b"", b"input 1: I4 TooLarge\n"] else [f"{MOST_VALUES + 1} values: {many!r}"]
     why += [f"{seconds:.2f} seconds"] if seconds > INPUT_SECONDS else []

@@ -9,7 +9,7 @@ import re
 import subprocess
 import tempfile
 
-from . import kernels
+from . import kernels, large
 from .calls import go_on, side_by_side
 from .tried import SECONDS, Result
 
@@ -54,6 +54,15 @@ export void go() {{
 # Before the turns there is one step; then a spoiled divisor, and the question that ends the loop.
 FAULT = (11, 5 * TURNS + 3)
 SPOILS = (6, 1 + 5 * SPOILED + 2)
+# As many words as the arrays of a file may have, none of which a step sets; two steps a turn. The machine's own record is taken back in so many
+# seconds of the processor, and in a hundred times as many where each of its steps writes all words.
+MANY = f"""uniform int8 words[{1 << 20}];
+uniform int turns;
+export void go() {{
+    for (;;) turns += 1;
+}}
+"""
+RECORD, RECORD_SECONDS = 65_536, 2
 # At four lanes its run is the longest of the kernels.
 LONGEST = "sudoku"
 # What stands between two rows of lanes or elements.
@@ -125,6 +134,19 @@ def in_three_commands(program):
     return Result("from a fault behind 5,000,000 steps to what spoiled the value, in three commands", not why, why)
 
 
+def beside_many_words(program):
+    """The machine's own record is taken back beside a million words: it takes the time of those that were set."""
+    lines = f"step {RECORD}\nprint turns\nreverse-step {RECORD}\nprint turns\n"
+    with tempfile.TemporaryDirectory(prefix="whole-") as folder:
+        file = pathlib.Path(folder, "many.ispc")
+        file.write_text(MANY)
+        seconds, status, output, _ = large.ended([program, "debug", file], lines.encode(), most=10 * RECORD_SECONDS)
+    shown = re.findall(rb"^turns = (\d+)$", output, re.M)
+    why = [] if (status, shown) == (0, [b"%d" % (RECORD // 2), b"0"]) else [f"status {status}, and turns = {shown}"]
+    why += [f"{seconds:.2f} seconds"] if seconds > RECORD_SECONDS else []
+    return Result(f"{RECORD} steps are taken back beside {1 << 20} words", not why, why)
+
+
 def from_end_to_start(program, kernel):
     """A kernel's run of 1,500,000 steps is taken back from its end to its start, in one piece and to its middle, and made again."""
     names = kernel.names()
@@ -145,7 +167,8 @@ def from_end_to_start(program, kernel):
 
 
 def results(root, program):
-    """A result for each plan, one from the end of a run to its start, one of a fault, and one of a kernel."""
+    """A result for each plan, one from the end of a run to its start, one of a fault, one of a kernel, and one of a run with many words."""
     longest = next(it for it in kernels.kernels(root) if it.name == LONGEST)
     others = [lambda: to_the_start(program), lambda: in_three_commands(program), lambda: from_end_to_start(program, longest)]
+    others.append(lambda: beside_many_words(program))
     return [*side_by_side(lambda seed: there_and_back(program, seed), SEEDS), *side_by_side(lambda one: one(), others)]

@@ -109,7 +109,7 @@ def turns_of(root, path, types):
 
 
 def drawn(root, count, seed, crates=()):
-    """So many drawn bodies, of each kind about as many, whichever of these crates they stand in, or of all."""
+    """So many drawn bodies, or all where there are fewer, of each kind about as many, whichever of these crates they stand in, or of all."""
     chance, by_kind, types = random.Random(seed), {}, types_of(root)
     for subject, it in SUBJECTS.items():
         for crate in (name for name in it.crates if not crates or name in crates):
@@ -117,8 +117,9 @@ def drawn(root, count, seed, crates=()):
                 for kind, turn in turns_of(root, path, types):
                     by_kind.setdefault(kind, []).append((subject, turn))
     found = []
-    for number in range(count):
-        kind = sorted(by_kind)[number % len(by_kind)]
+    for number in range(min(count, sum(map(len, by_kind.values())))):
+        kinds = sorted(kind for kind, turns in by_kind.items() if turns)
+        kind = kinds[number % len(kinds)]
         subject, turn = by_kind[kind].pop(chance.randrange(len(by_kind[kind])))
         old, new = " / ".join(it.strip() for it in turn.old), " / ".join(it.strip() for it in turn.new) or "(nothing)"
         found.append(Body(f"{kind} of {turn.file}:{turn.number + 1}, {old} => {new}", subject, turn))

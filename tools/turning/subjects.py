@@ -1,9 +1,10 @@
 """The subjects of the tests that run `rinddecade`: the crates of whose bodies they are to find the wrong ones, and what they try with a program."""
 
+import functools
 import tempfile
 
-from testing import adapter_client, adapter_sessions, conditions, desk, disabling, explained, front_ends, hostile, lanes_so_far, orders, pictures
-from testing import profiles, prompts, random_prompts, run_pages, stop_lines, terminals, watching
+from testing import adapter_client, adapter_sessions, conditions, desk, disabling, explained, front_ends, hostile, lanes_so_far, local_past, orders
+from testing import pictures, ports, profiles, prompts, random_prompts, run_pages, stop_lines, terminals, watching, whole_runs
 from testing.built import ended
 from testing.calls import side_by_side
 from testing.parts import done
@@ -14,10 +15,11 @@ TOGETHER = 24
 
 
 def of_runs(*calls):
-    """What is tried: the runs that these calls give."""
+    """What is tried: the runs that these calls give, which are made once."""
+    made = functools.cache(lambda root: [run for call in calls for run in call(root)])
 
     def tried(root, program):
-        runs = [run for call in calls for run in call(root)]
+        runs = made(root)
         for at in range(0, len(runs), TOGETHER):
             yield side_by_side(lambda run: ended(program, run), runs[at : at + TOGETHER])
 
@@ -25,7 +27,7 @@ def of_runs(*calls):
 
 
 def of_stops(root):
-    return conditions.runs() + disabling.runs() + stop_lines.runs() + watching.runs()
+    return conditions.runs() + disabling.runs() + stop_lines.runs() + watching.runs() + local_past.runs()
 
 
 def of_devices(name):
@@ -41,6 +43,7 @@ def of_devices(name):
 def of_terminals(root, program):
     yield prompts.results(program)
     yield conditions.results(program)
+    yield stop_lines.results(program)
     yield terminals.results(program)
 
 
@@ -59,6 +62,14 @@ def of_orders(root, program):
 
 def of_files(root, program):
     yield desk.results(program)
+
+
+def of_ports(root, program):
+    yield ports.results(root, program)
+
+
+def of_record(root, program):
+    yield [whole_runs.beside_many_words(program)]
 
 
 class Subject:
@@ -105,7 +116,7 @@ SUBJECTS = {
         of_devices("lines at the prompt"),
     ),
     "picture": Subject(("lane_picture",), of_runs(pictures.runs)),
-    "page": Subject(("run_page", "json_texts"), of_runs(run_pages.runs)),
+    "page": Subject(("run_page", "page_viewer", "json_texts"), of_runs(run_pages.runs)),
     "profile": Subject(
         ("lane_counts", "lane_meetings", "lane_profile", "element_accesses", "element_touches", "profile_texts"), of_runs(profiles.runs)
     ),
@@ -115,6 +126,15 @@ SUBJECTS = {
         of_devices("an editor"),
     ),
     "explain": Subject(("refusal_pages",), of_runs(explained.runs)),
-    "program": Subject(("rinddecade",), of_orders, of_terminals, of_files, of_runs(lambda root: desk.runs(), prompts.runs)),
+    "program": Subject(
+        ("rinddecade",),
+        of_orders,
+        of_terminals,
+        of_files,
+        of_runs(lambda root: desk.runs(), prompts.runs, explained.runs, pictures.runs, run_pages.runs, profiles.runs),
+        of_adapter,
+        of_ports,
+    ),
     "desk": Subject(("desk_options",), of_runs(lambda root: desk.runs()), of_files),
+    "record": Subject(("undo_log",), of_record),
 }
