@@ -5,7 +5,7 @@ ghost use Rattle.ispc_debugger.specs.Runs.{lanes_of};
 
 use crate::files::read_texts;
 use crate::refusing::{Texts, read_fault, refuse, refuse_program, write_fault};
-use crate::terminal::{Lines, Screen};
+use crate::terminal::{Answers, Lines, Output, Screen};
 use crate::typed_lines::{Next, Typed, TypedLines};
 use debug_prompt::{Dialogue, Turn};
 use debug_streams::StreamWriter;
@@ -17,7 +17,7 @@ use ispc_refusals::Refusal;
 use prompt_texts::{Page, Source};
 use std::cell::Cell;
 use std::io;
-use std::io::{IsTerminal, LineWriter};
+use std::io::IsTerminal;
 use std::process::ExitCode;
 use terminal_lines::{Pages, height_set_by};
 
@@ -65,7 +65,7 @@ fn debug_wide<const W: usize>(
     }
 }
 
-/// Talks on standard output, line by line: on a terminal with the progress of a long `continue`, and in colours where they are wanted.
+/// Talks on standard output: on a terminal with the progress of a long `continue`, and in colours where they are wanted.
 fn talk<const W: usize>(
     rt: &HostRuntime,
     source: Source<'_>,
@@ -76,24 +76,34 @@ fn talk<const W: usize>(
     let Ok(typed) = TypedLines::new(rt) else {
         return refuse(rt, &Refusal::Memory);
     };
+    let Ok(output) = Output::new(rt) else {
+        return refuse(rt, &Refusal::Memory);
+    };
+    let streams = Streams {
+        typed: &typed,
+        output: &output,
+    };
     let pages = Cell::new(Pages::new(screen.height));
     let shown = ShownSource::new(source, &pages, screen.height);
     if screen.is_terminal || screen.has_colours {
-        let writer = StreamWriter::new(Lines::new(rt, &typed, &pages, screen.has_colours));
+        let lines = Lines::new(rt, &typed, &output, &pages, screen.has_colours);
+        let writer = StreamWriter::new(lines);
         let page = if screen.is_terminal {
             Page::on_terminal(writer)
         } else {
             Page::new(writer)
         };
-        return talk_on::<W, _>(rt, &typed, shown, dialogue, session, page);
+        return talk_on::<W, _>(rt, streams, shown, dialogue, session, page);
     }
-    match LineWriter::new(rt.alloc(), rt.stdout()) {
-        Err(_) => refuse(rt, &Refusal::Memory),
-        Ok(lines) => {
-            let page = Page::new(StreamWriter::new(lines));
-            talk_on::<W, _>(rt, &typed, shown, dialogue, session, page)
-        }
-    }
+    let page = Page::new(StreamWriter::new(Answers::new(&output)));
+    talk_on::<W, _>(rt, streams, shown, dialogue, session, page)
+}
+
+/// The lines that are read, and what is written out before the next one is.
+#[derive(Clone, Copy)]
+struct Streams<'a> {
+    typed: &'a TypedLines,
+    output: &'a Output,
 }
 
 /// The source, the pages of a terminal, and how many lines one of them has where nothing else is set.
@@ -123,10 +133,11 @@ impl<'a> ShownSource<'a> {
     }
 }
 
-/// Does the lines of standard input, up to one that quits or the end; and those of breakpoints and watches, before another one is read.
+/// Does the lines of standard input, up to one that quits or the end; and those of breakpoints and watches, before another one is read. What
+/// was written goes out before each line is asked for.
 fn talk_on<const W: usize, O: AnswerWriter + Drop>(
     rt: &HostRuntime,
-    typed: &TypedLines,
+    streams: Streams<'_>,
     shown: ShownSource<'_>,
     dialogue: Dialogue,
     session: &mut WholeSession<W>,
@@ -138,41 +149,58 @@ fn talk_on<const W: usize, O: AnswerWriter + Drop>(
     let is_asked = rt.stdin().is_terminal();
     dialogue.begin(shown.source, session, &mut page);
     for _ in 0..u64::MAX {
+        if streams.output.show().is_err() {
+            return write_fault(rt);
+        }
         ask(rt, is_asked, &dialogue);
-        let turn = match typed.next_of(&dialogue, &mut line) {
+        let next = match streams.typed.next_of(&dialogue, &mut line) {
             Err(fault) => return refuse_reading(rt, &fault),
-            Ok(Next::Read(Typed::End)) => {
-                leave(rt, is_asked);
-                return end(rt, &dialogue, &mut page);
-            }
-            Ok(Next::Read(Typed::TooLong)) => tell_too_long(&mut page),
-            Ok(Next::Read(Typed::Line)) => {
-                let text = without_feed(line.as_slice());
-                shown.begin(text);
-                dialogue.do_line(rt.alloc(), text, shown.source, session, &mut page)
-            }
-            Ok(Next::Waiting) => {
-                shown.begin(&[]);
-                dialogue.do_first(rt.alloc(), shown.source, session, &mut page)
-            }
+            Ok(next) => next,
         };
+        if next == Next::Read(Typed::End) {
+            leave(rt, is_asked);
+        }
+        let text = without_feed(line.as_slice());
+        let turn = do_next::<W, _>(rt, next, text, shown, &mut dialogue, session, &mut page);
         match turn {
             Turn::Goes => {}
-            Turn::Quits => return ExitCode::SUCCESS,
+            Turn::Quits => return end(rt, streams.output, &page),
             Turn::Fails => return write_fault(rt),
         }
     }
     ExitCode::SUCCESS
 }
 
-/// Ends where no line came.
-fn end<O: AnswerWriter + Drop>(
+/// Does what is next: a line that was read, or one that waits.
+fn do_next<const W: usize, O: AnswerWriter + Drop>(
     rt: &HostRuntime,
-    dialogue: &Dialogue,
+    next: Next,
+    text: &[u8],
+    shown: ShownSource<'_>,
+    dialogue: &mut Dialogue,
+    session: &mut WholeSession<W>,
     page: &mut Page<O>,
-) -> ExitCode {
-    dialogue.end(page);
-    if page.has_failed() {
+) -> Turn {
+    match next {
+        Next::Waiting => {
+            shown.begin(&[]);
+            dialogue.do_first(rt.alloc(), shown.source, session, page)
+        }
+        Next::Read(Typed::Line) => {
+            shown.begin(text);
+            dialogue.do_line(rt.alloc(), text, shown.source, session, page)
+        }
+        Next::Read(Typed::TooLong) => tell_too_long(page),
+        Next::Read(Typed::End) => {
+            dialogue.end(page);
+            Turn::Quits
+        }
+    }
+}
+
+/// Ends when all that was written has gone out.
+fn end<O: AnswerWriter + Drop>(rt: &HostRuntime, output: &Output, page: &Page<O>) -> ExitCode {
+    if page.has_failed() || output.show().is_err() {
         write_fault(rt)
     } else {
         ExitCode::SUCCESS

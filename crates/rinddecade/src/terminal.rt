@@ -1,10 +1,10 @@
-//! Standard output as people see it: lines in colours, and a long list that waits.
+//! Standard output as people see it: held back until the next line is asked for, with lines in colours, and a long list that waits.
 use crate::refusing::refuse_because;
 use crate::typed_lines::{Typed, TypedLines};
 use desk_options::Debugged;
-use std::cell::Cell;
+use std::cell::{Cell, RefCell};
 use std::env;
-use std::io::{self, IsTerminal, Write};
+use std::io::{self, BufWriter, IsTerminal, Stdout, Write};
 use std::process::ExitCode;
 use terminal_lines::{MORE, Pages, height_of, put_coloured};
 
@@ -75,11 +75,84 @@ fn height(rt: &HostRuntime) -> u32 {
     }
 }
 
+/// Standard output. What is written is held back until it is to be seen, so that the answer of a line goes out at once.
+#[derive(Drop)]
+pub(crate) struct Output {
+    held: RefCell<BufWriter<Stdout>>,
+}
+
+impl Output {
+    /// Standard output, to which nothing was written.
+    ///
+    /// # Errors
+    ///
+    /// Out of memory.
+    pub(crate) fn new(rt: &HostRuntime) -> io::Result<Self> {
+        let held = BufWriter::new(rt.alloc(), rt.stdout())?;
+        Ok(Output {
+            held: RefCell::new(held),
+        })
+    }
+
+    /// Takes bytes.
+    ///
+    /// # Errors
+    ///
+    /// The fault of standard output, where what is held back goes out.
+    fn put(&self, bytes: &[u8]) -> io::Result<()> {
+        match self.held.try_borrow_mut() {
+            Ok(mut held) => held.write_all(bytes),
+            Err(_) => Err(in_use()),
+        }
+    }
+
+    /// Writes out what is held back.
+    ///
+    /// # Errors
+    ///
+    /// The fault of standard output.
+    pub(crate) fn show(&self) -> io::Result<()> {
+        match self.held.try_borrow_mut() {
+            Ok(mut held) => held.flush(),
+            Err(_) => Err(in_use()),
+        }
+    }
+}
+
+/// The fault of one who writes while another one does.
+fn in_use() -> io::Error {
+    io::Error::from(io::ErrorKind::WouldBlock)
+}
+
+/// A writer on standard output.
+#[derive(Clone, Copy)]
+pub(crate) struct Answers<'a> {
+    output: &'a Output,
+}
+
+impl<'a> Answers<'a> {
+    pub(crate) fn new(output: &'a Output) -> Self {
+        Answers { output }
+    }
+}
+
+impl Write for Answers<'_> {
+    fn write(&mut self, bytes: &[u8]) -> io::Result<usize> {
+        self.output.put(bytes)?;
+        Ok(bytes.len())
+    }
+
+    fn flush(&mut self) -> io::Result<()> {
+        self.output.show()
+    }
+}
+
 /// Standard output, line after line.
 #[derive(Drop)]
 pub(crate) struct Lines<'a> {
     rt: &'a HostRuntime,
     typed: &'a TypedLines,
+    output: &'a Output,
     pages: &'a Cell<Pages>,
     has_colours: bool,
     line: Vec<u8>,
@@ -89,12 +162,14 @@ impl<'a> Lines<'a> {
     pub(crate) fn new(
         rt: &'a HostRuntime,
         typed: &'a TypedLines,
+        output: &'a Output,
         pages: &'a Cell<Pages>,
         has_colours: bool,
     ) -> Self {
         Lines {
             rt,
             typed,
+            output,
             pages,
             has_colours,
             line: Vec::new(rt.alloc()),
@@ -120,16 +195,17 @@ impl<'a> Lines<'a> {
 
     fn put_line(&mut self) -> io::Result<()> {
         if !self.has_colours {
-            return self.rt.stdout().write_all(self.line.as_slice());
+            return self.output.put(self.line.as_slice());
         }
         let mut coloured = Vec::new(self.rt.alloc());
         put_coloured(self.line.as_slice(), &mut coloured)?;
-        self.rt.stdout().write_all(coloured.as_slice())
+        self.output.put(coloured.as_slice())
     }
 
     /// Asks whether the list goes on, and waits for a line. At the end of the input the list ends.
     fn wait(&self) -> io::Result<Pages> {
-        self.rt.stdout().write_all(MORE.as_bytes())?;
+        self.output.put(MORE.as_bytes())?;
+        self.output.show()?;
         let mut line = Vec::new(self.rt.alloc());
         let answer = match self.typed.next(&mut line)? {
             Typed::End => b"q".as_slice(),
@@ -143,7 +219,8 @@ impl Write for Lines<'_> {
     /// What begins with a carriage return goes out at once: it is written over. All else goes line by line.
     fn write(&mut self, bytes: &[u8]) -> io::Result<usize> {
         if bytes.first() == Some(&b'\r') {
-            self.rt.stdout().write_all(bytes)?;
+            self.output.put(bytes)?;
+            self.output.show()?;
             return Ok(bytes.len());
         }
         for byte in bytes {
@@ -156,6 +233,6 @@ impl Write for Lines<'_> {
     }
 
     fn flush(&mut self) -> io::Result<()> {
-        Ok(())
+        self.output.show()
     }
 }
