@@ -27,6 +27,15 @@ func need(holds bool, what string, given ...interface{}) {
 	fmt.Println("came:", text)
 }
 
+// The text of a refusal, as an editor spells it: each {name} of its format is the variable of the name.
+func spelled(told dap.ErrorMessage) string {
+	text := told.Format
+	for name, value := range told.Variables {
+		text = strings.ReplaceAll(text, "{"+name+"}", value)
+	}
+	return text
+}
+
 func must(fault error, what string) {
 	if fault != nil {
 		need(false, "%s: %v", what, fault)
@@ -195,7 +204,7 @@ func stepsForwardsAndBack(c *client, source string) {
 	c.stop("step", 2)
 	set := dap.EvaluateArguments{Expression: "no_such", Context: "watch"}
 	refused, isRefused := c.answer("evaluate", &dap.EvaluateRequest{Arguments: set}).(*dap.ErrorResponse)
-	need(isRefused && strings.HasPrefix(refused.Body.Error.Format, "S5 UnknownName"), "a refusal with its reason")
+	need(isRefused && strings.HasPrefix(spelled(refused.Body.Error), "S5 UnknownName"), "a refusal with its reason")
 	c.end()
 }
 
