@@ -57,6 +57,25 @@ def default_history(client, examples):
         client.end()
 
 
+def ranges(client, examples):
+    """The numbers of a launch are taken up to the ends of their ranges, and no further. A history of one step and moves of one step do so much."""
+    refusal = "width is 4, 8 or 16, history 1 to 65536, steps 1 to 10000000"
+    with written(LINES) as path:
+        for name, value in [("width", 0), ("width", 7), ("width", 32), ("history", 0), ("history", 65537), ("steps", 0), ("steps", 10000001)]:
+            same(client.refused("launch", **{"program": str(path), name: value}), refusal)
+        client.launch(path, width=8, history=65536, steps=10000000)
+        client.begin()
+        same(client.move("continue")["text"], "ended")
+        client.again()
+        client.launch(path, width=4, history=1, steps=1)
+        client.begin()
+        places = [client.place(), *((client.move("continue"), client.place())[1] for _ in range(2))]
+        same([it[0][:2] for it in places], [(2, 5), (3, 5), (4, 5)])
+        same((client.move("stepBack"), client.place())[1], places[1])
+        same(client.refused_move("stepBack", "C3 NoHistory")["reason"], "step")
+        client.end()
+
+
 def step_limit(client, examples):
     """A forward command does as many moves as the launch says."""
     with written(LINES) as path:
@@ -162,6 +181,6 @@ def ends_before_a_launch(client, examples):
 
 
 LAUNCH_CHECKS = [
-    arguments, history, default_history, step_limit, given_input, first_statement, no_breakpoints, full, changed_texts,
+    arguments, ranges, history, default_history, step_limit, given_input, first_statement, no_breakpoints, full, changed_texts,
     ends_before_a_launch,
 ]

@@ -21,6 +21,9 @@ MOMENTS = [(0, None), (0, 0), (1, 0), (1, 1), (4, 1), (4, 5), (2, 5), (9, 5)]
 STEPS = ["3:5", "4:5", "5:5", "6:5", "7:5", "8:5", "9:5", "10:1"]
 FILE = "asked.ispc"
 PLACES = [f"go at {FILE}:{place}, step {step}, lanes " for step, place in enumerate(STEPS)]
+# The step of the last moment, and more steps than the run has.
+LAST, MANY = len(MOMENTS) - 1, len(MOMENTS) + 1
+CUT = "the step limit of one command is reached: later moments are not told"
 
 
 def rows(holds):
@@ -33,15 +36,16 @@ def rows(holds):
     return found
 
 
-def told(expression, holds, most):
-    """What is told of an expression."""
-    values = rows(holds)
+def told(expression, holds, most, limit):
+    """What is told of an expression, of as many steps as one command does."""
+    values = [it for it in rows(holds) if it[0] <= limit]
+    cut = [CUT] if limit <= LAST else []
     hits = [(step, lanes) for step, lanes in values if any(lanes)]
     lines = [PLACES[step] + "".join(".#"[bool(it)] for it in lanes) for step, lanes in hits[:most]]
     last = f" of the {len(values)} moments at which it has a value"
     if not hits:
-        return [f"{expression}: 0 at each{last}"]
-    return [*lines, f"{expression}: not 0 at {len(hits)}{last}; `goto {hits[0][0]}` goes to the first"]
+        return [f"{expression}: 0 at each{last}", *cut]
+    return [*lines, f"{expression}: not 0 at {len(hits)}{last}; `goto {hits[0][0]}` goes to the first", *cut]
 
 
 def uniform(test):
@@ -61,18 +65,18 @@ ASKED = [
 ]
 
 
-def asked(before):
+def asked(before, limit):
     """Each expression, asked of the run where the program stands behind some lines, and where it stands then."""
     lines, wanted = [*before], []
     for expression, holds in ASKED:
         lines += [f"when {expression}", f"when -a {expression}"]
-        wanted += told(expression, holds, 1) + told(expression, holds, 20)
+        wanted += told(expression, holds, 1, limit) + told(expression, holds, 20, limit)
     lines += ["info line"]
     return lines, wanted
 
 
-def run(name, before, last):
-    lines, wanted = asked(before)
+def run(name, before, last, limit=MANY):
+    lines, wanted = asked(before, limit)
 
     def judge(text):
         said = text.decode(errors="replace").splitlines()
@@ -80,7 +84,8 @@ def run(name, before, last):
         came = said[place[-1] - len(wanted) : place[-1]] if place else []
         return [] if came == wanted else [f"{found!r}, and {right!r} is wanted" for found, right in zip(came, wanted) if found != right][:8] or ["it has few lines:", *shown(text)]
 
-    return Run(name, "".join(f"{it}\n" for it in lines).encode(), ["debug", FILE], judge, b"", data={FILE: SOURCE})
+    words = ["debug", FILE, "--steps", str(limit)]
+    return Run(name, "".join(f"{it}\n" for it in lines).encode(), words, judge, b"", data={FILE: SOURCE})
 
 
 def refused():
@@ -94,4 +99,6 @@ def refused():
 
 
 def runs():
-    return [run("each moment is asked from the start", [], PLACES[0]), run("each moment is asked from amid the run", ["step 4"], PLACES[4]), refused()]
+    found = [run("each moment is asked from the start", [], PLACES[0]), run("each moment is asked from amid the run", ["step 4"], PLACES[4])]
+    found += [run(f"each moment of {limit} steps is asked", [], PLACES[0], limit) for limit in (2, 5, LAST)]
+    return [*found, run("each moment of 4 steps is asked from behind them", ["step 3", "step 3"], PLACES[6], 4), refused()]

@@ -62,7 +62,7 @@ def in_colours(session):
 
 def results(built):
     ahead = [paged(built, f"{name}, typed at once", lines + b"quit\n", wanted, is_raw=True) for name, lines, wanted in PAGED[:-1]]
-    return [coloured(built, *row) for row in WHERE] + [paged(built, *row) for row in PAGED] + ahead
+    return [coloured(built, *row) for row in WHERE] + [paged(built, *row) for row in PAGED + OF_HEIGHTS] + ahead
 
 
 # The environment, and whether a terminal then has colours.
@@ -98,11 +98,19 @@ PAGED = [
     ("set pagination off and on", b"set pagination off\nlist 1,19\nset pagination on\nlist 1,8\n\n", PROMPT + page(0, 19) + PROMPT + PROMPT + page(0, 7) + MORE + page(7, 1) + PROMPT),
     ("the input ends where the terminal waits", b"list 1,19\n", page(0, 7) + MORE + PROMPT),
 ]
+# The same where the environment has another height: a page has a line at least beside that of the question. The first `c` answers what is shown
+# before the first prompt.
+OF_HEIGHTS = [
+    ("pages of one line", b"c\nlist 1,3\n\n\n", page(0, 1) + MORE + page(1, 1) + MORE + page(2, 1) + PROMPT, 2),
+    ("a terminal of one line has such pages", b"c\nlist 1,3\n\nq\n", page(0, 1) + MORE + page(1, 1) + MORE + PROMPT, 1),
+    ("a terminal of one line, and set height 11", b"c\nset height 11\nlist 1,19\n\n", PROMPT + page(0, 10) + MORE + page(10, 9) + PROMPT, 1),
+    ("a terminal of no height does not wait", b"list 1,19\n", page(0, 19) + PROMPT, 0),
+]
 
 
-def paged(built, name, lines, wanted, is_raw=False):
+def paged(built, name, lines, wanted, height=HEIGHT, is_raw=False):
     """A list on a terminal at both ends. What comes before the first prompt is not looked at."""
-    text = typed(built, LINES, lines, {"LINES": str(HEIGHT)}, is_both=True, is_raw=is_raw)
+    text = typed(built, LINES, lines, {"LINES": str(height)}, is_both=True, is_raw=is_raw)
     came = text.partition(PROMPT)[2].rstrip(b"\n")
     return Result(f"a long list: {name}", came == wanted, differences("the terminal", came, wanted))
 
