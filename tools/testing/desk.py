@@ -28,6 +28,9 @@ ECHOED = MOST_TYPED - len("echo ")
 # What is written to files as it is on standard output.
 TO_FILES = (["page"], ["profile"], ["profile", "--json"], ["profile", "--compare"], ["port"])
 
+# So many exported functions are listed.
+NAMED = 12
+
 # One breakpoint more than there is room for.
 STOPS = 64
 FULL = b"C11 TableFull: 64 breakpoints and watches are there; `delete N` makes room.\n"
@@ -96,7 +99,15 @@ def refused_programs():
     none = b"entry: E1 NoEntry\nexported functions: none; write `export` before the function that the run begins with\n" + explained(b"E1")
     other = b"entry: E1 NoEntry\nno exported function is called a\nexported functions: b, c\n" + explained(b"E1")
     run = lambda name, source, errors, words=(): told(name, ["go.ispc", *words], errors, {"go.ispc": source})
+    exported = lambda count: b"".join(b"export void f%d() { }\n" % number for number in range(count))
+    named = lambda count, more=b"": b", ".join(b"f%d" % number for number in range(count)) + more
+    listed = lambda names: other.replace(b"b, c", names)
+    byte = b"1:1: S1 BadByte\n" + marked(1, b"@", 0) + explained(b"S1")
     return [
+        run("as many entries as are listed", exported(NAMED), listed(named(NAMED)), ["--entry", "a"]),
+        run("an entry more than are listed", exported(NAMED + 1), listed(named(NAMED, b", ..")), ["--entry", "a"]),
+        run("some entries more than are listed", exported(NAMED + 3), listed(named(NAMED, b", ..")), ["--entry", "a"]),
+        Run("a picture that watches in a source with a fault", b"", ["picture", "go.ispc", "--watch", "x"], b"", byte, 2, {"go.ispc": b"@\n"}),
         run("a source with a fault", RATE, rate),
         run("a source without an entry", HIDDEN, none),
         run("an entry that is not exported", several, other, ["--entry", "a"]),
@@ -119,6 +130,11 @@ def refused_inputs():
         "a second value of a scalar": (b"n = 5 6\n", b"input 1: I1 BadLine\n" + marked(1, b"n = 5 6", 6) + explained(b"I1")),
         "no value of a scalar": (b"n =\n", b"input 1: I1 BadLine\n" + marked(1, b"n =", 3) + explained(b"I1")),
         "a name that no input gives": (b"n = 5\n  z = 1\n", b"input 2: I1 BadLine\n" + marked(2, b"  z = 1", 2) + explained(b"I1")),
+        "no digits of a value": (b"n = -\n", b"input 1: I1 BadLine\n" + marked(1, b"n = -", 4) + explained(b"I1")),
+        **{
+            f"{value.decode()} of a name that no input gives": (b"z = %s\n" % value, b"input 1: I1 BadLine\n" + marked(1, b"z = %s" % value, 0) + explained(b"I1"))
+            for value in (b"true", b"false", b"-7", b"0x1F")
+        },
         "a line without =": (b"n 5\n", b"input 1: I1 BadLine\n" + marked(1, b"n 5", 0) + explained(b"I1")),
         "a value too many": (b"t = 1 2 3\n", b"input 1: I4 TooLarge\n" + marked(1, b"t = 1 2 3", 8) + explained(b"I4")),
         "a value behind tabs": (b"a =\t1\t128\n", b"input 1: I3 Range\n" + marked(1, b"a =\t1\t128", 6, b"   \t \t") + explained(b"I3")),
@@ -174,11 +190,16 @@ def typed_lines():
     is_full = lambda text: [] if text.count(FULL) == 1 and text.endswith(FULL + b"    break 3\n    ^\n") else [f"it ends {text[-300:]!r}"]
     echoed = lambda count: b"echo " + b"z" * count + b"\n"
     is_echoed = lambda text: [] if text.endswith(b"\n" + b"z" * ECHOED + b"\n" + TOO_LONG) else [f"it ends {text[-400:]!r}"]
+    in_colours = ["debug", "listed.ispc", "--color", "always"]
+    is_whole = lambda text: [] if text.endswith(b"".join(b"   %5d  // line %d\n" % (number, number) for number in range(1, 20))) else [f"it ends {text[-200:]!r}"]
+    lines = b"".join(b"// line %d\n" % number for number in range(1, 20)) + b"export void go() { }\n"
     return [
+        Run("no list waits where no terminal is", b"set height 5\nlist 1,19\n", in_colours, is_whole, b"", 0, {"listed.ispc": lines}),
         Run("the longest text of `echo`, and one of a byte more", echoed(ECHOED) + echoed(ECHOED + 1), words, is_echoed, b"", 0, FILES),
         Run("a NUL in a line, and a line without its end", b"echo a\0b\nprint z", words, has_words(b"\na?b\n", b"C2 "), b"", 0, FILES),
         Run("a breakpoint more than there is room for", b"break 2\n" * STOPS + b"break 3\n", words, is_full, b"", 0, FILES),
         Run("a line of the most bytes", b"x" * MOST_TYPED + b"\n", words, stops((0, 1)), b"", 0, FILES),
+        Run("a line of the most bytes without its end", b"x" * MOST_TYPED, words, stops((0, 1)), b"", 0, FILES),
         Run("a line of one byte more", long + b"\nquit\n", words, stops((1, 1)), b"", 0, FILES),
         Run("a line of one byte more without its end", long, words, stops((1, 1)), b"", 0, FILES),
         Run("a line of a mebibyte, and a command behind it", b"y" * (1 << 20) + b"\nprint z\n", words, has_words(TOO_LONG, b"C2 "), b"", 0, FILES),
@@ -211,8 +232,18 @@ def histories():
 
 
 def results(built):
-    """What takes devices, and files that are written."""
-    return of_devices(built) + of_written_files(built)
+    """What takes devices, words that are not text, and files that are written."""
+    return of_devices(built) + of_bytes(built) + of_written_files(built)
+
+
+def of_bytes(built):
+    """Words that are not text."""
+    found = []
+    for words in ([b"debug", b"\xff.ispc"], [b"\xff"], [b"explain", b"S7", b"\xc3"]):
+        ran = subprocess.run([built, *words], env={}, stdin=subprocess.DEVNULL, capture_output=True)
+        is_right = (ran.returncode, ran.stdout) == (2, b"") and ran.stderr.startswith(b"error: invalid UTF-8 was detected in one or more arguments")
+        found.append(Result(f"words that are not text: {words}", is_right, [f"status {ran.returncode}, {ran.stderr!r}"]))
+    return found
 
 
 def of_devices(built):
@@ -229,11 +260,16 @@ def of_devices(built):
 def of_written_files(built):
     """A picture is written over a picture, and over anything else only by --force; never over what it is made from."""
     other = b"<svg xmlns='http://www.w3.org/2000/svg'></svg>\n"
+    begun = PICTURE + b'100" height="100"><circle r="9"/></svg>\n'
+    styled = b"<style>\ntext{font:13px monospace;white-space:pre}\n.number{fill:#888}</style>\n"
     rows = [
         ("a new file", ["--to", "new.svg"], "new.svg", None, PICTURE),
         ("an empty file", ["--to", "new.svg"], "new.svg", b"", PICTURE),
         ("a page", ["--to", "new.html"], "new.html", None, b"<!DOCTYPE html>\n"),
         ("a file of another program", ["--to", "other.svg"], "other.svg", other, None),
+        ("a file of one byte", ["--to", "other.svg"], "other.svg", b"x", None),
+        ("a file of another program that begins alike", ["--to", "other.svg"], "other.svg", begun, None),
+        ("a file of another program that has such a style", ["--to", "other.svg"], "other.svg", styled, None),
         ("a file of another program, by --force", ["--to", "other.svg", "--force"], "other.svg", other, PICTURE),
         ("the source", ["--to", "first.ispc"], "first.ispc", FIRST, None),
         ("the source, by --force", ["--to", "first.ispc", "--force"], "first.ispc", FIRST, None),
@@ -286,15 +322,17 @@ def folder_as_file(built):
 
 
 def as_on_output(built, words):
-    """A new file and an empty one have what standard output has, and by --force one that held something else, which is kept without; so is the source."""
+    """A new file and an empty one have what standard output has, and by --force one that held something else, which is kept without; so is the source.
+    A page is written over a page."""
     verb, *options = words
     called = lambda folder, *more: subprocess.run([built, verb, "first.ispc", *options, *more], cwd=folder, env={}, stdin=subprocess.DEVNULL, capture_output=True)
-    rows = [("new", None, [], True), ("empty", b"", [], True), ("other", b"other\n", [], False), ("forced", b"other\n" * 9999, ["--force"], True)]
+    rows = [("new", None, [], True), ("empty", b"", [], True), ("other", b"x", [], False), ("forced", b"other\n" * 9999, ["--force"], True)]
     rows += [("first.ispc", FIRST, force, False) for force in ([], ["--force"])]
     with tempfile.TemporaryDirectory(prefix="desk-") as folder:
         pathlib.Path(folder, "first.ispc").write_bytes(FIRST)
         whole = called(folder).stdout
         why = [] if whole else ["standard output has nothing"]
+        rows.append(("again", whole, [], verb == "page"))
         for file, before, force, is_written in rows:
             path = pathlib.Path(folder, file)
             if before is not None:

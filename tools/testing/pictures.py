@@ -182,6 +182,10 @@ def run_of(root, name):
     return Run(f"picture of {name}", b"", words, (root / f"examples/{name}.svg").read_bytes(), b"", data=source | data)
 
 
+# Command lines that lead two steps on.
+LED = {"one line": b"step 2\n", "lines without their end": b"step\nnothing\n\nundo\nstep\nstep", "up to quit": b"step\nstep\nquit\nstep\n"}
+
+
 def other_runs():
     """Sources whose pictures are judged by what stands in them."""
     fault = b"export void go() {\n    int x = 6 / (programIndex - 2);\n}\n"
@@ -196,7 +200,8 @@ def other_runs():
         Run("picture from behind the end", b"", ["picture", "first.ispc", "--from", "7"], b"", NOT_SO_FAR, 2, {"first.ispc": first}),
         Run("picture from the last step", b"", ["picture", "first.ispc", "--from", "5"], has_titles("step 5, line 5, lane 1"), b"", data={"first.ispc": first}),
         Run("picture from behind --steps", b"", ["picture", "first.ispc", "--from", "5", "--steps", "3"], b"", NOT_SO_FAR, 2, {"first.ispc": first}),
-        Run("picture from where commands led", b"", ["picture", "first.ispc", "--commands", "two", "--from", "2"], late, b"", data={"first.ispc": first, "two": b"step 2\n"}),
+        *(Run(f"picture from where commands led, {name}", b"", ["picture", "first.ispc", "--commands", "two", "--from", "2"], late, b"", data={"first.ispc": first, "two": lines})
+          for name, lines in LED.items()),
     ]
 
 

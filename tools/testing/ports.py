@@ -13,7 +13,7 @@ import re
 import subprocess
 import tempfile
 
-from . import kernels, porting
+from . import desk, kernels, porting
 from .calls import side_by_side
 from .tried import Result
 
@@ -235,9 +235,23 @@ def refused(port, it):
     text, place, words = it
     with tempfile.TemporaryDirectory(prefix="port-") as folder:
         output, errors, status = port.port(text.encode(), folder)
-        first = errors.decode(errors="replace").split("\n")[0]
+        first, _, shown = errors.decode(errors="replace").partition("\n")
         is_right = status == 1 and not output and first.startswith(f"source.ispc:{place}: ") and words in first
-        return Result(f"port refuses {text[:40]!r}", is_right, [f"status {status}", first, f"wanted: {place} {words}"])
+        why = [] if is_right else [f"status {status}", first, f"wanted: {place} {words}"]
+        why += [] if shown == mark_of(text, place) else ["another mark:", *shown.splitlines(), *mark_of(text, place).splitlines()]
+        return Result(f"port refuses {text[:40]!r}", not why, why)
+
+
+def mark_of(text, place):
+    """The line of a place with a mark under it; of a line of more than 68 bytes the 60 around, of which 30 stand before the mark."""
+    line, column = map(int, place.split(":"))
+    source, before, front = text.split("\n")[line - 1].encode(), column - 1, 0
+    if len(source) > 68:
+        front = max(0, min(before - 30, len(source) - 60))
+        cut = source[front : front + 60]
+        before += (3 if front else 0) - front
+        source = (b"..." if front else b"") + cut + (b"..." if front + 60 < len(source) else b"")
+    return desk.marked(line, source, before).decode()
 
 
 def damaged(root):

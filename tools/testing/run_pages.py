@@ -299,6 +299,19 @@ def differences(at, came, wanted):
     return why
 
 
+def is_led_to(source, done):
+    """Whether a page has the moments of a run behind so many steps, which commands have done: its own steps are counted from there."""
+    wanted, _ = wanted_of(source, {"width": 4}, 1 + done, 100_000)
+
+    def judged(text):
+        record = record_of(text.decode(errors="replace"))
+        came = list(moments_in(record))
+        why = [] if (len(came), record["first"]) == (len(wanted), 1) else [f"{len(came)} moments from {record['first']} on, and {len(wanted)} from 1 on are wanted"]
+        return why + [it for at, (one, other) in enumerate(zip(came, wanted)) for it in differences(at, one, other)][:8]
+
+    return judged
+
+
 def is_whole_page(root):
     """Whether a page has the viewer as crates/page_viewer has it round its record."""
     front, rest = viewer.front_and_rest(root)
@@ -410,5 +423,7 @@ def runs(root):
     cut = [run_of("calls", CALLS, first=first, most=most) for first, most in ((1, 1), (3, 5), (12, 100))]
     some = [run_of("loop", LOOP, options={"width": width}, each=each, around=around, first=first) for width, each, around, first in SOME]
     some += [run_of("loop", LOOP, most=20, each=30), run_of("calls", CALLS, each=4, around=(1,)), run_of("calls", CALLS, each=1000), run_of("types", TYPES, options={"width": 16}, each=7)]
-    late = Run("page from behind the end", b"", ["page", "calls.ispc", "--from", "50"], b"", None, 2, {"calls.ispc": CALLS.encode()})
-    return [*stored_pages(root), *example_runs(root), *kernel_runs(root), *own, *cut, *some, *no_places(), hostile, late]
+    data = {"calls.ispc": CALLS.encode()}
+    late = [Run(f"page {' '.join(words)}", b"", ["page", "calls.ispc", *words], b"", pictures.NOT_SO_FAR, 2, data) for words in (["--from", "50"], ["--from", "9", "--steps", "7"])]
+    led = [Run(f"page from where commands led, {name}", b"", ["page", "calls.ispc", "--commands", "two"], is_led_to(CALLS, 2), b"", data=data | {"two": lines}) for name, lines in pictures.LED.items()]
+    return [*stored_pages(root), *example_runs(root), *kernel_runs(root), *own, *cut, *some, *no_places(), hostile, *late, *led]

@@ -62,7 +62,8 @@ def in_colours(session):
 
 def results(built):
     ahead = [paged(built, f"{name}, typed at once", lines + b"quit\n", wanted, is_raw=True) for name, lines, wanted in PAGED[:-1]]
-    return [coloured(built, *row) for row in WHERE] + [paged(built, *row) for row in PAGED + OF_HEIGHTS] + ahead
+    pages = [paged(built, *row) for row in PAGED + OF_HEIGHTS] + ahead
+    return [coloured(built, *row) for row in WHERE] + pages + [of_lists(built), left(built), *profiled(built)]
 
 
 # The environment, and whether a terminal then has colours.
@@ -113,6 +114,37 @@ def paged(built, name, lines, wanted, height=HEIGHT, is_raw=False):
     text = typed(built, LINES, lines, {"LINES": str(height)}, is_both=True, is_raw=is_raw)
     came = text.partition(PROMPT)[2].rstrip(b"\n")
     return Result(f"a long list: {name}", came == wanted, differences("the terminal", came, wanted))
+
+
+def of_lists(built):
+    """Lines that a breakpoint does begin a page each: four lists of five lines do not wait, though one page has eleven."""
+    lines = b"break 3\ncommands\n" + b"list 1,5\n" * 4 + b"end\ncontinue\n"
+    text = typed(built, b"export void go() {\n    int x = 1;\n    x = 2;\n\n}\n", lines, {"LINES": "12"}, is_both=True)
+    count = text.count(b"       1  export void go() {\n")
+    is_right = MORE not in text and count >= 5
+    return Result("lines of breakpoints begin a page each", is_right, [f"{count} lists, {text[-300:]!r}"])
+
+
+def left(built):
+    """Where no line comes a terminal's line is ended."""
+    text = typed(built, BRANCHES, b"step\n", {}, is_both=True)
+    return Result("a terminal's line is ended at the end", text.endswith(b"\n" + PROMPT + b"\n"), [f"it shows {text[-300:]!r}"])
+
+
+def profiled(built):
+    """A profile has colours on a terminal, and none in a file that is written there."""
+    found = []
+    for name, words, wanted in (("a terminal", [], True), ("a file at a terminal", ["--to", "to"], False)):
+        ours, theirs = os.openpty()
+        with tempfile.TemporaryDirectory(prefix="terminal-") as folder:
+            pathlib.Path(folder, "go.ispc").write_bytes(BRANCHES)
+            subprocess.run([built, "profile", "go.ispc", *words], cwd=folder, env={"TERM": "xterm"}, stdin=subprocess.DEVNULL, stdout=theirs, stderr=theirs)
+            text = pathlib.Path(folder, "to").read_bytes() if words else os.read(ours, 65536)
+        for it in (ours, theirs):
+            os.close(it)
+        is_right = text.startswith(b" line") and bool(CODES.search(text)) == wanted
+        found.append(Result(f"colours of a profile on {name}", is_right, [f"it shows {text[-300:]!r}"]))
+    return found
 
 
 def typed(built, source, lines, environment, is_both=False, is_raw=False):

@@ -147,6 +147,16 @@ def beside_many_words(program):
     return Result(f"{RECORD} steps are taken back beside {1 << 20} words", not why, why)
 
 
+def page_of_endless(program):
+    """A page that is cut says of a run how many steps it has still, up to a million."""
+    with tempfile.TemporaryDirectory(prefix="whole-") as folder:
+        go_on()
+        pathlib.Path(folder, "many.ispc").write_text(MANY)
+        ran = subprocess.run([program, "page", "many.ispc", "--most", "3", "--elements", "1"], capture_output=True, cwd=folder, timeout=float(SECONDS))
+    is_right = ran.returncode == 0 and ran.stderr.startswith(b"note: the page ends at step 4, and the run goes on for more than 1000000 more\n")
+    return Result("a page of a run without end", is_right, [f"status {ran.returncode}, {ran.stderr[:200]!r}"])
+
+
 def from_end_to_start(program, kernel):
     """A kernel's run of 1,500,000 steps is taken back from its end to its start, in one piece and to its middle, and made again."""
     names = kernel.names()
@@ -167,8 +177,8 @@ def from_end_to_start(program, kernel):
 
 
 def results(root, program):
-    """A result for each plan, one from the end of a run to its start, one of a fault, one of a kernel, and one of a run with many words."""
+    """A result for each plan, one from the end of a run to its start, one of a fault, one of a kernel, one of a run with many words, and one of its page."""
     longest = next(it for it in kernels.kernels(root) if it.name == LONGEST)
     others = [lambda: to_the_start(program), lambda: in_three_commands(program), lambda: from_end_to_start(program, longest)]
-    others.append(lambda: beside_many_words(program))
+    others += [lambda: beside_many_words(program), lambda: page_of_endless(program)]
     return [*side_by_side(lambda seed: there_and_back(program, seed), SEEDS), *side_by_side(lambda one: one(), others)]
