@@ -50,6 +50,7 @@ CALLS = {
     "ispc_options::wrong_arguments": 0,
     "desk_options::read_verb": 0,
     "lane_report::report": 0,
+    "ispc_debugger::open_machine": 0,
     "ispc_debugger::open_session": 0,
     "ispc_debugger::open_whole_session": 0,
     "ispc_debugger::run": 0,

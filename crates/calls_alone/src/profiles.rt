@@ -1,12 +1,11 @@
 //! Profiles of a run: what is counted, and what is told of it.
 use crate::ends::{Ended, end_of};
-use crate::runs::session;
+use crate::runs::machine;
 use crate::samples::SOURCE;
 use element_accesses::Accesses;
 use foreach_forms::forms_of;
 use frame_expressions::ExpressionMachine;
 use gang_types::{FuncId, Mask, Spot};
-use ispc_debugger::ProgramSession;
 use lane_counts::{Gang, StepAt, Tally};
 use lane_meetings::Meetings;
 use lane_picture::StepsEnd;
@@ -18,13 +17,13 @@ use tests_devices::PieceWriter;
 /// Makes the call of a name, if there is memory for what it is called on.
 pub(crate) fn call(alloc: Global, name: &str) -> Option<Ended> {
     match name {
-        "foreach_forms::forms_of" => Some(find_forms(alloc, &session(alloc)?)),
+        "foreach_forms::forms_of" => Some(find_forms(alloc, &machine(alloc)?)),
         "lane_counts::Tally::enter" => Some(enter_frame(alloc)),
         "lane_counts::Tally::note" => Some(note_step(alloc)),
-        "element_accesses::Accesses::of" => Some(find_accesses(alloc, &session(alloc)?)),
+        "element_accesses::Accesses::of" => Some(find_accesses(alloc, &machine(alloc)?)),
         "lane_meetings::Meetings::note" => Some(note_parting(alloc)),
         "lane_meetings::Meetings::finish" => Some(end_of(&parted(alloc)?.finish())),
-        "lane_profile::count_run" => Some(count(alloc, &mut session(alloc)?)),
+        "lane_profile::count_run" => Some(count(alloc, &mut machine(alloc)?)),
         "profile_texts::write_profile" => Some(write_table(alloc, &tally(alloc)?)),
         "profile_texts::write_comparison" => Some(compare(alloc, &tally(alloc)?)),
         _ => None,
@@ -32,18 +31,18 @@ pub(crate) fn call(alloc: Global, name: &str) -> Option<Ended> {
 }
 
 /// Finds the foreach forms of a program.
-fn find_forms(alloc: Global, session: &ProgramSession<4>) -> Ended {
-    end_of(&forms_of(alloc, session.machine().program()))
+fn find_forms<M: ExpressionMachine>(alloc: Global, machine: &M) -> Ended {
+    end_of(&forms_of(alloc, machine.program()))
 }
 
 /// Finds the accesses of a program.
-fn find_accesses(alloc: Global, session: &ProgramSession<4>) -> Ended {
-    end_of(&Accesses::of(alloc, session.machine().program()))
+fn find_accesses<M: ExpressionMachine>(alloc: Global, machine: &M) -> Ended {
+    end_of(&Accesses::of(alloc, machine.program()))
 }
 
 /// Counts a run.
-fn count(alloc: Global, session: &mut ProgramSession<4>) -> Ended {
-    end_of(&count_run(alloc, session, &mut Accesses::none(alloc), 100))
+fn count<M: ExpressionMachine>(alloc: Global, machine: &mut M) -> Ended {
+    end_of(&count_run(alloc, machine, &mut Accesses::none(alloc), 100))
 }
 
 /// Puts one frame below the steps that are counted.
@@ -86,7 +85,7 @@ fn step_of(lanes: Mask) -> StepAt<'static> {
 
 /// The counts of the run, if there is memory for them.
 fn tally(alloc: Global) -> Option<Tally> {
-    match count_run(alloc, &mut session(alloc)?, &mut Accesses::none(alloc), 100) {
+    match count_run(alloc, &mut machine(alloc)?, &mut Accesses::none(alloc), 100) {
         Ok((tally, _, _)) => Some(tally),
         Err(_) => None,
     }

@@ -5,7 +5,8 @@ use debug_commands::Command;
 use debug_traits::FramedMachine;
 use desk_options::read_verb;
 use frame_values::value_of_expression;
-use ispc_debugger::{ProgramSession, open_session, open_whole_session, run};
+use gang_machine::Machine;
+use ispc_debugger::{ProgramSession, open_machine, open_session, open_whole_session, run};
 use ispc_options::{read_options, wrong_arguments};
 use lane_picture::{Form, Subject, draw};
 use lane_report::report;
@@ -14,6 +15,7 @@ use run_page::write_page;
 use source_port::port;
 use std::alloc::Global;
 use tests_devices::{PieceReader, PieceWriter};
+use undo_log::DeltaRing;
 
 /// Makes the call of a name, if there is memory for what it is called on.
 pub(crate) fn call(alloc: Global, name: &str) -> Option<Ended> {
@@ -26,6 +28,9 @@ pub(crate) fn call(alloc: Global, name: &str) -> Option<Ended> {
             Some(end_of(&read_verb(alloc, &["picture", "it.ispc", "--watch", "x"])))
         }
         "lane_report::report" => Some(report_lanes(alloc)),
+        "ispc_debugger::open_machine" => {
+            Some(end_of(&open_machine::<4>(alloc, SOURCE, INPUT, &OPTIONS)))
+        }
         "ispc_debugger::open_session" => {
             Some(end_of(&open_session::<4>(alloc, SOURCE, INPUT, &OPTIONS)))
         }
@@ -46,6 +51,11 @@ pub(crate) fn call(alloc: Global, name: &str) -> Option<Ended> {
 /// A session before the first step, if there is memory for it.
 pub(crate) fn session(alloc: Global) -> Option<ProgramSession<4>> {
     open_session::<4>(alloc, SOURCE, INPUT, &OPTIONS).ok()
+}
+
+/// A machine before the first step, if there is memory for it.
+pub(crate) fn machine(alloc: Global) -> Option<Machine<4, DeltaRing>> {
+    open_machine::<4>(alloc, SOURCE, INPUT, &OPTIONS).ok()
 }
 
 /// Writes the report of the source.

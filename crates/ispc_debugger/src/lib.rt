@@ -8,7 +8,7 @@ mod whole;
 pub use ispc_options::{Options, Paths, Width, read_options};
 pub use ispc_refusals::{Refusal, write_refusal};
 pub use ispc_script::split_script;
-pub use opening::{ProgramSession, open_session};
+pub use opening::{ProgramSession, open_machine, open_session};
 pub use running::run;
 pub use transcript::Ending;
 pub use whole::{WholeSession, open_whole_session};

@@ -59,7 +59,11 @@ pub fn open_session<const W: usize>(
 }
 
 /// The machine of such a session.
-pub(crate) fn open_machine<const W: usize>(
+///
+/// # Errors
+///
+/// Why there is none, as of the session.
+pub fn open_machine<const W: usize>(
     alloc: Global,
     source: &[u8],
     input: &[u8],

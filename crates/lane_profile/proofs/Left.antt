@@ -1,17 +1,16 @@
 -- The steps that are left of a run.
-use Rattle.std.proofs.Common.{◌≡◌, refl, sym, ap, ◌∙◌, subst, ℕ, zero, suc, ◌+◌, ◌-◌, ◌<◌, ◌≤◌, ◌^◌, Bool, true, List, [], ◌∷◌, length, map, Option, Some, arith}
+use Rattle.std.proofs.Common.{◌≡◌, refl, sym, ap, ◌∙◌, subst, ℕ, zero, suc, ◌+◌, ◌-◌, ◌<◌, ◌≤◌, ◌^◌, Bool, true, false, List, [], ◌∷◌, length, map, Option, Some, arith}
 use Rattle.std.proofs.lemmas.List.{length-map}
 use Rattle.gang_model.specs.Types.Tree.{Program}
 use Rattle.gang_model.specs.Running.State.{State}
 use Rattle.gang_model.specs.Running.Step.{Stepped, Fails, Goes, Over, step}
 use Rattle.gang_model.specs.Debugger.Events.{gone}
-use Rattle.gang_model.specs.Debugger.Debugger.{Debugger, Setting, has_ended, now}
+use Rattle.gang_model.specs.Debugger.Debugger.{has_ended}
 use Rattle.lane_picture.specs.declared.columns.StepsEnd.{StepsEnd}
 use Rattle.lane_picture.specs.declared.columns.StepsEnd.TheVariants as end
 use Rattle.lane_picture.specs.Seen.{state_after}
-use Rattle.lane_picture.specs.Tries.{CameTo}
 use Rattle.lane_picture.proofs.SeenColumns.{after_more}
-use Rattle.lane_picture.proofs.Trying.{ended_over}
+use Rattle.lane_picture.proofs.Trying.{ended_over, over_ended}
 use Rattle.gang_model.specs.Texts.Text.{Bytes}
 use Rattle.lane_counts.specs.declared.names.Names.{Names}
 use Rattle.lane_counts.specs.Naming.{Extends, HasName}
@@ -20,6 +19,7 @@ use Rattle.lane_meetings.specs.Partings.{Measure, parted}
 use Rattle.lane_meetings.specs.Pending.{Fits}
 use Rattle.lane_meetings.proofs.Ends.{fits_parted}
 use Rattle.lane_profile.specs.Counted.{IsNamed}
+use Rattle.lane_profile.specs.Ran.{Stops}
 use Rattle.lane_profile.specs.Stands.{stand_of, stands_of, states_tried, tried_at}
 
 -- a name that is known stays known
@@ -57,14 +57,13 @@ module _ (p : Program) (most : ℕ) (first : State) where
         ap (λ n. stands_of p n at) next_of ∙ ap (λ st. map (stand_of p) (tried_at st at (states_tried p (most - (taken + 1))))) does
         ∙ ap (λ st. stand_of p at ∷ stands_of p (most - (taken + 1)) st) after ∙ ap (λ st. stand_of p st ∷ stands_left (taken + 1)) (sym stood)
 
-    -- a step that was the last one
-    pub last_left : (s : Setting) (d e : Debugger) (how : StepsEnd) → s.program ≡ p → now s d ≡ state_after p taken first → CameTo s d e (Some how) → stands_left taken ≡ stand_of p (now s d) ∷ []
-    last_left s d e end.Ended is stood came = absurd came
-    last_left s d e (end.AtFault fault) is stood came =
+    -- a step at which the run ends, and which there is
+    pub last_left : (here : State) (ended : StepsEnd) → here ≡ state_after p taken first → has_ended here ≡ false → Stops p here ended → stands_left taken ≡ stand_of p here ∷ []
+    last_left here end.Ended stood goes stops = absurd (cc (sym goes ∙ over_ended p here stops))
+    last_left here (end.AtFault fault) stood goes stops =
         let at = state_after p taken first in
-        let fails = ap (step p) (sym stood) ∙ ap (λ q. step q (now s d)) (sym is) ∙ came in
-        ap (λ n. stands_of p n at) next_of ∙ ap (λ st. map (stand_of p) (tried_at st at (states_tried p (most - (taken + 1))))) fails ∙ ap (λ st. stand_of p st ∷ []) (sym stood)
-    last_left s d e end.StepLimit is stood came = absurd came
+        ap (λ n. stands_of p n at) next_of ∙ ap (λ st. map (stand_of p) (tried_at st at (states_tried p (most - (taken + 1))))) (ap (step p) (sym stood) ∙ stops) ∙ ap (λ st. stand_of p st ∷ []) (sym stood)
+    last_left here end.StepLimit stood goes stops = absurd stops
 
 -- ---- how many steps there are
 

@@ -2,3 +2,5 @@ mod Placing
 mod Left
 mod Frames
 mod Touching
+mod Running
+mod Worked

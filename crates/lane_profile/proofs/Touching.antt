@@ -27,7 +27,6 @@ use Rattle.lane_picture.proofs.SeenColumns.{after_more}
 use Rattle.lane_picture.proofs.Trying.{ended_over}
 use Rattle.lane_picture.specs.declared.columns.StepsEnd.{StepsEnd}
 use Rattle.lane_picture.specs.declared.columns.StepsEnd.TheVariants as end
-use Rattle.lane_picture.specs.Tries.{CameTo}
 use Rattle.lane_counts.specs.declared.tally.StepAt.{StepAt}
 use Rattle.lane_counts.specs.Tallies.{IsAt}
 use Rattle.element_touches.specs.declared.counts.AccessCounts.{AccessCounts}
@@ -37,6 +36,7 @@ use Rattle.element_accesses.specs.declared.accesses.Access.{Access}
 use Rattle.element_accesses.specs.Rows.{IsNoted, IsNotedOne, kept, stands_at}
 use Rattle.element_accesses.specs.Touched.{is_at, is_same, touch_in, touch_of, touches, with_value}
 use Rattle.lane_profile.specs.Counted.{IsTouched}
+use Rattle.lane_profile.specs.Ran.{Stops}
 use Rattle.lane_profile.specs.Stands.{done_at, stand_of, states_done}
 
 -- ---- where the step stands that is tried
@@ -96,14 +96,15 @@ module _ (p : Program) (most : ℕ) (first : State) where
         ap (λ n. states_done p n at) next_of ∙ ap (λ st. done_at st at (states_done p (most - (taken + 1)))) does
         ∙ ap (λ st. at ∷ states_done p (most - (taken + 1)) st) after ∙ ap (λ st. st ∷ states_left (taken + 1)) (sym stood)
 
-    -- a step that was the last one is not done
-    pub none_after_stop : (s : Setting) (d e : Debugger) (how : StepsEnd) → s.program ≡ p → now s d ≡ state_after p taken first → CameTo s d e (Some how) → states_left taken ≡ []
-    none_after_stop s d e end.Ended is stood came = absurd came
-    none_after_stop s d e (end.AtFault fault) is stood came =
+    -- a step at which the run ends is not done
+    pub none_after_stop : (here : State) (ended : StepsEnd) → here ≡ state_after p taken first → Stops p here ended → states_left taken ≡ []
+    none_after_stop here end.Ended stood stops =
         let at = state_after p taken first in
-        let fails = ap (step p) (sym stood) ∙ ap (λ q. step q (now s d)) (sym is) ∙ came in
-        ap (λ n. states_done p n at) next_of ∙ ap (λ st. done_at st at (states_done p (most - (taken + 1)))) fails
-    none_after_stop s d e end.StepLimit is stood came = absurd came
+        ap (λ n. states_done p n at) next_of ∙ ap (λ st. done_at st at (states_done p (most - (taken + 1)))) (ap (step p) (sym stood) ∙ stops)
+    none_after_stop here (end.AtFault fault) stood stops =
+        let at = state_after p taken first in
+        ap (λ n. states_done p n at) next_of ∙ ap (λ st. done_at st at (states_done p (most - (taken + 1)))) (ap (step p) (sym stood) ∙ stops)
+    none_after_stop here end.StepLimit stood stops = absurd stops
 
 -- ---- an access, after so many steps that are done
 

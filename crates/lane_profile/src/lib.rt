@@ -2,5 +2,7 @@
 #![tactic(auto)]
 
 mod run;
+mod steps;
 
 pub use run::{count_run, name_of, next_step};
+pub use steps::do_steps;

@@ -1,26 +1,23 @@
 //! A run, step by step, with its counts.
-ghost use Rattle.element_accesses.specs.Rows.{IsNoted};
 ghost use Rattle.std.specs.Prelude.{◌≡◌, ℕ, ◌<◌, ◌≤◌, ◌-◌, Bool, Option, IfOk, OnErr, [], drop, length, slice_get};
 ghost use Rattle.debug_traits.specs.Frames.{frames_at};
 ghost use Rattle.foreach_forms.specs.Forms.{forms_of};
 ghost use Rattle.gang_model.specs.Debugger.Debugger.{Debugger, Setting, now};
-ghost use Rattle.debug_session.specs.Sessions.{StandsFor};
 ghost use Rattle.lane_counts.specs.Tallies.{HasFrames, IsBegun};
 ghost use Rattle.lane_meetings.specs.Partings.{Measure, AreDistinct, HaveCounted, parted};
 ghost use Rattle.lane_meetings.specs.Pending.{counted_with};
-ghost use Rattle.lane_picture.specs.Tries.{HasBegun, HasRun};
 ghost use Rattle.lane_profile.specs.Counted.{HasCounted, HasCountedWhole, HasTouched, IsNext};
+ghost use Rattle.lane_profile.specs.Ran.{HasBegun, HasRun};
 ghost use Rattle.lane_profile.specs.Stands.{functions_of, name_of, stands_of};
 ghost use Rattle.typed_tree.specs.Views.{program_view};
 
-use debug_session::Session;
+use crate::steps::{end_after, try_step};
 use element_accesses::Accesses;
 use foreach_forms::forms_of;
 use frame_expressions::ExpressionMachine;
-use gang_types::Spot;
 use lane_counts::{Gang, StepAt, Tally};
 use lane_meetings::Meetings;
-use lane_picture::{StepsEnd, end_after, try_step};
+use lane_picture::StepsEnd;
 use std::alloc::{AllocError, Global};
 use typed_tree::Program;
 
@@ -32,24 +29,24 @@ use typed_tree::Program;
 /// Out of memory. A step that could not be counted was not tried.
 pub fn count_run<M: ExpressionMachine>(
     alloc: Global,
-    session: &mut Session<M>,
+    machine: &mut M,
     accesses: &mut Accesses,
     most_steps: u32,
 ) -> Result<(Tally, StepsEnd, Meetings), AllocError>
-    ensures run { IfOk result (λ counted. (s : Setting) (d : Debugger) → StandsFor M.stands session.old s d
-        → HasRun M.stands s most_steps d counted.1 session.new) }
-    ensures counted { IfOk result (λ counted. (s : Setting) (d : Debugger) → StandsFor M.stands session.old s d → 1 ≤ s.limit
+    ensures run { IfOk result (λ counted. (s : Setting) (d : Debugger) → M.stands machine.old s d
+        → HasRun M.stands s most_steps d counted.1 machine.new) }
+    ensures counted { IfOk result (λ counted. (s : Setting) (d : Debugger) → M.stands machine.old s d
         → HasCounted s.program most_steps (now s d) counted.0) }
-    ensures whole { IfOk result (λ counted. (s : Setting) (d : Debugger) → StandsFor M.stands session.old s d → 1 ≤ s.limit → length s.first.frames ≤ 1
+    ensures whole { IfOk result (λ counted. (s : Setting) (d : Debugger) → M.stands machine.old s d → length s.first.frames ≤ 1
         → HasCountedWhole s.program most_steps (now s d) counted.0) }
-    ensures accesses { IfOk result (λ counted. (s : Setting) (d : Debugger) → StandsFor M.stands session.old s d → 1 ≤ s.limit
+    ensures accesses { IfOk result (λ counted. (s : Setting) (d : Debugger) → M.stands machine.old s d
         → HasTouched s.program most_steps (now s d) accesses.old accesses.new) }
-    ensures meetings { IfOk result (λ counted. (s : Setting) (d : Debugger) → StandsFor M.stands session.old s d → 1 ≤ s.limit
+    ensures meetings { IfOk result (λ counted. (s : Setting) (d : Debugger) → M.stands machine.old s d
         → HaveCounted (stands_of s.program most_steps (now s d)) counted.2.rows.rows.items) }
-    ensures memory { OnErr result ((s : Setting) (d : Debugger) → StandsFor M.stands session.old s d
-        → HasBegun M.stands s most_steps d session.new) }
+    ensures memory { OnErr result ((s : Setting) (d : Debugger) → M.stands machine.old s d
+        → HasBegun M.stands s most_steps d machine.new) }
 {
-    let (tally, end, mut meetings) = count_steps(alloc, session, accesses, most_steps)?;
+    let (tally, end, mut meetings) = count_steps(alloc, machine, accesses, most_steps)?;
     meetings.finish()?;
     Ok((tally, end, meetings))
 }
@@ -57,52 +54,40 @@ pub fn count_run<M: ExpressionMachine>(
 /// Counts the steps; the partings whose lanes have not met again are still open.
 fn count_steps<M: ExpressionMachine>(
     alloc: Global,
-    session: &mut Session<M>,
+    machine: &mut M,
     accesses: &mut Accesses,
     most_steps: u32,
 ) -> Result<(Tally, StepsEnd, Meetings), AllocError>
-    ensures run { IfOk result (λ counted. (s : Setting) (d : Debugger) → StandsFor M.stands session.old s d
-        → HasRun M.stands s most_steps d counted.1 session.new) }
-    ensures counted { IfOk result (λ counted. (s : Setting) (d : Debugger) → StandsFor M.stands session.old s d → 1 ≤ s.limit
+    ensures run { IfOk result (λ counted. (s : Setting) (d : Debugger) → M.stands machine.old s d
+        → HasRun M.stands s most_steps d counted.1 machine.new) }
+    ensures counted { IfOk result (λ counted. (s : Setting) (d : Debugger) → M.stands machine.old s d
         → HasCounted s.program most_steps (now s d) counted.0) }
-    ensures whole { IfOk result (λ counted. (s : Setting) (d : Debugger) → StandsFor M.stands session.old s d → 1 ≤ s.limit → length s.first.frames ≤ 1
+    ensures whole { IfOk result (λ counted. (s : Setting) (d : Debugger) → M.stands machine.old s d → length s.first.frames ≤ 1
         → HasCountedWhole s.program most_steps (now s d) counted.0) }
-    ensures accesses { IfOk result (λ counted. (s : Setting) (d : Debugger) → StandsFor M.stands session.old s d → 1 ≤ s.limit
+    ensures accesses { IfOk result (λ counted. (s : Setting) (d : Debugger) → M.stands machine.old s d
         → HasTouched s.program most_steps (now s d) accesses.old accesses.new) }
-    ensures meetings { IfOk result (λ counted. (s : Setting) (d : Debugger) → StandsFor M.stands session.old s d → 1 ≤ s.limit
+    ensures meetings { IfOk result (λ counted. (s : Setting) (d : Debugger) → M.stands machine.old s d
         → (measure : Measure) (chosen : ℕ → Option ℕ → Bool) → counted_with measure chosen counted.2 [] ≡ parted measure chosen (stands_of s.program most_steps (now s d))) }
     ensures distinct { IfOk result (λ counted. AreDistinct counted.2.rows.rows.items) }
-    ensures memory { OnErr result ((s : Setting) (d : Debugger) → StandsFor M.stands session.old s d
-        → HasBegun M.stands s most_steps d session.new) }
+    ensures memory { OnErr result ((s : Setting) (d : Debugger) → M.stands machine.old s d
+        → HasBegun M.stands s most_steps d machine.new) }
 {
-    let mut tally = begun_at(alloc, session.machine())?;
+    let mut tally = begun_at(alloc, machine)?;
     let mut meetings = Meetings::new(alloc);
     for _count in 0..most_steps {
-        let Some(at) = next_step(session.machine()) else {
+        let Some(at) = next_step(machine) else {
             return Ok((tally, StepsEnd::Ended, meetings));
         };
         tally.note(alloc, at)?;
         meetings.note(at)?;
-        note_touches(session, at.depth, at.spot, accesses);
-        if let Some(end) = try_step(session) {
+        accesses.note(at.depth, at.spot, machine);
+        if let Some(end) = try_step(machine) {
             return Ok((tally, end, meetings));
         }
         accesses.keep();
     }
-    let end = end_after(session.machine());
+    let end = end_after(machine);
     Ok((tally, end, meetings))
-}
-
-/// Notes what the accesses of a step touch, where the top frame stands.
-fn note_touches<M: ExpressionMachine>(
-    session: &Session<M>,
-    depth: usize,
-    spot: Spot,
-    accesses: &mut Accesses,
-)
-    ensures { (k : ℕ) → IsNoted M.stands session.now.machine depth spot (slice_get accesses.old.rows.items k) (slice_get accesses.new.rows.items k) }
-{
-    accesses.note(depth, spot, session.machine());
 }
 
 /// A tally of the program's foreach forms before its first step, with the frames below the top one.

@@ -4,22 +4,22 @@ ghost use Rattle.ispc_options.specs.Ranges.{AreInRange};
 ghost use Rattle.ispc_debugger.specs.Runs.{lanes_of};
 
 use crate::files::{read_texts, reason};
-use crate::paging::{NOT_SO_FAR, goes_to_first};
+use crate::paging::NOT_SO_FAR;
 use crate::porting::holds_something;
 use crate::refusing::{Texts, refuse, refuse_because, refuse_file, refuse_program, write_fault};
 use crate::terminal::has_colours;
 use debug_streams::StreamWriter;
-use debug_traits::WriteFault;
+use debug_traits::{RecordedMachine, WriteFault};
 use desk_options::{Profile, Program};
 use element_accesses::Accesses;
 use frame_expressions::ExpressionMachine;
-use ispc_debugger::{ProgramSession, open_session};
+use ispc_debugger::open_machine;
 use ispc_options::{Options, Width};
 use ispc_refusals::Refusal;
 use lane_counts::Tally;
 use lane_meetings::Meetings;
 use lane_picture::StepsEnd;
-use lane_profile::count_run;
+use lane_profile::{count_run, do_steps};
 use profile_texts::{Compared, Counted as Told, Form, Subject, write_comparison, write_profile};
 use std::alloc::{AllocError, Global};
 use std::fs;
@@ -205,13 +205,13 @@ fn count_wide<const W: usize>(
     requires range { AreInRange program.now.options }
 {
     let (source, input) = (texts.source.text, texts.input.text);
-    match open_session::<W>(rt.alloc(), source, input, &program.options) {
+    match open_machine::<W>(rt.alloc(), source, input, &program.options) {
         Err(refusal) => Err(refuse_program(rt, &refusal, program, texts)),
-        Ok(mut session) => {
-            if !goes_to_first::<W>(profile.from, &mut session) {
+        Ok(mut machine) => {
+            if !goes_to_first(profile.from, program.options.steps, &mut machine) {
                 return Err(refuse_because(rt, NOT_SO_FAR, b""));
             }
-            match run_counted::<W>(rt.alloc(), is_touching, profile.most, &mut session) {
+            match run_counted(rt.alloc(), is_touching, profile.most, &mut machine) {
                 Ok(run) => Ok(run),
                 Err(_) => Err(refuse(rt, &Refusal::Memory)),
             }
@@ -219,19 +219,25 @@ fn count_wide<const W: usize>(
     }
 }
 
-/// The counts of the run of a session, with those of its accesses if they are asked for.
-fn run_counted<const W: usize>(
+/// Does the steps before the first one that is counted, so many at most: whether the run gets so far.
+fn goes_to_first<M: RecordedMachine>(from: u32, most_steps: u32, machine: &mut M) -> bool {
+    let steps = from.saturating_sub(1);
+    steps <= most_steps && matches!(do_steps(machine, steps), StepsEnd::StepLimit)
+}
+
+/// The counts of the run of a machine, with those of its accesses if they are asked for.
+fn run_counted<M: ExpressionMachine>(
     alloc: Global,
     is_touching: bool,
     most: u32,
-    session: &mut ProgramSession<W>,
+    machine: &mut M,
 ) -> Result<Run, AllocError> {
     let mut accesses = if is_touching {
-        Accesses::of(alloc, session.machine().program())?
+        Accesses::of(alloc, machine.program())?
     } else {
         Accesses::none(alloc)
     };
-    let (tally, end, meetings) = count_run(alloc, session, &mut accesses, most)?;
+    let (tally, end, meetings) = count_run(alloc, machine, &mut accesses, most)?;
     Ok(Run {
         tally,
         accesses,
