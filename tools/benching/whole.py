@@ -245,6 +245,20 @@ def by_access(program, folder):
         yield Figure(counted / run, f"times the run, for its profile by access, {width} lanes{beside}", 2)
 
 
+def counted_profiles(program, folder):
+    """The instructions of a profile beside those of the run, where two of five steps have an access."""
+    name = "counted.ispc"
+    pathlib.Path(folder, name).write_text(works.touching(COUNTED_STEPS // 5))
+    for width in (4, 8, 16):
+        words = ["--width", str(width)]
+        run = [*debugged(program, name), *words]
+        of_steps = instructions(run, 1 + COUNTED_STEPS, folder) - instructions(run, 1, folder)
+        for rows in ("line", "access"):
+            profiled = [program, "profile", name, *words, "--by", rows, "--most"]
+            of_counts = instructions([*profiled, str(1 + COUNTED_STEPS)], 0, folder) - instructions([*profiled, "1"], 0, folder)
+            yield Figure(of_counts / of_steps, f"times the instructions of the run, for its profile by {rows}, {width} lanes (by valgrind)", 2)
+
+
 def with_condition(program, folder):
     """The seconds of a run without a condition and with one."""
     name = "condition.ispc"
@@ -270,6 +284,7 @@ def told(program, script):
         pathlib.Path(folder, NAME).write_text(TEXT)
         parts = [back(program, folder), *([beside_plain(program, script, folder)] if script else [])]
         parts += [counted_beside_plain(program, script, folder)] if script and counted.is_there() else []
+        parts += [counted_profiles(program, folder)] if counted.is_there() else []
         for part in (*parts, to_what_spoiled(program, folder), copies(program, folder), profile(program, folder), by_access(program, folder), condition(program, folder)):
             try:
                 yield from part
