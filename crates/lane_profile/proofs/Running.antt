@@ -52,7 +52,7 @@ module _ {M : Type 0} (stands : M → Setting → Debugger → Type 0) (s : Sett
     abbrev here : State
     here = now s (after_steps taken d)
 
-    pub begun_so : HasBegun stands s most d machine
+    abbrev pub begun_so : HasBegun stands s most d machine
     begun_so = record { taken = taken; few = omega (arith, so.left); there = so.there }
 
     -- no step is left

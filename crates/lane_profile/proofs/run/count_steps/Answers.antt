@@ -204,13 +204,13 @@ loop-count-preserved g c =
           let so = c.loop-count.invariant.so_far s d st in
           let e = after_steps c.loop-count._count d in
           let placed = c.in-Some.ensures s e so.there in
-          let tried = c.in_default-try_step.ensures s e so.there in
+          let came = c.in_default-try_step.ensures s e so.there in
           let has = c.loop-count.invariant.accesses s d st k access is done tried in
-          let noted = noted_row stands _ _ _ _ _ has.0 has.1 (c.note-3.ensures k) in (
+          let noted = noted_row stands _ _ _ _ _ has.0 has.1 (c.note-in-loop-count-2.ensures k) in (
             kept noted.0,
             c.keep.ensures k ∙ ap (option_map kept) noted.1,
             step_touched s.program c.args.most_steps (now s d) stands c.loop-count.machine s e refl so.there c.loop-count._count (omega arith) (omega arith)
-                _ _ (is_here s.program (now s e) _ placed.0 placed.1) tried.0 (stood s c.loop-count._count d) tried.1 access has.0 noted.0 has.2 noted.2,
+                _ _ (is_here s.program (now s e) _ placed.0 placed.1) came.0 (stood s c.loop-count._count d) came.1 access has.0 noted.0 has.2 noted.2,
           );
       meetings = λ s d st measure chosen.
           let so = c.loop-count.invariant.so_far s d st in
@@ -292,10 +292,10 @@ returns-in-Some-try_step-clause-accesses g c s d st k access is done tried =
     let stands = g.M.RecordedMachine.stands in
     let so = c.loop-count.invariant.so_far s d st in
     let e = after_steps c.loop-count._count d in
-    let tried = c.in-Some-try_step.ensures s e so.there in
-    let left = none_after_stop s.program c.args.most_steps (now s d) c.loop-count._count (omega arith) (now s e) c.in-Some-try_step.end (stood s c.loop-count._count d) tried.0 in
+    let came = c.in-Some-try_step.ensures s e so.there in
+    let left = none_after_stop s.program c.args.most_steps (now s d) c.loop-count._count (omega arith) (now s e) c.in-Some-try_step.end (stood s c.loop-count._count d) came.0 in
     let has = c.loop-count.invariant.accesses s d st k access is done tried in
-    let noted = noted_row stands _ _ _ _ _ has.0 has.1 (c.note-3.ensures k) in
+    let noted = noted_row stands _ _ _ _ _ has.0 has.1 (c.note-in-loop-count-2.ensures k) in
     (noted.0, noted.1, all_touched s.program c.args.most_steps (now s d) c.loop-count._count access has.0 noted.0 has.2 left noted.2.others)
 
 pub returns-clause-accesses : goal.returns-clause-accesses

@@ -11,7 +11,7 @@ loop-count-preserved g c = record {
   so_far = λ s d st.
       let so = c.loop-count.invariant.so_far s d st in
       let e = after_steps c.loop-count._count d in
-      one_done g.M.RecordedMachine.stands s c.args.most_steps d c.loop-count._count c.loop-count.machine so (omega arith) c.try_step.new.machine (c.in_default-try_step.ensures s e so.there);
+      one_done g.M.RecordedMachine.stands s c.args.most_steps d c.loop-count._count c.loop-count.machine so (omega arith) c.try_step.new.machine (c.in_default.ensures s e so.there);
 }
 
 pub returns-in-Some : goal.returns-in-Some
