@@ -98,7 +98,14 @@ def refused():
     return Run("when it is not known", typed, ["debug", FILE], judge, b"", data={FILE: SOURCE})
 
 
+def not_whole():
+    """Nothing is asked where a limit is set to what can be taken back."""
+    told = b"Nothing is done: a limit is set to what can be taken back, so the start and the number of a step are not known; `info record` tells more.\n"
+    judge = lambda text: [] if text.endswith(told) else ["it ends otherwise:", *shown(text)]
+    return Run("when the start is not kept", b"step 5\nwhen total > 3\n", ["debug", FILE, "--history", "2"], judge, b"", data={FILE: SOURCE})
+
+
 def runs():
     found = [run("each moment is asked from the start", [], PLACES[0]), run("each moment is asked from amid the run", ["step 4"], PLACES[4])]
     found += [run(f"each moment of {limit} steps is asked", [], PLACES[0], limit) for limit in (2, 5, LAST)]
-    return [*found, run("each moment of 4 steps is asked from behind them", ["step 3", "step 3"], PLACES[6], 4), refused()]
+    return [*found, run("each moment of 4 steps is asked from behind them", ["step 3", "step 3"], PLACES[6], 4), refused(), not_whole()]
