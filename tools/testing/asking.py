@@ -107,5 +107,5 @@ def not_whole():
 
 def runs():
     found = [run("each moment is asked from the start", [], PLACES[0]), run("each moment is asked from amid the run", ["step 4"], PLACES[4])]
-    found += [run(f"each moment of {limit} steps is asked", [], PLACES[0], limit) for limit in (2, 5, LAST)]
+    found += [run(f"each moment of {limit} steps is asked", [], PLACES[0], limit) for limit in (2, 5, LAST, LAST + 1)]
     return [*found, run("each moment of 4 steps is asked from behind them", ["step 3", "step 3"], PLACES[6], 4), refused(), not_whole()]

@@ -153,7 +153,15 @@ fn ask_on<M: ExpressionMachine, O: AnswerWriter + Drop>(
         asked = ask(asked, question, scene, session, page);
         left -= 1;
     }
-    asked.cut()
+    cut_unless_ended(asked, session)
+}
+
+/// What was asked, cut where the run goes on.
+fn cut_unless_ended<M: RecordedMachine>(asked: Asked, session: &Session<M>) -> Asked {
+    match session.machine().position() {
+        Some(_) => asked.cut(),
+        None => asked,
+    }
 }
 
 /// Asks this moment, and shows it where the expression is not 0, up to so many.

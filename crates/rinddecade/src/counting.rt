@@ -106,5 +106,8 @@ fn steps_left<M: RecordedMachine>(session: &mut Session<M>) -> Option<u32> {
             return Some(count);
         }
     }
-    None
+    match session.machine().position() {
+        Some(_) => None,
+        None => Some(MOST_COUNTED),
+    }
 }

@@ -143,6 +143,7 @@ fn is_value(word: &[u8]) -> bool {
 fn is_number(digits: &[u8]) -> bool {
     match digits {
         [] => false,
+        [b'0', b'x'] => false,
         [b'0', b'x', digits @ ..] => digits.iter().all(|byte| byte.is_ascii_hexdigit()),
         digits => digits.iter().all(|byte| byte.is_ascii_digit()),
     }
