@@ -1,5 +1,5 @@
 -- Examples of the definitions, computed.
-use Rattle.std.proofs.Common.{◌≡◌, ◌^◌, true, false, Some, None, Ok, Err, codes, refl}
+use Rattle.std.proofs.Common.{◌≡◌, ◌^◌, true, false, [], Some, None, Ok, Err, codes, refl}
 use Rattle.std.specs.Fmt.{digits}
 use Rattle.std.specs.Path.{path_file_name, rsplit_once, split_last_component, trim_trailing}
 use Rattle.serde_json.proofs.OnLiterals.{serde_json_on_literals}
@@ -64,14 +64,14 @@ a_program_alone : missing (codes "launch") (given (only (codes "program") (strin
 unfolding serde_json_on_literals
 a_program_alone = refl
 
--- a breakpoint with a condition, one with `null` for it that stops the third time, one with no line, and one with a text in place of a stop
+-- a breakpoint with a condition, one with `null` for it, one that stops the third time, and one with no line
 abbrev with_condition : Data → Data
 with_condition condition = object (member (codes "condition") condition (member (codes "line") (natural 7) no_members))
 
-a_condition : breakpoint_in (with_condition (string (codes "x > 0"))) ≡ Ok (record { line = 7; condition = Some (codes "x > 0"); passes = 0 })
+a_condition : breakpoint_in (with_condition (string (codes "x > 0"))) ≡ Ok (record { line = 7; condition = Some (codes "x > 0"); passes = 0; log = None })
 a_condition = refl
 
-no_condition : breakpoint_in (with_condition null) ≡ Ok (record { line = 7; condition = None; passes = 0 })
+no_condition : breakpoint_in (with_condition null) ≡ Ok (record { line = 7; condition = None; passes = 0; log = None })
 no_condition = refl
 
 a_number_for_a_condition : breakpoint_in (with_condition (natural 1)) ≡ Err fault.NoCondition
@@ -80,7 +80,7 @@ a_number_for_a_condition = refl
 abbrev with_count : Data → Data
 with_count count = object (member (codes "hitCondition") count (member (codes "line") (natural 7) no_members))
 
-the_third_time : breakpoint_in (with_count (string (codes "3"))) ≡ Ok (record { line = 7; condition = None; passes = 2 })
+the_third_time : breakpoint_in (with_count (string (codes "3"))) ≡ Ok (record { line = 7; condition = None; passes = 2; log = None })
 the_third_time = refl
 
 from_the_third_time : breakpoint_in (with_count (string (codes ">= 3"))) ≡ Err fault.NoCount
@@ -92,8 +92,18 @@ never = refl
 no_line : breakpoint_in (object no_members) ≡ Err fault.Unplaced
 no_line = refl
 
-a_message : breakpoint_in (object (member (codes "line") (natural 7) (member (codes "logMessage") (string (codes "x")) no_members))) ≡ Err fault.LogMessage
+-- a text in place of a stop, an empty one, and a number for one
+abbrev with_message : Data → Data
+with_message message = object (member (codes "line") (natural 7) (member (codes "logMessage") message no_members))
+
+a_message : breakpoint_in (with_message (string (codes "x is {x}"))) ≡ Ok (record { line = 7; condition = None; passes = 0; log = Some (codes "x is {x}") })
 a_message = refl
+
+an_empty_message : breakpoint_in (with_message (string [])) ≡ Ok (record { line = 7; condition = None; passes = 0; log = None })
+an_empty_message = refl
+
+a_number_for_a_message : breakpoint_in (with_message (natural 1)) ≡ Err fault.NoMessage
+a_number_for_a_message = refl
 
 -- a watch with a condition
 a_watch_on_a_condition : watch_in (object (member (codes "condition") (string (codes "x > 0")) (member (codes "dataId") (string (codes "x")) no_members))) ≡ Err fault.Conditional

@@ -155,23 +155,25 @@ abbrev pub asked_text : Result (Bor Bytes) BreakpointFault → Result Bytes Brea
 asked_text (Ok text) = Ok text.now
 asked_text (Err fault) = Err fault
 
--- ---- breakpoints with conditions and counts
+-- ---- breakpoints with conditions, counts and messages
 
--- a breakpoint that is asked for: its line, the text of its condition, if it has one, and how many of its stops are passed first
+-- a breakpoint that is asked for: its line, the text of its condition, if it has one, how many of its stops are passed first, and the
+-- message that it writes in place of stopping, if it does
 pub record Asked : Type 0 where
   pub line : ℕ
   pub condition : Option Bytes
   pub passes : ℕ
+  pub log : Option Bytes
 
 -- the same of one that was read
 abbrev pub asked_breakpoint : Result LineBreakpoint BreakpointFault → Result Asked BreakpointFault
-asked_breakpoint (Ok b) = Ok (record { line = b.line; condition = text_of b.condition; passes = b.passes })
+asked_breakpoint (Ok b) = Ok (record { line = b.line; condition = text_of b.condition; passes = b.passes; log = text_of b.log })
 asked_breakpoint (Err fault) = Err fault
 
--- the text of a condition that was read
-abbrev pub asked_condition : Result (Option (Bor Bytes)) BreakpointFault → Result (Option Bytes) BreakpointFault
-asked_condition (Ok text) = Ok (text_of text)
-asked_condition (Err fault) = Err fault
+-- the text of a condition or a message that was read
+abbrev pub asked_option : Result (Option (Bor Bytes)) BreakpointFault → Result (Option Bytes) BreakpointFault
+asked_option (Ok text) = Ok (text_of text)
+asked_option (Err fault) = Err fault
 
 -- a text that can be a condition has at most 256 bytes
 abbrev pub fitting : Bytes → Result (Option Bytes) BreakpointFault
@@ -204,11 +206,30 @@ abbrev pub joined : (line : Option ℕ) → (condition : Result (Option Bytes) B
 joined None condition passes = Err fault.Unplaced
 joined (Some line) (Err fault) passes = Err fault
 joined (Some line) (Ok condition) (Err fault) = Err fault
-joined (Some line) (Ok condition) (Ok passes) = Ok (record { line = line; condition = condition; passes = passes })
+joined (Some line) (Ok condition) (Ok passes) = Ok (record { line = line; condition = condition; passes = passes; log = None })
 
--- what a breakpoint asks for; one that is to tell a text in place of stopping is none
+-- a text that can be a message has at most 256 bytes; an empty one is none
+abbrev pub fitting_message : Bytes → Result (Option Bytes) BreakpointFault
+fitting_message text = if length text == 0 then Ok None else (if nat_lt 256 (length text) then Err fault.NoMessage else Ok (Some text))
+
+abbrev pub log_by : (is_absent : Bool) → Option Bytes → Result (Option Bytes) BreakpointFault
+log_by true text = Ok None
+log_by false None = Err fault.NoMessage
+log_by false (Some text) = fitting_message text
+
+-- the message that a breakpoint writes in place of stopping, if it does
+abbrev pub log_in : Data → Result (Option Bytes) BreakpointFault
+log_in d = log_by (is_absent (get (codes "logMessage") d)) (option_and_then as_str (get (codes "logMessage") d))
+
+-- a breakpoint with its message, or what is wrong with either
+abbrev pub logging : Result Asked BreakpointFault → (log : Result (Option Bytes) BreakpointFault) → Result Asked BreakpointFault
+logging (Err fault) log = Err fault
+logging (Ok asked) (Err fault) = Err fault
+logging (Ok asked) (Ok log) = Ok (record asked { log = log })
+
+-- what a breakpoint asks for
 abbrev pub breakpoint_in : Data → Result Asked BreakpointFault
-breakpoint_in d = if is_absent (get (codes "logMessage") d) then joined (line_in d) (condition_in d) (passes_in d) else Err fault.LogMessage
+breakpoint_in d = logging (joined (line_in d) (condition_in d) (passes_in d)) (log_in d)
 
 -- the breakpoints that a message lists; none where it has no list
 abbrev pub breakpoints_of : Data → Items

@@ -60,21 +60,26 @@ with_requests members =
     (able (codes "supportsCompletionsRequest")
     (able (codes "supportsBreakpointLocationsRequest") members))))))
 
+-- what breakpoints there are, beside others
+abbrev pub with_breakpoints : Members → Members
+with_breakpoints members =
+    able (codes "supportsLogPoints")
+    (able (codes "supportsHitConditionalBreakpoints")
+    (able (codes "supportsDataBreakpoints")
+    (able (codes "supportsConditionalBreakpoints") members)))
+
 -- what else it can do, beside others
 abbrev pub with_others : Members → Members
 with_others members =
     able (codes "supportsStepBack")
     (able (codes "supportsSetVariable")
     (able (codes "supportsSetExpression")
-    (able (codes "supportsHitConditionalBreakpoints")
     (able (codes "supportsEvaluateForHovers")
-    (able (codes "supportsDelayedStackTraceLoading")
-    (able (codes "supportsDataBreakpoints")
-    (able (codes "supportsConditionalBreakpoints") members)))))))
+    (able (codes "supportsDelayedStackTraceLoading") members))))
 
 -- what the adapter can do
 abbrev pub capabilities : Data
-capabilities = object (with_others (with_requests (with_filters no_members)))
+capabilities = object (with_others (with_breakpoints (with_requests (with_filters no_members))))
 
 -- why a breakpoint or a watch is not there
 abbrev pub fault_text : BreakpointFault → Bytes
@@ -82,7 +87,7 @@ fault_text fault.Unplaced = codes "its line or target is missing or of a wrong t
 fault_text fault.Conditional = codes "a watch has no condition, no count and no log message"
 fault_text fault.NoCondition = codes "its condition is no text of at most 256 bytes"
 fault_text fault.NoCount = codes "its count is no number from 1 to 10000000"
-fault_text fault.LogMessage = codes "log messages are not there"
+fault_text fault.NoMessage = codes "its log message is no text of at most 256 bytes"
 fault_text fault.OtherSource = codes "this source is not the program's"
 fault_text fault.NoStep = codes "no step stands on this line or behind it"
 fault_text fault.NotWatched = codes "only scalars of the file, their lanes and elements of arrays are watched"

@@ -2,7 +2,7 @@
 ghost use Rattle.std.specs.Prelude.{◌≡◌, IfOk, Some, codes, map, option_map};
 ghost use Rattle.gang_model.specs.Texts.CommandText.{number};
 ghost use Rattle.serde_json.specs.View.{items_view, view};
-ghost use Rattle.adapter_messages.specs.Arguments.{asked_breakpoint, asked_condition, asked_text, breakpoint_in, breakpoints_of, condition_in, context_in, each_asked, filter_in, flag_at, is_absent, is_conditional, joined, line_at, line_in, number_at, page_in, passes_in, text_at, time_in, time_of, unmarked, watch_in, way_of};
+ghost use Rattle.adapter_messages.specs.Arguments.{asked_breakpoint, asked_option, asked_text, breakpoint_in, breakpoints_of, condition_in, context_in, each_asked, filter_in, flag_at, is_absent, is_conditional, joined, line_at, line_in, log_in, logging, number_at, page_in, passes_in, text_at, time_in, time_of, unmarked, watch_in, way_of};
 
 use adapter_requests::{BreakpointFault, Context, Filter, LineBreakpoint, Page, Way};
 use debug_words::{Radix, digits_number, is_same};
@@ -11,6 +11,9 @@ use std::alloc::{AllocError, Global};
 
 /// The most bytes of a condition.
 const LONGEST_CONDITION: usize = 256;
+
+/// The most bytes of a message.
+const LONGEST_MESSAGE: usize = 256;
 
 /// The largest count.
 const LARGEST_COUNT: u128 = 10_000_000;
@@ -102,11 +105,9 @@ pub(crate) fn lines_of(
 fn line_breakpoint(breakpoint: &Value) -> Result<LineBreakpoint<'_>, BreakpointFault>
     ensures { asked_breakpoint result ≡ breakpoint_in (view breakpoint.now) }
 {
-    if !is_absent(breakpoint.get("logMessage")) {
-        return Err(BreakpointFault::LogMessage);
-    }
     let line = line_of(breakpoint);
-    joined(line, condition_of(breakpoint), passes_of(breakpoint))
+    let asked = joined(line, condition_of(breakpoint), passes_of(breakpoint));
+    logging(asked, log_of(breakpoint))
 }
 
 /// The line of a breakpoint, if it has one.
@@ -123,7 +124,7 @@ fn joined(
     condition: Result<Option<&str>, BreakpointFault>,
     passes: Result<u32, BreakpointFault>,
 ) -> Result<LineBreakpoint<'_>, BreakpointFault>
-    ensures { asked_breakpoint result ≡ joined line (asked_condition condition.entry) passes }
+    ensures { asked_breakpoint result ≡ joined line (asked_option condition.entry) passes }
 {
     match (line, condition, passes) {
         (None, _, _) => Err(BreakpointFault::Unplaced),
@@ -132,13 +133,47 @@ fn joined(
             line,
             condition,
             passes,
+            log: None,
         }),
+    }
+}
+
+/// A breakpoint with its message, or what is wrong with either.
+fn logging<'a>(
+    asked: Result<LineBreakpoint<'a>, BreakpointFault>,
+    log: Result<Option<&'a str>, BreakpointFault>,
+) -> Result<LineBreakpoint<'a>, BreakpointFault>
+    ensures { asked_breakpoint result ≡ logging (asked_breakpoint asked.entry) (asked_option log.entry) }
+{
+    match (asked, log) {
+        (Err(fault), _) | (Ok(_), Err(fault)) => Err(fault),
+        (Ok(asked), Ok(log)) => Ok(LineBreakpoint {
+            line: asked.line,
+            condition: asked.condition,
+            passes: asked.passes,
+            log,
+        }),
+    }
+}
+
+/// The message that a breakpoint writes in place of stopping, if it does.
+fn log_of(breakpoint: &Value) -> Result<Option<&str>, BreakpointFault>
+    ensures { asked_option result ≡ log_in (view breakpoint.now) }
+{
+    let given = breakpoint.get("logMessage");
+    if is_absent(given) {
+        return Ok(None);
+    }
+    match given.and_then(Value::as_str) {
+        Some(text) if text.is_empty() => Ok(None),
+        Some(text) if text.len() <= LONGEST_MESSAGE => Ok(Some(text)),
+        _ => Err(BreakpointFault::NoMessage),
     }
 }
 
 /// The condition of a breakpoint, if it has one.
 fn condition_of(breakpoint: &Value) -> Result<Option<&str>, BreakpointFault>
-    ensures { asked_condition result ≡ condition_in (view breakpoint.now) }
+    ensures { asked_option result ≡ condition_in (view breakpoint.now) }
 {
     let given = breakpoint.get("condition");
     if is_absent(given) {

@@ -2,7 +2,7 @@
 ghost use Rattle.std.specs.Prelude.{◌≡◌, ◌≤◌, IfOk, OnOk, codes};
 ghost use Rattle.serde_json.specs.Data.{array, no_members, object};
 ghost use Rattle.serde_json.specs.View.{members_view, view};
-ghost use Rattle.adapter_messages.specs.Replies.{able, array_of, body_of, breakpoint, capabilities, completion, exception_filter, fault_text, file_name, file_scope, frames, known_scope, location, moved, not_watchable, only, scopes, source, time, times, watchable, way_text, with_filters, with_others, with_requests};
+ghost use Rattle.adapter_messages.specs.Replies.{able, array_of, body_of, breakpoint, capabilities, completion, exception_filter, fault_text, file_name, file_scope, frames, known_scope, location, moved, not_watchable, only, scopes, source, time, times, watchable, way_text, with_breakpoints, with_filters, with_others, with_requests};
 ghost use Rattle.adapter_messages.specs.Replies as spec;
 ghost use Rattle.adapter_messages.specs.Arguments.{way_number};
 
@@ -76,6 +76,7 @@ fn capabilities(alloc: Global) -> Result<Value, AllocError>
     let mut members = Map::new(alloc);
     put_filters(alloc, &mut members)?;
     put_requests(alloc, &mut members)?;
+    put_breakpoints(alloc, &mut members)?;
     put_others(alloc, &mut members)?;
     Ok(Value::Object(members))
 }
@@ -102,15 +103,22 @@ fn put_requests(alloc: Global, members: &mut Map<String, Value>) -> Result<(), A
     put_able(alloc, members, "supportsTerminateRequest")
 }
 
+/// Puts beside others what breakpoints there are.
+fn put_breakpoints(alloc: Global, members: &mut Map<String, Value>) -> Result<(), AllocError>
+    ensures { OnOk result (members_view members.new.entries ≡ with_breakpoints (members_view members.old.entries)) }
+{
+    put_able(alloc, members, "supportsConditionalBreakpoints")?;
+    put_able(alloc, members, "supportsDataBreakpoints")?;
+    put_able(alloc, members, "supportsHitConditionalBreakpoints")?;
+    put_able(alloc, members, "supportsLogPoints")
+}
+
 /// Puts beside others what else the adapter can do.
 fn put_others(alloc: Global, members: &mut Map<String, Value>) -> Result<(), AllocError>
     ensures { OnOk result (members_view members.new.entries ≡ with_others (members_view members.old.entries)) }
 {
-    put_able(alloc, members, "supportsConditionalBreakpoints")?;
-    put_able(alloc, members, "supportsDataBreakpoints")?;
     put_able(alloc, members, "supportsDelayedStackTraceLoading")?;
     put_able(alloc, members, "supportsEvaluateForHovers")?;
-    put_able(alloc, members, "supportsHitConditionalBreakpoints")?;
     put_able(alloc, members, "supportsSetExpression")?;
     put_able(alloc, members, "supportsSetVariable")?;
     put_able(alloc, members, "supportsStepBack")
@@ -274,7 +282,7 @@ fn fault_text(fault: BreakpointFault) -> &'static str
         BreakpointFault::Conditional => { "a watch has no condition, no count and no log message" }
         BreakpointFault::NoCondition => "its condition is no text of at most 256 bytes",
         BreakpointFault::NoCount => "its count is no number from 1 to 10000000",
-        BreakpointFault::LogMessage => "log messages are not there",
+        BreakpointFault::NoMessage => "its log message is no text of at most 256 bytes",
         BreakpointFault::OtherSource => "this source is not the program's",
         BreakpointFault::NoStep => "no step stands on this line or behind it",
         BreakpointFault::NotWatched => {

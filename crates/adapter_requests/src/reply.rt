@@ -12,8 +12,8 @@ pub enum BreakpointFault {
     NoCondition,
     /// Its count is no number from 1 on.
     NoCount,
-    /// It is to tell a text in place of stopping.
-    LogMessage,
+    /// Its message is no text, or too long a one.
+    NoMessage,
     /// It is in another source than the program's.
     OtherSource,
     /// No step is on its line or behind it.

@@ -28,6 +28,8 @@ pub struct LineBreakpoint<'a> {
     pub condition: Option<&'a str>,
     /// How many of its stops are passed first.
     pub passes: u32,
+    /// The message that it writes in place of stopping, if it does.
+    pub log: Option<&'a str>,
 }
 
 /// Where an expression stands that is evaluated.
