@@ -1,11 +1,11 @@
 -- Rows that the check computes from the definitions: breakpoint 7 writes a text and has two stops to be passed.
-use Rattle.std.proofs.Common.{◌≡◌, refl, inl, inr, true, false, List, [], ◌∷◌}
-use Rattle.std.specs.Prelude.{codes}
+use Rattle.std.proofs.Common.{◌≡◌, refl, inl, inr, true, false, List, [], ◌∷◌, ◌++◌, Some, None}
+use Rattle.std.specs.Prelude.{codes, replicate}
 use Rattle.conditional_stops.specs.declared.going.MoveEnd.TheVariants as end
 use Rattle.conditional_stops.specs.declared.reasons.CountedStop.{CountedStop}
 use Rattle.conditional_stops.specs.Tables.{Table, is_disabled}
 use Rattle.log_points.specs.Going.{stops_of}
-use Rattle.log_points.specs.Points.{Log, silenced}
+use Rattle.log_points.specs.Points.{Log, message_of, silenced, with_log}
 use Rattle.log_points.specs.Texts.{IsPart, IsWhole}
 use Rattle.log_points.specs.Writing.{is_reached, one_passed}
 
@@ -14,6 +14,23 @@ seven = record { number = 7; message = codes "i is {i}" } ∷ []
 
 abbrev some : Table
 some = record { conditions = (7, codes "a") ∷ []; counts = (7, 2) ∷ []; disabled = [] }
+
+-- ---- those that write a text
+
+one_more : with_log 9 (codes "x") seven ≡ seven ++ record { number = 9; message = codes "x" } ∷ []
+one_more = refl
+
+too_long : with_log 9 (replicate 257 65) seven ≡ seven
+too_long = refl
+
+no_room : (log : Log) → with_log 9 (codes "x") (replicate 64 log) ≡ replicate 64 log
+no_room log = refl
+
+its_message : message_of 7 seven ≡ Some (codes "i is {i}")
+its_message = refl
+
+no_message : message_of 9 seven ≡ None
+no_message = refl
 
 -- ---- messages
 

@@ -38,9 +38,17 @@ pub fn continue_writing<'a, M: ExpressionMachine>(
         result session.new (table_of conditions.new) (table_of logs.new.terms) }
     ensures points { logs.new.points ≡ logs.old.points }
 {
-    silence(&logs.points, conditions);
+    silence(logs.points.as_slice(), conditions);
     let Logs { points, terms } = logs;
-    go_writing(alloc, direction, most, points, terms, conditions, session)
+    go_writing(
+        alloc,
+        direction,
+        most,
+        points.as_slice(),
+        terms,
+        conditions,
+        session,
+    )
 }
 
 /// Goes on, where the breakpoints that write a text are disabled, and writes their texts.

@@ -7,5 +7,5 @@ mod texts;
 mod writing;
 
 pub use going::{WroteOn, continue_writing};
-pub use points::{LogPoint, Logs, MOST_TEXTS, Written};
+pub use points::{Logs, MOST_TEXTS, Written};
 pub use writing::write_here;

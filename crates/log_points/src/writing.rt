@@ -31,7 +31,13 @@ pub fn write_here<M: ExpressionMachine>(
         → WritesHere s d (map log_of logs.old.points.items) (table_of logs.old.terms) (written_of written.old) (table_of logs.new.terms) (written_of written.new) }
     ensures points { logs.new.points ≡ logs.old.points }
 {
-    write_each(alloc, &logs.points, &mut logs.terms, session, written);
+    write_each(
+        alloc,
+        logs.points.as_slice(),
+        &mut logs.terms,
+        session,
+        written,
+    );
 }
 
 /// Writes the texts of those of some breakpoints that are here.

@@ -7,6 +7,6 @@ use Rattle.log_points.proofs.going.continue_writing.Goals as goal
 pub returns-clause-wrote : goal.returns-clause-wrote
 returns-clause-wrote g c s d st =
     subst (λ table. GoesWriting g.M.RecordedMachine.stands s c.args.direction c.args.most d (map log_of c.args.logs.now.points.items) table (table_of c.args.logs.now.terms) c.go_writing.result c.go_writing.new.session (table_of c.go_writing.new.conditions) (table_of c.go_writing.new.terms))
-    (c.silence.ensures ∙ ap (λ points. silenced (map log_of points) (table_of c.args.conditions.now)) c.deref.ensures.value)
+    (c.silence.ensures ∙ ap (λ points. silenced (map log_of points) (table_of c.args.conditions.now)) c.as_slice.ensures.value)
     (subst (λ points. GoesWriting g.M.RecordedMachine.stands s c.args.direction c.args.most d (map log_of points) (table_of c.silence.new.conditions) (table_of c.args.logs.now.terms) c.go_writing.result c.go_writing.new.session (table_of c.go_writing.new.conditions) (table_of c.go_writing.new.terms))
-    c.deref-2.ensures.value (c.go_writing.ensures s d st))
+    c.as_slice-2.ensures.value (c.go_writing.ensures s d st))
