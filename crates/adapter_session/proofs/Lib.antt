@@ -2,7 +2,9 @@ mod Appending
 pub mod Counted
 mod DoneLines
 mod GoingTo
+mod LogLists
 mod MadeAnew
+pub mod NothingLogged
 pub mod Rows
 pub mod StopNumbers
 mod TermLists

@@ -1,4 +1,5 @@
--- What a request comes to: with no condition and no count its commands; with some, a program that goes on does so to a stop that counts.
+-- What a request comes to: with no condition, no count and no message its commands; with some, a program that goes on does so to a stop
+-- that counts, and breakpoints with a message have written their texts on the way.
 use Rattle.std.specs.Prelude.{◌≡◌, ℕ, Bool, Option, Some, None, if◌then◌else◌}
 use Rattle.gang_model.specs.Debugger.Debugger as model
 use Rattle.gang_model.specs.Debugger.Debugger.{Command, Debugger, DoContinue, DoReverseContinue, Setting}
@@ -12,16 +13,18 @@ use Rattle.conditional_stops.specs.declared.going.Direction.{Direction}
 use Rattle.conditional_stops.specs.declared.going.Direction.TheVariants.{Forward, Backward}
 use Rattle.conditional_stops.specs.declared.going.MoveEnd.{MoveEnd}
 use Rattle.conditional_stops.specs.declared.going.MoveEnd.TheVariants as end
-use Rattle.conditional_stops.specs.declared.going.Moved.{Moved}
 use Rattle.conditional_stops.specs.declared.judging.Verdict.{Verdict}
-use Rattle.conditional_stops.specs.Going.{GoesOn, answer_of}
+use Rattle.conditional_stops.specs.Going.{answer_of}
 use Rattle.conditional_stops.specs.Tables.{is_nothing}
+use Rattle.log_points.specs.declared.going.WroteOn.{WroteOn}
+use Rattle.log_points.specs.Going.{WritesOn}
+use Rattle.log_points.specs.Points.{no_text, written_of}
 use Rattle.adapter_requests.specs.declared.request.Request.{Request}
 use Rattle.adapter_requests.specs.declared.request.Request.TheVariants as request
 use Rattle.adapter_session.specs.declared.answering.Answered.{Answered}
 use Rattle.adapter_session.specs.Answered.{IsTold, MayTell}
 use Rattle.adapter_session.specs.Requested.{commands_of, is_breakpoint, is_console, is_program, numbers_of}
-use Rattle.adapter_session.specs.Terms.{Terms, anew, asked_table, replaced}
+use Rattle.adapter_session.specs.Terms.{Terms, asked_terms, replaced}
 
 -- the most stops that are passed for one request
 abbrev pub most : ℕ
@@ -44,13 +47,13 @@ way_of request.ReverseContinue = Some Backward
 way_of (request.Evaluate expression frame context) = way_of_line (is_console context) expression.now
 way_of other = None
 
--- the same where a condition or a count is there
+-- the same where a condition, a count or a message is there
 abbrev pub way_by : Terms → Request → Option Direction
 way_by terms request = if is_nothing terms.left then None else way_of request
 
--- the conditions and counts after a request, where a debugger stands then
+-- the conditions, counts and messages after a request, where a debugger stands then
 abbrev pub terms_after : Setting → (program : Bytes) → Debugger → Request → Terms → Terms
-terms_after s program d (request.SetBreakpoints source lines) terms = replaced (is_program program source) (anew (asked_table s lines.items (numbers_of is_breakpoint d.stops))) terms
+terms_after s program d (request.SetBreakpoints source lines) terms = replaced (is_program program source) (asked_terms s lines.items (numbers_of is_breakpoint d.stops)) terms
 terms_after s program d other terms = terms
 
 -- what the condition came to of a stop that counts
@@ -63,19 +66,23 @@ pub record DoesPlainly {M : Type 0} (stands : M → Setting → Debugger → Typ
   pub done : HasDone stands s (commands_of program s d request) d session
   pub told : IsTold stands s program request d answered.reply session
   pub verdict : answered.verdict ≡ None
+  pub silent : written_of answered.written ≡ no_text
   pub terms_are : (e : Debugger) → StandsFor stands session s e → new ≡ terms_after s program e request terms
 
--- the session has gone on to a stop that counts, or to what else ended that, and the request is told that answer
+-- the session has gone on to a stop that counts, or to what else ended that, texts were written on the way, and the request is told that
+-- answer
 pub record GoesToStop {M : Type 0} (stands : M → Setting → Debugger → Type 0) (s : Setting) (program : Bytes) (request : Request) (way : Direction) (d : Debugger) (terms : Terms) (answered : Answered) (session : Session M) (new : Terms) : Type 0 where
-  pub moved : Moved
-  pub goes : GoesOn stands s way most d terms.left moved session new.left
+  pub wrote : WroteOn
+  pub goes : WritesOn stands s way most d terms.logs terms.left terms.log_left wrote session new.left new.log_left
   pub asked : new.asked ≡ terms.asked
+  pub logs : new.logs ≡ terms.logs
+  pub written : answered.written ≡ wrote.written
   pub after : Debugger
   pub there : StandsFor stands session s after
   pub meant : model.Answer
-  pub means : Means s after (answer_of moved.end) meant
-  pub tells : MayTell s program after (Some (answer_of moved.end)) meant request answered.reply
-  pub verdict : answered.verdict ≡ verdict_of moved.end
+  pub means : Means s after (answer_of wrote.moved.end) meant
+  pub tells : MayTell s program after (Some (answer_of wrote.moved.end)) meant request answered.reply
+  pub verdict : answered.verdict ≡ verdict_of wrote.moved.end
 
 -- what a request comes to, by which way it goes on
 abbrev pub DoesBy : {M : Type 0} → (M → Setting → Debugger → Type 0) → Option Direction → Setting → (program : Bytes) → Request → Debugger → Terms → Answered → Session M → (new : Terms) → Type 0

@@ -22,6 +22,7 @@ use debug_answers::Answer;
 use debug_session::Session;
 use debug_traits::RecordedMachine;
 use frame_expressions::ExpressionMachine;
+use log_points::Written;
 use std::alloc::{AllocError, Global};
 
 /// What a request came to.
@@ -31,10 +32,12 @@ pub struct Answered {
     pub reply: Reply,
     /// What the condition came to of the breakpoint at which the program stopped, where it has one.
     pub verdict: Option<Verdict>,
+    /// The texts that breakpoints wrote in place of stopping.
+    pub written: Written,
 }
 
-/// Does a request, where the program's source has this path, and says what it is told. Where conditions or counts are there, a
-/// program that goes on does so to a stop that counts.
+/// Does a request, where the program's source has this path, and says what it is told. Where conditions, counts or messages are there, a
+/// program that goes on does so to a stop that counts, and writes texts on the way.
 ///
 /// # Errors
 ///
@@ -73,10 +76,11 @@ fn answer_plainly<M: ExpressionMachine>(
     Ok(Answered {
         reply,
         verdict: None,
+        written: Written::new(alloc),
     })
 }
 
-/// Puts the conditions and the counts of a request in place of those that there are, where it has some.
+/// Puts the conditions, the counts and the messages of a request in place of those that there are, where it has some.
 fn change_terms<M: RecordedMachine>(
     program: &str,
     terms: &mut Terms,

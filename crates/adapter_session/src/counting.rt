@@ -1,4 +1,4 @@
-//! How a program goes on to a stop that counts.
+//! How a program goes on to a stop that counts, and writes texts on the way.
 ghost use Rattle.std.specs.Prelude.{◌≡◌};
 ghost use Rattle.gang_model.specs.Debugger.Debugger.{Debugger, Setting};
 ghost use Rattle.gang_model.specs.Texts.CommandText.{command_of};
@@ -12,16 +12,17 @@ use crate::answering::{Answered, told};
 use crate::lines::is_console;
 use crate::terms::Terms;
 use adapter_requests::{Context, Request};
-use conditional_stops::{Direction, MoveEnd, Verdict, continue_on};
+use conditional_stops::{Direction, MoveEnd, Verdict};
 use debug_commands::{Command, read_command};
 use debug_session::Session;
 use frame_expressions::ExpressionMachine;
+use log_points::continue_writing;
 use std::alloc::Global;
 
 /// The most stops that are passed for one request.
 const MOST: u32 = 1_000_000;
 
-/// Which way a request goes on, where conditions or counts are there.
+/// Which way a request goes on, where conditions, counts or messages are there.
 pub(crate) fn way_by(terms: &Terms, request: &Request<'_>) -> Option<Direction>
     ensures { result ≡ spec.way_by (terms_of terms.now) request.now }
 {
@@ -69,7 +70,7 @@ fn way_of_command(text: &[u8]) -> Option<Direction>
     }
 }
 
-/// Goes on to a stop that counts, or to what else ends that, and says what the request is told.
+/// Goes on to a stop that counts, or to what else ends that, writes texts on the way, and says what the request is told.
 pub(crate) fn go_to_counted<M: ExpressionMachine>(
     alloc: Global,
     program: &str,
@@ -81,12 +82,18 @@ pub(crate) fn go_to_counted<M: ExpressionMachine>(
     ensures { (s : Setting) (d : Debugger) → StandsFor M.stands session.old s d
         → GoesToStop M.stands s program.now request.now way d (terms_of terms.old) result session.new (terms_of terms.new) }
 {
-    let moved = continue_on(alloc, way, MOST, &mut terms.left, session);
-    let answer = moved.end.answer();
+    let Terms {
+        asked: _,
+        left,
+        logs,
+    } = terms;
+    let wrote = continue_writing(alloc, way, MOST, logs, left, session);
+    let answer = wrote.moved.end.answer();
     let reply = told(alloc, program, session, request, Some(answer));
     Answered {
         reply,
-        verdict: verdict_of(moved.end),
+        verdict: verdict_of(wrote.moved.end),
+        written: wrote.written,
     }
 }
 

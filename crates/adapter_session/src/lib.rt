@@ -7,11 +7,12 @@ mod counting;
 mod doing;
 mod going;
 mod lines;
+mod logging;
 mod restoring;
 mod terms;
 
 pub use answering::{Answered, answer_request};
-pub use beginning::stop_at_beginning;
+pub use beginning::{Beginning, stop_at_beginning};
 pub use doing::do_lines;
 pub use lines::command_lines;
 pub use restoring::restore_stops;

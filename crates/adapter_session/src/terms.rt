@@ -1,36 +1,42 @@
-//! The conditions and the counts of an editor's breakpoints.
+//! The conditions and the counts of an editor's breakpoints, and the messages of those that write a text in place of stopping.
 ghost use Rattle.std.specs.Prelude.{◌≡◌, ◌∷◌, [], List, Result, drop, IfNone, IfSome, Some};
 ghost use Rattle.gang_model.specs.Debugger.Debugger.{Debugger, Setting};
 ghost use Rattle.debug_session.specs.Sessions.{StandsFor};
-ghost use Rattle.conditional_stops.specs.Tables.{condition_of, nothing, passes_of};
+ghost use Rattle.conditional_stops.specs.Tables.{Table, condition_of, nothing, passes_of};
 ghost use Rattle.conditional_stops.specs.Views.{table_of};
+ghost use Rattle.log_points.specs.Points.{logs_of};
 ghost use Rattle.adapter_session.specs.Given.{given_numbers};
 ghost use Rattle.adapter_session.specs.Requested.{is_breakpoint, numbers_of};
 ghost use Rattle.adapter_session.specs.Terms as spec;
 ghost use Rattle.adapter_session.specs.Terms.{replaced, terms_of, text_of};
 
 use crate::lines::{Kind, is_of};
+use crate::logging::{asked_logs, carried_logs};
 use adapter_requests::{BreakpointFault, LineBreakpoint};
 use conditional_stops::Conditions;
 use debug_answers::NumberedStop;
 use debug_session::Session;
 use debug_traits::RecordedMachine;
+use log_points::Logs;
 
-/// The conditions and the counts of breakpoints, by their numbers: as they were asked for, and as the run has left them.
+/// The conditions and the counts of breakpoints, by their numbers: as they were asked for, and as the run has left them. And those that
+/// write a text, which stop nowhere, with what the run has left of their conditions and counts.
 #[derive(Drop)]
 pub struct Terms {
     pub(crate) asked: Conditions,
     pub(crate) left: Conditions,
+    pub(crate) logs: Logs,
 }
 
 impl Terms {
-    /// No condition, and no count.
+    /// No condition, no count and no message.
     pub fn new() -> Self
-        ensures { terms_of result ≡ spec.anew nothing }
+        ensures { terms_of result ≡ spec.anew nothing [] }
     {
         Terms {
             asked: Conditions::new(),
             left: Conditions::new(),
+            logs: Logs::new(Conditions::new()),
         }
     }
 
@@ -40,12 +46,23 @@ impl Terms {
         entries: &[Result<LineBreakpoint<'_>, BreakpointFault>],
     ) -> Self
         ensures { (s : Setting) (d : Debugger) → StandsFor M.stands session.now s d
-            → terms_of result ≡ spec.anew (spec.asked_table s entries.now (numbers_of is_breakpoint d.stops)) }
+            → terms_of result ≡ spec.asked_terms s entries.now (numbers_of is_breakpoint d.stops) }
     {
-        Terms {
-            asked: asked_table(session, entries),
-            left: asked_table(session, entries),
-        }
+        let asked = asked_table(session, entries);
+        let left = asked_table(session, entries);
+        let terms = asked_table(session, entries);
+        let logs = asked_logs(session, entries, terms);
+        Terms::anew(asked, left, logs)
+    }
+
+    /// Those of which no stop was passed yet, by three tables that are the same.
+    fn anew(asked: Conditions, left: Conditions, logs: Logs) -> Self
+        ensures { (table : Table) → table_of asked ≡ table → table_of left ≡ table → table_of logs.terms ≡ table
+            → terms_of result ≡ spec.anew table (logs_of logs) }
+    {
+        let mut left = left;
+        logs.silence(&mut left);
+        Terms { asked, left, logs }
     }
 
     /// Puts those of breakpoints that were asked for in place of all, where these are the program's.
@@ -56,7 +73,7 @@ impl Terms {
         entries: &[Result<LineBreakpoint<'_>, BreakpointFault>],
     )
         ensures { (s : Setting) (d : Debugger) → StandsFor M.stands session.now s d → terms_of self.new
-            ≡ replaced is_program (spec.anew (spec.asked_table s entries.now (numbers_of is_breakpoint d.stops))) (terms_of self.old) }
+            ≡ replaced is_program (spec.asked_terms s entries.now (numbers_of is_breakpoint d.stops)) (terms_of self.old) }
     {
         if is_program {
             *self = Terms::of_entries(session, entries);
@@ -65,13 +82,14 @@ impl Terms {
 
     /// Those that were asked for breakpoints, for the ones that stand in place of them.
     pub(crate) fn carried(&self, old: &[NumberedStop], stops: &[NumberedStop]) -> Self
-        ensures { terms_of result
-            ≡ spec.anew (spec.carried (terms_of self.now).asked (spec.all_numbers old.now) (spec.all_numbers stops.now) nothing) }
+        ensures { terms_of result ≡ spec.anew (spec.carried (terms_of self.now).asked (spec.all_numbers old.now) (spec.all_numbers stops.now) nothing)
+            (spec.carried_logs (terms_of self.now).logs (spec.all_numbers old.now) (spec.all_numbers stops.now) []) }
     {
-        Terms {
-            asked: carried(&self.asked, old, stops),
-            left: carried(&self.asked, old, stops),
-        }
+        let asked = carried(&self.asked, old, stops);
+        let left = carried(&self.asked, old, stops);
+        let terms = carried(&self.asked, old, stops);
+        let logs = carried_logs(&self.logs, old, stops, terms);
+        Terms::anew(asked, left, logs)
     }
 }
 
@@ -109,7 +127,7 @@ fn give_entry<'a, M: RecordedMachine>(
 }
 
 /// Whether a breakpoint can stand on a line or behind it.
-fn can_stand<M: RecordedMachine>(machine: &M, line: u32) -> bool
+pub(crate) fn can_stand<M: RecordedMachine>(machine: &M, line: u32) -> bool
     ensures { (s : Setting) (d : Debugger) → M.stands machine.now s d → result ≡ spec.can_stand s line }
 {
     machine.line_from(line).is_some()
@@ -145,7 +163,7 @@ fn bytes_of(text: Option<&str>) -> Option<&[u8]>
 }
 
 /// The number of the first breakpoint, and what stands behind it.
-fn next_breakpoint(stops: &[NumberedStop]) -> Option<(u32, &[NumberedStop])>
+pub(crate) fn next_breakpoint(stops: &[NumberedStop]) -> Option<(u32, &[NumberedStop])>
     ensures some { IfSome result (λ next. given_numbers Kind.Breakpoints stops.now ≡ next.0 ∷ given_numbers Kind.Breakpoints next.1.now) }
     ensures none { IfNone result (given_numbers Kind.Breakpoints stops.now ≡ []) }
 {

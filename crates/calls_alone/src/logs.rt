@@ -5,7 +5,7 @@ use conditional_stops::{Conditions, Direction};
 use debug_commands::Command;
 use debug_traits::RecordedMachine;
 use ispc_debugger::ProgramSession;
-use log_points::{LogPoint, Logs, Written, continue_writing, write_here};
+use log_points::{Logs, Written, continue_writing, write_here};
 use std::alloc::Global;
 
 /// The text, with the value of an expression.
@@ -16,25 +16,21 @@ pub(crate) fn call(alloc: Global, name: &str) -> Option<Ended> {
     match name {
         "log_points::write_here" => {
             let mut session = session(alloc)?;
-            write(alloc, &mut logs(alloc)?, &mut session)
+            write(alloc, &mut logs(), &mut session)
         }
         "log_points::continue_writing" => {
             let mut session = session(alloc)?;
-            Some(go_on(alloc, &mut logs(alloc)?, &mut session))
+            Some(go_on(alloc, &mut logs(), &mut session))
         }
         _ => None,
     }
 }
 
 /// A breakpoint that writes a text, of the number 1.
-fn logs(alloc: Global) -> Option<Logs> {
-    let message = String::from_str(alloc, MESSAGE).ok()?;
-    let mut points = Vec::new(alloc);
-    points.push(LogPoint { number: 1, message }).ok()?;
-    Some(Logs {
-        points,
-        terms: Conditions::new(),
-    })
+fn logs() -> Logs {
+    let mut logs = Logs::new(Conditions::new());
+    logs.put(1, MESSAGE);
+    logs
 }
 
 /// Writes the text where the program stands.

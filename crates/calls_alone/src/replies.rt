@@ -43,6 +43,7 @@ fn step(alloc: Global, session: &mut ProgramSession<4>) -> Ended {
             Answered {
                 reply: Reply::OutOfMemory,
                 verdict: _,
+                written: _,
             },
         ) => Ended::Memory,
         answered => end_of(&answered),
@@ -57,13 +58,14 @@ fn begin(alloc: Global) -> Option<Ended> {
         line: session.machine().position()?.place.line,
         condition: Some(CONDITION),
         passes: 0,
+        log: None,
     };
     let mut lines = Vec::new(alloc);
     lines.push(Ok(asked)).ok()?;
     let source = Some(PROGRAM);
     let request = Request::SetBreakpoints { source, lines };
     answer_request(alloc, PROGRAM, &mut terms, &mut session, &request).ok()?;
-    match stop_at_beginning(alloc, &mut terms, &session)? {
+    match stop_at_beginning(alloc, &mut terms, &session).first? {
         CountedStop {
             verdict: Some(verdict),
             reason: _,
