@@ -1,3 +1,5 @@
+mod ConsoleLines
 mod Launches
 mod ReadMessages
 mod ServedRequests
+mod WorkedRows

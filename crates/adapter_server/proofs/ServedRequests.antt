@@ -8,6 +8,7 @@ use Rattle.conditional_stops.specs.declared.reasons.CountedStop.{CountedStop}
 use Rattle.adapter_requests.specs.declared.request.Request.{Request}
 use Rattle.adapter_requests.specs.declared.request.Request.TheVariants as request
 use Rattle.adapter_session.specs.declared.answering.Answered.{Answered}
+use Rattle.adapter_session.specs.declared.beginning.Beginning.{Beginning}
 use Rattle.adapter_session.specs.declared.terms.Terms.{Terms as GivenTerms}
 use Rattle.adapter_session.specs.Done.{DoesRequest}
 use Rattle.adapter_session.specs.Terms.{terms_of}
@@ -49,16 +50,26 @@ module _ {M : Type 0} (stands : M → Setting → Debugger → Type 0) where
     begins_on_entry stops run is = subst (λ b. BeginsBy stands b Goes run run) (sym is) refl
 
     -- a breakpoint counts there
-    pub begins_here : (stops : Bool) (first : Option CountedStop) (counted : CountedStop) (old middle : Run M) → stops ≡ false → first ≡ Some counted → AsksHere stands first old middle → BeginsBy stands stops Goes old middle
-    begins_here stops first counted old middle runs some asked =
+    pub begins_here : (stops : Bool) (beginning : Beginning) (counted : CountedStop) (old middle : Run M) → stops ≡ false → beginning.first ≡ Some counted → AsksHere stands beginning old middle → BeginsBy stands stops Goes old middle
+    begins_here stops beginning counted old middle runs some asked =
         subst (λ b. BeginsBy stands b Goes old middle) (sym runs)
-        (record { first = first; middle = middle; asks = asked; goes = subst (λ f. GoesUnless f Goes middle middle) (sym some) refl })
+        (record { beginning = beginning; middle = middle; asks = asked; goes = subst (λ f. GoesUnless f Goes middle middle) (sym some) refl })
 
     -- none does
-    pub begins_going : (stops : Bool) (first : Option CountedStop) (old middle new : Run M) → stops ≡ false → first ≡ None → AsksHere stands first old middle → Goes middle new → BeginsBy stands stops Goes old new
-    begins_going stops first old middle new runs none asked goes =
+    pub begins_going : (stops : Bool) (beginning : Beginning) (old middle new : Run M) → stops ≡ false → beginning.first ≡ None → AsksHere stands beginning old middle → Goes middle new → BeginsBy stands stops Goes old new
+    begins_going stops beginning old middle new runs none asked goes =
         subst (λ b. BeginsBy stands b Goes old new) (sym runs)
-        (record { first = first; middle = middle; asks = asked; goes = subst (λ f. GoesUnless f Goes middle new) (sym none) goes })
+        (record { beginning = beginning; middle = middle; asks = asked; goes = subst (λ f. GoesUnless f Goes middle new) (sym none) goes })
+
+    goes_nowhere : (first : Option CountedStop) (run : Run M) → Goes run run → GoesUnless first Goes run run
+    goes_nowhere (Some counted) run nowhere = refl
+    goes_nowhere None run nowhere = nowhere
+
+    -- they were asked, and it went no further
+    pub begins_asking : (stops : Bool) (beginning : Beginning) (old middle : Run M) → stops ≡ false → AsksHere stands beginning old middle → Goes middle middle → BeginsBy stands stops Goes old middle
+    begins_asking stops beginning old middle runs asked nowhere =
+        subst (λ b. BeginsBy stands b Goes old middle) (sym runs)
+        (record { beginning = beginning; middle = middle; asks = asked; goes = goes_nowhere beginning.first middle nowhere })
 
   module _ (setup : Setup) where
     -- ---- a request that comes to nothing, or is done

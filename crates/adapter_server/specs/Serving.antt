@@ -13,6 +13,8 @@ use Rattle.command_lists.specs.Lists.{HasDone}
 use Rattle.conditional_stops.specs.declared.reasons.CountedStop.{CountedStop}
 use Rattle.conditional_stops.specs.Reasons as asking
 use Rattle.conditional_stops.specs.Reasons.{breakpoints_here}
+use Rattle.log_points.specs.Points.{no_text, written_of}
+use Rattle.log_points.specs.Writing.{WritesHere}
 use Rattle.adapter_requests.specs.declared.request.Launch.{Launch}
 use Rattle.adapter_requests.specs.declared.request.Request.{Request}
 use Rattle.adapter_requests.specs.declared.request.Request.TheVariants as request
@@ -21,6 +23,7 @@ use Rattle.adapter_frames.specs.Reading as frames
 use Rattle.adapter_frames.specs.Reading.{Gives}
 use Rattle.adapter_messages.specs.Arguments.{IsRequest, flag_at, text_at}
 use Rattle.adapter_session.specs.declared.answering.Answered.{Answered}
+use Rattle.adapter_session.specs.declared.beginning.Beginning.{Beginning}
 use Rattle.adapter_session.specs.declared.terms.Terms.{Terms as GivenTerms}
 use Rattle.adapter_session.specs.Done.{DoesRequest}
 use Rattle.adapter_session.specs.Restored.{numbers, stop_commands, terms_anew}
@@ -53,7 +56,7 @@ setup_of launch = record { program = path_of launch; stops_on_entry = unwrap_or 
 
 -- ---- what is done to a session
 
--- a session, with the conditions and the counts of its breakpoints
+-- a session, with the conditions, the counts and the messages of its breakpoints
 pub record Run (M : Type 0) : Type 0 where
   pub session : Session M
   pub terms : Terms
@@ -74,11 +77,14 @@ MayDo stands program request old new = (new ≡ old) ⊎ DoesOne stands program 
 abbrev pub Asks : {M T E : Type 0} → (M → Setting → Debugger → Type 0) → (program : Bytes) → Request → (old new : Run M) → Result T E → Type 0
 Asks stands program request old new result = MatchResult result (λ answered. DoesOne stands program request old new) (λ error. new ≡ old)
 
--- the breakpoints on the line of the next step were asked, and the session stays
-pub record AsksHere {M : Type 0} (stands : M → Setting → Debugger → Type 0) (first : Option CountedStop) (old new : Run M) : Type 0 where
+-- the breakpoints on the line of the next step were asked, those that write a text have written it, and the session stays
+pub record AsksHere {M : Type 0} (stands : M → Setting → Debugger → Type 0) (beginning : Beginning) (old new : Run M) : Type 0 where
   pub session : new.session ≡ old.session
   pub asked : new.terms.asked ≡ old.terms.asked
-  pub asks : (s : Setting) (d : Debugger) → StandsFor stands old.session s d → asking.Asks s d (breakpoints_here s d d.stops) old.terms.left first new.terms.left
+  pub logs : new.terms.logs ≡ old.terms.logs
+  pub asks : (s : Setting) (d : Debugger) → StandsFor stands old.session s d → asking.Asks s d (breakpoints_here s d d.stops) old.terms.left beginning.first new.terms.left
+  pub writes : (s : Setting) (d : Debugger) → StandsFor stands old.session s d
+      → WritesHere s d old.terms.logs old.terms.log_left no_text new.terms.log_left (written_of beginning.written)
 
 -- a run stops where it begins if a breakpoint counts there, and else goes on
 abbrev pub GoesUnless : {M : Type 0} → (first : Option CountedStop) → (Goes : Run M → Run M → Type 0) → (old new : Run M) → Type 0
@@ -86,10 +92,10 @@ GoesUnless (Some counted) Goes old new = new ≡ old
 GoesUnless None Goes old new = Goes old new
 
 pub record Starts {M : Type 0} (stands : M → Setting → Debugger → Type 0) (Goes : Run M → Run M → Type 0) (old new : Run M) : Type 0 where
-  pub first : Option CountedStop
+  pub beginning : Beginning
   pub middle : Run M
-  pub asks : AsksHere stands first old middle
-  pub goes : GoesUnless first Goes middle new
+  pub asks : AsksHere stands beginning old middle
+  pub goes : GoesUnless beginning.first Goes middle new
 
 -- a run begins: by nothing where it is to stop before its first step
 abbrev pub BeginsBy : {M : Type 0} → (M → Setting → Debugger → Type 0) → (stops_on_entry : Bool) → (Goes : Run M → Run M → Type 0) → (old new : Run M) → Type 0

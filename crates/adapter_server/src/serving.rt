@@ -6,14 +6,18 @@ ghost use Rattle.adapter_server.specs.Serving.{Answers, Asks, Begins, DoesOne, F
 
 use crate::connection::{Connection, Ended};
 use crate::launching::LaunchMessage;
+use crate::writing::console_lines;
 use adapter_messages::{Head, read_head, read_request};
 use adapter_replies::{answer_text, exception_reply, no_value_text, stop_behind};
 use adapter_requests::{Launch, Reply, Request, StopReason};
-use adapter_session::{Answered, Terms, answer_request, restore_stops, stop_at_beginning};
+use adapter_session::{
+    Answered, Beginning, Terms, answer_request, restore_stops, stop_at_beginning,
+};
 use conditional_stops::{CountedStop, Verdict};
 use debug_answers::Answer;
 use debug_session::Session;
 use frame_expressions::ExpressionMachine;
+use log_points::Written;
 use serde_json::Value;
 use std::alloc::{AllocError, Global};
 use std::io::{Read, Write};
@@ -191,10 +195,11 @@ impl<R: Read, O: Write> Connection<R, O> {
         }
     }
 
-    /// Tells of what a request leads to: a condition that has no value, and a stop, or the end.
+    /// Tells of what a request leads to: texts that breakpoints wrote, a condition that has no value, and a stop, or the end.
     fn tell_of(&mut self, request: &Request<'_>, answered: &Answered) -> Result<(), Ended>
         ensures { messages_of self.new ≡ messages_of self.old }
     {
+        self.tell_written(&answered.written)?;
         self.tell_verdict(&answered.verdict)?;
         if let Reply::Ended = &answered.reply {
             return self.tell("terminated");
@@ -203,6 +208,31 @@ impl<R: Read, O: Write> Connection<R, O> {
             Some((reason, text)) => self.tell_stop(reason, text),
             None => Ok(()),
         }
+    }
+
+    /// Puts the texts that breakpoints wrote on the console, each on a line, and tells where some are left out.
+    fn tell_written(&mut self, written: &Written) -> Result<(), Ended>
+        ensures { messages_of self.new ≡ messages_of self.old }
+    {
+        let lines = console_lines(self.alloc, written)?;
+        self.tell_lines(lines.as_slice())
+    }
+
+    /// Puts lines on the console, one event for each.
+    fn tell_lines(&mut self, lines: &[String]) -> Result<(), Ended>
+        ensures { messages_of self.new ≡ messages_of self.old }
+    {
+        for line in lines {
+            self.tell_console(line.as_str())?;
+        }
+        Ok(())
+    }
+
+    /// Puts the texts on the console that breakpoints wrote where the run begins.
+    fn tell_begun(&mut self, written: Written) -> Result<(), Ended>
+        ensures { messages_of self.new ≡ messages_of self.old }
+    {
+        self.tell_written(&written)
     }
 
     /// Tells on the console why a condition has no value, where it has none.
@@ -234,7 +264,9 @@ impl<R: Read, O: Write> Connection<R, O> {
         if launch.stops_on_entry {
             return self.tell_beginning(session, &Answer::Here, StopReason::Entry);
         }
-        match stop_at_beginning(self.alloc, terms, session) {
+        let Beginning { first, written } = stop_at_beginning(self.alloc, terms, session);
+        self.tell_begun(written)?;
+        match first {
             Some(counted) => self.tell_counted(session, &counted),
             None => self.run_on(launch, terms, session),
         }
