@@ -17,6 +17,7 @@ from .adapter_members import (
 from .adapter_conditions import CONDITION_CHECKS
 from .adapter_frames import FRAME_CHECKS, written
 from .adapter_launches import LAUNCH_CHECKS
+from .adapter_logs import LOG_CHECKS
 from .adapter_moves import MOVE_CHECKS
 from .adapter_programs import PROGRAM_CHECKS
 from .adapter_values import VALUE_CHECKS
@@ -437,7 +438,7 @@ def wrong_requests(client, examples):
     client.end()
 
 
-CHECKS = [steps_and_back, watches, breaks, locations, variables, frames, faults, filters, the_end, wrong_requests, *FRAME_CHECKS, *LAUNCH_CHECKS, *VALUE_CHECKS, *MOVE_CHECKS, *CONDITION_CHECKS, *PROGRAM_CHECKS]
+CHECKS = [steps_and_back, watches, breaks, locations, variables, frames, faults, filters, the_end, wrong_requests, *FRAME_CHECKS, *LAUNCH_CHECKS, *LOG_CHECKS, *VALUE_CHECKS, *MOVE_CHECKS, *CONDITION_CHECKS, *PROGRAM_CHECKS]
 
 
 def check(root, command):

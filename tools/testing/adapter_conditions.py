@@ -97,7 +97,7 @@ def two_conditions(client, examples):
     """Each line has its own condition, and one behind an entry that is refused has its own too; a list takes the place of the one before."""
     with written(SOURCE) as path:
         client.launch(path, stopOnEntry=False)
-        made = ask(client, (X, {"condition": "i == 11"}), (X, {"logMessage": "x"}), (ODD, {"condition": "total == 10"}), (200, {}), (NEXT, {"condition": "i % 20 == 19"}))
+        made = ask(client, (X, {"condition": "i == 11"}), (X, {"logMessage": 1}), (ODD, {"condition": "total == 10"}), (200, {}), (NEXT, {"condition": "i % 20 == 19"}))
         same([it["verified"] for it in made], [True, False, True, False, True])
         one, two, three = [it["id"] for it in made if it["verified"]]
         # Where the line with the sum behind it stands, total is 2 i + 2.

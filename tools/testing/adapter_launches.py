@@ -114,16 +114,17 @@ def no_breakpoints(client, examples):
     client.launch(examples / "first.ispc")
     client.begin()
     asked = [
-        {"line": 2, "condition": 1}, {"line": 3}, {"line": 3, "hitCondition": ">2"}, {"line": 3, "logMessage": "x"}, {"line": "3"},
+        {"line": 2, "condition": 1}, {"line": 3}, {"line": 3, "hitCondition": ">2"}, {"line": 3, "logMessage": 7}, {"line": "3"},
         {}, {"line": -1}, {"line": 2**32}, {"line": 50}, {"line": 4, "condition": None}, {"line": 2, "condition": "x" * 257},
-        {"line": 2, "hitCondition": "0"}, {"line": 2, "hitCondition": "10000001"}, {"line": 2, "hitCondition": 2},
+        {"line": 2, "hitCondition": "0"}, {"line": 2, "hitCondition": "10000001"}, {"line": 2, "hitCondition": 2}, {"line": 2, "logMessage": "x" * 257},
     ]
     found = client.ask("setBreakpoints", source={"path": client.source}, breakpoints=asked)["breakpoints"]
     unplaced = "its line or target is missing or of a wrong type"
     condition, count = "its condition is no text of at most 256 bytes", "its count is no number from 1 to 10000000"
+    message = "its log message is no text of at most 256 bytes"
     same([it.get("message") for it in found], [
-        condition, None, count, "log messages are not there", unplaced, unplaced, unplaced, unplaced,
-        "no step stands on this line or behind it", None, condition, count, count, count,
+        condition, None, count, message, unplaced, unplaced, unplaced, unplaced,
+        "no step stands on this line or behind it", None, condition, count, count, count, message,
     ])
     same([it["line"] for it in found if it["verified"]], [3, 4])
     same(len(client.ask("evaluate", expression="info breakpoints", context="repl")["result"].splitlines()), 2)
@@ -131,10 +132,10 @@ def no_breakpoints(client, examples):
     same([it.get("message") for it in other], ["this source is not the program's"])
     same(len(client.ask("evaluate", expression="info breakpoints", context="repl")["result"].splitlines()), 2)
     watched = client.ask("setDataBreakpoints", breakpoints=[
-        {"dataId": "x"}, {"dataId": 3}, {"dataId": "x", "condition": "1"}, {"dataId": "x", "hitCondition": "2"},
+        {"dataId": "x"}, {"dataId": 3}, {"dataId": "x", "condition": "1"}, {"dataId": "x", "hitCondition": "2"}, {"dataId": "x", "logMessage": "x"},
     ])["breakpoints"]
     conditional = "a watch has no condition, no count and no log message"
-    same([it["message"] for it in watched], ["only scalars of the file, their lanes and elements of arrays are watched", unplaced, conditional, conditional])
+    same([it["message"] for it in watched], ["only scalars of the file, their lanes and elements of arrays are watched", unplaced, conditional, conditional, conditional])
     client.end()
 
 

@@ -47,6 +47,7 @@ CAPABILITIES = [
     "supportsExceptionInfoRequest",
     "supportsGotoTargetsRequest",
     "supportsHitConditionalBreakpoints",
+    "supportsLogPoints",
     "supportsRestartRequest",
     "supportsSetExpression",
     "supportsSetVariable",

@@ -94,7 +94,7 @@ class Session:
     def refused(self, raw):
         """Sends what is no request, and reads up to the console's text of it: with a head that is refused all goes that has come until then."""
         self.write(raw)
-        while (message := self.read()) is not None and message.get("event") != "output":
+        while (message := self.read()) is not None and not message.get("body", {}).get("output", "").startswith("a message is refused: "):
             pass
 
     def learn(self, message):
