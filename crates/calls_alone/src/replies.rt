@@ -65,7 +65,8 @@ fn begin(alloc: Global) -> Option<Ended> {
     let source = Some(PROGRAM);
     let request = Request::SetBreakpoints { source, lines };
     answer_request(alloc, PROGRAM, &mut terms, &mut session, &request).ok()?;
-    match stop_at_beginning(alloc, &mut terms, &session).first? {
+    let beginning = stop_at_beginning(alloc, &mut terms, &session);
+    match beginning.first? {
         CountedStop {
             verdict: Some(verdict),
             reason: _,
