@@ -227,9 +227,9 @@ variable_of kind.Range is_constant name value type reference = object (named_so 
 abbrev pub variable : Variable → Data
 variable shown = variable_of shown.kind shown.is_constant (string_bytes shown.name) (string_bytes shown.value) (string_bytes shown.type_name) shown.reference
 
--- what an expression, or a line of the console, is answered: a text without lanes or elements
-abbrev pub evaluated : (text : Bytes) → Data
-evaluated text = object (member (codes "result") (string text) (member (codes "variablesReference") (natural 0) no_members))
+-- what an expression, or a line of the console, is answered: a text, and the reference of the lanes or elements of what is shown, 0 if it has none
+abbrev pub evaluated : (text : Bytes) → (reference : ℕ) → Data
+evaluated text reference = object (member (codes "result") (string text) (member (codes "variablesReference") (natural reference) no_members))
 
 -- a fault at which the program stands still: its number and name, its lane and what it means
 abbrev pub exception : Exception → Data
@@ -257,7 +257,7 @@ body_of command program (reply.Frames shown total) = frames program shown.items 
 body_of command program (reply.Scopes shown) = only (codes "scopes") (scopes shown)
 body_of command program (reply.Variables shown) = only (codes "variables") (array_of variable shown.items)
 body_of command program (reply.Set value) = only (codes "value") (string (string_bytes value))
-body_of command program (reply.Evaluated text reason) = evaluated (string_bytes text)
+body_of command program (reply.Evaluated text reason reference) = evaluated (string_bytes text) reference
 body_of command program (reply.Exception shown) = exception shown
 body_of command program (reply.Moved stop) = moved command
 body_of command program reply = object no_members

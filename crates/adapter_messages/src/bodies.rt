@@ -40,9 +40,11 @@ pub(crate) fn body_of(
         Reply::Scopes(shown) => scopes(alloc, shown),
         Reply::Variables(found) => variables(alloc, found),
         Reply::Set(value) => json!(in alloc; {"value": value.as_str()}),
-        Reply::Evaluated { text, reason: _ } => {
-            json!(in alloc; {"result": text.as_str(), "variablesReference": 0u64})
-        }
+        Reply::Evaluated {
+            text,
+            reason: _,
+            reference,
+        } => json!(in alloc; {"result": text.as_str(), "variablesReference": *reference}),
         Reply::Exception(exception) => exception_value(alloc, exception),
         Reply::Moved(_) => moved(alloc, command),
         Reply::Done | Reply::Ended | Reply::Refused(_) | Reply::OutOfMemory => {

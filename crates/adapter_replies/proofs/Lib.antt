@@ -4,7 +4,10 @@ pub mod ColumnUnits
 pub mod Completing
 pub mod LaneValues
 pub mod Numbered
+pub mod Opening
 pub mod PageRanges
+pub mod ParameterLines
 pub mod Rows
 pub mod ToldVariables
 pub mod TopFrame
+pub mod WorkedTargets

@@ -292,18 +292,18 @@ part_of_a_scalar = refl
 -- ---- by the last answer
 
 -- an expression is told its values alone, a line of the console its answer
-values_alone : (target : _) (shown : _) (told : _) (name text : Bytes) → IsEvaluated Watch name (Some (answer.Shows target shown)) text (string_bytes told) (reply.Evaluated told None)
+values_alone : (target : _) (shown : _) (told : _) (name text : Bytes) → IsEvaluated Watch name (Some (answer.Shows target shown)) text (string_bytes told) (reply.Evaluated told None 0)
 values_alone target shown told name text = refl
 
 whole_answer : (target : _) (shown : _) (told : _) (name text words : Bytes) → string_bytes told ≡ shown_text text
-    → IsEvaluated Console name (Some (answer.Shows target shown)) text words (reply.Evaluated told None)
+    → IsEvaluated Console name (Some (answer.Shows target shown)) text words (reply.Evaluated told None 0)
 whole_answer target shown told name text words is = ap (λ line. Some (None, line)) is
 
 -- a refusal is told as one
 refused_place : (told : _) (name text words : Bytes) → string_bytes told ≡ shown_text text → IsEvaluated Watch name (Some (answer.Refused refusal.OutOfRange)) text words (reply.Refused told)
 refused_place told name text words is = ap (λ line. Some (None, line)) is
 
-no_refused_value : (told : _) (why : _) (name text words : Bytes) → IsEvaluated Watch name (Some (answer.Refused refusal.OutOfRange)) text words (reply.Evaluated told why) → ⊥
+no_refused_value : (told : _) (why : _) (name text words : Bytes) → IsEvaluated Watch name (Some (answer.Refused refusal.OutOfRange)) text words (reply.Evaluated told why 0) → ⊥
 no_refused_value told why name text words says = cc says
 
 at_watch : reason_of (answer.AtWatch 3) ≡ Some (reason.DataBreakpoint 3)

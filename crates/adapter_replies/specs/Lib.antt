@@ -1,14 +1,17 @@
 pub mod Breakpoints
 pub mod Columns
 pub mod Completions
+pub mod Console
 pub mod Exceptions
 pub mod Expressions
 pub mod Frames
 pub mod Locations
+pub mod Opened
 pub mod Pages
 pub mod References
 pub mod Shown
 pub mod Stopped
+pub mod Targets
 pub mod Told
 pub mod Variables
 pub mod Waiting

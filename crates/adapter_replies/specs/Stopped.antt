@@ -55,7 +55,7 @@ anew false reason text = None
 -- the stop that an editor is told of behind a reply: where a move led; a move that was refused moved nothing, and the last stop is told anew
 abbrev pub stop_behind : (is_move : Bool) → (last : StopReason) → Reply → Option (StopReason × Bytes)
 stop_behind is_move last (reply.Moved stop) = Some (stop.reason, string_bytes stop.text)
-stop_behind is_move last (reply.Evaluated text (Some reason)) = Some (reason, string_bytes text)
+stop_behind is_move last (reply.Evaluated text (Some reason) reference) = Some (reason, string_bytes text)
 stop_behind is_move last (reply.Refused text) = anew is_move last (string_bytes text)
 stop_behind is_move last reply.OutOfMemory = anew is_move reason.Pause (codes "out of memory")
 stop_behind is_move last other = None

@@ -3,7 +3,7 @@ use Rattle.std.specs.Prelude.{◌≡◌, ◌⊎◌, ℕ, Bool, true, false, not,
 use Rattle.gang_model.specs.Running.State.{State}
 use Rattle.gang_model.specs.Debugger.Debugger as model
 use Rattle.gang_model.specs.Types.Tree.{Variable}
-use Rattle.gang_model.specs.Debugger.Debugger.{Debugger, Setting, depth, now, target_words}
+use Rattle.gang_model.specs.Debugger.Debugger.{Debugger, OutOfRange, Refusal, Setting, Target, bad_part, depth, now, part_shown, target_words}
 use Rattle.gang_model.specs.Texts.CommandText.{command_of}
 use Rattle.gang_model.specs.Texts.Text.{Bytes}
 use Rattle.debug_answers.specs.declared.answer.Answer.{Answer}
@@ -11,7 +11,7 @@ use Rattle.debug_answers.specs.declared.answer.Answer.TheVariants as answer
 use Rattle.debug_answers.specs.declared.answer.Refusal.TheVariants as refusal
 use Rattle.debug_answers.specs.Meanings.{Means}
 use Rattle.debug_session.specs.Sessions.{is_refused}
-use Rattle.debug_traits.specs.Frames.{found_at}
+use Rattle.debug_traits.specs.Frames.{found_at, listed_parameters_at}
 use Rattle.frame_values.specs.declared.values.ExpressionValue.{ExpressionValue}
 use Rattle.frame_values.specs.declared.values.NoValue.{NoValue}
 use Rattle.frame_values.specs.Values.{HasNoValue, IsValueOf}
@@ -27,16 +27,21 @@ use Rattle.adapter_replies.specs.Exceptions.{no_fault}
 use Rattle.adapter_replies.specs.Breakpoints.{IsWatchableTold, is_watchable, told_breakpoint, told_watch}
 use Rattle.adapter_replies.specs.Columns.{front}
 use Rattle.adapter_replies.specs.Completions.{ToldCompletion, completion_view, completions, frame_or}
+use Rattle.adapter_replies.specs.Console.{asked_in, help_text, parameters_text}
 use Rattle.adapter_replies.specs.Expressions.{expression_text, is_memory, no_value_text, shown_in}
 use Rattle.adapter_replies.specs.Frames.{ToldFrame, all_frames, asked_frames, frame_view}
 use Rattle.adapter_replies.specs.Locations.{goto_line, told_places}
+use Rattle.adapter_replies.specs.Opened.{opened, opened_by}
 use Rattle.adapter_replies.specs.References.{is_frame, place_of, within}
+use Rattle.adapter_replies.specs.declared.console.Asked.{Asked}
+use Rattle.adapter_replies.specs.declared.console.Asked.TheVariants as asked
 use Rattle.adapter_replies.specs.declared.places.Place.{Place}
 use Rattle.adapter_replies.specs.declared.places.Place.TheVariants as place
 use Rattle.adapter_replies.specs.declared.places.Scope.TheVariants.{Locals, Arguments}
 use Rattle.adapter_replies.specs.Shown.{shown_text}
 use Rattle.adapter_replies.specs.Stopped.{goto_reason, reason_of}
-use Rattle.adapter_replies.specs.Variables.{ToldVariable, told_now, values, variable_view, words_at}
+use Rattle.adapter_replies.specs.Targets.{target_in}
+use Rattle.adapter_replies.specs.Variables.{ToldVariable, told_each, told_now, values, variable_view, words_at}
 
 -- the frames of a reply, and how many it says there are
 abbrev pub told_frames : Reply → Option (List ToldFrame × ℕ)
@@ -93,14 +98,20 @@ AreCompletionsToldIn s d deep front told = AreCompletionsTold (is_frame (depth (
 
 -- the text of what was evaluated, with the reason of a stop
 abbrev pub told_value : Reply → Option (Option StopReason × Bytes)
-told_value (reply.Evaluated text reason) = Some (reason, string_bytes text)
+told_value (reply.Evaluated text reason reference) = Some (reason, string_bytes text)
 told_value other = None
+
+-- what can be opened of what was evaluated
+abbrev pub told_place : Reply → Place
+told_place (reply.Evaluated text reason reference) = place_of reference
+told_place other = place.Nothing
 
 -- the value of an expression where the frame at a depth stands
 pub record IsValueShown (s : Setting) (d : Debugger) (deep : ℕ) (context : Context) (text : Bytes) (told : Reply) : Type 0 where
   pub found : ExpressionValue
   pub is : IsValueOf text s d deep found
   pub shown : told_value told ≡ Some (None, shown_in context (expression_text found))
+  pub closed : told_place told ≡ place.Nothing
 
 -- why a text has no value where the frame at a depth stands; that there is no memory for it is told otherwise
 pub record IsNoValueShown (s : Setting) (d : Debugger) (deep : ℕ) (text : Bytes) (told : Reply) : Type 0 where
@@ -109,19 +120,43 @@ pub record IsNoValueShown (s : Setting) (d : Debugger) (deep : ℕ) (text : Byte
   pub other : is_memory why ≡ false
   pub shown : told_stop told ≡ Some (None, no_value_text why)
 
--- what is told of an expression where the frame at a depth stands
+-- this text alone is told, and nothing opens
+abbrev pub IsTold : Bytes → Reply → Type 0
+IsTold text told = (told_value told ≡ Some (None, text)) × (told_place told ≡ place.Nothing)
+
+-- what is told of a text that names no variable, by what it asks for: what can be typed, the parameters of the frame at a depth, or the value of the expression
+-- that it spells
+abbrev pub IsAskedTold : Asked → Setting → Debugger → (depth : ℕ) → Context → (text : Bytes) → Reply → Type 0
+IsAskedTold asked.Help s d deep context text told = IsTold help_text told
+IsAskedTold asked.Parameters s d deep context text told = IsTold (parameters_text (told_each s d deep (place.Parts Arguments deep) 0 (listed_parameters_at s d deep))) told
+IsAskedTold asked.Value s d deep context text told = IsValueShown s d deep context text told ⊎ IsNoValueShown s d deep text told
+
 abbrev pub IsExpressionTold : Setting → Debugger → (depth : ℕ) → Context → (text : Bytes) → Reply → Type 0
-IsExpressionTold s d deep context text told = IsValueShown s d deep context text told ⊎ IsNoValueShown s d deep text told
+IsExpressionTold s d deep context text told = IsAskedTold (asked_in context text) s d deep context text told
 
--- what is told of a text in the frame at a depth: the values of the variable that it names there, or the value of the expression that it spells
-abbrev pub IsNameTold : Setting → Debugger → (depth : ℕ) → Context → (text : Bytes) → Option Variable → Reply → Type 0
-IsNameTold s d deep context text None told = IsExpressionTold s d deep context text told
-IsNameTold s d deep context text (Some v) told = told_value told ≡ Some (None, shown_in context (values v.type (words_at s d deep v)))
+-- what is told of a target in the frame at a depth whose name finds a variable, by why it cannot be shown, if it cannot: its values, and what opens; past the
+-- end a refusal; and where a variable has no parts the text is an expression
+abbrev pub IsPartTold : Setting → Debugger → (depth : ℕ) → Context → (text : Bytes) → Target → Variable → Option Refusal → Reply → Type 0
+IsPartTold s d deep context text target v None told =
+    (told_value told ≡ Some (None, shown_in context (values v.type (part_shown target.at (words_at s d deep v))))) × (told_place told ≡ opened s d deep target)
+IsPartTold s d deep context text target v (Some OutOfRange) told = told_stop told ≡ Some (None, codes "C8 OutOfRange")
+IsPartTold s d deep context text target v (Some other) told = IsExpressionTold s d deep context text told
 
--- the same in the frame of a number, if there is one
+-- the same by the variable that its name finds there; where it finds none the text is an expression
+abbrev pub IsFoundTold : Setting → Debugger → (depth : ℕ) → Context → (text : Bytes) → Target → Option Variable → Reply → Type 0
+IsFoundTold s d deep context text target None told = IsExpressionTold s d deep context text told
+IsFoundTold s d deep context text target (Some v) told = IsPartTold s d deep context text target v (bad_part true target.at v.is_array v.rate (length (words_at s d deep v))) told
+
+-- what is told of a text, by what `print` takes it for; where that is none the text is an expression
+abbrev pub IsTargetTold : Setting → Debugger → (depth : ℕ) → Context → (text : Bytes) → Option Target → Reply → Type 0
+IsTargetTold s d deep context text None told = IsExpressionTold s d deep context text told
+IsTargetTold s d deep context text (Some target) told = IsFoundTold s d deep context text target (found_at s.program deep (now s d) target.name) told
+
+-- what is told of a text in the frame of a number, if there is one: the values of the variable, the lane or the element that it names there, or the value of
+-- the expression that it spells
 abbrev pub IsNameToldIn : (is_frame : Bool) → Setting → Debugger → (depth : ℕ) → Context → (text : Bytes) → Reply → Type 0
 IsNameToldIn false s d deep context text told = IsNoFrame told
-IsNameToldIn true s d deep context text told = IsNameTold s d deep context text (found_at s.program deep (now s d) text) told
+IsNameToldIn true s d deep context text told = IsTargetTold s d deep context text (target_in text) told
 
 -- whether an answer says that a text names no variable
 abbrev pub is_unnamed : Answer → Bool
@@ -138,14 +173,14 @@ is_line other text = false
 abbrev pub is_expression : Context → (text : Bytes) → Answer → Bool
 is_expression context text given = is_unnamed given && not (is_line context text)
 
--- what is told of a text for which `print` was done in the top frame, where it is an expression
-abbrev pub IsPrinted : (is_expression : Bool) → Setting → Debugger → Context → (text : Bytes) → Reply → Type 0
-IsPrinted true s d context text told = IsExpressionTold s d (depth (now s d)) context text told
-IsPrinted false s d context text told = Unit {0}
+-- what is told of a text for which `print` was done in the top frame: the expression, where it is one; else what the answer shows can be opened
+abbrev pub IsPrinted : (is_expression : Bool) → Setting → Debugger → Context → (text : Bytes) → Answer → Reply → Type 0
+IsPrinted true s d context text given told = IsExpressionTold s d (depth (now s d)) context text told
+IsPrinted false s d context text given told = told_place told ≡ opened_by s d given
 
 -- what is told of an expression in the frame where it stands; for one in another frame than the top one no command was done
 abbrev pub IsLookedUp : Setting → Debugger → Option Answer → (frame : Option ℕ) → Context → (text : Bytes) → Reply → Type 0
-IsLookedUp s d (Some given) frame context text told = IsPrinted (is_expression context text given) s d context text told
+IsLookedUp s d (Some given) frame context text told = IsPrinted (is_expression context text given) s d context text given told
 IsLookedUp s d None None context text told = told ≡ reply.Done
 IsLookedUp s d None (Some frame) context text told = IsNameToldIn (is_frame (depth (now s d)) frame) s d frame context text told
 

@@ -1,11 +1,14 @@
 //! The values of expressions, and why a text has none.
-ghost use Rattle.std.specs.Prelude.{◌≡◌, ◌<◌, IfOk, string_bytes};
+ghost use Rattle.std.specs.Prelude.{◌≡◌, ◌<◌, IfOk, None, Some, string_bytes};
 ghost use Rattle.gang_types.specs.Masks.{IsGangWidth, lanes_of};
 ghost use Rattle.gang_model.specs.Debugger.Debugger.{Debugger, Setting};
 ghost use Rattle.frame_values.specs.declared.values.NoValue.TheVariants as no;
 ghost use Rattle.adapter_replies.specs.Expressions.{cut, expression_text, gap, lane_text, lanes_text, no_value_text, one_text, refusal_meaning, refusal_name, refusal_text, refused_text, shown_in};
-ghost use Rattle.adapter_replies.specs.Told.{IsExpressionTold};
+ghost use Rattle.adapter_replies.specs.Told.{IsExpressionTold, IsAskedTold, told_place, told_value};
+ghost use Rattle.adapter_replies.specs.declared.console.Asked.TheVariants.{Value};
+ghost use Rattle.adapter_replies.specs.declared.places.Place.TheVariants as place;
 
+use crate::console::{Asked, asked_in, help_reply, parameters_reply};
 use crate::exceptions::fault_text;
 use crate::texts::word_text;
 use adapter_requests::{Context, Reply};
@@ -23,7 +26,8 @@ const WIDEST: usize = 16;
 /// How many bytes of a value are shown under the mouse.
 const MOST_HOVERED: usize = 200;
 
-/// The value of the expression that a text spells where the frame at a depth stands, or why it has none.
+/// What a text means that names no variable, where the frame at a depth stands: in the console it may ask for help or the parameters, and
+/// else it is an expression.
 pub(crate) fn expression_reply<M: ExpressionMachine>(
     alloc: Global,
     machine: &M,
@@ -33,14 +37,43 @@ pub(crate) fn expression_reply<M: ExpressionMachine>(
 ) -> Result<Reply, AllocError>
     ensures { (s : Setting) (d : Debugger) → M.stands machine.now s d → IfOk result (IsExpressionTold s d depth context text.now) }
 {
+    match asked_in(context, text) {
+        Asked::Help => help_reply(alloc),
+        Asked::Parameters => parameters_reply(alloc, machine, depth),
+        Asked::Value => value_reply(alloc, machine, depth, context, text),
+    }
+}
+
+/// The value of the expression that a text spells where the frame at a depth stands, or why it has none.
+fn value_reply<M: ExpressionMachine>(
+    alloc: Global,
+    machine: &M,
+    depth: usize,
+    context: Context,
+    text: &str,
+) -> Result<Reply, AllocError>
+    ensures { (s : Setting) (d : Debugger) → M.stands machine.now s d → IfOk result (IsAskedTold Value s d depth context text.now) }
+{
     match value_of_expression(alloc, text.as_bytes(), depth, machine) {
         Ok(value) => {
             let written = expression_text(alloc, &value)?;
             let text = shown_in(alloc, context, written)?;
-            Ok(Reply::Evaluated { text, reason: None })
+            Ok(plain_value(text))
         }
         Err(NoValue::Refused(ExpressionRefusal::Memory)) => Err(AllocError),
         Err(why) => Ok(Reply::Refused(no_value_text(alloc, why)?)),
+    }
+}
+
+/// The text of a value that nothing can be opened of.
+pub(crate) fn plain_value(text: String) -> Reply
+    ensures value { told_value result ≡ Some (None, string_bytes text) }
+    ensures closed { told_place result ≡ place.Nothing }
+{
+    Reply::Evaluated {
+        text,
+        reason: None,
+        reference: 0,
     }
 }
 

@@ -4,16 +4,19 @@
 mod breakpoints;
 mod columns;
 mod completions;
+mod console;
 mod exceptions;
 mod expressions;
 mod frames;
 mod locations;
+mod opened;
 mod pages;
 mod parts;
 mod places;
 mod replies;
 mod scopes;
 mod stops;
+mod targets;
 mod texts;
 mod waiting;
 

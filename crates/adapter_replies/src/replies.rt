@@ -1,19 +1,19 @@
 //! What a request is told.
-ghost use Rattle.std.specs.Prelude.{◌≡◌, ◌++◌, ℕ, List, IfOk, IfSome, None, Some, codes, string_bytes};
+ghost use Rattle.std.specs.Prelude.{◌≡◌, ◌++◌, ℕ, List, IfOk, IfSome, None, Some, codes, false, string_bytes};
 ghost use Rattle.gang_model.specs.Debugger.Debugger as model;
 ghost use Rattle.gang_model.specs.Debugger.Debugger.{Debugger, Setting, depth, now};
 ghost use Rattle.gang_model.specs.Texts.Text.{text};
-ghost use Rattle.debug_traits.specs.Frames.{found_at};
 ghost use Rattle.debug_answers.specs.Meanings.{AreStops, Means};
 ghost use Rattle.debug_session.specs.Sessions.{is_refused};
 ghost use Rattle.adapter_replies.specs.Columns.{front};
 ghost use Rattle.adapter_replies.specs.Completions.{frame_or};
 ghost use Rattle.adapter_replies.specs.Frames.{all_frames};
+ghost use Rattle.adapter_replies.specs.Opened.{unless_refused};
 ghost use Rattle.adapter_replies.specs.References.{is_frame, place_of, within};
 ghost use Rattle.adapter_replies.specs.Variables.{told_now};
 ghost use Rattle.adapter_replies.specs.declared.places.Place.TheVariants as place;
 ghost use Rattle.adapter_replies.specs.declared.places.Scope.TheVariants.{Arguments, Locals};
-ghost use Rattle.adapter_replies.specs.Told.{AreBreakpointsTold, AreCompletionsToldIn, AreFramesTold, AreScopesTold, AreVariablesTold, IsAnswered, IsEvaluated, IsGotoTold, IsLineTold, IsLookedUp, IsMoveTold, IsNameTold, IsSetTold, IsTextTold, IsToldOf, IsValueTold, MeansLast, fixed_reply, is_ended, is_expression, is_line, is_unnamed, refusal_text, shown_values, told_stop};
+ghost use Rattle.adapter_replies.specs.Told.{AreBreakpointsTold, AreCompletionsToldIn, AreFramesTold, AreScopesTold, AreVariablesTold, IsAnswered, IsAnsweredIn, IsEvaluated, IsGotoTold, IsLineTold, IsLookedUp, IsMoveTold, IsSetTold, IsTextTold, IsToldOf, IsValueTold, MeansLast, fixed_reply, is_ended, is_expression, is_line, is_unnamed, refusal_text, shown_values, told_place, told_stop};
 
 use crate::breakpoints::{breakpoints, watchable, watches};
 use crate::columns::front_of;
@@ -22,11 +22,13 @@ use crate::exceptions::NO_FAULT;
 use crate::expressions::{expression_reply, shown_in};
 use crate::frames::frames;
 use crate::locations::{goto_line, locations};
+use crate::opened::opened_by;
 use crate::pages::paged;
 use crate::places::{Place, Scope, depth_of, is_frame, reference_of};
 use crate::scopes::variables;
 use crate::stops::{goto_reason, stop_of};
-use crate::texts::{answer_text, value_text, value_text_at};
+use crate::targets::found;
+use crate::texts::{answer_text, value_text};
 use adapter_requests::{Context, Filter, Page, Reply, Request, Scopes, Stop, StopReason};
 use debug_answers::{Answer, NumberedStop, Refusal};
 use debug_commands::read_command;
@@ -250,27 +252,6 @@ fn looked_up<M: ExpressionMachine>(
     found(alloc, machine, depth, context, text)
 }
 
-/// What a text means in the frame at a depth: the variable that it names there, or an expression.
-fn found<M: ExpressionMachine>(
-    alloc: Global,
-    machine: &M,
-    depth: usize,
-    context: Context,
-    text: &str,
-) -> Result<Reply, AllocError>
-    ensures { (s : Setting) (d : Debugger) → M.stands machine.now s d
-        → IfOk result (IsNameTold s d depth context text.now (found_at s.program depth (now s d) text.now)) }
-{
-    match machine.find_at(depth, text.as_bytes()) {
-        None => expression_reply(alloc, machine, depth, context, text),
-        Some(shown) => {
-            let values = value_text_at(alloc, machine, depth, shown)?;
-            let text = shown_in(alloc, context, values)?;
-            Ok(Reply::Evaluated { text, reason: None })
-        }
-    }
-}
-
 /// The refusal of a request that is not known.
 fn unknown(alloc: Global, name: &str) -> Result<Reply, AllocError>
     ensures { IfOk result (λ told. told_stop told ≡ Some (None, codes "no request " ++ name.now)) }
@@ -375,9 +356,30 @@ fn evaluated<M: ExpressionMachine>(
     if is_expression(context, expression, &answer) {
         return expression_reply(alloc, machine, depth_of(machine), context, expression);
     }
+    let reference = opened_by(alloc, machine, &answer)?;
+    let told = answered(alloc, machine, stops, context, answer, reference)?;
+    Ok(told)
+}
+
+/// The answer to a line of the console, or the value that it shows; with the reference of that.
+fn answered<M: RecordedMachine>(
+    alloc: Global,
+    machine: &M,
+    stops: &[NumberedStop],
+    context: Context,
+    answer: Answer<'_>,
+    reference: u64,
+) -> Result<Reply, AllocError>
+    ensures answered { (s : Setting) (at d : Debugger) (meant : model.Answer) → M.stands machine.now s at → at.events ≡ d.events → AreStops s stops.now d.stops
+        → Means s d answer.entry meant
+        → IfOk result (IsAnsweredIn false context answer.entry (text s meant d) (shown_values (now s d) meant)) }
+    ensures opens { IfOk result (λ told. told_place told ≡ unless_refused answer.entry (place_of reference)) }
+{
     match context {
-        Context::Console => line_of(alloc, machine, stops, answer),
-        Context::Hover | Context::Watch => value_of(alloc, machine, stops, context, answer),
+        Context::Console => line_of(alloc, machine, stops, answer, reference),
+        Context::Hover | Context::Watch => {
+            value_of(alloc, machine, stops, context, answer, reference)
+        }
     }
 }
 
@@ -408,47 +410,60 @@ fn is_unnamed(answer: &Answer<'_>) -> bool
     )
 }
 
-/// The answer to a line of the console.
+/// The answer to a line of the console, and the reference of what it shows.
 fn line_of<M: RecordedMachine>(
     alloc: Global,
     machine: &M,
     stops: &[NumberedStop],
     answer: Answer<'_>,
+    reference: u64,
 ) -> Result<Reply, AllocError>
-    ensures { (s : Setting) (at d : Debugger) (meant : model.Answer) → M.stands machine.now s at → at.events ≡ d.events → AreStops s stops.now d.stops
+    ensures answered { (s : Setting) (at d : Debugger) (meant : model.Answer) → M.stands machine.now s at → at.events ≡ d.events → AreStops s stops.now d.stops
         → Means s d answer.entry meant → IfOk result (λ told. IsLineTold answer.entry (text s meant d) told) }
+    ensures opens { IfOk result (λ told. told_place told ≡ unless_refused answer.entry (place_of reference)) }
 {
     let text = answer_text(alloc, &answer, machine, stops)?;
-    Ok(told_line(text, &answer))
+    Ok(told_line(text, &answer, reference))
 }
 
-/// The text of an answer with the reason of its stop, or as a refusal.
-fn told_line(text: String, answer: &Answer<'_>) -> Reply
-    ensures { IsTextTold (is_refused answer.now) answer.now (string_bytes text) result }
+/// The text of an answer with the reason of its stop and the reference of what it shows, or as a refusal.
+fn told_line(text: String, answer: &Answer<'_>, reference: u64) -> Reply
+    ensures answered { IsTextTold (is_refused answer.now) answer.now (string_bytes text) result }
+    ensures opens { told_place result ≡ unless_refused answer.now (place_of reference) }
 {
     let reason = stop_of(answer);
     match answer {
         Answer::Refused(_) => Reply::Refused(text),
-        _ => Reply::Evaluated { text, reason },
+        _ => Reply::Evaluated {
+            text,
+            reason,
+            reference,
+        },
     }
 }
 
-/// The values of a variable, or why there are none.
+/// The values of a variable and its reference, or why there are none.
 fn value_of<M: RecordedMachine>(
     alloc: Global,
     machine: &M,
     stops: &[NumberedStop],
     context: Context,
     answer: Answer<'_>,
+    reference: u64,
 ) -> Result<Reply, AllocError>
-    ensures { (s : Setting) (at d : Debugger) (meant : model.Answer) → M.stands machine.now s at → at.events ≡ d.events → AreStops s stops.now d.stops
+    ensures answered { (s : Setting) (at d : Debugger) (meant : model.Answer) → M.stands machine.now s at → at.events ≡ d.events → AreStops s stops.now d.stops
         → Means s d answer.entry meant → IfOk result (λ told. IsValueTold context answer.entry (text s meant d) (shown_values (now s d) meant) told) }
+    ensures opens { IfOk result (λ told. told_place told ≡ unless_refused answer.entry (place_of reference)) }
 {
     if let Answer::Shows { target, shown } = answer {
         let values = value_text(alloc, machine, shown, target.at)?;
         let text = shown_in(alloc, context, values)?;
-        return Ok(Reply::Evaluated { text, reason: None });
+        return Ok(Reply::Evaluated {
+            text,
+            reason: None,
+            reference,
+        });
     }
-    let reply = line_of(alloc, machine, stops, answer)?;
+    let reply = line_of(alloc, machine, stops, answer, reference)?;
     Ok(reply)
 }

@@ -74,6 +74,7 @@ pub fn stop_behind<'a>(
         Reply::Evaluated {
             text,
             reason: Some(reason),
+            ..
         } => Some((*reason, text.as_str())),
         Reply::Refused(text) => anew(is_move(request), last, text.as_str()),
         Reply::OutOfMemory => anew(is_move(request), StopReason::Pause, "out of memory"),

@@ -64,7 +64,7 @@ pub fn answer_text<M: RecordedMachine>(
 }
 
 /// The bytes but the last one.
-fn without_end(bytes: &[u8]) -> &[u8]
+pub(crate) fn without_end(bytes: &[u8]) -> &[u8]
     ensures { result.now ≡ without_end bytes.now }
 {
     match bytes {
@@ -123,6 +123,23 @@ pub(crate) fn element_text<M: FramedMachine>(
         shown.value_type,
         machine.word_at(depth, shown, index),
     )
+}
+
+/// The values of a part of a variable in the frame at a depth, or of all of it.
+pub(crate) fn part_text<M: FramedMachine>(
+    alloc: Global,
+    machine: &M,
+    depth: usize,
+    shown: Shown,
+    at: Option<u32>,
+) -> Result<String, AllocError>
+    ensures { (s : Setting) (d : Debugger) (v : Variable) → M.stands machine.now s d → IsShownAt s d depth v shown → IsInside at shown.count
+        → IfOk result (λ text. string_bytes text ≡ values v.type (part_shown at (words_at s d depth v))) }
+{
+    match at {
+        None => value_text_at(alloc, machine, depth, shown),
+        Some(index) => element_text(alloc, machine, depth, shown, index as usize),
+    }
 }
 
 /// The value of a word of a type.

@@ -149,10 +149,12 @@ pub enum Reply {
     Variables(Vec<Variable>),
     /// The value that a variable was given.
     Set(String),
-    /// What an expression, or a line of the console, is answered; and the stop, where the line moved.
+    /// What an expression, or a line of the console, is answered; the stop, where the line moved; and the reference of the lanes or elements
+    /// of a variable that is shown, 0 where there are none.
     Evaluated {
         text: String,
         reason: Option<StopReason>,
+        reference: u64,
     },
     /// A command that moved, and where it stopped.
     Moved(Stop),

@@ -15,7 +15,7 @@ use Rattle.log_points.specs.Points.{Written}
 
 -- the text of what an expression is told: its value, or in brackets why it has none
 abbrev pub told_text : Reply → Option Bytes
-told_text (reply.Evaluated text reason) = Some (string_bytes text)
+told_text (reply.Evaluated text reason reference) = Some (string_bytes text)
 told_text (reply.Refused why) = Some (codes "(" ++ (string_bytes why ++ codes ")"))
 told_text other = None
 

@@ -140,7 +140,7 @@ fn told_text(alloc: Global, reply: &Reply) -> Result<String, AllocError>
     ensures { IfOk result (λ text. spec.told_text reply.now ≡ Some (string_bytes text)) }
 {
     match reply {
-        Reply::Evaluated { text, reason: _ } => String::from_str(alloc, text.as_str()),
+        Reply::Evaluated { text, .. } => String::from_str(alloc, text.as_str()),
         Reply::Refused(why) => format!(in alloc; "({why})"),
         _ => Err(AllocError),
     }

@@ -1,13 +1,20 @@
-use Rattle.std.proofs.Common.{◌∙◌, sym, subst, false, IfOk}
+use Rattle.std.proofs.Common.{◌∙◌, sym, subst, ap}
 use Rattle.gang_model.specs.Debugger.Debugger.{now}
 use Rattle.gang_model.specs.Texts.Text.{text}
-use Rattle.adapter_replies.specs.Told.{IsAnsweredIn, shown_values}
+use Rattle.adapter_replies.specs.Opened.{unless_refused}
+use Rattle.adapter_replies.specs.Told.{IsAnsweredIn, IsPrinted, shown_values}
+use Rattle.adapter_replies.proofs.Opening.{refused_opens_nothing}
 use Rattle.adapter_replies.proofs.replies.evaluated.Goals as goal
 
-pub returns-in-Console-clause-answered : goal.returns-in-Console-clause-answered
-returns-in-Console-clause-answered g c s at d meant st same stops means =
+pub returns-clause-stands : goal.returns-clause-stands
+returns-clause-stands g c s d st =
     let given = c.args.answer in
-    let words = text s meant d in
-    let values = shown_values (now s d) meant in
-    subst (λ b. IfOk c.line_of.result (IsAnsweredIn b c.args.context given words values)) (sym (sym c.is_expression.ensures ∙ c.if-is_expression.false))
-    (subst (λ context. IfOk c.line_of.result (IsAnsweredIn false context given words values)) (sym c.in-Console.is) (c.line_of.ensures s at d meant st same stops means))
+    let told = c.in_ok-told.told in
+    subst (λ b. IsPrinted b s d c.args.context c.args.expression.now given told) (sym (sym c.is_expression.ensures ∙ c.if-is_expression.false))
+    (c.in_ok-told.ensures.opens ∙ ap (unless_refused given) (c.in_ok-reference.ensures s d st) ∙ refused_opens_nothing s d given)
+
+pub returns-clause-answered : goal.returns-clause-answered
+returns-clause-answered g c s at d meant st same stops means =
+    let given = c.args.answer in
+    subst (λ b. IsAnsweredIn b c.args.context given (text s meant d) (shown_values (now s d) meant) c.in_ok-told.told) (sym (sym c.is_expression.ensures ∙ c.if-is_expression.false))
+    (c.in_ok-told.ensures.answered s at d meant st same stops means)

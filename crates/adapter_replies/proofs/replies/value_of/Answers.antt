@@ -20,17 +20,17 @@ otherwise : (context : Context) (given : Answer) (words shown : Bytes) (told : R
 otherwise context (answer.Shows target v) words shown told not is = absurd (not target v refl)
 otherwise context other words shown told not is = is
 
-pub returns-in-Shows : goal.returns-in-Shows
-returns-in-Shows g c s at d meant st same stops means =
+pub returns-in-Shows-clause-answered : goal.returns-in-Shows-clause-answered
+returns-in-Shows-clause-answered g c s at d meant st same stops means =
     let is = c.in-Shows.is in
     let context = c.args.context in
     let (v, are, shown, inside) = subst (λ given. Means s d given meant) is means in
     let says = c.in_ok-values.ensures s at v st (shown_at s at d v c.in-Shows.shown same shown) inside
     ∙ ap (λ events. values v.type (part_shown c.in-Shows.target.at (shown_words (after s.program s.first events) v))) same
     ∙ ap (shown_values (now s d)) (sym are) in
-    subst (λ given. IsValueTold context given (text s meant d) (shown_values (now s d) meant) (reply.Evaluated c.in_ok-text.text None)) (sym is)
+    subst (λ given. IsValueTold context given (text s meant d) (shown_values (now s d) meant) (reply.Evaluated c.in_ok-text.text None c.args.reference)) (sym is)
     (ap (λ words. Some (None, words)) (c.in_ok-text.ensures ∙ ap (shown_in context) says))
 
-pub returns : goal.returns
-returns g c s at d meant st same stops means =
-    otherwise c.args.context c.args.answer (text s meant d) (shown_values (now s d) meant) c.in_ok-reply.reply c.in_default.not-Shows (c.in_ok-reply.ensures s at d meant st same stops means)
+pub returns-clause-answered : goal.returns-clause-answered
+returns-clause-answered g c s at d meant st same stops means =
+    otherwise c.args.context c.args.answer (text s meant d) (shown_values (now s d) meant) c.in_ok-reply.reply c.in_default.not-Shows (c.in_ok-reply.ensures.answered s at d meant st same stops means)

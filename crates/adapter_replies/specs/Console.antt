@@ -1,0 +1,39 @@
+-- What is asked for in the console that is no command.
+use Rattle.std.specs.Prelude.{Bool, ◌||◌, ◌++◌, List, [], ◌∷◌, codes, flat_map, nat_eq, if◌then◌else◌}
+use Rattle.std.specs.List.{starts_with}
+use Rattle.gang_model.specs.Source.Names.{same_text}
+use Rattle.gang_model.specs.Texts.Text.{Bytes}
+use Rattle.adapter_requests.specs.declared.request.Context.{Context}
+use Rattle.adapter_requests.specs.declared.request.Context.TheVariants.{Console}
+use Rattle.adapter_replies.specs.declared.console.Asked.{Asked}
+use Rattle.adapter_replies.specs.declared.console.Asked.TheVariants.{Help, Parameters, Value}
+use Rattle.adapter_replies.specs.Shown.{shown_text}
+use Rattle.adapter_replies.specs.Variables.{ToldVariable}
+
+-- whether a text is `help` alone, or with a word behind it
+abbrev pub is_help : (text : Bytes) → Bool
+is_help text = same_text text (codes "help") || starts_with nat_eq text (codes "help ")
+
+-- what a text asks for: in the console help or the parameters, and else the value of an expression
+abbrev pub asked_in : Context → (text : Bytes) → Asked
+asked_in Console text = if is_help text then Help else (if same_text text (codes "info args") then Parameters else Value)
+asked_in other text = Value
+
+-- what can be typed in the console
+abbrev pub help_text : Bytes
+help_text =
+    codes "step [N], next [N], finish, continue: forwards\n"
+    ++ codes "reverse-step [N], reverse-next [N], reverse-finish, reverse-continue, undo: back\n"
+    ++ codes "print T, set var T = V, info locals, backtrace: values and frames\n"
+    ++ codes "break LINE, watch T, delete [N], info breakpoints: stops\n"
+    ++ codes "set record full insn-number-max N: how many steps and changes can be taken back\n"
+    ++ codes "T is a variable, or one lane or element of it, as x[2]; any other line is an expression, as x + 1"
+
+-- the line of a parameter
+abbrev pub parameter_line : ToldVariable → Bytes
+parameter_line v = v.name ++ (codes " = " ++ (v.value ++ codes "\n"))
+
+-- a line for each parameter, or that there is none
+abbrev pub parameters_text : List ToldVariable → Bytes
+parameters_text [] = codes "no parameters"
+parameters_text (v ∷ variables) = shown_text (flat_map parameter_line (v ∷ variables))

@@ -1,0 +1,143 @@
+//! What is asked for in the console that is no command.
+ghost use Rattle.std.specs.Prelude.{◌≡◌, IfOk, flat_map, map, string_bytes};
+ghost use Rattle.gang_model.specs.Debugger.Debugger.{Debugger, Setting};
+ghost use Rattle.debug_traits.specs.Frames.{listed_parameters_at};
+ghost use Rattle.adapter_requests.specs.declared.request.Context.TheVariants.{Console};
+ghost use Rattle.adapter_replies.specs.Console as spec;
+ghost use Rattle.adapter_replies.specs.Console.{parameter_line};
+ghost use Rattle.adapter_replies.specs.Told.{IsTold};
+ghost use Rattle.adapter_replies.specs.Variables.{told_each, variable_view};
+ghost use Rattle.adapter_replies.specs.declared.places.Place.TheVariants as place;
+ghost use Rattle.adapter_replies.specs.declared.places.Scope.TheVariants.{Arguments};
+
+use crate::expressions::plain_value;
+use crate::places::Scope;
+use crate::scopes::of_frame;
+use crate::texts::without_end;
+use adapter_requests::{Context, Reply, Variable};
+use debug_traits::FramedMachine;
+use debug_words::is_same;
+use std::alloc::{AllocError, Global};
+
+/// The commands that move forwards.
+const FORWARDS: &str = "step [N], next [N], finish, continue: forwards\n";
+
+/// Those that move back.
+const BACK: &str =
+    "reverse-step [N], reverse-next [N], reverse-finish, reverse-continue, undo: back\n";
+
+/// Those that show and set values.
+const VALUES: &str = "print T, set var T = V, info locals, backtrace: values and frames\n";
+
+/// Those of breakpoints and watches.
+const STOPS: &str = "break LINE, watch T, delete [N], info breakpoints: stops\n";
+
+/// That of what can be taken back.
+const HISTORY: &str =
+    "set record full insn-number-max N: how many steps and changes can be taken back\n";
+
+/// What else can be typed.
+const OTHERS: &str =
+    "T is a variable, or one lane or element of it, as x[2]; any other line is an expression, as x + 1";
+
+/// What a text asks for that names no variable and is no command.
+#[derive(Clone, Copy)]
+pub(crate) enum Asked {
+    /// What can be typed in the console.
+    Help,
+    /// The parameters of a frame.
+    Parameters,
+    /// The value of an expression.
+    Value,
+}
+
+/// What a text asks for: in the console help or the parameters, and else the value of an expression.
+pub(crate) fn asked_in(context: Context, text: &str) -> Asked
+    ensures { result ≡ spec.asked_in context text.now }
+{
+    match context {
+        Context::Console => asked_by(text),
+        Context::Hover | Context::Watch => Asked::Value,
+    }
+}
+
+/// What a line of the console asks for.
+fn asked_by(text: &str) -> Asked
+    ensures { result ≡ spec.asked_in Console text.now }
+{
+    if is_help(text) {
+        Asked::Help
+    } else if is_same(text.as_bytes(), b"info args") {
+        Asked::Parameters
+    } else {
+        Asked::Value
+    }
+}
+
+/// Whether a text is `help` alone, or with a word behind it.
+fn is_help(text: &str) -> bool
+    ensures { result ≡ spec.is_help text.now }
+{
+    is_same(text.as_bytes(), b"help") || text.as_bytes().starts_with(b"help ")
+}
+
+/// What can be typed in the console.
+pub(crate) fn help_reply(alloc: Global) -> Result<Reply, AllocError>
+    ensures { IfOk result (IsTold spec.help_text) }
+{
+    let mut text = String::from_str(alloc, FORWARDS)?;
+    text.push_str(BACK)?;
+    text.push_str(VALUES)?;
+    text.push_str(STOPS)?;
+    text.push_str(HISTORY)?;
+    text.push_str(OTHERS)?;
+    Ok(plain_value(text))
+}
+
+/// The parameters of the frame at a depth.
+pub(crate) fn parameters_reply<M: FramedMachine>(
+    alloc: Global,
+    machine: &M,
+    depth: usize,
+) -> Result<Reply, AllocError>
+    ensures { (s : Setting) (d : Debugger) → M.stands machine.now s d
+        → IfOk result (IsTold (spec.parameters_text (told_each s d depth (place.Parts Arguments depth) 0 (listed_parameters_at s d depth)))) }
+{
+    let variables = of_frame(alloc, machine, Scope::Arguments, depth)?;
+    let text = parameters_text(alloc, variables.as_slice())?;
+    Ok(plain_value(text))
+}
+
+/// A line for each parameter, or that there is none.
+fn parameters_text(alloc: Global, variables: &[Variable]) -> Result<String, AllocError>
+    ensures { IfOk result (λ text. string_bytes text ≡ spec.parameters_text (map variable_view variables.now)) }
+{
+    match variables {
+        [] => String::from_str(alloc, "no parameters"),
+        [_, ..] => {
+            let lines = parameter_lines(alloc, variables)?;
+            String::from_utf8_lossy(alloc, without_end(lines.as_bytes()))
+        }
+    }
+}
+
+/// A line for each of some parameters.
+fn parameter_lines(alloc: Global, variables: &[Variable]) -> Result<String, AllocError>
+    ensures { IfOk result (λ lines. string_bytes lines ≡ flat_map parameter_line (map variable_view variables.now)) }
+{
+    let mut lines = String::new(alloc);
+    for variable in variables {
+        let line = parameter_line(alloc, variable)?;
+        lines.push_str(line.as_str())?;
+    }
+    Ok(lines)
+}
+
+/// The line of a parameter.
+fn parameter_line(alloc: Global, variable: &Variable) -> Result<String, AllocError>
+    ensures { IfOk result (λ line. string_bytes line ≡ parameter_line (variable_view variable.now)) }
+{
+    let name = variable.name.as_str();
+    let value = variable.value.as_str();
+    format!(in alloc; "{name} = {value}\n")
+}
