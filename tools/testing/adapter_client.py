@@ -20,6 +20,7 @@ from .adapter_launches import LAUNCH_CHECKS
 from .adapter_logs import LOG_CHECKS
 from .adapter_moves import MOVE_CHECKS
 from .adapter_programs import PROGRAM_CHECKS
+from .adapter_targets import TARGET_CHECKS
 from .adapter_values import VALUE_CHECKS
 from .tried import Result
 
@@ -438,7 +439,7 @@ def wrong_requests(client, examples):
     client.end()
 
 
-CHECKS = [steps_and_back, watches, breaks, locations, variables, frames, faults, filters, the_end, wrong_requests, *FRAME_CHECKS, *LAUNCH_CHECKS, *LOG_CHECKS, *VALUE_CHECKS, *MOVE_CHECKS, *CONDITION_CHECKS, *PROGRAM_CHECKS]
+CHECKS = [steps_and_back, watches, breaks, locations, variables, frames, faults, filters, the_end, wrong_requests, *FRAME_CHECKS, *LAUNCH_CHECKS, *LOG_CHECKS, *VALUE_CHECKS, *TARGET_CHECKS, *MOVE_CHECKS, *CONDITION_CHECKS, *PROGRAM_CHECKS]
 
 
 def check(root, command):

@@ -103,6 +103,7 @@ class Session:
         body = message.get("body", {})
         self.frames = [it["id"] for it in body.get("stackFrames", [])] or self.frames
         self.references += [it["variablesReference"] for it in body.get("scopes", []) + body.get("variables", [])]
+        self.references += [body["variablesReference"]] if body.get("variablesReference") else []
         self.names += [it["name"] for it in body.get("variables", [])]
         self.targets += [it["id"] for it in body.get("targets", []) if "id" in it]
         self.data += [body["dataId"]] if body.get("dataId") else []

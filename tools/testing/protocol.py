@@ -166,6 +166,8 @@ class Dialogue:
         if command == "scopes":
             self.references |= {it["variablesReference"] for it in body["scopes"]}
             return twice("scopes", [it["variablesReference"] for it in body["scopes"]])
+        if command == "evaluate":
+            self.references |= {body["variablesReference"]} - {0}
         if command == "variables":
             return self.children(arguments, body["variables"])
         return []
