@@ -238,6 +238,9 @@ class Looks(Debugger):
         return self.frame_shown()
 
     def up(self, count):
+        """Selects the frame so many calls above; without a number there is none above the entry's."""
+        if count is None and self.state.frames and self.selected == len(self.state.frames) - 1:
+            return ["Initial frame selected; you can't go up."]
         return self.select(self.selected + int(count or 1))
 
     def down(self, count):

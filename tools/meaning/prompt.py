@@ -60,9 +60,24 @@ class Prompt(Looks):
         return top.lanes if top else range(self.width)
 
     def moved(self, line):
-        return self.after(lambda: self.answer(line)[0])
+        return self.after(lambda: self.answer(line)[0], self.awaited() if line == "finish" else None)
 
-    def after(self, move):
+    def awaited(self):
+        """The variable that gets what the top frame's function returns, of its type, with the lanes of the call."""
+        frame = self.state.frames[-1] if self.state.frames else None
+        what, variable = frame.result_for if frame else ("nothing", None)
+        is_told = what in ("declares", "assigns") and variable.type == frame.function.type
+        return (variable, frame.lanes) if is_told else None
+
+    def returned(self, reason, awaited):
+        """The value that was returned, where the frame was left, by the variable that got it, where its name stands for it."""
+        if reason or not awaited or not self.state.frames:
+            return []
+        variable, lanes = awaited
+        named = [it for it in (*self.standings()[0].scope, *self.program.globals) if it.name == variable.name]
+        return [f"Value returned:{words_text(variable, self.scalars()[variable], lanes)}"] if named[:1] == [variable] else []
+
+    def after(self, move, awaited=None):
         """What is shown of a move, which gives the debugger's answer."""
         before, top, lanes = self.scalars(), self.top(), self.active()
         reason = reason_of(move())
@@ -71,7 +86,7 @@ class Prompt(Looks):
         place = self.place()
         between = " " if len(f"{reason}: {place}") <= COLUMNS and "\n" not in place else "\n"
         head = f"{reason}:{between}{place}" if reason else place
-        return [*head.split("\n"), *self.around(), *self.changes(before, top, lanes), *self.displays()]
+        return [*head.split("\n"), *self.around(), *self.changes(before, top, lanes), *self.returned(reason, awaited), *self.displays()]
 
     def end_temporary(self, reason):
         """A temporary breakpoint goes that has stopped a move."""

@@ -2,3 +2,4 @@ mod PlainLines
 mod WorkedLines
 mod WorkedLists
 mod WorkedNumbers
+mod NoCommands

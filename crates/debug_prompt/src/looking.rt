@@ -35,6 +35,9 @@ use whole_runs::TellsCopies;
 /// Why there is no frame below.
 const BOTTOM: &[u8] = b"Bottom (innermost) frame selected; you can't go down.\n";
 
+/// Why there is no frame above.
+const TOP: &[u8] = b"Initial frame selected; you can't go up.\n";
+
 /// The word before a text that is written.
 const ECHO: &[u8] = b"echo";
 
@@ -80,7 +83,7 @@ impl Looking {
     {
         match look {
             Look::Frame => go_to(frame_named(holding, text), holding, scene, session, page),
-            Look::Up => go_to(frame_above(holding, text), holding, scene, session, page),
+            Look::Up => go_up(text, holding, scene, session, page),
             Look::Down => go_down(text, holding, scene, session, page),
             Look::List => self.list(text, is_again, holding, scene, session, page),
             Look::Recording => self.show_recording(text, scene, session, page),
@@ -173,6 +176,34 @@ fn go_to<M: RecordedMachine, O: AnswerWriter + Drop>(
     match number {
         Some(number) => show_frame(number, scene.source, session, page),
         None => tell_unknown(scene.line, page),
+    }
+}
+
+/// Selects the frame so many calls above, and shows it; where the entry's frame is selected, `up` alone tells that there is none.
+fn go_up<M: RecordedMachine, O: AnswerWriter + Drop>(
+    text: &[u8],
+    holding: &mut Holding,
+    scene: Scene<'_>,
+    session: &Session<M>,
+    page: &mut Page<O>,
+)
+    ensures { (s : Setting) (d : Debugger) → StandsFor M.stands session.now s d
+        → held holding.new ≡ selection.selected s d (held holding.old) (selection.frame_above (held holding.old) (readings.count_of (command_of text.now))) }
+{
+    let number = frame_above(holding, text);
+    if is_alone(text) && is_first(holding, session) {
+        select(number, holding, session);
+        page.put(TOP);
+    } else {
+        go_to(number, holding, scene, session, page);
+    }
+}
+
+/// Whether the entry's frame is selected, of a program that has not ended.
+fn is_first<M: RecordedMachine>(holding: &Holding, session: &Session<M>) -> bool {
+    match session.machine().position() {
+        Some(position) => position.depth <= holding.frame().saturating_add(1),
+        None => false,
     }
 }
 

@@ -24,33 +24,35 @@ use prompt_scenes::{
 };
 use prompt_texts::{Digits, Page, tell_refused, tell_unknown};
 use prompt_values::{
-    do_and_show, print_expression, show_form, show_formatted, show_instead, show_target,
-    tell_answer, value_instead,
+    Printed, Values, do_and_show, print_answer, print_expression, print_shown, show_form,
+    show_formatted, show_instead, value_instead,
 };
 
 /// Why a local variable of an outer frame is not set.
 const SETS_TOP: &[u8] =
     b"Values of outer frames cannot be set, since what is set is of the top frame or of the file: `frame 0` first.\n";
 
-/// Prints a target or an expression, or sets a target where the line goes on with `=` and a value.
+/// Prints a target, an expression or a numbered value, or sets a target where the line goes on with `=` and a value. Gives a value that was
+/// printed and has no number yet.
 pub(crate) fn print<M: ExpressionMachine, O: AnswerWriter + Drop>(
     text: &[u8],
+    values: &Values,
     holding: &Holding,
     scene: Scene<'_>,
     session: &mut Session<M>,
     page: &mut Page<O>,
-)
+) -> Option<Printed>
     ensures { (s : Setting) (d : Debugger) → StandsFor M.stands session.old s d
         → HasDone M.stands s (printing.printed_or_set s d (held holding.now) (readings.print_of (command_of text.now)) (command_of (setting_text text.now))) d session.new }
 {
     if let Some(target) = print_of(text) {
-        print_named(target, text, holding, scene, session, page);
+        print_named(target, text, holding, scene, session, page)
     } else {
-        set_or_print(text, holding, scene, session, page);
+        set_or_print(text, values, holding, scene, session, page)
     }
 }
 
-/// Prints a target in the frame that is selected; where its name stands for no variable, what it is as an expression.
+/// Prints a target in the frame that is selected; where its name stands for no variable, what it is as an expression. Gives what was shown.
 fn print_named<M: ExpressionMachine, O: AnswerWriter + Drop>(
     target: Target<'_>,
     text: &[u8],
@@ -58,15 +60,17 @@ fn print_named<M: ExpressionMachine, O: AnswerWriter + Drop>(
     scene: Scene<'_>,
     session: &mut Session<M>,
     page: &mut Page<O>,
-)
+) -> Option<Printed>
     ensures { (s : Setting) (d : Debugger) → StandsFor M.stands session.old s d
         → HasDone M.stands s (selection.in_top (held holding.now) (DoPrint (target_view target.entry) ∷ [])) d session.new }
 {
     if let Some(value) = value_instead(target.name, text, holding, scene, session) {
         print_silently(target, holding, session);
         show_instead(&value, text, page);
+        Some(Printed::Expression(value))
     } else {
-        let _ = print_target(target, holding, scene, session, page);
+        let (_, printed) = print_target(target, holding, scene, session, page);
+        printed
     }
 }
 
@@ -84,36 +88,38 @@ fn print_silently<M: RecordedMachine>(
     }
 }
 
-/// Sets what a command line sets, or prints what it is as an expression.
+/// Sets what a command line sets, or prints what it is as an expression or a numbered value.
 fn set_or_print<M: ExpressionMachine, O: AnswerWriter + Drop>(
     text: &[u8],
+    values: &Values,
     holding: &Holding,
     scene: Scene<'_>,
     session: &mut Session<M>,
     page: &mut Page<O>,
-)
+) -> Option<Printed>
     ensures { (s : Setting) (d : Debugger) → StandsFor M.stands session.old s d
         → HasDone M.stands s (printing.set_by s d (held holding.now) (command_of (setting_text text.now))) d session.new }
 {
     match read_command(setting_line(text).as_slice()) {
         Some(Command::Set { target, value }) => {
             set_target(target, value, holding, scene, session, page);
+            None
         }
-        _ => print_expression(text, holding, scene, session, page),
+        _ => print_expression(text, values, holding, scene, session, page),
     }
 }
 
-/// Prints a target in the frame that is selected. Says whether it is shown.
+/// Prints a target in the frame that is selected. Says whether it is shown, and gives what was.
 fn print_target<M: FramedMachine, O: AnswerWriter + Drop>(
     target: Target<'_>,
     holding: &Holding,
     scene: Scene<'_>,
     session: &mut Session<M>,
     page: &mut Page<O>,
-) -> bool
+) -> (bool, Option<Printed>)
     ensures { (s : Setting) (d : Debugger) → StandsFor M.stands session.old s d
         → HasDone M.stands s (selection.in_top (held holding.now) (DoPrint (target_view target.entry) ∷ [])) d session.new
-        × (result ≡ selection.shows s d (held holding.now) (target_view target.entry)) }
+        × (result.0 ≡ selection.shows s d (held holding.now) (target_view target.entry)) }
 {
     if holding.is_top() {
         print_here(target, scene, session, page)
@@ -123,42 +129,43 @@ fn print_target<M: FramedMachine, O: AnswerWriter + Drop>(
     }
 }
 
-/// Prints a target in the top frame. Says whether it is shown.
+/// Prints a target in the top frame. Says whether it is shown, and gives what was.
 fn print_here<M: FramedMachine, O: AnswerWriter + Drop>(
     target: Target<'_>,
     scene: Scene<'_>,
     session: &mut Session<M>,
     page: &mut Page<O>,
-) -> bool
+) -> (bool, Option<Printed>)
     ensures { (s : Setting) (d : Debugger) → StandsFor M.stands session.old s d
         → HasDone M.stands s (DoPrint (target_view target.entry) ∷ []) d session.new
-        × (result ≡ readings.is_shown (do_command s (DoPrint (target_view target.entry)) d).answer) }
+        × (result.0 ≡ readings.is_shown (do_command s (DoPrint (target_view target.entry)) d).answer) }
 {
     let answer = session.do_command(Command::Print(target));
-    tell_answer(&answer, scene, session, page);
-    is_shown(&answer)
+    let printed = print_answer(&answer, scene, session, page);
+    (is_shown(&answer), printed)
 }
 
-/// Shows a target of the frame at a depth. Says whether it is shown.
+/// Shows a target of the frame at a depth. Says whether it is shown, and gives what was.
 fn print_at<M: FramedMachine, O: AnswerWriter + Drop>(
     target: Target<'_>,
     depth: usize,
     scene: Scene<'_>,
     session: &Session<M>,
     page: &mut Page<O>,
-) -> bool
+) -> (bool, Option<Printed>)
     ensures { (s : Setting) (d : Debugger) → StandsFor M.stands session.now s d
-        → result ≡ selection.can_show s d depth (target_view target.entry) (found_at s.program depth (now s d) (target_view target.entry).name) }
+        → result.0 ≡ selection.can_show s d depth (target_view target.entry) (found_at s.program depth (now s d) (target_view target.entry).name) }
 {
     match find_part(target, depth, session.machine()) {
         Ok(shown) => {
             let machine = session.machine();
-            show_target(target, Digits::Decimal, shown, depth, scene, machine, page);
-            true
+            let digits = Digits::Decimal;
+            let printed = print_shown(target, digits, shown, depth, scene, machine, page);
+            (true, printed)
         }
         Err(refusal) => {
             tell_refused(refusal, scene.line, page);
-            false
+            (false, None)
         }
     }
 }
@@ -300,7 +307,8 @@ fn print_new<M: ExpressionMachine, O: AnswerWriter + Drop>(
         × (result ≡ printing.is_displayed s d (held holding.now) text.now (readings.print_of (command_of text.now))) }
 {
     if let Some(target) = print_of(text) {
-        print_target(target, holding, scene, session, page)
+        let (is_shown, _) = print_target(target, holding, scene, session, page);
+        is_shown
     } else {
         show_formatted(text, holding, scene, session, page);
         text.len() < HELD

@@ -9,14 +9,14 @@ ghost use Rattle.debug_prompt.specs.Doing as spec;
 
 use crate::looking::Looking;
 use crate::printing::{display, print, set_spelled, undisplay};
-use crate::running::run_to_stop;
+use crate::running::{do_own_words, run_to_stop};
 use crate::settings::{USUAL, layout_after};
 use crate::within::{depth_within, known_within};
 use debug_commands::{Command, read_command};
 use debug_session::Session;
 use debug_traits::{AnswerWriter, RecordedMachine};
 use frame_expressions::ExpressionMachine;
-use prompt_going::{do_typed, finish, go_until};
+use prompt_going::{finish, go_until};
 use prompt_lines::{Kind, Look, PromptLine, Text, read_line};
 use prompt_moves::{forget, go_to_step, note_moment, restart, start};
 use prompt_past::{go_to_last, tell_changes};
@@ -26,7 +26,7 @@ use prompt_stops::{
     make_watch, tell_ended,
 };
 use prompt_texts::{Layout, Page, Source, show_here};
-use prompt_values::show_formatted;
+use prompt_values::{Printed, Values, print_formatted};
 use prompt_walks::{tell_lanes, tell_when};
 use std::alloc::Global;
 use std::mem::replace;
@@ -42,8 +42,8 @@ pub enum Turn {
     Fails,
 }
 
-/// What lasts from line to line: the line that an empty one repeats, temporary breakpoints, what is displayed, and what is
-/// looked at and how much of an array is told.
+/// What lasts from line to line: the line that an empty one repeats, temporary breakpoints, what is displayed, what is looked at and how
+/// much of an array is told, and the values that were printed.
 #[derive(Drop)]
 pub struct Prompt {
     pub(crate) kept: PromptLine,
@@ -51,6 +51,7 @@ pub struct Prompt {
     looking: Looking,
     most_steps: u32,
     layout: Layout,
+    values: Values,
 }
 
 impl Prompt {
@@ -66,6 +67,7 @@ impl Prompt {
             looking: Looking::new(),
             most_steps,
             layout: USUAL,
+            values: Values::new(),
         }
     }
 
@@ -114,15 +116,17 @@ impl Prompt {
         };
         let steps = session.machine().kept_steps();
         let within = depth_within(&meant, &self.holding, session);
-        do_meant(
+        let printed = do_meant(
             &meant,
             is_again,
+            &self.values,
             &mut self.holding,
             &mut self.looking,
             scene,
             session,
             page,
         );
+        self.values.note_if(printed);
         let deepest = known_within(within, &meant, depth(session));
         tell_ended(deepest, steps, &self.holding, session, page);
         self.holding.end_frames(deepest);
@@ -200,28 +204,29 @@ fn repeats(line: &PromptLine) -> bool
     }
 }
 
-/// Does a command line, by its kind.
+/// Does a command line, by its kind. Gives a value that was printed and has no number yet.
 fn do_meant<M: ExpressionMachine + TellsCopies, O: AnswerWriter + Drop>(
     line: &PromptLine,
     is_again: bool,
+    values: &Values,
     holding: &mut Holding,
     looking: &mut Looking,
     scene: Scene<'_>,
     session: &mut Session<M>,
     page: &mut Page<O>,
-)
+) -> Option<Printed>
     ensures { (s : Setting) (d : Debugger) → StandsFor M.stands session.old s d → s.limit ≡ scene.entry.most_steps
         → DoesKind M.stands line.now.kind (sheet scene.entry.source) s d (held holding.old) line.now.text.items session.new (held holding.new) }
 {
     let text = line.text.as_slice();
     match line.kind {
+        Kind::Print => return print(text, values, holding, scene, session, page),
+        Kind::Formatted => return print_formatted(text, values, holding, scene, session, page),
         Kind::Again => {}
-        Kind::Own => do_typed(text, holding, scene, session, page),
+        Kind::Own => do_own_words(text, values, holding, scene, session, page),
         Kind::Run => run_to_stop(text, holding, scene, session, page),
         Kind::Start => start(text, holding, scene, session, page),
         Kind::Finish => finish(text, holding, scene, session, page),
-        Kind::Print => print(text, holding, scene, session, page),
-        Kind::Formatted => show_formatted(text, holding, scene, session, page),
         Kind::Set => set_spelled(text, holding, scene, session, page),
         Kind::Break => make_break(text, holding, scene, session, page),
         Kind::Clear => clear(text, holding, scene, session, page),
@@ -245,6 +250,7 @@ fn do_meant<M: ExpressionMachine + TellsCopies, O: AnswerWriter + Drop>(
         Kind::Enable => enable(text, holding, scene, session, page),
         Kind::Look(look) => looking.look(look, text, is_again, holding, scene, session, page),
     }
+    None
 }
 
 /// What a line led to.

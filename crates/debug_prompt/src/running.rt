@@ -1,20 +1,24 @@
-//! `run`.
+//! `run`, and the debugger's own words.
 ghost use Rattle.std.specs.Prelude.{◌≡◌, ◌||◌, not};
 ghost use Rattle.gang_model.specs.Debugger.Debugger.{Debugger, Setting};
+ghost use Rattle.gang_model.specs.Texts.CommandText.{command_of};
 ghost use Rattle.conditional_stops.specs.Tables as tables;
 ghost use Rattle.debug_session.specs.Sessions.{StandsFor};
 ghost use Rattle.prompt_lines.specs.Words.{is_alone};
 ghost use Rattle.prompt_scenes.specs.Holding.{held, sheet};
+ghost use Rattle.prompt_going.specs.GoingOn as going_on;
 ghost use Rattle.debug_prompt.specs.Lines as lines;
 
+use debug_commands::read_command;
 use debug_session::Session;
 use debug_traits::AnswerWriter;
 use frame_expressions::ExpressionMachine;
-use prompt_going::begin_run;
-use prompt_lines::is_alone;
+use prompt_going::{begin_run, do_typed};
+use prompt_lines::{index, is_alone, split_word};
 use prompt_moves::run;
 use prompt_scenes::{Holding, Scene};
-use prompt_texts::Page;
+use prompt_texts::{Page, tell_unknown};
+use prompt_values::Values;
 
 /// Begins the program, or, where it has begun, takes everything back and begins it anew: on to a stop that counts, where conditions or
 /// counts are there.
@@ -32,5 +36,49 @@ pub(crate) fn run_to_stop<M: ExpressionMachine, O: AnswerWriter + Drop>(
         run(text, holding, scene, session, page);
     } else {
         begin_run(holding, scene, session, page);
+    }
+}
+
+/// Does the command that a command line spells; where it spells none and asks for the values that were printed, lists those.
+pub(crate) fn do_own_words<M: ExpressionMachine, O: AnswerWriter + Drop>(
+    text: &[u8],
+    values: &Values,
+    holding: &mut Holding,
+    scene: Scene<'_>,
+    session: &mut Session<M>,
+    page: &mut Page<O>,
+)
+    ensures { (s : Setting) (d : Debugger) → StandsFor M.stands session.old s d → s.limit ≡ scene.entry.most_steps
+        → going_on.DoesTyped M.stands s d (held holding.old) (command_of text.now) (going_on.walks_by (held holding.old) (command_of text.now)) session.new (held holding.new) }
+{
+    match read_command(text) {
+        Some(_) => do_typed(text, holding, scene, session, page),
+        None => list_values(text, values, scene, page),
+    }
+}
+
+/// Lists the values that were printed, where a command line asks for them; says of another one that it is no command.
+fn list_values<O: AnswerWriter + Drop>(
+    text: &[u8],
+    values: &Values,
+    scene: Scene<'_>,
+    page: &mut Page<O>,
+) {
+    match values_asked(text) {
+        Some(number) => values.list(number, page),
+        None => tell_unknown(scene.line, page),
+    }
+}
+
+/// Around which number `show values` lists, if a command line is that: the last ones where none is named.
+fn values_asked(text: &[u8]) -> Option<Option<u32>> {
+    let (show, rest) = split_word(text);
+    let (values, rest) = split_word(rest);
+    if show != b"show".as_slice() || values != b"values".as_slice() {
+        return None;
+    }
+    match rest.trim_ascii() {
+        [] => Some(None),
+        number => Some(Some(index(number)?)),
     }
 }

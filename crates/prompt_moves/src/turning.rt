@@ -21,7 +21,7 @@ use prompt_scenes::{
     Displayed, Holding, Scene, is_move, is_refusal, last_move, print_of, stopped_number,
 };
 use prompt_texts::{Before, Page, tell, tell_move};
-use prompt_values::{show_form_here, tell_answer, tell_unheld};
+use prompt_values::{awaited_by, show_form_here, tell_answer, tell_returned, tell_unheld};
 
 /// Does a command, and what follows a move.
 pub fn do_own<M: ExpressionMachine, O: AnswerWriter + Drop>(
@@ -70,8 +70,10 @@ fn do_move<M: ExpressionMachine, O: AnswerWriter + Drop>(
         × (held holding.new ≡ following.begun (held holding.old) (do_command s (command_view command.entry) d).answer) }
 {
     let before = Before::note(session.machine());
+    let awaited = awaited_by(command, session);
     let answer = make_moves(command, scene, session, page);
     tell_move(&answer, scene.line, &before, scene.source, session, page);
+    tell_returned(awaited, &answer, scene, session, page);
     tell_unheld(&answer, holding, scene, session, page);
     follow(&answer, holding, scene, session, page);
 }

@@ -1,1 +1,2 @@
 mod WorkedForms
+mod WorkedNumbered

@@ -1,2 +1,4 @@
 pub mod Forms
 pub mod Instead
+pub mod Numbered
+pub mod Returned

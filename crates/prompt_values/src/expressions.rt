@@ -7,7 +7,8 @@ ghost use Rattle.prompt_scenes.specs.Holding.{held};
 ghost use Rattle.prompt_scenes.specs.SelectedFrame.{depth_of};
 ghost use Rattle.prompt_values.specs.Instead.{IsInstead, IsValueOrNone};
 
-use crate::slices::{show_slice, slice_of, tell_no_slice};
+use crate::numbered::{Printed, Values, value_name};
+use crate::slices::{print_slice, slice_of, tell_no_slice};
 use debug_session::Session;
 use debug_traits::{AnswerWriter, FramedMachine};
 use frame_expressions::ExpressionMachine;
@@ -87,23 +88,32 @@ pub fn show_instead<O: AnswerWriter + Drop>(
     );
 }
 
-/// Shows the value of the expression of a command line in the frame that is selected, or tells why it has none.
+/// Shows the value of the expression of a command line in the frame that is selected, or tells why it has none; a numbered value as it was
+/// printed. Gives a value that was shown and has no number yet.
 pub fn print_expression<M: ExpressionMachine, O: AnswerWriter + Drop>(
     text: &[u8],
+    values: &Values,
     holding: &Holding,
     scene: Scene<'_>,
     session: &Session<M>,
     page: &mut Page<O>,
-) {
+) -> Option<Printed> {
     if is_alone(text) || text.len() >= HELD {
         tell_unknown(scene.line, page);
-    } else {
-        let written = expression_text(text);
-        print_written(written, Digits::Decimal, holding, scene, session, page);
+        return None;
+    }
+    let written = expression_text(text);
+    match value_name(written) {
+        Some(name) => {
+            values.show(name, Digits::Decimal, page);
+            None
+        }
+        None => print_written(written, Digits::Decimal, holding, scene, session, page),
     }
 }
 
-/// Shows the elements or the value of an expression that are written, in the frame that is selected, or tells why there are none.
+/// Shows the elements or the value of an expression that are written, in the frame that is selected, or tells why there are none. Gives
+/// what was shown.
 pub(crate) fn print_written<M: ExpressionMachine, O: AnswerWriter + Drop>(
     written: &[u8],
     digits: Digits,
@@ -111,17 +121,20 @@ pub(crate) fn print_written<M: ExpressionMachine, O: AnswerWriter + Drop>(
     scene: Scene<'_>,
     session: &Session<M>,
     page: &mut Page<O>,
-) {
+) -> Option<Printed> {
     let depth = selected_depth(holding, session);
     let machine = session.machine();
     match slice_of(written, depth, scene, machine) {
         None => print_value(written, digits, depth, scene, machine, page),
-        Some(Ok(slice)) => show_slice(&slice, digits, depth, scene, machine, page),
-        Some(Err(why)) => tell_no_slice(&why, page),
+        Some(Ok(slice)) => print_slice(&slice, digits, depth, scene, machine, page),
+        Some(Err(why)) => {
+            tell_no_slice(&why, page);
+            None
+        }
     }
 }
 
-/// Shows the value of an expression in the frame at a depth, or tells why it has none.
+/// Shows the value of an expression in the frame at a depth, or tells why it has none. Gives what was shown.
 fn print_value<M: ExpressionMachine, O: AnswerWriter + Drop>(
     written: &[u8],
     digits: Digits,
@@ -129,16 +142,22 @@ fn print_value<M: ExpressionMachine, O: AnswerWriter + Drop>(
     scene: Scene<'_>,
     machine: &M,
     page: &mut Page<O>,
-) {
+) -> Option<Printed> {
     match value_of_expression(scene.alloc, written, depth, machine) {
-        Ok(value) => show_expression(written.trim_ascii(), digits, &value, page),
-        Err(why) => tell_no_value(
-            &why,
-            Spelled {
-                line: scene.line,
-                text: written,
-            },
-            page,
-        ),
+        Ok(value) => {
+            show_expression(written.trim_ascii(), digits, &value, page);
+            Some(Printed::Expression(value))
+        }
+        Err(why) => {
+            tell_no_value(
+                &why,
+                Spelled {
+                    line: scene.line,
+                    text: written,
+                },
+                page,
+            );
+            None
+        }
     }
 }

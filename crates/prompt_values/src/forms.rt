@@ -5,8 +5,9 @@ ghost use Rattle.prompt_lines.specs.Readings.{bytes_option};
 ghost use Rattle.prompt_values.specs.Forms as spec;
 
 use crate::expressions::print_written;
-use crate::slices::{show_slice, slice_of};
-use crate::values::show_target;
+use crate::numbered::{Printed, Values, value_name};
+use crate::slices::{print_slice, slice_of};
+use crate::values::{print_shown, show_target};
 use debug_answers::Refusal;
 use debug_commands::Target;
 use debug_session::Session;
@@ -80,6 +81,31 @@ fn digits_of(letter: u8) -> Option<Digits>
     }
 }
 
+/// Shows a target, an expression or a numbered value in the digits that a command line names, in the frame that is selected. Gives a value
+/// that was shown and has no number yet.
+pub fn print_formatted<M: ExpressionMachine, O: AnswerWriter + Drop>(
+    text: &[u8],
+    values: &Values,
+    holding: &Holding,
+    scene: Scene<'_>,
+    session: &Session<M>,
+    page: &mut Page<O>,
+) -> Option<Printed> {
+    match form_of(text) {
+        Some(form) if is_within(text) => match value_name(form.text) {
+            Some(name) => {
+                values.show(name, form.digits, page);
+                None
+            }
+            None => print_named_form(form, holding, scene, session, page),
+        },
+        _ => {
+            tell_unknown(scene.line, page);
+            None
+        }
+    }
+}
+
 /// Shows a target or an expression in the digits that a command line names, in the frame that is selected.
 pub fn show_formatted<M: ExpressionMachine, O: AnswerWriter + Drop>(
     text: &[u8],
@@ -89,54 +115,60 @@ pub fn show_formatted<M: ExpressionMachine, O: AnswerWriter + Drop>(
     page: &mut Page<O>,
 ) {
     match form_of(text) {
-        Some(form) if text.len() < HELD && !is_alone(text) => {
-            show_named_form(form, holding, scene, session, page);
+        Some(form) if is_within(text) => {
+            let _ = print_named_form(form, holding, scene, session, page);
         }
         _ => tell_unknown(scene.line, page),
     }
 }
 
-/// Shows a target or an expression in the frame that is selected, or tells why it is not shown.
-fn show_named_form<M: ExpressionMachine, O: AnswerWriter + Drop>(
+/// Whether all of a command line is held, and something stands behind its first word.
+fn is_within(text: &[u8]) -> bool {
+    text.len() < HELD && !is_alone(text)
+}
+
+/// Shows a target or an expression in the frame that is selected, or tells why it is not shown. Gives what was shown.
+fn print_named_form<M: ExpressionMachine, O: AnswerWriter + Drop>(
     form: Form<'_>,
     holding: &Holding,
     scene: Scene<'_>,
     session: &Session<M>,
     page: &mut Page<O>,
-) {
+) -> Option<Printed> {
     let line = printing_line(form.text);
+    let Some(target) = print_of(line.as_slice()) else {
+        return print_written(form.text, form.digits, holding, scene, session, page);
+    };
     let depth = selected_depth(holding, session);
-    match print_of(line.as_slice()) {
-        None => print_written(form.text, form.digits, holding, scene, session, page),
-        Some(target) => {
-            match show_found(form, target, depth, scene, session.machine(), page) {
-                Ok(()) => {}
-                Err(refusal) if holding.is_top() => {
-                    tell_refused_here(refusal, scene.line, session.machine(), page);
-                }
-                Err(refusal) => tell_refused(refusal, scene.line, page),
-            }
+    match print_found(form, target, depth, scene, session.machine(), page) {
+        Ok(printed) => return printed,
+        Err(refusal) if holding.is_top() => {
+            tell_refused_here(refusal, scene.line, session.machine(), page);
         }
+        Err(refusal) => tell_refused(refusal, scene.line, page),
     }
+    None
 }
 
-/// Shows a target of the frame at a depth; where its name stands for no variable, what it is as an expression.
-fn show_found<M: ExpressionMachine, O: AnswerWriter + Drop>(
+/// Shows a target of the frame at a depth; where its name stands for no variable, what it is as an expression. Gives what was shown.
+fn print_found<M: ExpressionMachine, O: AnswerWriter + Drop>(
     form: Form<'_>,
     target: Target<'_>,
     depth: usize,
     scene: Scene<'_>,
     machine: &M,
     page: &mut Page<O>,
-) -> Result<(), Refusal> {
+) -> Result<Option<Printed>, Refusal> {
     match find_part(target, depth, machine) {
-        Ok(shown) => show_target(target, form.digits, shown, depth, scene, machine, page),
+        Ok(shown) => Ok(print_shown(target, form.digits, shown, depth, scene, machine, page)),
         Err(refusal) => match value_of_expression(scene.alloc, form.text, depth, machine) {
-            Ok(value) => show_expression(form.text.trim_ascii(), form.digits, &value, page),
-            Err(_) => return Err(refusal),
+            Ok(value) => {
+                show_expression(form.text.trim_ascii(), form.digits, &value, page);
+                Ok(Some(Printed::Expression(value)))
+            }
+            Err(_) => Err(refusal),
         },
     }
-    Ok(())
 }
 
 /// Shows what is displayed by a number, of the top frame.
@@ -182,7 +214,7 @@ fn show_written<M: ExpressionMachine, O: AnswerWriter + Drop>(
 ) {
     if let Some(Ok(slice)) = slice_of(form.text, depth, scene, machine) {
         put_number(number, page);
-        show_slice(&slice, form.digits, depth, scene, machine, page);
+        let _ = print_slice(&slice, form.digits, depth, scene, machine, page);
         return;
     }
     match value_of_expression(scene.alloc, form.text, depth, machine) {

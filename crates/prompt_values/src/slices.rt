@@ -1,5 +1,6 @@
 //! Some elements of an array: `table@8`, `table[3]@8`.
-use crate::values::show_elements;
+use crate::numbered::Printed;
+use crate::values::print_elements;
 use debug_traits::{AnswerWriter, Shown};
 use frame_expressions::ExpressionMachine;
 use frame_values::{ExpressionValue, NoValue, value_of_expression};
@@ -126,16 +127,16 @@ fn uniform_number(found: &ExpressionValue) -> i128 {
     0
 }
 
-/// Shows elements of an array of the frame at a depth.
-pub(crate) fn show_slice<M: ExpressionMachine, O: AnswerWriter + Drop>(
+/// Shows elements of an array of the frame at a depth, and gives what was shown.
+pub(crate) fn print_slice<M: ExpressionMachine, O: AnswerWriter + Drop>(
     slice: &Slice<'_>,
     digits: Digits,
     depth: usize,
     scene: Scene<'_>,
     machine: &M,
     page: &mut Page<O>,
-) {
-    show_elements(
+) -> Option<Printed> {
+    print_elements(
         slice.typed,
         digits,
         slice.shown,
@@ -145,7 +146,7 @@ pub(crate) fn show_slice<M: ExpressionMachine, O: AnswerWriter + Drop>(
         scene,
         machine,
         page,
-    );
+    )
 }
 
 /// Tells why a text stands for no elements.

@@ -1,10 +1,14 @@
 //! What a variable shows: its lanes or its elements, or some of them.
-ghost use Rattle.std.specs.Prelude.{◌∷◌, []};
+ghost use Rattle.std.specs.Prelude.{◌∷◌, ◌++◌, [], IfSome};
 ghost use Rattle.gang_model.specs.Debugger.Debugger.{Debugger, Setting};
 ghost use Rattle.command_lists.specs.Lists.{HasDone};
-ghost use Rattle.debug_commands.specs.Views.{command_view};
+ghost use Rattle.gang_model.specs.Texts.Text.{target_text};
+ghost use Rattle.debug_commands.specs.Views.{command_view, target_view};
 ghost use Rattle.debug_session.specs.Sessions.{StandsFor};
+ghost use Rattle.prompt_texts.specs.Shown.{Puts, masked};
+ghost use Rattle.prompt_values.specs.Numbered as spec;
 
+use crate::numbered::Printed;
 use debug_answers::Answer;
 use debug_commands::{Command, Target};
 use debug_session::Session;
@@ -25,6 +29,21 @@ pub fn show_target<M: FramedMachine, O: AnswerWriter + Drop>(
     machine: &M,
     page: &mut Page<O>,
 ) {
+    let _ = print_shown(target, digits, shown, depth, scene, machine, page);
+}
+
+/// Shows a target of the frame at a depth, and gives what was shown.
+pub fn print_shown<M: FramedMachine, O: AnswerWriter + Drop>(
+    target: Target<'_>,
+    digits: Digits,
+    shown: Shown,
+    depth: usize,
+    scene: Scene<'_>,
+    machine: &M,
+    page: &mut Page<O>,
+) -> Option<Printed>
+    ensures { IfSome result (λ printed. Puts (target_text (target_view target.entry) ++ spec.printed_line digits printed) page.old.has_failed page.new.has_failed (O.written page.old.writer) (O.written page.new.writer)) }
+{
     let (from, to) = match target.at {
         None => (0, shown.count),
         Some(index) => (index as usize, index as usize + 1),
@@ -40,13 +59,20 @@ pub fn show_target<M: FramedMachine, O: AnswerWriter + Drop>(
         depth,
         machine,
     ) {
-        Ok(told) => show_value(target, digits, &told, page),
-        Err(_) => page.put(NO_MEMORY),
+        Ok(told) => {
+            show_value(target, digits, &told, page);
+            Some(Printed::Told(told))
+        }
+        Err(_) => {
+            page.put(NO_MEMORY);
+            None
+        }
     }
 }
 
-/// Shows the elements of an array from one on up to another, of the frame at a depth, behind what was typed for them.
-pub(crate) fn show_elements<M: FramedMachine, O: AnswerWriter + Drop>(
+/// Shows the elements of an array from one on up to another, of the frame at a depth, behind what was typed for them, and gives what was
+/// shown.
+pub(crate) fn print_elements<M: FramedMachine, O: AnswerWriter + Drop>(
     typed: &[u8],
     digits: Digits,
     shown: Shown,
@@ -56,7 +82,9 @@ pub(crate) fn show_elements<M: FramedMachine, O: AnswerWriter + Drop>(
     scene: Scene<'_>,
     machine: &M,
     page: &mut Page<O>,
-) {
+) -> Option<Printed>
+    ensures { IfSome result (λ printed. Puts (masked typed.now ++ spec.printed_line digits printed) page.old.has_failed page.new.has_failed (O.written page.old.writer) (O.written page.new.writer)) }
+{
     let lanes = lanes_at(depth, machine);
     match told_variable(
         scene.alloc,
@@ -72,8 +100,12 @@ pub(crate) fn show_elements<M: FramedMachine, O: AnswerWriter + Drop>(
             page.put_masked(typed);
             page.put(b" =");
             put_told(digits, &told, page);
+            Some(Printed::Told(told))
         }
-        Err(_) => page.put(NO_MEMORY),
+        Err(_) => {
+            page.put(NO_MEMORY);
+            None
+        }
     }
 }
 
@@ -84,10 +116,20 @@ pub fn tell_answer<M: FramedMachine, O: AnswerWriter + Drop>(
     session: &Session<M>,
     page: &mut Page<O>,
 ) {
+    let _ = print_answer(answer, scene, session, page);
+}
+
+/// The same, and gives the value that was shown.
+pub fn print_answer<M: FramedMachine, O: AnswerWriter + Drop>(
+    answer: &Answer<'_>,
+    scene: Scene<'_>,
+    session: &Session<M>,
+    page: &mut Page<O>,
+) -> Option<Printed> {
     match answer {
         Answer::Shows { target, shown } => {
             let machine = session.machine();
-            show_target(
+            print_shown(
                 *target,
                 Digits::Decimal,
                 *shown,
@@ -95,9 +137,12 @@ pub fn tell_answer<M: FramedMachine, O: AnswerWriter + Drop>(
                 scene,
                 machine,
                 page,
-            );
+            )
         }
-        other => tell(other, scene.line, scene.source, session, page),
+        other => {
+            tell(other, scene.line, scene.source, session, page);
+            None
+        }
     }
 }
 

@@ -13,12 +13,12 @@ returns-clause-done g c s d st limit =
     let kept = spelled c.args.self.now.kept in
     let line = c.args.line.now in
     let h = held c.args.self.now.holding in
-    let middle = held c.do_meant.new.holding in
-    let new = c.do_meant.new.session in
+    let middle = held c.do_meant-printed.new.holding in
+    let new = c.do_meant-printed.new.session in
     let is : spelled c.meant-meant.result ≡ meant kept line = c.meant-meant.ensures ∙ ap (λ (x : Spelled). meant_by x.kind kept x) c.read_line-read.ensures in
     record {
       middle = middle;
-      does = subst (λ (x : Spelled). DoesKind stands x.kind (sheet c.args.source) s d h x.text new middle) is (c.do_meant.ensures s d st limit);
+      does = subst (λ (x : Spelled). DoesKind stands x.kind (sheet c.args.source) s d h x.text new middle) is (c.do_meant-printed.ensures s d st limit);
       ends = λ e at.
           c.end_frames.ensures ∙ ap (λ n. ended n middle) (c.known_within-deepest.ensures
           ∙ ap (λ within. known_within within c.meant-meant.result.kind c.meant-meant.result.text.items c.depth.result) (c.depth_within-within.ensures s d st)
