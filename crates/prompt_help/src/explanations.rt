@@ -263,7 +263,7 @@ const MARKS: [Reason; 2] = [
     ),
     Reason(
         &[b"$"],
-        b"There are no registers, and values have no numbers: `print T` shows a variable.",
+        b"There are no registers, and a value that was printed stands alone: `print $3` shows number 3 again, `show values` lists the last ones.",
     ),
 ];
 

@@ -24,7 +24,7 @@ const FIRST: [Topic; 16] = [
     Topic {
         names: &[b"finish", b"fin"],
         usage: b"finish",
-        text: b"goes on until this function has returned.",
+        text: b"goes on until this function has returned, and tells the value that a variable got.",
     },
     Topic {
         names: &[b"run", b"r"],
@@ -74,7 +74,7 @@ const FIRST: [Topic; 16] = [
     Topic {
         names: &[b"print", b"p", b"inspect", b"output"],
         usage: b"print T",
-        text: b"shows a variable T, one lane or element as T[K], eight elements of an array as T@8 or T[K]@8, or the value of an expression, in the frame that is selected; lanes that wait stand in brackets. `print T = V` sets it first.",
+        text: b"shows a variable T, one lane or element as T[K], eight elements of an array as T@8 or T[K]@8, or the value of an expression, in the frame that is selected; lanes that wait stand in brackets. `print T = V` sets it first. Each value gets a number: `print $3` shows it again, `show values` lists ten.",
     },
     Topic {
         names: &[
