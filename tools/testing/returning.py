@@ -16,11 +16,23 @@ def asks(name, source, typed, wanted, width=4):
     """A program, the lines that are typed, and what is told of returned values, in order."""
 
     def judge(text):
-        found = [line for line in text.decode().splitlines() if line.startswith(FRONT)]
+        found = told_in(text.decode().splitlines())
         return [] if found == wanted else ["this is wanted:", *wanted, "it came:", *found, *shown(text[-600:])]
 
     lines = "".join(f"{line}\n" for line in typed).encode()
     return Run(name, lines, ["debug", FILE, "--width", str(width)], judge, b"", data={FILE: source.encode()})
+
+
+def told_in(lines):
+    """What is told of returned values, each with the rows that go on with it."""
+    found, goes_on = [], False
+    for line in lines:
+        goes_on = line.startswith(FRONT) or goes_on and line.startswith("[")
+        if line.startswith(FRONT):
+            found.append(line)
+        elif goes_on:
+            found[-1] += f"\n{line}"
+    return found
 
 
 def told(values, name, lanes):
