@@ -8,6 +8,7 @@ use Rattle.gang_types.specs.declared.types.IntType.{IntType}
 use Rattle.gang_types.specs.declared.types.IntType.TheVariants.{Int8, Int32, Int64}
 use Rattle.gang_types.specs.declared.types.Rate.TheVariants.{Uniform, Varying}
 use Rattle.gang_types.specs.Lanes.{Lanes}
+use Rattle.gang_types.specs.Masks as masks
 use Rattle.gang_model.specs.Source.Judged.{Sound, refused}
 use Rattle.gang_model.specs.Source.Parsed.{ParsedName}
 use Rattle.gang_model.specs.declared.refusals.RefusalNumber.TheVariants.{S5}
@@ -15,7 +16,7 @@ use Rattle.gang_model.specs.Types.Conversions.{typed}
 use Rattle.gang_model.specs.Types.Tree.{Empty, Nothing, Program, ProgramIndex, Read, Variable}
 use Rattle.gang_model.specs.Types.Typing.{expression}
 use Rattle.gang_model.specs.Running.State.{Frame, RoundEnd, State, Task}
-use Rattle.frame_expressions.specs.Lanes.{lanes_at}
+use Rattle.frame_expressions.specs.Lanes.{chosen_lanes, lanes_at, made_lanes}
 use Rattle.frame_expressions.specs.Meanings.{entries_at}
 
 -- ---- lanes
@@ -39,6 +40,21 @@ the_top_frame_shows_its_step = refl
 
 deeper_is_the_top_frame : lanes_at 3 called ≡ false ∷ false ∷ []
 deeper_is_the_top_frame = refl
+
+the_entry_is_every_lanes : made_lanes 1 called ≡ true ∷ true ∷ []
+the_entry_is_every_lanes = refl
+
+the_callee_is_its_callers : made_lanes 2 called ≡ true ∷ false ∷ []
+the_callee_is_its_callers = refl
+
+-- of the lanes 0 and 1 of a mask the callee has one, though its next step is done by none
+of_those_asked_for : chosen_lanes (record { word = 3 }) 2 called ≡ true ∷ false ∷ []
+unfolding masks.lanes_of_word
+of_those_asked_for = refl
+
+the_other_one_is_left_out : chosen_lanes (record { word = 2 }) 2 called ≡ false ∷ false ∷ []
+unfolding masks.lanes_of_word
+the_other_one_is_left_out = refl
 
 -- ---- names
 

@@ -8,7 +8,7 @@ ghost use Rattle.gang_model.specs.Running.Value.{value};
 ghost use Rattle.gang_model.specs.Debugger.Debugger.{Debugger, Setting, now};
 ghost use Rattle.typed_tree.specs.Views.{expr_view, program_view};
 ghost use Rattle.debug_traits.specs.Frames.{spot_at, state_at};
-ghost use Rattle.frame_expressions.specs.Lanes.{IsValue, lanes_at};
+ghost use Rattle.frame_expressions.specs.Lanes.{IsValue, chosen_lanes, lanes_at};
 ghost use Rattle.frame_expressions.specs.Meanings.{Means, entries_at};
 
 use debug_traits::{Fault, FramedMachine};
@@ -44,4 +44,20 @@ pub trait ExpressionMachine: FramedMachine {
         ensures { (s : Setting) (d : Debugger) (spot : Spot) (written : ParsedExpr) (type : IntType) (rate : Rate) → Self.stands self.now s d
             → spot_at s.program depth (now s d) ≡ Some spot → (means : Means written (entries_at s.program spot) type rate code.now)
             → IsValue result (lanes_at depth (now s d)) (value (expr_view means.tree) (lanes_at depth (now s d)) (state_at depth (now s d))) };
+
+    /// The value of the expression that the code computes, where the frame at a depth stands, for those of some lanes for which this frame
+    /// was made, whether they are active there or not.
+    ///
+    /// # Errors
+    ///
+    /// Its first fault, at the lowest lane that has it there.
+    fn evaluate_for(
+        &self,
+        depth: usize,
+        lanes: Mask,
+        code: &[Instruction],
+    ) -> Result<LaneWords, Fault>
+        ensures { (s : Setting) (d : Debugger) (spot : Spot) (written : ParsedExpr) (type : IntType) (rate : Rate) → Self.stands self.now s d
+            → spot_at s.program depth (now s d) ≡ Some spot → (means : Means written (entries_at s.program spot) type rate code.now)
+            → IsValue result (chosen_lanes lanes depth (now s d)) (value (expr_view means.tree) (chosen_lanes lanes depth (now s d)) (state_at depth (now s d))) };
 }

@@ -1,6 +1,6 @@
 -- The lanes for which a frame computes an expression.
 use Rattle.std.proofs.Common.{◌≡◌, refl, sym, ap, subst, ◌∙◌, ℕ, suc, ◌-◌, ◌<◌, ◌≤◌, Bool, true, false, inl, inr, List, [], ◌∷◌, drop, length, map, nat_lt, Option, Some, None, arith}
-use Rattle.std.specs.Prelude.{if◌then◌else◌}
+use Rattle.std.specs.Prelude.{min, if◌then◌else◌}
 use Rattle.std.proofs.lemmas.Bool.{cases_lt}
 use Rattle.std.proofs.lemmas.Bool.Decides.{nat_tests}
 use Rattle.std.proofs.lemmas.Option.{none-some}
@@ -21,7 +21,7 @@ use Rattle.mask_states.specs.Stands.{AreLowerable}
 use Rattle.machine_states.specs.Regions.{LanesOf, OfHead, Regions, lanes_in}
 use Rattle.machine_states.specs.Shows.{Shows, ShowsFrames}
 use Rattle.machine_states.specs.Variables.{Variables}
-use Rattle.frame_expressions.specs.Lanes.{called_lanes, lanes_at}
+use Rattle.frame_expressions.specs.Lanes.{called_lanes, lanes_at, made_lanes}
 use Rattle.gang_machine.specs.Standings.{SeenStands, view_of}
 use Rattle.gang_machine.proofs.Agreeing.{agrees, lanes_are, masked_now, spot_is}
 use Rattle.gang_machine.proofs.FrameValues.{untasked_up_to}
@@ -83,3 +83,16 @@ module _ (w entry : ℕ) (program : TypedProgram) (lines : List ℕ) (layout : L
         let top : spot_at s.program deep (now s d) ≡ spot_now s.program (now s d) =
         ap (λ b. if b then call_at (suc deep) (now s d).frames else spot_now s.program (now s d)) past_is in
         none-some spot (sym ended ∙ sym (spot_is w entry program lines layout h lowerable s d stands) ∙ sym top ∙ at)
+
+  -- of any frame, by its number
+  module _ (frame : ℕ) (height : min deep (length (masked_now w entry program lines layout h lowerable s d stands).state.frames) ≡ suc frame) where
+    height_is : (all : ℕ) → min deep all ≡ suc frame → all - deep ≡ all - suc frame
+    height_is all is = omega (arith, is)
+
+    pub lanes_made : (variables : Variables) (regions : Regions) → Shows (program_view program) variables w regions (masked_now w entry program lines layout h lowerable s d stands)
+        → made_lanes deep (now s d) ≡ lanes_in w regions (OfHead frame LanesOf)
+    lanes_made variables regions shows =
+        sym (untasked_called (frames_at deep (now s d).frames))
+        ∙ ap (λ (state : State). called_lanes state.frames) (untasked_up_to deep (now s d) ∙ ap (state_at deep) (agrees w entry program lines layout h lowerable s d stands).0.words)
+        ∙ ap (λ n. called_lanes (drop n masked.state.frames)) (height_is (length masked.state.frames) height)
+        ∙ called_shown (program_view program) variables w regions frame masked.state.frames masked.levels shows.frames (omega (arith, height))

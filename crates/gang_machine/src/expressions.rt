@@ -2,11 +2,18 @@
 ghost use Rattle.std.specs.Prelude.{◌≡◌, ◌<◌, Some, take};
 ghost use Rattle.gang_types.specs.declared.places.Spot.{Spot};
 ghost use Rattle.gang_types.specs.Masks.{IsGangWidth, lanes_of};
+ghost use Rattle.gang_model.specs.Running.State.{State};
+ghost use Rattle.gang_model.specs.Running.Value.{value};
 ghost use Rattle.gang_model.specs.Debugger.Debugger.{Debugger, Setting, now};
 ghost use Rattle.debug_traits.specs.Frames.{spot_at};
 ghost use Rattle.machine_states.specs.Regions.{LanesOf, OfHead, lanes_in};
 ghost use Rattle.machine_words.specs.Words.{AreLaid, regions_in};
-ghost use Rattle.frame_expressions.specs.Lanes.{lanes_at};
+ghost use Rattle.frame_steps.specs.Read.{HasRegions};
+ghost use Rattle.expression_runs.specs.Correct.{Computes};
+ghost use Rattle.expression_runs.specs.Room.{HasRoom};
+ghost use Rattle.typed_tree.specs.declared.expressions.Expr.{Expr};
+ghost use Rattle.typed_tree.specs.Views.{expr_view};
+ghost use Rattle.frame_expressions.specs.Lanes.{IsValue, lanes_at};
 ghost use Rattle.gang_machine.specs.Standings.{Stands};
 
 use crate::machine::Machine;
@@ -62,19 +69,52 @@ impl<const W: usize, T: Timeline + Drop> ExpressionMachine for Machine<W, T> {
     }
 
     fn evaluate(&self, depth: usize, code: &[Instruction]) -> Result<LaneWords, Fault> {
-        let Some(active) = step_at::<W, T>(&self.compiled, &self.words, depth) else {
-            return Ok(no_words());
-        };
-        let lanes = self.lanes_shown(depth);
-        let variables = TopVariables::<W, T> {
-            words: &self.words,
-            frame: active.frame,
-        };
-        match value_of(code, &variables, lanes) {
-            Ok(values) => Ok(widened(lanes, values)),
-            Err(Stop::Fault((lane, name))) => Err(Fault { name, lane }),
-            Err(Stop::NoRoom) => Ok(no_words()),
+        match step_at::<W, T>(&self.compiled, &self.words, depth) {
+            Some(active) => {
+                value_in::<W, T>(&self.words, active.frame, self.lanes_shown(depth), code)
+            }
+            None => Ok(no_words()),
         }
+    }
+
+    fn evaluate_for(
+        &self,
+        depth: usize,
+        lanes: Mask,
+        code: &[Instruction],
+    ) -> Result<LaneWords, Fault> {
+        match step_at::<W, T>(&self.compiled, &self.words, depth) {
+            Some(active) => {
+                let made = made_for::<W, T>(&self.words, active.frame);
+                value_in::<W, T>(&self.words, active.frame, made.and(lanes), code)
+            }
+            None => Ok(no_words()),
+        }
+    }
+}
+
+/// The value of the expression that the code computes over the words of the frame of this number, for some lanes.
+///
+/// # Errors
+///
+/// Its first fault, at the lowest lane that has it there.
+fn value_in<const W: usize, T: Timeline + Drop>(
+    words: &MachineWords<T>,
+    frame: usize,
+    lanes: Mask,
+    code: &[Instruction],
+) -> Result<LaneWords, Fault>
+    requires width { IsGangWidth W }
+    requires laid { AreLaid T.history W words.now }
+    requires there { frame < 64 }
+    ensures { (e : Expr) (state : State) → Computes e code.now → HasRoom (expr_view e) → HasRegions (regions_in T.history W words.now) frame state
+        → IsValue result (lanes_of W lanes) (value (expr_view e) (lanes_of W lanes) state) }
+{
+    let variables = TopVariables::<W, T> { words, frame };
+    match value_of(code, &variables, lanes) {
+        Ok(values) => Ok(widened(lanes, values)),
+        Err(Stop::Fault((lane, name))) => Err(Fault { name, lane }),
+        Err(Stop::NoRoom) => Ok(no_words()),
     }
 }
 

@@ -8,7 +8,7 @@ ghost use Rattle.gang_model.specs.Running.Value.{value};
 ghost use Rattle.gang_model.specs.Debugger.Debugger.{Debugger, Setting, now};
 ghost use Rattle.typed_tree.specs.Views.{expr_view, program_view};
 ghost use Rattle.debug_traits.specs.Frames.{spot_at, state_at};
-ghost use Rattle.frame_expressions.specs.Lanes.{IsValue, lanes_at};
+ghost use Rattle.frame_expressions.specs.Lanes.{IsValue, chosen_lanes, lanes_at};
 ghost use Rattle.frame_expressions.specs.Meanings.{Means, entries_at};
 
 use crate::copies_over::CopiesOver;
@@ -16,7 +16,7 @@ use crate::whole_run::WholeRun;
 use debug_traits::{Fault, PokesSurely};
 use expression_instructions::Instruction;
 use frame_expressions::{ExpressionMachine, LaneWords};
-use gang_types::Spot;
+use gang_types::{Mask, Spot};
 use typed_tree::Program;
 
 impl<M: CopiesOver + PokesSurely + ExpressionMachine> ExpressionMachine for WholeRun<M> {
@@ -30,5 +30,14 @@ impl<M: CopiesOver + PokesSurely + ExpressionMachine> ExpressionMachine for Whol
 
     fn evaluate(&self, depth: usize, code: &[Instruction]) -> Result<LaneWords, Fault> {
         self.inner.evaluate(depth, code)
+    }
+
+    fn evaluate_for(
+        &self,
+        depth: usize,
+        lanes: Mask,
+        code: &[Instruction],
+    ) -> Result<LaneWords, Fault> {
+        self.inner.evaluate_for(depth, lanes, code)
     }
 }
