@@ -1,4 +1,4 @@
-use Rattle.std.proofs.Common.{◌≡◌, ◌∙◌, sym, ap, ap₂, subst, suc, length}
+use Rattle.std.proofs.Common.{◌≡◌, ◌∙◌, sym, ap, ap₂, subst, ℕ, suc, List, length}
 use Rattle.std.specs.Prelude.{min, slice_index}
 use Rattle.std.proofs.lemmas.Option.{none-some}
 use Rattle.gang_types.specs.Lanes.{and}
@@ -39,11 +39,11 @@ returns-in-Some g c s d spot written type rate stands at means =
     let frames = (masked_now w m.entry m.compiled.program m.lines.items m.words.layout (history m.words.store.timeline) lowerable s d here).state.frames in
     let height : min c.args.depth (length frames) ≡ suc c.in-Some.active.frame =
     ap (λ (ws : List ℕ). min c.args.depth (slice_index ws 0)) (sym shown.shows.depth) ∙ ap (λ (ws : List ℕ). slice_index ws 0) next.1.next.depth in
-    let same : lanes_of w c.made_for.result ≡ made_lanes c.args.depth (now s d) =
-    c.made_for.ensures
+    let same : lanes_of w c.made_for-made.result ≡ made_lanes c.args.depth (now s d) =
+    c.made_for-made.ensures
     ∙ sym (lanes_made w m.entry m.compiled.program m.lines.items m.words.layout (history m.words.store.timeline) lowerable s d here c.args.depth c.in-Some.active.frame height
     (variables_of m.compiled.program) (regions_in history w m.words) shown.shows) in
-    let wide : w ≡ length (made_lanes c.args.depth (now s d)) = sym (length-lanes_of_word w c.made_for.result.word) ∙ ap length same in
+    let wide : w ≡ length (made_lanes c.args.depth (now s d)) = sym (length-lanes_of_word w c.made_for-made.result.word) ∙ ap length same in
     is_value history w m.entry m.compiled c.self.invariant.lie.compiled_is.runnable m.lines.items m.words s d here c.args.depth c.in-Some.active next.0 next.1
     (c.in-Some.ensures.place _ shown) spot at written type rate c.args.code.now means c.and.result c.value_in.result c.value_in.ensures
     (chosen_lanes c.args.lanes c.args.depth (now s d)) (c.and.ensures w ∙ ap₂ and same (ap (λ n. lanes_of n c.args.lanes) wide))
