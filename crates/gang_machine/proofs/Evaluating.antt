@@ -1,5 +1,5 @@
 -- What the code of an expression computes over the words of a frame is its value where the frame stands.
-use Rattle.std.proofs.Common.{◌≡◌, sym, ap, ap₂, subst, ◌∙◌, ℕ, List, length, Some, Result}
+use Rattle.std.proofs.Common.{◌≡◌, sym, ap, ap₂, subst, ◌∙◌, ℕ, List, Some, Result}
 use Rattle.std.specs.Prelude.{slice_get}
 use Rattle.undo_log.specs.History.{History}
 use Rattle.gang_types.specs.declared.masks.Mask.{Mask}

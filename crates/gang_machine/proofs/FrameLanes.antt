@@ -1,12 +1,11 @@
 -- The lanes for which a frame computes an expression.
-use Rattle.std.proofs.Common.{◌≡◌, refl, sym, ap, subst, ◌∙◌, ℕ, suc, ◌-◌, ◌<◌, ◌≤◌, Bool, true, false, inl, inr, List, [], ◌∷◌, drop, length, map, nat_lt, Option, Some, None, arith}
+use Rattle.std.proofs.Common.{◌≡◌, refl, sym, ap, ◌∙◌, ℕ, suc, ◌-◌, ◌<◌, ◌≤◌, true, false, inl, inr, List, [], ◌∷◌, drop, length, map, nat_lt, Some, None, arith}
 use Rattle.std.specs.Prelude.{min, if◌then◌else◌}
 use Rattle.std.proofs.lemmas.Bool.{cases_lt}
 use Rattle.std.proofs.lemmas.Bool.Decides.{nat_tests}
 use Rattle.std.proofs.lemmas.Option.{none-some}
 use Rattle.undo_log.specs.History.{History}
 use Rattle.gang_types.specs.declared.places.Spot.{Spot}
-use Rattle.gang_types.specs.Lanes.{Lanes}
 use Rattle.gang_model.specs.Types.Tree.{Program}
 use Rattle.gang_model.specs.Running.State.{Frame, State}
 use Rattle.gang_model.specs.Debugger.Debugger.{Debugger, Setting, now}
@@ -16,7 +15,7 @@ use Rattle.typed_tree.specs.declared.program.Program.{Program as TypedProgram}
 use Rattle.typed_tree.specs.Views.{program_view}
 use Rattle.gang_memory.specs.declared.layout.Layout.{Layout}
 use Rattle.mask_states.specs.Masked.{Level, Masked, masked_lanes, masked_spot}
-use Rattle.mask_states.specs.MaskedStep.{untasked, untasked_frame}
+use Rattle.mask_states.specs.MaskedStep.{untasked_frame}
 use Rattle.mask_states.specs.Stands.{AreLowerable}
 use Rattle.machine_states.specs.Regions.{LanesOf, OfHead, Regions, lanes_in}
 use Rattle.machine_states.specs.Shows.{Shows, ShowsFrames}

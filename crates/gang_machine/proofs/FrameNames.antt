@@ -1,5 +1,5 @@
 -- An expression that means something where a frame stands reads variables that the frame has declared.
-use Rattle.std.proofs.Common.{◌≡◌, refl, sym, ap, subst, ◌∙◌, ℕ, zero, suc, false, true, List, [], ◌∷◌, ◌++◌, map, Option, Some, None}
+use Rattle.std.proofs.Common.{◌≡◌, refl, sym, ap, subst, ◌∙◌, ℕ, suc, List, [], ◌∷◌, ◌++◌, map, Option, Some, None}
 use Rattle.std.specs.Prelude.{All, slice_get}
 use Rattle.std.proofs.lemmas.Option.{get_or_from_slice_get, slice_get_within}
 use Rattle.gang_types.specs.declared.places.VarId.{VarId}
@@ -11,7 +11,7 @@ use Rattle.gang_model.specs.Source.Judged.{Sound}
 use Rattle.gang_model.specs.Source.Parsed.{ParsedExpr}
 use Rattle.gang_model.specs.Types.Conversions.{typed}
 use Rattle.gang_model.specs.Types.Tree.{Var, Expr, Number, ProgramIndex, ProgramCount, LaneMask, Read, Element, Unary, Binary, Convert, And, Or, Choice, Reduce, Scan, OfOne, OfTwo, Extract, Insert, Rotate, Shift, Shuffle, ShuffleTwo, Select, Function, Standing, StepNumber, Variable}
-use Rattle.gang_model.specs.Types.Typing.{Entry, Scope, expression}
+use Rattle.gang_model.specs.Types.Typing.{expression}
 use Rattle.gang_model.specs.Types.WellScoped.{Table, variable_at, IsScalar as IsTableScalar, IsArray as IsTableArray, ExprScoped}
 use Rattle.gang_model.proofs.JudgedLaws.{OnSound}
 use Rattle.gang_model.proofs.ScopedExprs.{EntryScoped, TypedScoped, expression-scoped}

@@ -1,26 +1,24 @@
 -- The value of an expression where a frame stands depends on the machine's regions alone.
-use Rattle.std.proofs.Common.{◌≡◌, refl, sym, ap, ap₂, subst, ◌∙◌, ℕ, suc, ◌-◌, ◌<◌, ◌≤◌, List, [], ◌∷◌, drop, length, map, Some, Result, arith}
+use Rattle.std.proofs.Common.{◌≡◌, refl, sym, ap, subst, ◌∙◌, ℕ, suc, ◌-◌, ◌<◌, ◌≤◌, List, [], ◌∷◌, drop, length, map, arith}
 use Rattle.std.specs.Prelude.{min, slice_get, slice_index}
 use Rattle.std.proofs.lemmas.List.{drop-map, length-map}
 use Rattle.gang_types.specs.declared.places.VarId.{VarId}
 use Rattle.gang_types.specs.declared.places.VarId.TheVariants.{File, Local}
 use Rattle.gang_types.specs.Lanes.{Lanes}
 use Rattle.gang_model.specs.Types.Tree.{Expr, Function, Var}
-use Rattle.gang_model.specs.Running.Lanes.{Fault}
 use Rattle.gang_model.specs.Running.State.{Frame, State, local_view, local_words, view_of, words_in, words_of}
 use Rattle.gang_model.specs.Running.Value.{value}
 use Rattle.undo_log.specs.History.{History}
 use Rattle.debug_traits.specs.Frames.{state_at}
 use Rattle.mask_states.specs.Masked.{Masked}
 use Rattle.mask_states.specs.MaskedStep.{untasked, untasked_frame}
-use Rattle.mask_states.specs.Points.{Point, points_in}
+use Rattle.mask_states.specs.Points.{points_in}
 use Rattle.machine_states.specs.ArrayParts.{view_at}
 use Rattle.machine_states.specs.Declared.{AreDeclared, IsThere, NamesDeclared, declared_before}
 use Rattle.machine_states.specs.Effects.{region_of}
 use Rattle.machine_states.specs.Regions.{Depth, Regions}
 use Rattle.machine_states.specs.Shows.{Shows}
-use Rattle.machine_states.specs.Steps.{IsNext}
-use Rattle.machine_states.specs.Variables.{IsArray, IsScalar, Variables}
+use Rattle.machine_states.specs.Variables.{IsScalar, Variables}
 use Rattle.machine_states.specs.WellScoped.{IsWellScopedExpr}
 use Rattle.machine_states.proofs.ArrayViews.{view_same}
 use Rattle.machine_states.proofs.ChangedRegions.{lengths_kept}

@@ -1,4 +1,4 @@
-use Rattle.std.proofs.Common.{◌≡◌, ◌+◌, ◌<◌, ◌≤◌, ◌++◌, ◌∷◌, [], ◌∙◌, ap, arith, refl, length, sym, take}
+use Rattle.std.proofs.Common.{◌<◌, ◌≤◌, ◌++◌, ◌∷◌, [], ◌∙◌, ap, arith, refl, length, sym, take}
 use Rattle.std.proofs.lemmas.List.{length-set, take_all, take_more, take_more_set}
 use Rattle.gang_machine.proofs.again.copy_words.Goals as goal
 

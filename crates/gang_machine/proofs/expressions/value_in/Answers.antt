@@ -1,4 +1,4 @@
-use Rattle.std.proofs.Common.{◌≡◌, ◌∙◌, sym, ap, ap₂, subst, take, Ok, Err}
+use Rattle.std.proofs.Common.{◌∙◌, sym, ap, ap₂, subst, take, Ok, Err}
 use Rattle.gang_types.specs.Masks.{IsGangWidth, lanes_of}
 use Rattle.gang_model.specs.Running.Value.{value}
 use Rattle.debug_traits.specs.Machines.{fault_view}

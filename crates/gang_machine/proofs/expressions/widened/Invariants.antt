@@ -1,5 +1,5 @@
 -- the lanes before this one have their words
-use Rattle.std.proofs.Common.{◌≡◌, ℕ, ◌<◌, ◌≤◌, length, slice_index}
+use Rattle.std.proofs.Common.{◌≡◌, ℕ, ◌<◌, length, slice_index}
 use Rattle.gang_machine.proofs.expressions.widened.Given as goal
 
 abbrev pub invariant-loop-lane : goal.invariant-loop-lane

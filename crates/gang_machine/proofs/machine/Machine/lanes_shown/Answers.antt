@@ -1,5 +1,4 @@
-use Rattle.std.proofs.Common.{◌≡◌, ◌∙◌, ◌<◌, ◌≤◌, sym, ap, subst, length, arith}
-use Rattle.gang_types.specs.Masks.{lanes_of}
+use Rattle.std.proofs.Common.{◌∙◌, sym, subst, arith}
 use Rattle.gang_machine.specs.Standings.{Stands}
 use Rattle.gang_machine.proofs.Agreeing.{frames_alike}
 use Rattle.gang_machine.proofs.FrameLanes.{lanes_called, lanes_top, not_ended}
