@@ -11,8 +11,10 @@ use Rattle.adapter_requests.specs.declared.reply.BreakpointFault.{BreakpointFaul
 use Rattle.adapter_requests.specs.declared.reply.BreakpointFault.TheVariants as fault
 use Rattle.adapter_requests.specs.declared.request.Context.{Context}
 use Rattle.adapter_requests.specs.declared.request.Context.TheVariants.{Console, Hover, Watch}
+use Rattle.adapter_requests.specs.declared.request.DataBreakpoint.{DataBreakpoint}
 use Rattle.adapter_requests.specs.declared.request.Filter.{Filter}
 use Rattle.adapter_requests.specs.declared.request.Filter.TheVariants as filter
+use Rattle.adapter_requests.specs.declared.request.FunctionBreakpoint.{FunctionBreakpoint}
 use Rattle.adapter_requests.specs.declared.request.Launch.{Launch}
 use Rattle.adapter_requests.specs.declared.request.LineBreakpoint.{LineBreakpoint}
 use Rattle.adapter_requests.specs.declared.request.Page.{Page}
@@ -20,6 +22,7 @@ use Rattle.adapter_requests.specs.declared.request.Request.{Request}
 use Rattle.adapter_requests.specs.declared.request.Request.TheVariants as request
 use Rattle.adapter_requests.specs.declared.request.Way.{Way}
 use Rattle.adapter_requests.specs.declared.request.Way.TheVariants.{Backwards, Forwards}
+use Rattle.adapter_messages.specs.declared.arguments.Named.{Named}
 use Rattle.adapter_messages.specs.declared.names.Name.{Name}
 use Rattle.adapter_messages.specs.declared.names.Name.TheVariants as name
 use Rattle.adapter_messages.specs.Names.{named}
@@ -57,6 +60,11 @@ pub record IsLaunch (message : Data) (launch : Launch) : Type 0 where
   pub history : number_at (codes "/arguments/history") message ≡ launch.history
   pub steps : number_at (codes "/arguments/steps") message ≡ launch.steps
   pub stops_on_entry : unwrap_or (flag_at (codes "/arguments/stopOnEntry") message) true ≡ launch.stops_on_entry
+  pub lane_threads : unwrap_or (flag_at (codes "/arguments/laneThreads") message) false ≡ launch.lane_threads
+
+-- whether values are asked for as hexadecimal numbers
+abbrev pub hexadecimal_in : Data → Bool
+hexadecimal_in message = unwrap_or (flag_at (codes "/arguments/format/hex") message) false
 
 -- where an expression stands, by the word for it
 abbrev pub context_in : Option Bytes → Context
@@ -128,32 +136,10 @@ time_in message = option_and_then time_of (number_at (codes "/arguments/targetId
 abbrev pub line_in : Data → Option ℕ
 line_in d = option_and_then as_line (option_and_then as_u64 (option_and_then as_number (get (codes "line") d)))
 
--- the target of a watch
-abbrev pub target_in : Data → Option Bytes
-target_in d = option_and_then as_str (get (codes "dataId") d)
-
--- whether it is to stop on a condition, after a count, or to tell a text
-abbrev pub is_conditional : Data → Bool
-is_conditional d = not (is_absent (get (codes "condition") d)) || not (is_absent (get (codes "hitCondition") d)) || not (is_absent (get (codes "logMessage") d))
-
--- a place that was read, or the fault that it says none
-abbrev pub placed : {A : Type 0} → Option A → Result A BreakpointFault
-placed None = Err fault.Unplaced
-placed (Some place) = Ok place
-
--- what a watch asks for: its target, and no condition
-abbrev pub watch_in : Data → Result Bytes BreakpointFault
-watch_in d = if is_conditional d then Err fault.Conditional else placed (target_in d)
-
 -- what each of a list asks for
 abbrev pub each_asked : {A : Type 0} → (Data → Result A BreakpointFault) → Items → List (Result A BreakpointFault)
 each_asked read no_items = []
 each_asked read (item d ds) = read d ∷ each_asked read ds
-
--- a text that is asked for
-abbrev pub asked_text : Result (Bor Bytes) BreakpointFault → Result Bytes BreakpointFault
-asked_text (Ok text) = Ok text.now
-asked_text (Err fault) = Err fault
 
 -- ---- breakpoints with conditions, counts and messages
 
@@ -231,6 +217,50 @@ logging (Ok asked) (Ok log) = Ok (record asked { log = log })
 abbrev pub breakpoint_in : Data → Result Asked BreakpointFault
 breakpoint_in d = logging (joined (line_in d) (condition_in d) (passes_in d)) (log_in d)
 
+-- ---- breakpoints of functions and watches
+
+-- a breakpoint of a function, or a watch, that is asked for: the name of the function or what is watched, the text of its condition, if it has one, and how many
+-- of its stops are passed first
+pub record AskedName : Type 0 where
+  pub name : Bytes
+  pub condition : Option Bytes
+  pub passes : ℕ
+
+-- the same of one that was read
+abbrev pub asked_function : Result FunctionBreakpoint BreakpointFault → Result AskedName BreakpointFault
+asked_function (Ok b) = Ok (record { name = b.name.now; condition = text_of b.condition; passes = b.passes })
+asked_function (Err fault) = Err fault
+
+abbrev pub asked_name : Result Named BreakpointFault → Result AskedName BreakpointFault
+asked_name (Ok b) = Ok (record { name = b.name.now; condition = text_of b.condition; passes = b.passes })
+asked_name (Err fault) = Err fault
+
+abbrev pub asked_watch : Result DataBreakpoint BreakpointFault → Result AskedName BreakpointFault
+asked_watch (Ok b) = Ok (record { name = b.target.now; condition = text_of b.condition; passes = b.passes })
+asked_watch (Err fault) = Err fault
+
+-- the first of three that is wrong, or what they ask for
+abbrev pub joined_name : (name : Option Bytes) → (condition : Result (Option Bytes) BreakpointFault) → (passes : Result ℕ BreakpointFault) → Result AskedName BreakpointFault
+joined_name None condition passes = Err fault.Unplaced
+joined_name (Some name) (Err fault) passes = Err fault
+joined_name (Some name) (Ok condition) (Err fault) = Err fault
+joined_name (Some name) (Ok condition) (Ok passes) = Ok (record { name = name; condition = condition; passes = passes })
+
+-- whether it is to write a message
+abbrev pub has_log : Data → Bool
+has_log d = not (is_absent (get (codes "logMessage") d))
+
+-- what is asked for by the text of a member, which writes no message
+abbrev pub named_in : (member : Bytes) → Data → Result AskedName BreakpointFault
+named_in member d = if has_log d then Err fault.Logging else joined_name (option_and_then as_str (get member d)) (condition_in d) (passes_in d)
+
+-- what a breakpoint of a function asks for, and what a watch does
+abbrev pub function_in : Data → Result AskedName BreakpointFault
+function_in d = named_in (codes "name") d
+
+abbrev pub watch_in : Data → Result AskedName BreakpointFault
+watch_in d = named_in (codes "dataId") d
+
 -- the breakpoints that a message lists; none where it has no list
 abbrev pub breakpoints_of : Data → Items
 breakpoints_of message = unwrap_or (option_and_then as_array (pointer (codes "/arguments/breakpoints") message)) no_items
@@ -240,6 +270,7 @@ abbrev pub IsRequestNamed : Name → Data → Request → Type 0
 IsRequestNamed name.Initialize message request.Initialize = Unit {0}
 IsRequestNamed name.Launch message (request.Launch launch) = IsLaunch message launch
 IsRequestNamed name.SetBreakpoints message (request.SetBreakpoints source lines) = (text_at (codes "/arguments/source/path") message ≡ text_of source) × (map asked_breakpoint lines.items ≡ each_asked breakpoint_in (breakpoints_of message))
+IsRequestNamed name.SetFunctionBreakpoints message (request.SetFunctionBreakpoints functions) = map asked_function functions.items ≡ each_asked function_in (breakpoints_of message)
 IsRequestNamed name.BreakpointLocations message (request.BreakpointLocations source first last) =
     (text_at (codes "/arguments/source/path") message ≡ text_of source) × (line_at (codes "/arguments/line") message ≡ Some first) × (line_at (codes "/arguments/endLine") message ≡ last)
 IsRequestNamed name.GotoTargets message (request.GotoTargets source line) = (text_at (codes "/arguments/source/path") message ≡ text_of source) × (line_at (codes "/arguments/line") message ≡ Some line)
@@ -247,22 +278,25 @@ IsRequestNamed name.Goto message (request.Goto line way) = time_in message ≡ S
 IsRequestNamed name.SetExceptionBreakpoints message request.SetExceptionBreakpoints = Unit {0}
 IsRequestNamed name.ExceptionInfo message request.ExceptionInfo = Unit {0}
 IsRequestNamed name.DataBreakpointInfo message (request.DataBreakpointInfo text) = unmarked_at (codes "/arguments/name") message ≡ Some text.now
-IsRequestNamed name.SetDataBreakpoints message (request.SetDataBreakpoints targets) = map asked_text targets.items ≡ each_asked watch_in (breakpoints_of message)
+IsRequestNamed name.SetDataBreakpoints message (request.SetDataBreakpoints targets) = map asked_watch targets.items ≡ each_asked watch_in (breakpoints_of message)
 IsRequestNamed name.ConfigurationDone message request.ConfigurationDone = Unit {0}
 IsRequestNamed name.Threads message request.Threads = Unit {0}
-IsRequestNamed name.StackTrace message (request.StackTrace start levels) = (number_at (codes "/arguments/startFrame") message ≡ start) × (number_at (codes "/arguments/levels") message ≡ levels)
+IsRequestNamed name.StackTrace message (request.StackTrace thread start levels) =
+    (number_at (codes "/arguments/threadId") message ≡ thread) × (number_at (codes "/arguments/startFrame") message ≡ start) × (number_at (codes "/arguments/levels") message ≡ levels)
 IsRequestNamed name.Scopes message (request.Scopes frame) = number_at (codes "/arguments/frameId") message ≡ Some frame
-IsRequestNamed name.Variables message (request.Variables reference page) = (number_at (codes "/arguments/variablesReference") message ≡ Some reference) × (page ≡ page_in message)
-IsRequestNamed name.SetVariable message (request.SetVariable reference text value) =
+IsRequestNamed name.Variables message (request.Variables reference page is_hexadecimal) =
+    (number_at (codes "/arguments/variablesReference") message ≡ Some reference) × (page ≡ page_in message) × (is_hexadecimal ≡ hexadecimal_in message)
+IsRequestNamed name.SetVariable message (request.SetVariable reference text value is_hexadecimal) =
     (number_at (codes "/arguments/variablesReference") message ≡ Some reference) × (unmarked_at (codes "/arguments/name") message ≡ Some text.now)
-    × (unmarked_at (codes "/arguments/value") message ≡ Some value.now)
-IsRequestNamed name.SetExpression message (request.SetExpression expression value frame) =
-    (text_at (codes "/arguments/expression") message ≡ Some expression.now) × (unmarked_at (codes "/arguments/value") message ≡ Some value.now) × (number_at (codes "/arguments/frameId") message ≡ frame)
+    × (unmarked_at (codes "/arguments/value") message ≡ Some value.now) × (is_hexadecimal ≡ hexadecimal_in message)
+IsRequestNamed name.SetExpression message (request.SetExpression expression value frame is_hexadecimal) =
+    (text_at (codes "/arguments/expression") message ≡ Some expression.now) × (unmarked_at (codes "/arguments/value") message ≡ Some value.now)
+    × (number_at (codes "/arguments/frameId") message ≡ frame) × (is_hexadecimal ≡ hexadecimal_in message)
 IsRequestNamed name.Completions message (request.Completions text column frame) =
     (text_at (codes "/arguments/text") message ≡ Some text.now) × (number_at (codes "/arguments/column") message ≡ Some column) × (number_at (codes "/arguments/frameId") message ≡ frame)
-IsRequestNamed name.Evaluate message (request.Evaluate expression frame context) =
+IsRequestNamed name.Evaluate message (request.Evaluate expression frame context is_hexadecimal) =
     (text_at (codes "/arguments/expression") message ≡ Some expression.now) × (number_at (codes "/arguments/frameId") message ≡ frame)
-    × (context ≡ context_in (text_at (codes "/arguments/context") message))
+    × (context ≡ context_in (text_at (codes "/arguments/context") message)) × (is_hexadecimal ≡ hexadecimal_in message)
 IsRequestNamed name.Next message request.Next = Unit {0}
 IsRequestNamed name.StepIn message request.StepIn = Unit {0}
 IsRequestNamed name.StepOut message request.StepOut = Unit {0}

@@ -19,6 +19,7 @@ launch_options message =
     ∷ (codes "history", is_right (number_at (codes "/arguments/history") message) (pointer (codes "/arguments/history") message))
     ∷ (codes "steps", is_right (number_at (codes "/arguments/steps") message) (pointer (codes "/arguments/steps") message))
     ∷ (codes "stopOnEntry", is_right (flag_at (codes "/arguments/stopOnEntry") message) (pointer (codes "/arguments/stopOnEntry") message))
+    ∷ (codes "laneThreads", is_right (flag_at (codes "/arguments/laneThreads") message) (pointer (codes "/arguments/laneThreads") message))
     ∷ []
 
 -- the arguments of a page, which may be left out too
@@ -60,6 +61,7 @@ first_missing (need ∷ others) = if need.1 then first_missing others else Some 
 -- whether a request of a name has a list, for which memory is needed
 abbrev pub has_list : Name → Bool
 has_list name.SetBreakpoints = true
+has_list name.SetFunctionBreakpoints = true
 has_list name.SetDataBreakpoints = true
 has_list name = false
 

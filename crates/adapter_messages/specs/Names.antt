@@ -16,6 +16,7 @@ names =
     (codes "initialize", name.Initialize)
     ∷ (codes "launch", name.Launch)
     ∷ (codes "setBreakpoints", name.SetBreakpoints)
+    ∷ (codes "setFunctionBreakpoints", name.SetFunctionBreakpoints)
     ∷ (codes "breakpointLocations", name.BreakpointLocations)
     ∷ (codes "gotoTargets", name.GotoTargets)
     ∷ (codes "goto", name.Goto)

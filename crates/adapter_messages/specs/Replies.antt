@@ -17,6 +17,7 @@ use Rattle.adapter_requests.specs.declared.reply.Reply.TheVariants as reply
 use Rattle.adapter_requests.specs.declared.reply.Scopes.{Scopes}
 use Rattle.adapter_requests.specs.declared.reply.StopReason.{StopReason}
 use Rattle.adapter_requests.specs.declared.reply.StopReason.TheVariants as reason
+use Rattle.adapter_requests.specs.declared.reply.Thread.{Thread}
 use Rattle.adapter_requests.specs.declared.reply.Variable.{Variable}
 use Rattle.adapter_requests.specs.declared.reply.VariableKind.{VariableKind}
 use Rattle.adapter_requests.specs.declared.reply.VariableKind.TheVariants as kind
@@ -65,17 +66,19 @@ abbrev pub with_breakpoints : Members → Members
 with_breakpoints members =
     able (codes "supportsLogPoints")
     (able (codes "supportsHitConditionalBreakpoints")
+    (able (codes "supportsFunctionBreakpoints")
     (able (codes "supportsDataBreakpoints")
-    (able (codes "supportsConditionalBreakpoints") members)))
+    (able (codes "supportsConditionalBreakpoints") members))))
 
 -- what else it can do, beside others
 abbrev pub with_others : Members → Members
 with_others members =
-    able (codes "supportsStepBack")
+    able (codes "supportsValueFormattingOptions")
+    (able (codes "supportsStepBack")
     (able (codes "supportsSetVariable")
     (able (codes "supportsSetExpression")
     (able (codes "supportsEvaluateForHovers")
-    (able (codes "supportsDelayedStackTraceLoading") members))))
+    (able (codes "supportsDelayedStackTraceLoading") members)))))
 
 -- what the adapter can do
 abbrev pub capabilities : Data
@@ -83,13 +86,14 @@ capabilities = object (with_others (with_breakpoints (with_requests (with_filter
 
 -- why a breakpoint or a watch is not there
 abbrev pub fault_text : BreakpointFault → Bytes
-fault_text fault.Unplaced = codes "its line or target is missing or of a wrong type"
-fault_text fault.Conditional = codes "a watch has no condition, no count and no log message"
+fault_text fault.Unplaced = codes "its line, name or target is missing or of a wrong type"
+fault_text fault.Logging = codes "only a breakpoint of a line has a log message"
 fault_text fault.NoCondition = codes "its condition is no text of at most 256 bytes"
 fault_text fault.NoCount = codes "its count is no number from 1 to 10000000"
 fault_text fault.NoMessage = codes "its log message is no text of at most 256 bytes"
 fault_text fault.OtherSource = codes "this source is not the program's"
 fault_text fault.NoStep = codes "no step stands on this line or behind it"
+fault_text fault.NoFunction = codes "no function of this name"
 fault_text fault.NotWatched = codes "only scalars of the file, their lanes and elements of arrays are watched"
 fault_text fault.Full = codes "no more breakpoints and watches can be there"
 
@@ -141,9 +145,9 @@ not_watchable = object
     (member (codes "dataId") null
     (member (codes "description") (string (codes "only scalars of the file, their lanes and elements of arrays are watched")) no_members))
 
--- the one thread: the gang
-abbrev pub gang : Data
-gang = object (member (codes "id") (natural 1) (member (codes "name") (string (codes "gang")) no_members))
+-- a thread
+abbrev pub thread : Thread → Data
+thread shown = object (member (codes "id") (natural shown.id) (member (codes "name") (string (string_bytes shown.name)) no_members))
 
 -- the last part of a path, or the path where it has none
 abbrev pub file_name : (path : Bytes) → Bytes
@@ -191,10 +195,11 @@ scopes shown = array
     (item (known_scope (codes "Arguments") (codes "arguments") shown.arguments)
     (item (file_scope shown.file) no_items)))
 
--- that what is shown can be set, or cannot since it is a constant
-abbrev pub attributes : (is_constant : Bool) → Items
-attributes false = no_items
-attributes true = item (string (codes "constant")) (item (string (codes "readOnly")) no_items)
+-- that what is shown can be set, or cannot: it is a constant, or is only looked at where it stands
+abbrev pub attributes : (is_constant is_read_only : Bool) → Items
+attributes true is_read_only = item (string (codes "constant")) (item (string (codes "readOnly")) no_items)
+attributes false true = item (string (codes "readOnly")) no_items
+attributes false false = no_items
 
 -- the protocol's word for what is shown: a range of elements stands for no value of the program
 abbrev pub kind_text : VariableKind → Bytes
@@ -202,30 +207,30 @@ kind_text kind.Range = codes "virtual"
 kind_text other = codes "data"
 
 -- how a variable is shown
-abbrev pub hint : VariableKind → (is_constant : Bool) → Data
-hint shown is_constant = object (member (codes "attributes") (array (attributes is_constant)) (member (codes "kind") (string (kind_text shown)) no_members))
+abbrev pub hint : VariableKind → (attributes : Items) → Data
+hint shown attributes = object (member (codes "attributes") (array attributes) (member (codes "kind") (string (kind_text shown)) no_members))
 
--- a variable by its name, its kind, whether it is constant, its type and its value; the reference is that of its lanes or elements, 0 if it has none
-abbrev pub named_so : VariableKind → (is_constant : Bool) → (name value type : Bytes) → (reference : ℕ) → Members
-named_so shown is_constant name value type reference =
+-- a variable by its name, its kind, its attributes, its type and its value; the reference is that of its lanes or elements, 0 if it has none
+abbrev pub named_so : VariableKind → (attributes : Items) → (name value type : Bytes) → (reference : ℕ) → Members
+named_so shown attributes name value type reference =
     member (codes "name") (string name)
-    (member (codes "presentationHint") (hint shown is_constant)
+    (member (codes "presentationHint") (hint shown attributes)
     (member (codes "type") (string type)
     (member (codes "value") (string value)
     (member (codes "variablesReference") (natural reference) no_members))))
 
 -- A variable of a kind. Behind the name and the value of a lane that is not active stands a mark, which its expression has not; of an array it is told how
 -- many elements it has; and no expression shows a range of elements.
-abbrev pub variable_of : VariableKind → (is_constant : Bool) → (name value type : Bytes) → (reference : ℕ) → Data
-variable_of kind.Plain is_constant name value type reference = object (member (codes "evaluateName") (string name) (named_so kind.Plain is_constant name value type reference))
-variable_of kind.Waits is_constant name value type reference = object (member (codes "evaluateName") (string name) (named_so kind.Waits is_constant (name ++ mark) (value ++ mark) type reference))
-variable_of (kind.Array elements) is_constant name value type reference =
-    object (member (codes "evaluateName") (string name) (member (codes "indexedVariables") (natural elements) (named_so (kind.Array elements) is_constant name value type reference)))
-variable_of kind.Range is_constant name value type reference = object (named_so kind.Range is_constant name value type reference)
+abbrev pub variable_of : VariableKind → (attributes : Items) → (name value type : Bytes) → (reference : ℕ) → Data
+variable_of kind.Plain attributes name value type reference = object (member (codes "evaluateName") (string name) (named_so kind.Plain attributes name value type reference))
+variable_of kind.Waits attributes name value type reference = object (member (codes "evaluateName") (string name) (named_so kind.Waits attributes (name ++ mark) (value ++ mark) type reference))
+variable_of (kind.Array elements) attributes name value type reference =
+    object (member (codes "evaluateName") (string name) (member (codes "indexedVariables") (natural elements) (named_so (kind.Array elements) attributes name value type reference)))
+variable_of kind.Range attributes name value type reference = object (named_so kind.Range attributes name value type reference)
 
 -- a variable
 abbrev pub variable : Variable → Data
-variable shown = variable_of shown.kind shown.is_constant (string_bytes shown.name) (string_bytes shown.value) (string_bytes shown.type_name) shown.reference
+variable shown = variable_of shown.kind (attributes shown.is_constant shown.is_read_only) (string_bytes shown.name) (string_bytes shown.value) (string_bytes shown.type_name) shown.reference
 
 -- what an expression, or a line of the console, is answered: a text, and the reference of the lanes or elements of what is shown, 0 if it has none
 abbrev pub evaluated : (text : Bytes) → (reference : ℕ) → Data
@@ -252,7 +257,7 @@ body_of command program (reply.Targets line) = only (codes "targets") (array (ti
 body_of command program (reply.Completions shown) = only (codes "targets") (array_of completion shown.items)
 body_of command program (reply.Watchable target) = watchable (string_bytes target)
 body_of command program reply.NotWatchable = not_watchable
-body_of command program reply.Threads = only (codes "threads") (array (item gang no_items))
+body_of command program (reply.Threads shown) = only (codes "threads") (array_of thread shown.items)
 body_of command program (reply.Frames shown total) = frames program shown.items total
 body_of command program (reply.Scopes shown) = only (codes "scopes") (scopes shown)
 body_of command program (reply.Variables shown) = only (codes "variables") (array_of variable shown.items)
@@ -283,15 +288,15 @@ hit_before (reason.Breakpoint number) others = member (codes "hitBreakpointIds")
 hit_before (reason.DataBreakpoint number) others = member (codes "hitBreakpointIds") (array (item (natural number) no_items)) others
 hit_before reason others = others
 
--- what the event of a stop tells: why the one thread, and so each, stands still, and the debugger's text of it
-abbrev pub stop_body : StopReason → (text : Bytes) → Data
-stop_body reason text = object
+-- what the event of a stop tells: why the thread that is shown first, and so each, stands still, and the debugger's text of it
+abbrev pub stop_body : StopReason → (thread : ℕ) → (text : Bytes) → Data
+stop_body reason thread text = object
     (member (codes "allThreadsStopped") (boolean true)
     (member (codes "description") (string text)
     (hit_before reason
     (member (codes "reason") (string (reason_text reason))
     (member (codes "text") (string text)
-    (member (codes "threadId") (natural 1) no_members))))))
+    (member (codes "threadId") (natural thread) no_members))))))
 
 -- what the event of an output tells: a text for the console
 abbrev pub output_body : (text : Bytes) → Data

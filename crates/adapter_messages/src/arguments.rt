@@ -2,9 +2,11 @@
 ghost use Rattle.std.specs.Prelude.{◌≡◌, IfOk, Some, codes, map, option_map};
 ghost use Rattle.gang_model.specs.Texts.CommandText.{number};
 ghost use Rattle.serde_json.specs.View.{items_view, view};
-ghost use Rattle.adapter_messages.specs.Arguments.{asked_breakpoint, asked_option, asked_text, breakpoint_in, breakpoints_of, condition_in, context_in, each_asked, filter_in, flag_at, is_absent, is_conditional, joined, line_at, line_in, log_in, logging, number_at, page_in, passes_in, text_at, time_in, time_of, unmarked, watch_in, way_of};
+ghost use Rattle.adapter_messages.specs.Arguments.{asked_breakpoint, asked_function, asked_name, asked_option, asked_watch, breakpoint_in, breakpoints_of, condition_in, context_in, each_asked, filter_in, flag_at, function_in, has_log, hexadecimal_in, is_absent, joined, joined_name, line_at, line_in, log_in, logging, named_in, number_at, page_in, passes_in, text_at, text_of, time_in, time_of, unmarked, watch_in, way_of};
 
-use adapter_requests::{BreakpointFault, Context, Filter, LineBreakpoint, Page, Way};
+use adapter_requests::{
+    BreakpointFault, Context, DataBreakpoint, Filter, FunctionBreakpoint, LineBreakpoint, Page, Way,
+};
 use debug_words::{Radix, digits_number, is_same};
 use serde_json::Value;
 use std::alloc::{AllocError, Global};
@@ -211,40 +213,100 @@ fn count_of(text: &str) -> Option<u32>
     }
 }
 
-/// The targets of the watches that a message lists.
-pub(crate) fn targets_of(
+/// What is asked for by a text: a breakpoint of a function, or a watch.
+struct Named<'a> {
+    name: &'a str,
+    condition: Option<&'a str>,
+    passes: u32,
+}
+
+/// The breakpoints of functions that a message lists, each with its name, its condition and its count.
+pub(crate) fn functions_of(
     alloc: Global,
     message: &Value,
-) -> Result<Vec<Result<&str, BreakpointFault>>, AllocError>
-    ensures { IfOk result (λ targets. map asked_text targets.items ≡ each_asked watch_in (breakpoints_of (view message.now))) }
+) -> Result<Vec<Result<FunctionBreakpoint<'_>, BreakpointFault>>, AllocError>
+    ensures { IfOk result (λ functions. map asked_function functions.items ≡ each_asked function_in (breakpoints_of (view message.now))) }
 {
-    let mut targets = Vec::new(alloc);
+    let mut functions = Vec::new(alloc);
+    for breakpoint in breakpoints_of(message) {
+        functions.push(function_breakpoint(breakpoint))?;
+    }
+    Ok(functions)
+}
+
+/// A breakpoint of a function, or why it is none.
+fn function_breakpoint(breakpoint: &Value) -> Result<FunctionBreakpoint<'_>, BreakpointFault>
+    ensures { asked_function result ≡ function_in (view breakpoint.now) }
+{
+    let asked = named_of(breakpoint, "name")?;
+    Ok(FunctionBreakpoint {
+        name: asked.name,
+        condition: asked.condition,
+        passes: asked.passes,
+    })
+}
+
+/// The watches that a message lists, each with its target, its condition and its count.
+pub(crate) fn watches_of(
+    alloc: Global,
+    message: &Value,
+) -> Result<Vec<Result<DataBreakpoint<'_>, BreakpointFault>>, AllocError>
+    ensures { IfOk result (λ watches. map asked_watch watches.items ≡ each_asked watch_in (breakpoints_of (view message.now))) }
+{
+    let mut watches = Vec::new(alloc);
     for watch in breakpoints_of(message) {
-        targets.push(target_of(watch))?;
+        watches.push(data_breakpoint(watch))?;
     }
-    Ok(targets)
+    Ok(watches)
 }
 
-/// The target of a watch, or why it is none.
-fn target_of(watch: &Value) -> Result<&str, BreakpointFault>
-    ensures { asked_text result ≡ watch_in (view watch.now) }
+/// A watch, or why it is none.
+fn data_breakpoint(watch: &Value) -> Result<DataBreakpoint<'_>, BreakpointFault>
+    ensures { asked_watch result ≡ watch_in (view watch.now) }
 {
-    if is_conditional(watch) {
-        return Err(BreakpointFault::Conditional);
+    let asked = named_of(watch, "dataId")?;
+    Ok(DataBreakpoint {
+        target: asked.name,
+        condition: asked.condition,
+        passes: asked.passes,
+    })
+}
+
+/// What is asked for by the text of a member, which writes no message.
+fn named_of<'a>(breakpoint: &'a Value, member: &str) -> Result<Named<'a>, BreakpointFault>
+    ensures { asked_name result ≡ named_in member.now (view breakpoint.now) }
+{
+    if has_log(breakpoint) {
+        return Err(BreakpointFault::Logging);
     }
-    match watch.get("dataId").and_then(Value::as_str) {
-        None => Err(BreakpointFault::Unplaced),
-        Some(target) => Ok(target),
+    let name = breakpoint.get(member).and_then(Value::as_str);
+    joined_name(name, condition_of(breakpoint), passes_of(breakpoint))
+}
+
+/// The first of three that is wrong, or what they ask for.
+fn joined_name<'a>(
+    name: Option<&'a str>,
+    condition: Result<Option<&'a str>, BreakpointFault>,
+    passes: Result<u32, BreakpointFault>,
+) -> Result<Named<'a>, BreakpointFault>
+    ensures { asked_name result ≡ joined_name (text_of name.entry) (asked_option condition.entry) passes }
+{
+    match (name, condition, passes) {
+        (None, _, _) => Err(BreakpointFault::Unplaced),
+        (Some(_), Err(fault), _) | (Some(_), Ok(_), Err(fault)) => Err(fault),
+        (Some(name), Ok(condition), Ok(passes)) => Ok(Named {
+            name,
+            condition,
+            passes,
+        }),
     }
 }
 
-/// Whether it is to stop on a condition, after a count, or to tell a text.
-fn is_conditional(breakpoint: &Value) -> bool
-    ensures { result ≡ is_conditional (view breakpoint.now) }
+/// Whether it is to write a message.
+fn has_log(breakpoint: &Value) -> bool
+    ensures { result ≡ has_log (view breakpoint.now) }
 {
-    !is_absent(breakpoint.get("condition"))
-        || !is_absent(breakpoint.get("hitCondition"))
-        || !is_absent(breakpoint.get("logMessage"))
+    !is_absent(breakpoint.get("logMessage"))
 }
 
 /// Whether a value is not there, or is `null`.
@@ -255,6 +317,13 @@ pub(crate) fn is_absent(value: Option<&Value>) -> bool
         None => true,
         Some(value) => value.is_null(),
     }
+}
+
+/// Whether a message asks for values as hexadecimal numbers.
+pub(crate) fn is_hexadecimal(message: &Value) -> bool
+    ensures { result ≡ hexadecimal_in (view message.now) }
+{
+    flag_at(message, "/arguments/format/hex").unwrap_or(false)
 }
 
 /// Where an expression stands that a message asks for.

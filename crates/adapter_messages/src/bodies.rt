@@ -2,13 +2,13 @@
 ghost use Rattle.std.specs.Prelude.{◌≡◌, ◌≤◌, IfOk, OnOk, codes};
 ghost use Rattle.serde_json.specs.Data.{array, no_members, object};
 ghost use Rattle.serde_json.specs.View.{members_view, view};
-ghost use Rattle.adapter_messages.specs.Replies.{able, array_of, body_of, breakpoint, capabilities, completion, exception_filter, fault_text, file_name, file_scope, frames, known_scope, location, moved, not_watchable, only, scopes, source, time, times, watchable, way_text, with_breakpoints, with_filters, with_others, with_requests};
+ghost use Rattle.adapter_messages.specs.Replies.{able, array_of, body_of, breakpoint, capabilities, completion, exception_filter, fault_text, file_name, file_scope, frames, known_scope, location, moved, not_watchable, only, scopes, source, thread, time, times, watchable, way_text, with_breakpoints, with_filters, with_others, with_requests};
 ghost use Rattle.adapter_messages.specs.Replies as spec;
 ghost use Rattle.adapter_messages.specs.Arguments.{way_number};
 
 use crate::variables::variables;
 use adapter_requests::{
-    Breakpoint, BreakpointFault, Completion, Exception, Frame, Reply, Scopes, Way,
+    Breakpoint, BreakpointFault, Completion, Exception, Frame, Reply, Scopes, Thread, Way,
 };
 use debug_words::is_same;
 use serde_json::{Map, Value, json, push, put};
@@ -32,7 +32,7 @@ pub(crate) fn body_of(
         Reply::Completions(shown) => completions(alloc, shown),
         Reply::Watchable(target) => watchable(alloc, target.as_str()),
         Reply::NotWatchable => not_watchable(alloc),
-        Reply::Threads => json!(in alloc; {"threads": [{"id": 1u64, "name": "gang"}]}),
+        Reply::Threads(shown) => threads(alloc, shown),
         Reply::Frames {
             frames: made,
             total,
@@ -111,6 +111,7 @@ fn put_breakpoints(alloc: Global, members: &mut Map<String, Value>) -> Result<()
 {
     put_able(alloc, members, "supportsConditionalBreakpoints")?;
     put_able(alloc, members, "supportsDataBreakpoints")?;
+    put_able(alloc, members, "supportsFunctionBreakpoints")?;
     put_able(alloc, members, "supportsHitConditionalBreakpoints")?;
     put_able(alloc, members, "supportsLogPoints")
 }
@@ -123,7 +124,8 @@ fn put_others(alloc: Global, members: &mut Map<String, Value>) -> Result<(), All
     put_able(alloc, members, "supportsEvaluateForHovers")?;
     put_able(alloc, members, "supportsSetExpression")?;
     put_able(alloc, members, "supportsSetVariable")?;
-    put_able(alloc, members, "supportsStepBack")
+    put_able(alloc, members, "supportsStepBack")?;
+    put_able(alloc, members, "supportsValueFormattingOptions")
 }
 
 /// Puts beside others that the adapter can do what has a name.
@@ -280,13 +282,14 @@ fn fault_text(fault: BreakpointFault) -> &'static str
     ensures { result.now ≡ fault_text fault }
 {
     match fault {
-        BreakpointFault::Unplaced => "its line or target is missing or of a wrong type",
-        BreakpointFault::Conditional => { "a watch has no condition, no count and no log message" }
+        BreakpointFault::Unplaced => "its line, name or target is missing or of a wrong type",
+        BreakpointFault::Logging => "only a breakpoint of a line has a log message",
         BreakpointFault::NoCondition => "its condition is no text of at most 256 bytes",
         BreakpointFault::NoCount => "its count is no number from 1 to 10000000",
         BreakpointFault::NoMessage => "its log message is no text of at most 256 bytes",
         BreakpointFault::OtherSource => "this source is not the program's",
         BreakpointFault::NoStep => "no step stands on this line or behind it",
+        BreakpointFault::NoFunction => "no function of this name",
         BreakpointFault::NotWatched => {
             "only scalars of the file, their lanes and elements of arrays are watched"
         }
@@ -314,6 +317,25 @@ fn not_watchable(alloc: Global) -> Result<Value, AllocError>
         "dataId": null,
         "description": "only scalars of the file, their lanes and elements of arrays are watched"
     })
+}
+
+/// The threads.
+fn threads(alloc: Global, made: &[Thread]) -> Result<Value, AllocError>
+    ensures { IfOk result (λ v. view v ≡ only (codes "threads") (array_of thread made.now)) }
+{
+    let mut list = Vec::new(alloc);
+    for thread in made {
+        let shown = thread_value(alloc, thread)?;
+        push(&mut list, shown)?;
+    }
+    json!(in alloc; {"threads": Value::Array(list)})
+}
+
+/// A thread.
+fn thread_value(alloc: Global, thread: &Thread) -> Result<Value, AllocError>
+    ensures { IfOk result (λ v. view v ≡ spec.thread thread.now) }
+{
+    json!(in alloc; {"id": thread.id, "name": thread.name.as_str()})
 }
 
 /// The frames that were asked for, the top one first, and how many there are.

@@ -10,6 +10,7 @@ pub(crate) enum Name {
     Initialize,
     Launch,
     SetBreakpoints,
+    SetFunctionBreakpoints,
     BreakpointLocations,
     GotoTargets,
     Goto,
@@ -38,10 +39,11 @@ pub(crate) enum Name {
 }
 
 /// The requests that are known, by their commands.
-const NAMES: [(&str, Name); 28] = [
+const NAMES: [(&str, Name); 29] = [
     ("initialize", Name::Initialize),
     ("launch", Name::Launch),
     ("setBreakpoints", Name::SetBreakpoints),
+    ("setFunctionBreakpoints", Name::SetFunctionBreakpoints),
     ("breakpointLocations", Name::BreakpointLocations),
     ("gotoTargets", Name::GotoTargets),
     ("goto", Name::Goto),

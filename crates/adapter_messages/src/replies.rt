@@ -136,9 +136,14 @@ pub fn event_message(
     })
 }
 
-/// What the event of a stop tells: why the program stands still, and the debugger's text of it.
-pub fn stop_body(alloc: Global, reason: StopReason, text: &str) -> Result<Value, AllocError>
-    ensures { IfOk result (λ v. view v ≡ stop_body reason text.now) }
+/// What the event of a stop tells: why the program stands still, the thread that is shown first, and the debugger's text of it.
+pub fn stop_body(
+    alloc: Global,
+    reason: StopReason,
+    thread: u64,
+    text: &str,
+) -> Result<Value, AllocError>
+    ensures { IfOk result (λ v. view v ≡ stop_body reason thread text.now) }
 {
     let why = reason_text(reason);
     match reason {
@@ -146,7 +151,7 @@ pub fn stop_body(alloc: Global, reason: StopReason, text: &str) -> Result<Value,
             "reason": why,
             "description": text,
             "text": text,
-            "threadId": 1u64,
+            "threadId": thread,
             "allThreadsStopped": true,
             "hitBreakpointIds": [id]
         }),
@@ -154,7 +159,7 @@ pub fn stop_body(alloc: Global, reason: StopReason, text: &str) -> Result<Value,
             "reason": why,
             "description": text,
             "text": text,
-            "threadId": 1u64,
+            "threadId": thread,
             "allThreadsStopped": true
         }),
     }

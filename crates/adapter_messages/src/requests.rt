@@ -7,8 +7,8 @@ ghost use Rattle.adapter_messages.specs.Faults.{IsRefused, IsRefusedNamed, Names
 ghost use Rattle.adapter_messages.specs.declared.requests.RequestFault.TheVariants.{Memory};
 
 use crate::arguments::{
-    context_of, flag_at, is_absent, line_at, lines_of, number_at, page_of, targets_of, text_at,
-    time_in, unmarked,
+    context_of, flag_at, functions_of, is_absent, is_hexadecimal, line_at, lines_of, number_at,
+    page_of, text_at, time_in, unmarked, watches_of,
 };
 use crate::names::{Name, named};
 use adapter_requests::{Launch, Request};
@@ -74,6 +74,7 @@ pub fn read_request<'a>(
         Name::Initialize => Ok(Request::Initialize),
         Name::Launch => read_launch(message),
         Name::SetBreakpoints => read_breakpoints(alloc, message),
+        Name::SetFunctionBreakpoints => read_functions(alloc, message),
         Name::BreakpointLocations => read_locations(message),
         Name::GotoTargets => read_targets(message),
         Name::Goto => read_goto(message),
@@ -120,6 +121,7 @@ fn read_launch(message: &Value) -> Result<Request<'_>, RequestFault>
         history: number_at(message, "/arguments/history"),
         steps: number_at(message, "/arguments/steps"),
         stops_on_entry: flag_at(message, "/arguments/stopOnEntry").unwrap_or(true),
+        lane_threads: flag_at(message, "/arguments/laneThreads").unwrap_or(false),
     }))
 }
 
@@ -127,8 +129,10 @@ fn read_launch(message: &Value) -> Result<Request<'_>, RequestFault>
 fn wrong_option(message: &Value) -> Option<&'static str>
     ensures { text_of result ≡ first_missing (launch_options (view message.now)) }
 {
+    let threads = is_right_flag(message, "/arguments/laneThreads");
+    let wrong = wrong_or(threads, "laneThreads", None);
     let stop = is_right_flag(message, "/arguments/stopOnEntry");
-    let wrong = wrong_or(stop, "stopOnEntry", None);
+    let wrong = wrong_or(stop, "stopOnEntry", wrong);
     let wrong = wrong_or(is_right_number(message, "/arguments/steps"), "steps", wrong);
     let wrong = wrong_or(
         is_right_number(message, "/arguments/history"),
@@ -183,6 +187,16 @@ fn read_breakpoints(alloc: Global, message: &Value) -> Result<Request<'_>, Reque
         source: text_at(message, "/arguments/source/path"),
         lines,
     })
+}
+
+/// The breakpoints of functions.
+fn read_functions(alloc: Global, message: &Value) -> Result<Request<'_>, RequestFault>
+    ensures accepted { IfOk result (λ request. IsRequestNamed Name.SetFunctionBreakpoints (view message.now) request) }
+    ensures complete { OnOk result (first_missing (needs Name.SetFunctionBreakpoints (view message.now)) ≡ None) }
+    ensures refused { IfErr result (IsRefusedNamed Name.SetFunctionBreakpoints (view message.now)) }
+{
+    let functions = functions_of(alloc, message)?;
+    Ok(Request::SetFunctionBreakpoints { functions })
 }
 
 /// The lines on which a breakpoint can stand.
@@ -246,7 +260,7 @@ fn read_watches(alloc: Global, message: &Value) -> Result<Request<'_>, RequestFa
     ensures complete { OnOk result (first_missing (needs Name.SetDataBreakpoints (view message.now)) ≡ None) }
     ensures refused { IfErr result (IsRefusedNamed Name.SetDataBreakpoints (view message.now)) }
 {
-    let targets = targets_of(alloc, message)?;
+    let targets = watches_of(alloc, message)?;
     Ok(Request::SetDataBreakpoints { targets })
 }
 
@@ -266,6 +280,7 @@ fn read_variables(message: &Value) -> Result<Request<'_>, RequestFault>
     Ok(Request::Variables {
         reference,
         page: page_of(message),
+        is_hexadecimal: is_hexadecimal(message),
     })
 }
 
@@ -289,6 +304,7 @@ fn read_stack(message: &Value) -> Result<Request<'_>, RequestFault>
         return Err(RequestFault::Argument(argument));
     }
     Ok(Request::StackTrace {
+        thread: number_at(message, "/arguments/threadId"),
         start: number_at(message, "/arguments/startFrame"),
         levels: number_at(message, "/arguments/levels"),
     })
@@ -334,6 +350,7 @@ fn read_set_variable(message: &Value) -> Result<Request<'_>, RequestFault>
         reference,
         name: unmarked(name),
         value: unmarked(value),
+        is_hexadecimal: is_hexadecimal(message),
     })
 }
 
@@ -349,6 +366,7 @@ fn read_set_expression(message: &Value) -> Result<Request<'_>, RequestFault>
         expression,
         value: unmarked(new),
         frame: number_at(message, "/arguments/frameId"),
+        is_hexadecimal: is_hexadecimal(message),
     })
 }
 
@@ -380,6 +398,7 @@ fn read_evaluate(message: &Value) -> Result<Request<'_>, RequestFault>
         expression,
         frame: number_at(message, "/arguments/frameId"),
         context: context_of(message),
+        is_hexadecimal: is_hexadecimal(message),
     })
 }
 

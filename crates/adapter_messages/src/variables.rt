@@ -36,20 +36,26 @@ fn variable_value(alloc: Global, variable: &Variable) -> Result<Value, AllocErro
     }
 }
 
-/// How a variable is shown.
-fn hint_value(alloc: Global, kind: VariableKind, is_constant: bool) -> Result<Value, AllocError>
-    ensures { IfOk result (λ v. view v ≡ hint kind is_constant) }
+/// How a variable of a kind is shown.
+fn hint_value(alloc: Global, kind: VariableKind, variable: &Variable) -> Result<Value, AllocError>
+    ensures { IfOk result (λ v. view v ≡ hint kind (attributes variable.now.is_constant variable.now.is_read_only)) }
 {
-    let attributes = attributes_value(alloc, is_constant)?;
+    let attributes = attributes_value(alloc, variable.is_constant, variable.is_read_only)?;
     json!(in alloc; {"attributes": attributes, "kind": kind_text(kind)})
 }
 
-/// That what is shown can be set, or cannot since it is a constant.
-fn attributes_value(alloc: Global, is_constant: bool) -> Result<Value, AllocError>
-    ensures { IfOk result (λ v. view v ≡ array (attributes is_constant)) }
+/// That what is shown can be set, or cannot: it is a constant, or is only looked at where it stands.
+fn attributes_value(
+    alloc: Global,
+    is_constant: bool,
+    is_read_only: bool,
+) -> Result<Value, AllocError>
+    ensures { IfOk result (λ v. view v ≡ array (attributes is_constant is_read_only)) }
 {
     if is_constant {
         json!(in alloc; ["constant", "readOnly"])
+    } else if is_read_only {
+        json!(in alloc; ["readOnly"])
     } else {
         json!(in alloc; [])
     }
@@ -67,9 +73,9 @@ fn kind_text(kind: VariableKind) -> &'static str
 
 /// A scalar, a lane that is active or an element.
 fn plain_value(alloc: Global, variable: &Variable) -> Result<Value, AllocError>
-    ensures { IfOk result (λ v. view v ≡ variable_of kind.Plain variable.now.is_constant (string_bytes variable.now.name) (string_bytes variable.now.value) (string_bytes variable.now.type_name) variable.now.reference) }
+    ensures { IfOk result (λ v. view v ≡ variable_of kind.Plain (attributes variable.now.is_constant variable.now.is_read_only) (string_bytes variable.now.name) (string_bytes variable.now.value) (string_bytes variable.now.type_name) variable.now.reference) }
 {
-    let hint = hint_value(alloc, VariableKind::Plain, variable.is_constant)?;
+    let hint = hint_value(alloc, VariableKind::Plain, variable)?;
     let name = variable.name.as_str();
     let reference = variable.reference;
     json!(in alloc; {
@@ -84,9 +90,9 @@ fn plain_value(alloc: Global, variable: &Variable) -> Result<Value, AllocError>
 
 /// A lane that is not active.
 fn waiting_value(alloc: Global, variable: &Variable) -> Result<Value, AllocError>
-    ensures { IfOk result (λ v. view v ≡ variable_of kind.Waits variable.now.is_constant (string_bytes variable.now.name) (string_bytes variable.now.value) (string_bytes variable.now.type_name) variable.now.reference) }
+    ensures { IfOk result (λ v. view v ≡ variable_of kind.Waits (attributes variable.now.is_constant variable.now.is_read_only) (string_bytes variable.now.name) (string_bytes variable.now.value) (string_bytes variable.now.type_name) variable.now.reference) }
 {
-    let hint = hint_value(alloc, VariableKind::Waits, variable.is_constant)?;
+    let hint = hint_value(alloc, VariableKind::Waits, variable)?;
     let name = marked(alloc, variable.name.as_str())?;
     let value = marked(alloc, variable.value.as_str())?;
     json!(in alloc; {
@@ -110,9 +116,9 @@ fn marked(alloc: Global, text: &str) -> Result<String, AllocError>
 
 /// An array of so many elements.
 fn array_value(alloc: Global, variable: &Variable, elements: usize) -> Result<Value, AllocError>
-    ensures { IfOk result (λ v. view v ≡ variable_of (kind.Array elements) variable.now.is_constant (string_bytes variable.now.name) (string_bytes variable.now.value) (string_bytes variable.now.type_name) variable.now.reference) }
+    ensures { IfOk result (λ v. view v ≡ variable_of (kind.Array elements) (attributes variable.now.is_constant variable.now.is_read_only) (string_bytes variable.now.name) (string_bytes variable.now.value) (string_bytes variable.now.type_name) variable.now.reference) }
 {
-    let hint = hint_value(alloc, VariableKind::Array(elements), variable.is_constant)?;
+    let hint = hint_value(alloc, VariableKind::Array(elements), variable)?;
     let name = variable.name.as_str();
     json!(in alloc; {
         "evaluateName": name,
@@ -127,9 +133,9 @@ fn array_value(alloc: Global, variable: &Variable, elements: usize) -> Result<Va
 
 /// A range of elements.
 fn range_value(alloc: Global, variable: &Variable) -> Result<Value, AllocError>
-    ensures { IfOk result (λ v. view v ≡ variable_of kind.Range variable.now.is_constant (string_bytes variable.now.name) (string_bytes variable.now.value) (string_bytes variable.now.type_name) variable.now.reference) }
+    ensures { IfOk result (λ v. view v ≡ variable_of kind.Range (attributes variable.now.is_constant variable.now.is_read_only) (string_bytes variable.now.name) (string_bytes variable.now.value) (string_bytes variable.now.type_name) variable.now.reference) }
 {
-    let hint = hint_value(alloc, VariableKind::Range, variable.is_constant)?;
+    let hint = hint_value(alloc, VariableKind::Range, variable)?;
     json!(in alloc; {
         "name": variable.name.as_str(),
         "presentationHint": hint,

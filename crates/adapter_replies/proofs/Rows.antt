@@ -219,10 +219,10 @@ only_frame p frame = refl
 
 -- ---- what requests are told
 
-threads : fixed_reply request.Threads ≡ Some reply.Threads
+threads : fixed_reply request.Threads ≡ None
 threads = refl
 
-frames_differ : (start levels : Option ℕ) → fixed_reply (request.StackTrace start levels) ≡ None
+frames_differ : (thread start levels : Option ℕ) → fixed_reply (request.StackTrace thread start levels) ≡ None
 frames_differ start levels = refl
 
 no_move : (text : Bytes) → IsMoveTold None text reply.Done
@@ -248,7 +248,7 @@ no_step = refl
 in_another_source : (s : Setting) (asked : LineBreakpoint) → told_breakpoint s false on_two_lines (Ok asked) ≡ Refused fault.OtherSource
 in_another_source s asked = refl
 
-on_a_condition : (s : Setting) → told_breakpoint s true on_two_lines (Err fault.Conditional) ≡ Refused fault.Conditional
+on_a_condition : (s : Setting) → told_breakpoint s true on_two_lines (Err fault.Logging) ≡ Refused fault.Logging
 on_a_condition s = refl
 
 -- ---- watches

@@ -1,6 +1,5 @@
 -- The breakpoints and watches that an editor is told.
 use Rattle.std.specs.Prelude.{◌≡◌, ℕ, Bool, true, false, ◌==◌, ◌&&◌, ◌++◌, List, length, Option, Some, None, Result, Ok, Err, is_none, codes, slice_get, string_bytes}
-use Rattle.std.specs.Borrow.{Bor}
 use Rattle.gang_model.specs.Source.Names.{same_text}
 use Rattle.gang_types.specs.declared.types.Rate.{Rate}
 use Rattle.gang_model.specs.Types.Tree.{Variable}
@@ -14,6 +13,7 @@ use Rattle.adapter_requests.specs.declared.reply.BreakpointFault.{BreakpointFaul
 use Rattle.adapter_requests.specs.declared.reply.BreakpointFault.TheVariants as fault
 use Rattle.adapter_requests.specs.declared.reply.Reply.{Reply}
 use Rattle.adapter_requests.specs.declared.reply.Reply.TheVariants as reply
+use Rattle.adapter_requests.specs.declared.request.DataBreakpoint.{DataBreakpoint}
 use Rattle.adapter_requests.specs.declared.request.LineBreakpoint.{LineBreakpoint}
 
 -- a breakpoint or a watch by its number, and its line if it has one; without a number it is not there for this reason
@@ -80,9 +80,9 @@ no_watch true = fault.Full
 no_watch false = fault.NotWatched
 
 -- the watch of a target, as `watch` takes it
-abbrev pub told_watch : Setting → Debugger → List (ℕ × Stop) → Result (Bor Bytes) BreakpointFault → Breakpoint
+abbrev pub told_watch : Setting → Debugger → List (ℕ × Stop) → Result DataBreakpoint BreakpointFault → Breakpoint
 told_watch s d stops (Err why) = Refused why
-told_watch s d stops (Ok text) = standing (watch_number (command_of (codes "watch " ++ text.now)) stops) None (no_watch (is_watchable s d text.now))
+told_watch s d stops (Ok asked) = standing (watch_number (command_of (codes "watch " ++ asked.target.now)) stops) None (no_watch (is_watchable s d asked.target.now))
 
 -- what an editor is told that asks whether a text can be watched: the text, or that it cannot
 abbrev pub IsWatchableTold : (is_watchable : Bool) → Bytes → Reply → Type 0

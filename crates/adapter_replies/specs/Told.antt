@@ -1,5 +1,5 @@
 -- What each request is told.
-use Rattle.std.specs.Prelude.{◌≡◌, ◌⊎◌, ℕ, Bool, true, false, not, ◌&&◌, is_some, List, [], ◌++◌, length, map, codes, string_bytes, Option, Some, None}
+use Rattle.std.specs.Prelude.{◌≡◌, ◌⊎◌, ℕ, Bool, true, false, not, ◌&&◌, is_some, List, [], ◌∷◌, ◌++◌, length, map, codes, string_bytes, Option, Some, None}
 use Rattle.gang_model.specs.Running.State.{State}
 use Rattle.gang_model.specs.Debugger.Debugger as model
 use Rattle.gang_model.specs.Types.Tree.{Variable}
@@ -51,6 +51,15 @@ told_frames other = None
 -- what a request for frames is told: those that it asks for, and how many there are in all
 abbrev pub AreFramesTold : (start levels : Option ℕ) → (all : List ToldFrame) → Reply → Type 0
 AreFramesTold start levels all told = told_frames told ≡ Some (asked_frames start levels all, length all)
+
+-- the threads of a reply, each by its number and its name
+abbrev pub told_threads : Reply → Option (List (ℕ × Bytes))
+told_threads (reply.Threads threads) = Some (map (λ thread. (thread.id, string_bytes thread.name)) threads.items)
+told_threads other = None
+
+-- what a request for threads is told: the one, which is the gang
+abbrev pub AreThreadsTold : Reply → Type 0
+AreThreadsTold told = told_threads told ≡ Some ((1, codes "gang") ∷ [])
 
 -- the variables of a reply
 abbrev pub told_variables : Reply → Option (List ToldVariable)
@@ -186,10 +195,11 @@ IsLookedUp s d None (Some frame) context text told = IsNameToldIn (is_frame (dep
 
 -- what a request is told where a machine stands for a debugger
 abbrev pub IsToldOf : Setting → Debugger → (last : Option Answer) → Request → Reply → Type 0
-IsToldOf s d last (request.StackTrace start levels) told = AreFramesTold start levels (all_frames s.program (now s d).frames) told
+IsToldOf s d last request.Threads told = AreThreadsTold told
+IsToldOf s d last (request.StackTrace thread start levels) told = AreFramesTold start levels (all_frames s.program (now s d).frames) told
 IsToldOf s d last (request.Scopes frame) told = AreScopesTold (is_frame (depth (now s d)) frame) frame told
-IsToldOf s d last (request.Variables reference page) told = AreVariablesTold (told_now page s d reference) told
-IsToldOf s d last (request.Evaluate expression frame context) told = IsLookedUp s d last frame context expression.now told
+IsToldOf s d last (request.Variables reference page is_hexadecimal) told = AreVariablesTold (told_now page s d reference) told
+IsToldOf s d last (request.Evaluate expression frame context is_hexadecimal) told = IsLookedUp s d last frame context expression.now told
 IsToldOf s d last (request.DataBreakpointInfo name) told = IsWatchableTold (is_watchable s d name.now) name.now told
 IsToldOf s d last (request.Completions text column frame) told = AreCompletionsToldIn s d (frame_or (depth (now s d)) frame) (front text.now column) told
 IsToldOf s d last other told = Unit {0}
@@ -197,7 +207,7 @@ IsToldOf s d last other told = Unit {0}
 -- what a request is told that has the same reply always
 abbrev pub fixed_reply : Request → Option Reply
 fixed_reply request.Initialize = Some reply.Capabilities
-fixed_reply request.Threads = Some reply.Threads
+fixed_reply (request.SetFunctionBreakpoints functions) = Some reply.Done
 fixed_reply request.SetExceptionBreakpoints = Some reply.Done
 fixed_reply request.ConfigurationDone = Some reply.Done
 fixed_reply request.Terminate = Some reply.Done
@@ -304,7 +314,7 @@ IsAnswered last text values request.Continue told = IsMoveTold last text told
 IsAnswered last text values request.StepBack told = IsMoveTold last text told
 IsAnswered last text values request.ReverseContinue told = IsMoveTold last text told
 IsAnswered last text values (request.Goto line way) told = IsGotoTold last text told
-IsAnswered last text values (request.SetVariable reference name value) told = IsSetTold last text values told
-IsAnswered last text values (request.SetExpression expression value frame) told = IsSetTold last text values told
-IsAnswered last text values (request.Evaluate expression frame context) told = IsEvaluated context expression.now last text values told
+IsAnswered last text values (request.SetVariable reference name value is_hexadecimal) told = IsSetTold last text values told
+IsAnswered last text values (request.SetExpression expression value frame is_hexadecimal) told = IsSetTold last text values told
+IsAnswered last text values (request.Evaluate expression frame context is_hexadecimal) told = IsEvaluated context expression.now last text values told
 IsAnswered last text values other told = Unit {0}

@@ -9,7 +9,7 @@ ghost use Rattle.gang_model.specs.Source.Names.{same_text};
 ghost use Rattle.adapter_replies.specs.Breakpoints.{IsWatchableTold, breakpoint_of, can_watch, has_name, has_target, is_part, is_watchable, no_watch, same_index, standing, told_breakpoint, told_watch, watch_number, watches_target};
 
 use crate::parts::has_parts;
-use adapter_requests::{Breakpoint, BreakpointFault, LineBreakpoint, Reply};
+use adapter_requests::{Breakpoint, BreakpointFault, DataBreakpoint, LineBreakpoint, Reply};
 use debug_answers::{NumberedStop, Stop};
 use debug_commands::{Command, Target, read_command};
 use debug_session::breakpoint_on;
@@ -83,7 +83,7 @@ pub(crate) fn watches<M: RecordedMachine>(
     alloc: Global,
     machine: &M,
     stops: &[NumberedStop],
-    targets: &[Result<&str, BreakpointFault>],
+    targets: &[Result<DataBreakpoint<'_>, BreakpointFault>],
 ) -> Result<Vec<Breakpoint>, AllocError>
     ensures { (s : Setting) (d : Debugger) (meant : List (ℕ × model.Stop)) → M.stands machine.now s d → AreStops s stops.now meant
         → IfOk result (λ made. made.items ≡ map (told_watch s d meant) targets.now) }
@@ -100,14 +100,15 @@ fn watch<M: RecordedMachine>(
     alloc: Global,
     machine: &M,
     stops: &[NumberedStop],
-    target: Result<&str, BreakpointFault>,
+    asked: Result<DataBreakpoint<'_>, BreakpointFault>,
 ) -> Result<Breakpoint, AllocError>
     ensures { (s : Setting) (d : Debugger) (meant : List (ℕ × model.Stop)) → M.stands machine.now s d → AreStops s stops.now meant
-        → IfOk result (λ made. made ≡ told_watch s d meant target.entry) }
+        → IfOk result (λ made. made ≡ told_watch s d meant asked.entry) }
 {
-    match target {
+    match asked {
         Err(fault) => Ok(Breakpoint::Refused(fault)),
-        Ok(target) => {
+        Ok(asked) => {
+            let target = asked.target;
             let line = format!(in alloc; "watch {target}")?;
             Ok(watch_by(machine, stops, line.as_bytes()))
         }

@@ -23,6 +23,6 @@ mod waiting;
 pub use exceptions::exception_reply;
 pub use expressions::no_value_text;
 pub use places::{depth_of, is_set_there};
-pub use replies::reply_to;
+pub use replies::{GANG, reply_to};
 pub use stops::{stop_behind, stop_of};
 pub use texts::answer_text;

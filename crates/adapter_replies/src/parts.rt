@@ -191,6 +191,7 @@ fn part<M: FramedMachine>(
         type_name: String::from_str(alloc, type_name(shown.value_type))?,
         kind: part_kind(!shown.is_array && waits(position, index)),
         is_constant: shown.is_constant,
+        is_read_only: false,
         reference: 0,
     })
 }
@@ -261,6 +262,7 @@ fn range_shown(
         type_name: String::from_str(alloc, type_name(shown.value_type))?,
         kind: VariableKind::Range,
         is_constant: shown.is_constant,
+        is_read_only: false,
         reference: reference_of(range_of(place, range)),
     })
 }

@@ -13,7 +13,7 @@ ghost use Rattle.adapter_replies.specs.References.{is_frame, place_of, within};
 ghost use Rattle.adapter_replies.specs.Variables.{told_now};
 ghost use Rattle.adapter_replies.specs.declared.places.Place.TheVariants as place;
 ghost use Rattle.adapter_replies.specs.declared.places.Scope.TheVariants.{Arguments, Locals};
-ghost use Rattle.adapter_replies.specs.Told.{AreBreakpointsTold, AreCompletionsToldIn, AreFramesTold, AreScopesTold, AreVariablesTold, IsAnswered, IsAnsweredIn, IsEvaluated, IsGotoTold, IsLineTold, IsLookedUp, IsMoveTold, IsSetTold, IsTextTold, IsToldOf, IsValueTold, MeansLast, fixed_reply, is_ended, is_expression, is_line, is_unnamed, refusal_text, shown_values, told_place, told_stop};
+ghost use Rattle.adapter_replies.specs.Told.{AreBreakpointsTold, AreCompletionsToldIn, AreFramesTold, AreScopesTold, AreThreadsTold, AreVariablesTold, IsAnswered, IsAnsweredIn, IsEvaluated, IsGotoTold, IsLineTold, IsLookedUp, IsMoveTold, IsSetTold, IsTextTold, IsToldOf, IsValueTold, MeansLast, fixed_reply, is_ended, is_expression, is_line, is_unnamed, refusal_text, shown_values, told_place, told_stop};
 
 use crate::breakpoints::{breakpoints, watchable, watches};
 use crate::columns::front_of;
@@ -29,12 +29,17 @@ use crate::scopes::variables;
 use crate::stops::{goto_reason, stop_of};
 use crate::targets::found;
 use crate::texts::{answer_text, value_text};
-use adapter_requests::{Context, Filter, Page, Reply, Request, Scopes, Stop, StopReason};
+use adapter_requests::{
+    Context, Filter, Page, Reply, Request, Scopes, Stop, StopReason, Thread,
+};
 use debug_answers::{Answer, NumberedStop, Refusal};
 use debug_commands::read_command;
 use debug_traits::{FramedMachine, RecordedMachine};
 use frame_expressions::ExpressionMachine;
 use std::alloc::{AllocError, Global};
+
+/// The number of the thread that is the gang.
+pub const GANG: u64 = 1;
 
 /// Why a request for a frame is refused.
 const NO_FRAME: &str = "no frame has this number now";
@@ -92,6 +97,7 @@ pub fn reply_to<M: ExpressionMachine>(
             expression,
             frame,
             context,
+            is_hexadecimal: _,
         } => match last {
             Some(answer) => evaluated(alloc, machine, stops, *context, expression, answer),
             None => looked_up(alloc, machine, *frame, *context, expression),
@@ -103,17 +109,26 @@ pub fn reply_to<M: ExpressionMachine>(
         | Request::StepBack
         | Request::ReverseContinue => moved(alloc, machine, stops, last),
         Request::Goto { .. } => gone(alloc, machine, stops, last),
-        Request::StackTrace { start, levels } => stack(alloc, machine, *start, *levels),
-        Request::Variables { reference, page } => shown(alloc, machine, *reference, *page),
+        Request::StackTrace {
+            thread: _,
+            start,
+            levels,
+        } => stack(alloc, machine, *start, *levels),
+        Request::Variables {
+            reference,
+            page,
+            is_hexadecimal: _,
+        } => shown(alloc, machine, *reference, *page),
         Request::Completions {
             text,
             column,
             frame,
         } => completed(alloc, machine, *frame, text.as_bytes(), *column),
         Request::Scopes { frame } => scopes(alloc, machine, *frame),
-        Request::Threads => Ok(Reply::Threads),
+        Request::Threads => threads(alloc),
         Request::Initialize => Ok(Reply::Capabilities),
         Request::SetExceptionBreakpoints
+        | Request::SetFunctionBreakpoints { .. }
         | Request::ConfigurationDone
         | Request::Terminate
         | Request::Disconnect => Ok(Reply::Done),
@@ -121,6 +136,16 @@ pub fn reply_to<M: ExpressionMachine>(
         Request::Launch(_) | Request::Restart => refused(alloc, "the program is launched already"),
         Request::Unknown(name) => unknown(alloc, name),
     }
+}
+
+/// The one thread: the gang.
+fn threads(alloc: Global) -> Result<Reply, AllocError>
+    ensures { IfOk result AreThreadsTold }
+{
+    let name = String::from_str(alloc, "gang")?;
+    let mut threads = Vec::new(alloc);
+    threads.push(Thread { id: GANG, name })?;
+    Ok(Reply::Threads(threads))
 }
 
 /// The variables that a reference stands for, as a page asks for them, or a refusal where it stands for none now.
@@ -315,7 +340,11 @@ fn told(text: String, reason: Option<StopReason>) -> Reply
     ensures { told_stop result ≡ Some (reason, string_bytes text) }
 {
     match reason {
-        Some(reason) => Reply::Moved(Stop { reason, text }),
+        Some(reason) => Reply::Moved(Stop {
+            reason,
+            thread: GANG,
+            text,
+        }),
         None => Reply::Refused(text),
     }
 }

@@ -238,6 +238,7 @@ fn whole<M: FramedMachine>(
         type_name: type_text(alloc, shown)?,
         kind: whole_kind(shown.is_array, shown.count),
         is_constant: shown.is_constant,
+        is_read_only: false,
         reference: if has_parts(shown) { reference } else { 0 },
     })
 }

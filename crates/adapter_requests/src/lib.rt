@@ -6,6 +6,8 @@ mod request;
 
 pub use reply::{
     Breakpoint, BreakpointFault, Completion, Exception, Frame, Reply, Scopes, Stop, StopReason,
-    Variable, VariableKind,
+    Thread, Variable, VariableKind,
 };
-pub use request::{Context, Filter, Launch, LineBreakpoint, Page, Request, Way};
+pub use request::{
+    Context, DataBreakpoint, Filter, FunctionBreakpoint, Launch, LineBreakpoint, Page, Request, Way,
+};

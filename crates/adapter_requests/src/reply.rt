@@ -4,10 +4,10 @@ use gang_types::FaultName;
 /// Why a breakpoint or a watch that was asked for is not there.
 #[derive(Clone, Copy, Debug, PartialEq, Eq)]
 pub enum BreakpointFault {
-    /// It says no line or target that can be read.
+    /// It says no line, name or target that can be read.
     Unplaced,
-    /// It is a watch that is to stop on a condition, after a count, or to tell a text.
-    Conditional,
+    /// It is on no line and is to write a message in place of stopping.
+    Logging,
     /// Its condition is no text, or too long a one.
     NoCondition,
     /// Its count is no number from 1 on.
@@ -18,6 +18,8 @@ pub enum BreakpointFault {
     OtherSource,
     /// No step is on its line or behind it.
     NoStep,
+    /// No function of the program has its name.
+    NoFunction,
     /// Its target cannot be watched.
     NotWatched,
     /// As many breakpoints and watches are there as can be.
@@ -74,8 +76,10 @@ pub struct Variable {
     pub value: String,
     pub type_name: String,
     pub kind: VariableKind,
-    /// It cannot be set.
+    /// It cannot be set, since it is a constant.
     pub is_constant: bool,
+    /// It can only be looked at where it stands, though it is no constant.
+    pub is_read_only: bool,
     /// The reference of its lanes or elements, 0 if it has none.
     pub reference: u64,
 }
@@ -101,7 +105,16 @@ pub enum StopReason {
 #[derive(Drop)]
 pub struct Stop {
     pub reason: StopReason,
+    /// The thread that is shown first.
+    pub thread: u64,
     pub text: String,
+}
+
+/// A thread, by its number.
+#[derive(Drop)]
+pub struct Thread {
+    pub id: u64,
+    pub name: String,
 }
 
 /// A fault at which the program stands still.
@@ -139,7 +152,7 @@ pub enum Reply {
     Watchable(String),
     /// The variable cannot be watched.
     NotWatchable,
-    Threads,
+    Threads(Vec<Thread>),
     /// Those frames that were asked for, and how many there are.
     Frames {
         frames: Vec<Frame>,

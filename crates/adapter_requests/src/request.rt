@@ -18,6 +18,8 @@ pub struct Launch<'a> {
     pub steps: Option<u64>,
     /// Whether the program stops before its first step; else it runs to the first breakpoint.
     pub stops_on_entry: bool,
+    /// Whether each lane is shown as a thread; else the gang is the one thread.
+    pub lane_threads: bool,
 }
 
 /// A breakpoint that is asked for on a line.
@@ -30,6 +32,27 @@ pub struct LineBreakpoint<'a> {
     pub passes: u32,
     /// The message that it writes in place of stopping, if it does.
     pub log: Option<&'a str>,
+}
+
+/// A breakpoint that is asked for on a function.
+#[derive(Clone, Copy, Debug, PartialEq, Eq)]
+pub struct FunctionBreakpoint<'a> {
+    pub name: &'a str,
+    /// The expression where it stops, if it does not stop always.
+    pub condition: Option<&'a str>,
+    /// How many of its stops are passed first.
+    pub passes: u32,
+}
+
+/// A watch that is asked for.
+#[derive(Clone, Copy, Debug, PartialEq, Eq)]
+pub struct DataBreakpoint<'a> {
+    /// What is watched, as `watch` of the debugger takes it.
+    pub target: &'a str,
+    /// The expression where it stops, if it does not stop always.
+    pub condition: Option<&'a str>,
+    /// How many of its stops are passed first.
+    pub passes: u32,
 }
 
 /// Where an expression stands that is evaluated.
@@ -82,6 +105,10 @@ pub enum Request<'a> {
         source: Option<&'a str>,
         lines: Vec<Result<LineBreakpoint<'a>, BreakpointFault>>,
     },
+    /// The breakpoints of functions, in place of those that there were: each with its name, or why it is none.
+    SetFunctionBreakpoints {
+        functions: Vec<Result<FunctionBreakpoint<'a>, BreakpointFault>>,
+    },
     /// The lines of a source, from the first to the last, on which a breakpoint can stand; the first alone where there is no last.
     BreakpointLocations {
         source: Option<&'a str>,
@@ -105,14 +132,15 @@ pub enum Request<'a> {
     DataBreakpointInfo {
         name: &'a str,
     },
-    /// The watches, in place of those that there were: the target of each, or why it is none.
+    /// The watches, in place of those that there were: each with its target, or why it is none.
     SetDataBreakpoints {
-        targets: Vec<Result<&'a str, BreakpointFault>>,
+        targets: Vec<Result<DataBreakpoint<'a>, BreakpointFault>>,
     },
     ConfigurationDone,
     Threads,
-    /// The frames from a place on, the first one where there is none: so many, all where there is no number or 0.
+    /// The frames of a thread from a place on, the first one where there is none: so many, all where there is no number or 0.
     StackTrace {
+        thread: Option<u64>,
         start: Option<u64>,
         levels: Option<u64>,
     },
@@ -124,18 +152,22 @@ pub enum Request<'a> {
     Variables {
         reference: u64,
         page: Page,
+        /// Whether values are shown as hexadecimal numbers; so for the requests below.
+        is_hexadecimal: bool,
     },
     /// One of the variables of this reference is set.
     SetVariable {
         reference: u64,
         name: &'a str,
         value: &'a str,
+        is_hexadecimal: bool,
     },
     /// What an expression names is set, in the frame of this number; in the top one where there is none.
     SetExpression {
         expression: &'a str,
         value: &'a str,
         frame: Option<u64>,
+        is_hexadecimal: bool,
     },
     /// The names that can stand in a text before a column, in the frame of this number; in the top one where there is none.
     Completions {
@@ -149,6 +181,7 @@ pub enum Request<'a> {
         expression: &'a str,
         frame: Option<u64>,
         context: Context,
+        is_hexadecimal: bool,
     },
     Next,
     StepIn,

@@ -81,6 +81,7 @@ module _ {M : Type 0} (stands : M → Setting → Debugger → Type 0) where
     alone request.Initialize run = refl
     alone (request.Launch launch) run = refl
     alone (request.SetBreakpoints source lines) run = refl
+    alone (request.SetFunctionBreakpoints functions) run = refl
     alone (request.BreakpointLocations source first last) run = refl
     alone (request.GotoTargets source line) run = refl
     alone (request.Goto line way) run = refl
@@ -90,13 +91,13 @@ module _ {M : Type 0} (stands : M → Setting → Debugger → Type 0) where
     alone (request.SetDataBreakpoints targets) run = refl
     alone request.ConfigurationDone run = inl refl
     alone request.Threads run = refl
-    alone (request.StackTrace start levels) run = refl
+    alone (request.StackTrace thread start levels) run = refl
     alone (request.Scopes frame) run = refl
-    alone (request.Variables reference page) run = refl
-    alone (request.SetVariable reference name value) run = refl
-    alone (request.SetExpression expression value frame) run = refl
+    alone (request.Variables reference page is_hexadecimal) run = refl
+    alone (request.SetVariable reference name value is_hexadecimal) run = refl
+    alone (request.SetExpression expression value frame is_hexadecimal) run = refl
     alone (request.Completions text column frame) run = refl
-    alone (request.Evaluate expression frame context) run = refl
+    alone (request.Evaluate expression frame context is_hexadecimal) run = refl
     alone request.Next run = refl
     alone request.StepIn run = refl
     alone request.StepOut run = refl

@@ -6,6 +6,7 @@ use adapter_frames::{FrameFault, FrameReader, HeadFault, write_frame};
 use adapter_messages::{
     Head, event_message, failure_message, output_body, reply_message, stop_body,
 };
+use adapter_replies::GANG;
 use adapter_requests::{Reply, StopReason};
 use serde_json::{Error as JsonError, Map, Value};
 use std::alloc::{AllocError, Global};
@@ -158,7 +159,7 @@ impl<R: Read, O: Write> Connection<R, O> {
         ensures stopped { OnOk result (self.new.stopped ≡ reason) }
         ensures messages { messages_of self.new ≡ messages_of self.old }
     {
-        let body = stop_body(self.alloc, reason, text)?;
+        let body = stop_body(self.alloc, reason, GANG, text)?;
         self.tell_with("stopped", body)?;
         self.stopped = reason;
         Ok(())

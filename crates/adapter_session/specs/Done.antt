@@ -44,7 +44,7 @@ way_of_line is_console text = if is_console then way_of_command (command_of text
 abbrev pub way_of : Request → Option Direction
 way_of request.Continue = Some Forward
 way_of request.ReverseContinue = Some Backward
-way_of (request.Evaluate expression frame context) = way_of_line (is_console context) expression.now
+way_of (request.Evaluate expression frame context is_hexadecimal) = way_of_line (is_console context) expression.now
 way_of other = None
 
 -- the same where a condition, a count or a message is there

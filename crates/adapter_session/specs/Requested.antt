@@ -7,6 +7,7 @@ use Rattle.gang_model.specs.Texts.Text.{Bytes}
 use Rattle.adapter_requests.specs.declared.reply.BreakpointFault.{BreakpointFault}
 use Rattle.adapter_requests.specs.declared.request.Context.{Context}
 use Rattle.adapter_requests.specs.declared.request.Context.TheVariants.{Console}
+use Rattle.adapter_requests.specs.declared.request.DataBreakpoint.{DataBreakpoint}
 use Rattle.adapter_requests.specs.declared.request.LineBreakpoint.{LineBreakpoint}
 use Rattle.adapter_requests.specs.declared.request.Request.{Request}
 use Rattle.adapter_requests.specs.declared.request.Request.TheVariants as request
@@ -94,8 +95,8 @@ break_lines false stops lines = []
 break_lines true stops lines = map delete_line (numbers_of is_breakpoint stops) ++ flat_map (line_for (λ asked. break_line asked.line)) lines
 
 -- the lines that watch targets, in place of those that are watched
-abbrev pub watch_lines : List (ℕ × Stop) → List (Result (Bor Bytes) BreakpointFault) → List Bytes
-watch_lines stops targets = map delete_line (numbers_of is_watch stops) ++ flat_map (line_for (λ target. watch_line target.now)) targets
+abbrev pub watch_lines : List (ℕ × Stop) → List (Result DataBreakpoint BreakpointFault) → List Bytes
+watch_lines stops targets = map delete_line (numbers_of is_watch stops) ++ flat_map (line_for (λ asked. watch_line asked.target.now)) targets
 
 -- the lines that a request is, given the program's path, its depth, and the breakpoints and watches
 abbrev pub lines_of : (program : Bytes) → (top : ℕ) → List (ℕ × Stop) → Request → List Bytes
@@ -107,9 +108,9 @@ lines_of program top stops request.StepBack = only (codes "reverse-step")
 lines_of program top stops request.ReverseContinue = only (codes "reverse-continue")
 lines_of program top stops (request.SetBreakpoints source lines) = break_lines (is_program program source) stops lines.items
 lines_of program top stops (request.SetDataBreakpoints targets) = watch_lines stops targets.items
-lines_of program top stops (request.SetVariable reference name value) = set_lines (is_set_there top (place_of reference)) name.now value.now
-lines_of program top stops (request.SetExpression expression value frame) = set_lines (not (is_elsewhere top frame)) expression.now value.now
-lines_of program top stops (request.Evaluate expression frame context) = evaluated (is_console context) (is_elsewhere top frame) expression.now
+lines_of program top stops (request.SetVariable reference name value is_hexadecimal) = set_lines (is_set_there top (place_of reference)) name.now value.now
+lines_of program top stops (request.SetExpression expression value frame is_hexadecimal) = set_lines (not (is_elsewhere top frame)) expression.now value.now
+lines_of program top stops (request.Evaluate expression frame context is_hexadecimal) = evaluated (is_console context) (is_elsewhere top frame) expression.now
 lines_of program top stops other = []
 
 -- the command of a line, where it spells one

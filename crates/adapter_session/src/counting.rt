@@ -44,6 +44,7 @@ fn way_of(request: &Request<'_>) -> Option<Direction>
             expression,
             frame: _,
             context,
+            is_hexadecimal: _,
         } => way_of_line(*context, expression),
         _ => None,
     }

@@ -7,7 +7,7 @@ ghost use Rattle.adapter_session.specs.Given.{given_numbers, is_of};
 ghost use Rattle.adapter_session.specs.Requested.{break_line, delete_line, evaluated, is_console, is_elsewhere, is_program, line_for, lines_of, only, set_lines, watch_line};
 
 use adapter_replies::is_set_there;
-use adapter_requests::{BreakpointFault, Context, LineBreakpoint, Request};
+use adapter_requests::{BreakpointFault, Context, DataBreakpoint, LineBreakpoint, Request};
 use debug_answers::{NumberedStop, Stop};
 use debug_commands::read_command;
 use debug_words::is_same;
@@ -56,16 +56,19 @@ pub fn command_lines(
             reference,
             name,
             value,
+            is_hexadecimal: _,
         } => set_lines(alloc, is_set_there(depth, *reference), name, value),
         Request::SetExpression {
             expression,
             value,
             frame,
+            is_hexadecimal: _,
         } => set_lines(alloc, !is_elsewhere(depth, *frame), expression, value),
         Request::Evaluate {
             expression,
             frame,
             context,
+            is_hexadecimal: _,
         } => evaluated(
             alloc,
             expression,
@@ -74,6 +77,7 @@ pub fn command_lines(
         ),
         Request::Initialize
         | Request::Launch(_)
+        | Request::SetFunctionBreakpoints { .. }
         | Request::BreakpointLocations { .. }
         | Request::GotoTargets { .. }
         | Request::Goto { .. }
@@ -201,10 +205,10 @@ fn push_break(
 fn watch_lines(
     alloc: Global,
     stops: &[NumberedStop],
-    targets: &[Result<&str, BreakpointFault>],
+    targets: &[Result<DataBreakpoint<'_>, BreakpointFault>],
 ) -> Result<Vec<String>, AllocError>
     ensures { IfOk result (λ all. map string_bytes all.items
-        ≡ map delete_line (given_numbers Kind.Watches stops.now) ++ flat_map (line_for (λ target. watch_line target.now)) targets.now) }
+        ≡ map delete_line (given_numbers Kind.Watches stops.now) ++ flat_map (line_for (λ asked. watch_line asked.target.now)) targets.now) }
 {
     let mut all = delete_lines(alloc, stops, Kind::Watches)?;
     for target in targets {
@@ -216,13 +220,14 @@ fn watch_lines(
 /// Puts the line that makes a watch behind others, where it can be made.
 fn push_watch(
     alloc: Global,
-    target: Result<&str, BreakpointFault>,
+    asked: Result<DataBreakpoint<'_>, BreakpointFault>,
     all: &mut Vec<String>,
 ) -> Result<(), AllocError>
     ensures { IfOk result (λ _. map string_bytes all.new.items
-        ≡ map string_bytes all.old.items ++ line_for (λ target. watch_line target.now) target.entry) }
+        ≡ map string_bytes all.old.items ++ line_for (λ asked. watch_line asked.target.now) asked.entry) }
 {
-    if let Ok(target) = target {
+    if let Ok(asked) = asked {
+        let target = asked.target;
         all.push(format!(in alloc; "watch {target}")?)?;
     }
     Ok(())

@@ -86,6 +86,7 @@ fn list_frames(alloc: Global, session: &ProgramSession<4>) -> Ended {
         machine,
         stops,
         &Request::StackTrace {
+            thread: None,
             start: None,
             levels: None,
         },

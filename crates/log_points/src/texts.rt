@@ -129,6 +129,7 @@ fn shown<M: ExpressionMachine>(
         expression,
         frame: Some(depth_of(machine) as u64),
         context: Context::Watch,
+        is_hexadecimal: false,
     };
     let told = reply_to(alloc, machine, &[], &request, false, None)?;
     let text = told_text(alloc, &told)?;

@@ -1,4 +1,4 @@
-use Rattle.std.proofs.Common.{true, Some, codes, ap, sym, ◌∙◌, is_some, if◌then◌else◌}
+use Rattle.std.proofs.Common.{false, true, Some, codes, ap, sym, ◌∙◌, is_some, if◌then◌else◌}
 use Rattle.std.specs.Prelude.{unwrap_or}
 use Rattle.serde_json.specs.View.{view}
 use Rattle.adapter_messages.specs.Arguments.{text_of}
@@ -14,6 +14,7 @@ returns-clause-accepted c = record {
   history = sym c.number_at-2.ensures;
   steps = sym c.number_at-3.ensures;
   stops_on_entry = ap (λ given. unwrap_or given true) (sym c.flag_at.ensures) ∙ sym c.unwrap_or.ensures;
+  lane_threads = ap (λ given. unwrap_or given false) (sym c.flag_at-2.ensures) ∙ sym c.unwrap_or-2.ensures;
 }
 
 pub returns-clause-complete : goal.returns-clause-complete

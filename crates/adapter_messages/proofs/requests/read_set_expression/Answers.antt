@@ -10,6 +10,7 @@ returns-clause-accepted c = (
   sym c.text_at.ensures ∙ c.in_ok-expression.ensures.given,
   ap (option_map unmarked) (sym c.text_at-2.ensures ∙ c.in_ok-new.ensures.given) ∙ ap Some (sym c.unmarked.ensures),
   sym c.number_at.ensures,
+  c.is_hexadecimal.ensures,
 )
 
 pub returns-clause-complete : goal.returns-clause-complete

@@ -10,6 +10,7 @@ returns-clause-accepted c = (
   sym c.number_at.ensures ∙ c.in-Some.is,
   ap (option_map unmarked) (sym c.text_at.ensures ∙ c.in_ok-name.ensures.given) ∙ ap Some (sym c.unmarked.ensures),
   ap (option_map unmarked) (sym c.text_at-2.ensures ∙ c.in_ok-value.ensures.given) ∙ ap Some (sym c.unmarked-2.ensures),
+  c.is_hexadecimal.ensures,
 )
 
 pub returns-clause-complete : goal.returns-clause-complete
