@@ -15,8 +15,8 @@ use Rattle.adapter_requests.specs.declared.reply.VariableKind.TheVariants as kin
 use Rattle.adapter_requests.specs.declared.request.Context.TheVariants.{Hover, Watch}
 use Rattle.adapter_requests.specs.declared.request.Filter.TheVariants as filter
 use Rattle.adapter_requests.specs.declared.request.Way.TheVariants.{Backwards, Forwards}
-use Rattle.adapter_messages.specs.Arguments.{breakpoint_in, context_in, filter_in, time_number, time_of, unmarked, watch_in}
-use Rattle.adapter_messages.specs.Replies.{breakpoint, file_name, hint, moved, only, stop_body, time, times, variable_of}
+use Rattle.adapter_messages.specs.Arguments.{breakpoint_in, context_in, filter_in, function_in, hexadecimal_in, time_number, time_of, unmarked, watch_in}
+use Rattle.adapter_messages.specs.Replies.{attributes, breakpoint, file_name, hint, moved, only, stop_body, time, times, variable_of}
 
 -- a path with folders, one without, and one without a last part
 behind_folders : file_name (codes "examples/first.ispc") ≡ codes "first.ispc"
@@ -31,10 +31,10 @@ nothing_there : get (codes "verified") (breakpoint (Refused fault.Full)) ≡ Som
 nothing_there = refl
 
 -- a stop at a breakpoint names it, and another stop names none
-at_a_breakpoint : get (codes "hitBreakpointIds") (stop_body (reason.Breakpoint 3) (codes "here")) ≡ Some (array (item (natural 3) no_items))
+at_a_breakpoint : get (codes "hitBreakpointIds") (stop_body (reason.Breakpoint 3) 1 (codes "here")) ≡ Some (array (item (natural 3) no_items))
 at_a_breakpoint = refl
 
-at_a_step : get (codes "hitBreakpointIds") (stop_body reason.Step (codes "here")) ≡ None
+at_a_step : get (codes "hitBreakpointIds") (stop_body reason.Step 1 (codes "here")) ≡ None
 at_a_step = refl
 
 -- a message with these arguments
@@ -105,9 +105,33 @@ an_empty_message = refl
 a_number_for_a_message : breakpoint_in (with_message (natural 1)) ≡ Err fault.NoMessage
 a_number_for_a_message = refl
 
--- a watch with a condition
-a_watch_on_a_condition : watch_in (object (member (codes "condition") (string (codes "x > 0")) (member (codes "dataId") (string (codes "x")) no_members))) ≡ Err fault.Conditional
+-- a watch with a condition, one with a message, and one that is not named
+a_watch_on_a_condition : watch_in (object (member (codes "condition") (string (codes "x > 0")) (member (codes "dataId") (string (codes "x")) no_members)))
+    ≡ Ok (record { name = codes "x"; condition = Some (codes "x > 0"); passes = 0 })
 a_watch_on_a_condition = refl
+
+a_watch_with_a_message : watch_in (object (member (codes "dataId") (string (codes "x")) (member (codes "logMessage") (string (codes "x")) no_members))) ≡ Err fault.Logging
+a_watch_with_a_message = refl
+
+a_watch_of_nothing : watch_in (only (codes "name") (string (codes "x"))) ≡ Err fault.Unplaced
+a_watch_of_nothing = refl
+
+-- a breakpoint of a function, from its third stop on
+a_function : function_in (object (member (codes "hitCondition") (string (codes "3")) (member (codes "name") (string (codes "scale")) no_members)))
+    ≡ Ok (record { name = codes "scale"; condition = None; passes = 2 })
+a_function = refl
+
+a_number_for_a_function : function_in (only (codes "name") (natural 1)) ≡ Err fault.Unplaced
+a_number_for_a_function = refl
+
+-- values are hexadecimal numbers where that is asked for, and not by a word for it
+in_hexadecimal : hexadecimal_in (given (only (codes "format") (only (codes "hex") (boolean true)))) ≡ true
+unfolding serde_json_on_literals
+in_hexadecimal = refl
+
+a_word_for_it : hexadecimal_in (given (only (codes "format") (only (codes "hex") (string (codes "true"))))) ≡ false
+unfolding serde_json_on_literals
+a_word_for_it = refl
 
 -- a request that is not known needs nothing
 another_request : missing (codes "goodbye") (object no_members) ≡ None
@@ -150,12 +174,16 @@ its_label = refl
 no_times : times None ≡ no_items
 no_times = refl
 
+-- what is only looked at is no constant
+looked_at : attributes false true ≡ item (string (codes "readOnly")) no_items
+looked_at = refl
+
 -- a constant cannot be set
-a_constant : get (codes "presentationHint") (variable_of kind.Plain true (codes "n") (codes "5") (codes "uniform int8") 0)
+a_constant : get (codes "presentationHint") (variable_of kind.Plain (attributes true false) (codes "n") (codes "5") (codes "uniform int8") 0)
     ≡ Some (object (member (codes "attributes") (array (item (string (codes "constant")) (item (string (codes "readOnly")) no_items))) (member (codes "kind") (string (codes "data")) no_members)))
 a_constant = refl
 
-a_range_of_elements : hint kind.Range false ≡ object (member (codes "attributes") (array no_items) (member (codes "kind") (string (codes "virtual")) no_members))
+a_range_of_elements : hint kind.Range (attributes false false) ≡ object (member (codes "attributes") (array no_items) (member (codes "kind") (string (codes "virtual")) no_members))
 a_range_of_elements = refl
 
 -- braces in a text stand in the variable of the format; why nothing is under the mouse is not shown to the user
@@ -195,11 +223,11 @@ a_plain_name : unmarked (codes "x[2]") ≡ codes "x[2]"
 a_plain_name = refl
 
 -- no expression shows a range, and that of a lane that waits has no mark
-a_range : get (codes "evaluateName") (variable_of kind.Range false (codes "a[0..999]") (codes "1000 elements") (codes "int8") 7) ≡ None
+a_range : get (codes "evaluateName") (variable_of kind.Range (attributes false false) (codes "a[0..999]") (codes "1000 elements") (codes "int8") 7) ≡ None
 a_range = refl
 
-a_waiting_lane : get (codes "name") (variable_of kind.Waits false (codes "x[2]") (codes "5") (codes "int8") 0) ≡ Some (string (codes "x[2] (waits)"))
+a_waiting_lane : get (codes "name") (variable_of kind.Waits (attributes false false) (codes "x[2]") (codes "5") (codes "int8") 0) ≡ Some (string (codes "x[2] (waits)"))
 a_waiting_lane = refl
 
-its_expression : get (codes "evaluateName") (variable_of kind.Waits false (codes "x[2]") (codes "5") (codes "int8") 0) ≡ Some (string (codes "x[2]"))
+its_expression : get (codes "evaluateName") (variable_of kind.Waits (attributes false false) (codes "x[2]") (codes "5") (codes "int8") 0) ≡ Some (string (codes "x[2]"))
 its_expression = refl
